@@ -1,5 +1,5 @@
 -- An answer is given exactly where one is due.
-use Rattle.std.proofs.Common.{◌≡◌, Bool, true, false, if◌then◌else◌, Option, Some, None, refl, sym, ap, ◌∙◌}
+use Rattle.std.proofs.Common.{◌≡◌, Bool, true, false, if◌then◌else◌, [], Option, Some, None, refl, sym, ap, ◌∙◌}
 use Rattle.std.specs.Prelude.{is_some, Ok, Err}
 use Rattle.std.specs.Option.{option_map}
 use Rattle.att_numbers.specs.Types.{Row}
@@ -10,6 +10,7 @@ use Rattle.att_pdu.specs.Response.{Response, sent, sent_if_any}
 use Rattle.att_table.specs.Table.{Contents}
 use Rattle.gatt_conn.specs.Answer.{Question, answer_to}
 use Rattle.gatt_conn.specs.Connection.{Bearer}
+use Rattle.gatt_conn.specs.Served.{with_answer_put}
 use Rattle.octets.specs.Number.{Octets}
 
 pub answered_where_due : (table : Contents) (row : Row) (conn : Bearer) (asked : Question) → is_some (answer_to table row conn asked) ≡ is_due asked
@@ -40,9 +41,17 @@ none_where_not_due table row conn asked not-due =
     none-there (answer_to table row conn asked) (answered_where_due table row conn asked ∙ not-due)
 
 -- and where there is one, its octets are those that were put together
-pub sent_where_due : (answer : Option Response) (due : Bool) (octets : Octets) → is_some answer ≡ due → octets ≡ sent_if_any answer
+pub sent_where_due : (answer : Option Response) (due : Bool) (before octets : Octets) → is_some answer ≡ due → octets ≡ with_answer_put answer before
     → option_map sent answer ≡ (if due then Some octets else None)
-sent_where_due (Some answer) true octets is put = ap Some (sym put)
-sent_where_due (Some answer) false octets is put = cc is
-sent_where_due None true octets is put = cc is
-sent_where_due None false octets is put = refl
+sent_where_due (Some answer) true before octets is put = ap Some (sym put)
+sent_where_due (Some answer) false before octets is put = cc is
+sent_where_due None true before octets is put = cc is
+sent_where_due None false before octets is put = refl
+
+pub put_where_there : (answer : Option Response) (before octets : Octets) → is_some answer ≡ true → octets ≡ with_answer_put answer before → octets ≡ sent_if_any answer
+put_where_there (Some answer) before octets is put = put
+put_where_there None before octets is put = cc is
+
+pub nothing_where_none : (answer : Option Response) (octets : Octets) → is_some answer ≡ false → octets ≡ [] → octets ≡ sent_if_any answer
+nothing_where_none (Some answer) octets is none = cc is
+nothing_where_none None octets is none = none

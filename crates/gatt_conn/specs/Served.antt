@@ -1,10 +1,10 @@
 -- How a PDU was answered.
-use Rattle.std.specs.Prelude.{◌≡◌, false, is_some, Bool, List, Option}
+use Rattle.std.specs.Prelude.{◌≡◌, false, is_some, Bool, List, Option, Some, None}
 use Rattle.att_numbers.specs.Types.{Handle, Row}
 use Rattle.att_pdu.specs.declared.pdu_buf.PduBuf.{PduBuf}
 use Rattle.att_pdu.specs.Grammar.{request_of}
 use Rattle.att_pdu.specs.PduBuf.{contents, IsSameBuffer}
-use Rattle.att_pdu.specs.Response.{Response, sent_if_any}
+use Rattle.att_pdu.specs.Response.{Response, sent}
 use Rattle.att_table.specs.Table.{Contents}
 use Rattle.att_writes.specs.Leaves.{LeavesStored}
 use Rattle.gatt_conn.specs.declared.answered.Served.{Served}
@@ -12,9 +12,14 @@ use Rattle.gatt_conn.specs.Answer.{stored_by, handles_by, conn_after, is_confirm
 use Rattle.gatt_conn.specs.Connection.{Bearer}
 use Rattle.octets.specs.Number.{Octets}
 
--- this is the answer, if one is due, in the same buffer; of the code alone
+-- octets in whose place an answer stands, if there is one
+abbrev pub with_answer_put : Option Response → Octets → Octets
+with_answer_put None octets = octets
+with_answer_put (Some answer) octets = sent answer
+
+-- this is the answer, if one is due, in the same buffer, which else keeps what it holds; of the code alone
 pub record ServesPdu (answer : Option Response) (before after : PduBuf) (result : Served) : Type 0 where
-  pub content : contents after ≡ sent_if_any answer
+  pub content : contents after ≡ with_answer_put answer (contents before)
   pub due : result.due ≡ is_some answer
   pub same_buffer : IsSameBuffer before after
 

@@ -42,7 +42,7 @@ pub struct Served {
 /// keeps within the connection's ATT_MTU, and `row` is what its client has configured, of this table.
 /// This is `answer_into` for an answer whose room the caller has made, with a list of its own for the
 /// handles: both are one call of `serve`.
-#[tactic(auto, using(crate::proofs::Dues::answered_where_due), unfolding(att_pdu::specs::Form::form_of))]
+#[tactic(auto, using(crate::proofs::Dues::answered_where_due, crate::proofs::Dues::put_where_there, crate::proofs::Dues::nothing_where_none), unfolding(att_pdu::specs::Form::form_of))]
 pub fn answer(
     table: &mut Table,
     row: &mut ConfigRow,
@@ -66,6 +66,9 @@ pub fn answer(
 {
     let mut touched = Touched::new();
     let served = serve(table, row, conn, pdu, out, &mut touched);
+    if !served.due {
+        out.clear();
+    }
     Answered {
         due: served.due,
         confirmed: served.confirmed,
@@ -73,7 +76,8 @@ pub fn answer(
     }
 }
 
-/// Answers a PDU, and puts the handles that were written in place of what `touched` holds.
+/// Answers a PDU in place of what `out` holds, which stays where no answer is due, and puts the handles
+/// that were written in place of what `touched` holds.
 fn serve(
     table: &mut Table,
     row: &mut ConfigRow,
@@ -107,6 +111,7 @@ fn serve(
         Some(&opcode::WRITE_REQUEST) => serve_form(table, row, conn, pdu, out, touched),
         Some(&opcode::WRITE_COMMAND) => serve_form(table, row, conn, pdu, out, touched),
         Some(&opcode::PREPARE_WRITE_REQUEST) => serve_form(table, row, conn, pdu, out, touched),
+        Some(&opcode::HANDLE_VALUE_CONFIRMATION) => serve_form(table, row, conn, pdu, out, touched),
         _ => serve_form(table, row, conn, pdu, out, touched),
     }
 }
@@ -137,10 +142,9 @@ fn serve_form(
         Ok(Request::Write { handle, value }) => write(
             table, row, conn, handle, value, out, touched,
         ),
-        Ok(Request::WriteCommand { handle, value }) => {
-            out.clear();
-            command(table, row, conn, handle, value, touched)
-        }
+        Ok(Request::WriteCommand { handle, value }) => command(
+            table, row, conn, handle, value, touched,
+        ),
         Ok(
             Request::PrepareWrite {
                 handle,
@@ -158,10 +162,7 @@ fn serve_form(
                 flags: ExecuteFlags::Write,
             },
         ) => execute(table, row, conn, out, touched),
-        Ok(Request::Confirmation) => {
-            out.clear();
-            without_answer(true)
-        }
+        Ok(Request::Confirmation) => without_answer(true),
         Ok(
             request @ (Request::FindInformation { .. }
             | Request::FindByTypeValue { .. }
@@ -174,10 +175,7 @@ fn serve_form(
             answer_read(table, row, conn.standing(), &request, conn.mtu(), out);
             with_answer()
         }
-        Err(PduFault::Ignored) => {
-            out.clear();
-            without_answer(false)
-        }
+        Err(PduFault::Ignored) => without_answer(false),
         Err(PduFault::Invalid(opcode)) => refuse(opcode, 0, error_code::INVALID_PDU, out),
         Err(PduFault::Unsupported(opcode)) => {
             refuse(opcode, 0, error_code::REQUEST_NOT_SUPPORTED, out)
@@ -185,9 +183,9 @@ fn serve_form(
     }
 }
 
-/// Serves one Attribute PDU, with the answer in place of what `octets` holds, which is empty where none
-/// is due, and the handles that were written in place of what `touched` holds: each once, in the order
-/// of their first writes.
+/// Serves one Attribute PDU, with the answer in place of what `octets` holds, where one is due, and the
+/// handles that were written in place of what `touched` holds: each once, in the order of their first
+/// writes. Where no answer is due `octets` hold no answer, but perhaps what they held before.
 #[inline(always)]
 #[tactic(auto, using(crate::proofs::Dues::answered_where_due, crate::proofs::Dues::sent_where_due))]
 pub fn answer_into(
