@@ -1,36 +1,41 @@
 -- What a set of places covers, as slots change and as places leave it.
-use Rattle.std.proofs.Common.{◌≡◌, ◌≢◌, ℕ, zero, suc, ◌+◌, ◌<◌, ◌≤◌, ◌==◌, Bool, true, false, ◌||◌, List, [], ◌∷◌, length, set, get_or, Option, Some, None, refl, sym, ap, subst, ◌∙◌, arith}
-use Rattle.std.specs.Prelude.{is_none, if◌then◌else◌, not}
+use Rattle.std.proofs.Common.{◌≡◌, ◌≢◌, ℕ, zero, suc, ◌+◌, ◌<◌, ◌≤◌, ◌==◌, Bool, true, false, ◌||◌, List, [], ◌∷◌, length, map, set, take, replicate, get_or, Option, Some, None, refl, sym, ap, subst, ◌∙◌, arith}
+use Rattle.std.specs.Prelude.{is_none, is_some, if◌then◌else◌, not}
 use Rattle.std.specs.Bool.{OnFalse, OnTrue}
 use Rattle.std.specs.Int.{bit_at}
 use Rattle.std.specs.List.{list_any, position}
-use Rattle.std.specs.Option.{option_map_or}
+use Rattle.std.specs.Option.{option_map, option_map_or}
 use Rattle.std.proofs.lemmas.Bool.{cases_eq, cases_lt, OnFalse_from, OnTrue_at}
-use Rattle.std.proofs.lemmas.Bool.Decides.{eqb_tells}
-use Rattle.std.proofs.lemmas.List.{get_or-set_same, get_or-set_other, length-set}
-use Rattle.std.proofs.lemmas.Nat.Bits.{bit_at-zero, bit_at_ones}
+use Rattle.std.proofs.lemmas.Bool.Decides.{eqb_tells, nat_tests}
+use Rattle.std.proofs.lemmas.List.{get_or-set_same, get_or-set_other, length-map, length-set}
+use Rattle.std.proofs.lemmas.Nat.Bits.{bit_at-zero}
 use Rattle.std.proofs.lemmas.Option.{slice_get-get_or}
 use Rattle.std.proofs.Math.Logic.{⊎_elim}
-use Rattle.gatt_slots.proofs.SlotBits.{all_places}
 use Rattle.gatt_slots.proofs.Found.{clash, first_at, kept-is, none_at, past, within}
-use Rattle.att_numbers.specs.Types.{Handle}
+use Rattle.att_numbers.specs.Types.{Handle, Row}
+use Rattle.att_attributes.specs.declared.attr.Attr.{Attr}
+use Rattle.att_table.specs.ConfigRow.{kept_row}
+use Rattle.gatt_subs.specs.Indications.{Indications, after_replacement, times_out}
 use Rattle.att_table.specs.Table.{Contents}
+use Rattle.gatt_slots.proofs.Quiet.{nothing_heard_by_all, quiet_slot}
 use Rattle.gatt_slots.specs.Commands.{gives, has_command}
 use Rattle.gatt_slots.specs.Hearing.{hearer_facts_of, delivery_in_turn, delivery_of, with_delivery}
+use Rattle.gatt_slots.specs.SlotEffects.{after_table, after_time}
 use Rattle.gatt_slots.specs.SlotState.{SlotState}
-use Rattle.gatt_slots.specs.Places.{is_slot_due, may_listen, waits, Covers, WaitsForNothingNew, IsMarked}
-use Rattle.gatt_slots.specs.Slots.{SlotStates, all_heard, handles_for, slot_heard, heard_from, is_own_place, slot_state_at}
+use Rattle.gatt_slots.specs.Places.{is_slot_due, is_some_handle, may_listen, waits, Covers, WaitsForNothingNew, IsMarked}
+use Rattle.gatt_slots.specs.Slots.{SlotStates, all_heard, handles_for, slot_heard, heard_from, is_in, is_own_place, slot_state_at}
 use Rattle.gatt_subs.specs.Rows.{Subscriptions, row_of}
 use Rattle.gatt_slots.specs.declared.marks.Marks.{Marks}
 use Rattle.gatt_slots.specs.declared.places.Due.{Due}
 use Rattle.gatt_slots.specs.declared.places.Places.{Places}
-use Rattle.gatt_slots.specs.declared.places.Due.TheVariants.{Command, Packet, Value}
+use Rattle.gatt_slots.specs.declared.places.Due.TheVariants.{Command, Packet, Value, Indication}
 use Rattle.gatt_laws.specs.declared.TheConstants.{MAX_SLOTS}
 
 pub none-due : (due : Due) → is_slot_due due None ≡ false
 none-due Command = refl
 none-due Packet = refl
 none-due Value = refl
+none-due Indication = refl
 
 -- what is due is due at a slot that is there
 pub there : (due : Due) (slots : SlotStates) (place : ℕ) → is_slot_due due (slot_state_at slots place) ≡ true → place < length slots
@@ -48,10 +53,6 @@ at-other slots place other slot apart = ⊎_elim
     (λ beyond.
     past (set slots place slot) other (omega (arith, beyond, length-set slots place slot)) ∙ sym (past slots other (omega (arith, beyond))))
     (cases_lt other (length slots))
-
--- all places cover all that is due
-pub all_covered : (due : Due) (slots : SlotStates) → length slots ≤ MAX_SLOTS → Covers due all_places slots
-all_covered due slots few = λ place is. bit_at_ones MAX_SLOTS place (omega (arith, there due slots place is))
 
 -- a slot is changed whose place comes into the set
 pub covered_with : (due : Due) (old new : ℕ) (slots : SlotStates) (place : ℕ) (slot : Option SlotState) → Covers due old slots → bit_at new place ≡ 1
@@ -77,6 +78,17 @@ pub covered_without : (due : Due) (old new : ℕ) (slots : SlotStates) (place : 
 covered_without due old new slots place few covers idle others = λ other is. ⊎_elim
     (λ same. clash is (ap (λ at. is_slot_due due (slot_state_at slots at)) same ∙ idle))
     (λ apart. others other (omega (arith, there due slots other is)) apart ∙ covers other is)
+    (cases_eq other place)
+
+-- it is changed, so that nothing is due there, and leaves the set
+pub covered_settled : (due : Due) (old new : ℕ) (slots : SlotStates) (place : ℕ) (slot : Option SlotState) → length slots ≤ MAX_SLOTS → Covers due old slots → is_slot_due due slot ≡ false
+    → ((other : ℕ) → other < MAX_SLOTS → other ≢ place → bit_at new other ≡ bit_at old other) → Covers due new (set slots place slot)
+covered_settled due old new slots place slot few covers idle others = λ other is. ⊎_elim
+    (λ same. clash is (ap (is_slot_due due)
+    (ap (λ at. slot_state_at (set slots place slot) at) same
+    ∙ at-same slots place slot (omega (arith, there due (set slots place slot) other is, same, length-set slots place slot))) ∙ idle))
+    (λ apart. others other (omega (arith, few, there due (set slots place slot) other is, length-set slots place slot)) apart
+    ∙ covers other (ap (is_slot_due due) (sym (at-other slots place other slot apart)) ∙ is))
     (cases_eq other place)
 
 -- the first place at which something is due
@@ -112,40 +124,19 @@ module _ (test : Option SlotState → Bool) (slot : Option SlotState) where
       let parts = no-first (test first) (list_any test slots) none in
       neither (test first) (list_any test (set slots place slot)) parts.0 (none_with slots place parts.1 keeps)
 
--- where nothing waits at any place, nothing waits
-pub none_waits : (slots : SlotStates) (waiting : Bool) → ((place : ℕ) → place < length slots → waits (slot_state_at slots place) ≡ true → waiting ≡ true) → waiting ≡ false
-    → list_any waits slots ≡ false
-none_waits [] waiting so none = refl
-none_waits (slot ∷ slots) waiting so none =
-    λ i. idle (waits slot) (so zero (omega arith)) i || none_waits slots waiting (λ place within. so (suc place) (omega (arith, within))) none i
-  where
-    idle : (test : Bool) → (test ≡ true → waiting ≡ true) → test ≡ false
-    idle true is = clash (is refl) none
-    idle false is = refl
-
--- what waited at the places before it, and waits at one that is changed
-pub waits_more : (slots : SlotStates) (place : ℕ) (slot : Option SlotState) (old new : Bool) → ((other : ℕ) → other < place → waits (slot_state_at slots other) ≡ true → old ≡ true)
-    → (old ≡ true → new ≡ true) → (waits (slot_state_at (set slots place slot) place) ≡ true → new ≡ true)
-    → (other : ℕ) → other < place + 1 → waits (slot_state_at (set slots place slot) other) ≡ true → new ≡ true
-waits_more slots place slot old new before still here other within is = ⊎_elim
-    (λ same. here (ap (λ at. waits (slot_state_at (set slots place slot) at)) (sym same) ∙ is))
-    (λ apart. still (before other (⊎_elim (λ less. less) (λ most. absurd (apart (omega (arith, within, most)))) (cases_lt other place))
-    (ap waits (sym (at-other slots place other slot apart)) ∙ is)))
-    (cases_eq other place)
-
 -- the marks after a change of one slot
 module _ (slots : SlotStates) (place : ℕ) (slot : Option SlotState) (old new : Marks) (marked : IsMarked slots old)
     (packets : bit_at new.packets.bits place ≡ 1) (other_packets : (other : ℕ) → other ≢ place → bit_at new.packets.bits other ≡ bit_at old.packets.bits other) where
   pub marked_with : bit_at new.commands.bits place ≡ 1 → ((other : ℕ) → other ≢ place → bit_at new.commands.bits other ≡ bit_at old.commands.bits other)
       → bit_at new.listening.bits place ≡ 1 → ((other : ℕ) → other ≢ place → bit_at new.listening.bits other ≡ bit_at old.listening.bits other)
-      → (new.waiting ≡ false → list_any waits (set slots place slot) ≡ false) → (new.free ≡ false → list_any (λ it. is_none it) (set slots place slot) ≡ false)
+      → bit_at new.waiting.bits place ≡ 1 → ((other : ℕ) → other ≢ place → bit_at new.waiting.bits other ≡ bit_at old.waiting.bits other) → (new.free ≡ false → list_any (λ it. is_none it) (set slots place slot) ≡ false)
       → IsMarked (set slots place slot) new
-  marked_with commands other_commands listening other_listening waiting free = record {
+  marked_with commands other_commands listening other_listening waiting other_waiting free = record {
     few = omega (arith, marked.few, length-set slots place slot);
     commands = covered_with Command old.commands.bits new.commands.bits slots place slot marked.commands commands other_commands;
     packets = covered_with Packet old.packets.bits new.packets.bits slots place slot marked.packets packets other_packets;
     listening = covered_with Value old.listening.bits new.listening.bits slots place slot marked.listening listening other_listening;
-    waiting = waiting;
+    waiting = covered_with Indication old.waiting.bits new.waiting.bits slots place slot marked.waiting waiting other_waiting;
     free = free;
   }
 
@@ -157,7 +148,8 @@ module _ (slots : SlotStates) (place : ℕ) (slot : Option SlotState) (old new :
         (covered_still Command old.commands.bits slots place slot marked.commands goes.command);
     packets = covered_with Packet old.packets.bits new.packets.bits slots place slot marked.packets packets other_packets;
     listening = listening;
-    waiting = λ none. none_with waits slot slots place (marked.waiting (sym waiting ∙ none)) goes.waiting;
+    waiting = subst (λ (it : Places). Covers Indication it.bits (set slots place slot)) (sym waiting)
+        (covered_still Indication old.waiting.bits slots place slot marked.waiting goes.waiting);
     free = λ none. none_with (λ it. is_none it) slot slots place (marked.free (sym free ∙ none)) goes.free;
   }
 
@@ -176,20 +168,144 @@ marked_off slots place slot old new within marked idle others commands waiting f
           (covered_still Packet old.packets.bits slots place slot marked.packets (λ is. clash is idle))
           (ap gives (at-same slots place slot within) ∙ idle) others;
       listening = listening;
-      waiting = λ none. none_with waits slot slots place (marked.waiting (sym waiting ∙ none)) goes.waiting;
+      waiting = subst (λ (it : Places). Covers Indication it.bits (set slots place slot)) (sym waiting)
+          (covered_still Indication old.waiting.bits slots place slot marked.waiting goes.waiting);
       free = λ none. none_with (λ it. is_none it) slot slots place (marked.free (sym free ∙ none)) goes.free;
     }
 
-pub all_marked : (slots : SlotStates) → length slots ≤ MAX_SLOTS
-    → IsMarked slots (record { commands = record { bits = all_places }; packets = record { bits = all_places }; listening = record { bits = all_places }; waiting = true; free = true })
-all_marked slots few = record {
-  few = few;
-  commands = all_covered Command slots few;
-  packets = all_covered Packet slots few;
-  listening = all_covered Value slots few;
-  waiting = λ none. cc none;
+-- free slots, of which nothing is marked
+free-at : (count place : ℕ) → slot_state_at (replicate count None) place ≡ None
+free-at zero place = refl
+free-at (suc count) zero = refl
+free-at (suc count) (suc place) = free-at count place
+
+none-covered-of-free : (due : Due) (count : ℕ) → Covers due 0 (replicate count None)
+none-covered-of-free due count = λ place is. clash is (ap (is_slot_due due) (free-at count place) ∙ none-due due)
+
+as-many-free : (count : ℕ) (slot : Option SlotState) → length (replicate count slot) ≡ count
+as-many-free zero slot = refl
+as-many-free (suc count) slot = ap suc (as-many-free count slot)
+
+pub none_marked_of_free : (count : ℕ) → count ≤ MAX_SLOTS
+    → IsMarked (replicate count None) (record { commands = record { bits = 0 }; packets = record { bits = 0 }; listening = record { bits = 0 }; waiting = record { bits = 0 }; free = true })
+none_marked_of_free count few = record {
+  few = omega (arith, few, as-many-free count None);
+  commands = none-covered-of-free Command count;
+  packets = none-covered-of-free Packet count;
+  listening = none-covered-of-free Value count;
+  waiting = none-covered-of-free Indication count;
   free = λ none. cc none;
 }
+
+-- the first ones, of which no more is marked
+front-at : (due : Due) (slots : SlotStates) (count place : ℕ) → is_slot_due due (slot_state_at (take count slots) place) ≡ true → is_slot_due due (slot_state_at slots place) ≡ true
+front-at due slots zero place is = clash is (none-due due)
+front-at due [] (suc count) place is = clash is (none-due due)
+front-at due (slot ∷ slots) (suc count) zero is = is
+front-at due (slot ∷ slots) (suc count) (suc place) is = front-at due slots count place is
+
+none-in-front : (test : Option SlotState → Bool) (slots : SlotStates) (count : ℕ) → list_any test slots ≡ false → list_any test (take count slots) ≡ false
+none-in-front test slots zero none = refl
+none-in-front test [] (suc count) none = refl
+none-in-front test (slot ∷ slots) (suc count) none =
+    let parts = no-first test slot (test slot) (list_any test slots) none in
+    neither test slot (test slot) (list_any test (take count slots)) parts.0 (none-in-front test slots count parts.1)
+
+pub front_marked : (slots : SlotStates) (count : ℕ) (marks : Marks) → length (take count slots) ≤ MAX_SLOTS → IsMarked slots marks → IsMarked (take count slots) marks
+front_marked slots count marks few marked = record {
+  few = few;
+  commands = λ place is. marked.commands place (front-at Command slots count place is);
+  packets = λ place is. marked.packets place (front-at Packet slots count place is);
+  listening = λ place is. marked.listening place (front-at Value slots count place is);
+  waiting = λ place is. marked.waiting place (front-at Indication slots count place is);
+  free = λ unmarked. none-in-front (λ it. is_none it) slots count (marked.free unmarked);
+}
+
+-- where something happens to each connection by which nothing comes to be due, no more is marked
+module _ (change : SlotState → SlotState) where
+  each-at : (slots : SlotStates) (place : ℕ) → slot_state_at (map (λ (slot : Option SlotState). option_map change slot) slots) place ≡ option_map change (slot_state_at slots place)
+  each-at [] place = refl
+  each-at (slot ∷ slots) zero = refl
+  each-at (slot ∷ slots) (suc place) = each-at slots place
+
+  covered-each : (due : Due) → ((slot_state : SlotState) → is_slot_due due (Some (change slot_state)) ≡ true → is_slot_due due (Some slot_state) ≡ true)
+      → (places : ℕ) (slots : SlotStates) → Covers due places slots → Covers due places (map (λ (slot : Option SlotState). option_map change slot) slots)
+  covered-each due keeps places slots covers = λ place is. covers place (by (slot_state_at slots place) (ap (is_slot_due due) (sym (each-at slots place)) ∙ is))
+    where
+      by : (slot : Option SlotState) → is_slot_due due (option_map change slot) ≡ true → is_slot_due due slot ≡ true
+      by None is = is
+      by (Some slot_state) is = keeps slot_state is
+
+  none-free : (slots : SlotStates) → list_any (λ it. is_none it) slots ≡ false → list_any (λ it. is_none it) (map (λ (slot : Option SlotState). option_map change slot) slots) ≡ false
+  none-free [] none = refl
+  none-free (slot ∷ slots) none =
+      let parts = no-first (λ it. is_none it) slot (is_none slot) (list_any (λ it. is_none it) slots) none in
+      neither (λ it. is_none it) slot (is_none (option_map change slot)) (list_any (λ it. is_none it) (map (λ (slot : Option SlotState). option_map change slot) slots))
+      (stays slot ∙ parts.0) (none-free slots parts.1)
+    where
+      stays : (slot : Option SlotState) → is_none (option_map change slot) ≡ is_none slot
+      stays None = refl
+      stays (Some slot_state) = refl
+
+  each_marked : (slots : SlotStates) (marks : Marks)
+      → ((slot_state : SlotState) → has_command (Some (change slot_state)) ≡ true → has_command (Some slot_state) ≡ true)
+      → ((slot_state : SlotState) → gives (Some (change slot_state)) ≡ true → gives (Some slot_state) ≡ true)
+      → ((slot_state : SlotState) → may_listen (Some (change slot_state)) ≡ true → may_listen (Some slot_state) ≡ true)
+      → ((slot_state : SlotState) → waits (Some (change slot_state)) ≡ true → waits (Some slot_state) ≡ true)
+      → IsMarked slots marks → IsMarked (map (λ (slot : Option SlotState). option_map change slot) slots) marks
+  each_marked slots marks command packet value indication marked = record {
+    few = omega (arith, marked.few, length-map slots (λ (slot : Option SlotState). option_map change slot));
+    commands = covered-each Command command marks.commands.bits slots marked.commands;
+    packets = covered-each Packet packet marks.packets.bits slots marked.packets;
+    listening = covered-each Value value marks.listening.bits slots marked.listening;
+    waiting = covered-each Indication indication marks.waiting.bits slots marked.waiting;
+    free = λ unmarked. none-free slots (marked.free unmarked);
+  }
+
+pub time_marked : (now : ℕ) (slots : SlotStates) (marks : Marks) → IsMarked slots marks
+    → IsMarked (map (λ (slot : Option SlotState). option_map (after_time now) slot) slots) marks
+time_marked now slots marks = each_marked (after_time now) slots marks (λ slot_state is. is) (λ slot_state is. is) (λ slot_state is. is)
+    (λ slot_state. elim (times_out slot_state.pending now) as (λ (late : Bool).
+    is_some_handle (if late then no-more else slot_state.pending).waiting ≡ true → is_some_handle slot_state.pending.waiting ≡ true) [
+      | true ↦ λ is. cc is
+      | false ↦ λ is. is
+    ])
+  where
+    no-more : Indications
+    no-more = record { waiting = []; unconfirmed = None; timed_out = true }
+
+pub table_marked : (old new : List Attr) (slots : SlotStates) (marks : Marks) → IsMarked slots marks
+    → IsMarked (map (λ (slot : Option SlotState). option_map (after_table old new) slot) slots) marks
+table_marked old new slots marks = each_marked (after_table old new) slots marks
+    (λ slot_state. elim slot_state.live as (λ (live : Bool). has_command (Some (after live slot_state)) ≡ true → has_command (Some slot_state) ≡ true) [
+      | true ↦ λ is. is
+      | false ↦ λ is. is
+    ])
+    (λ slot_state. elim slot_state.live as (λ (live : Bool). gives (Some (after live slot_state)) ≡ true → gives (Some slot_state) ≡ true) [
+      | true ↦ λ is. is
+      | false ↦ λ is. is
+    ])
+    (λ slot_state. elim slot_state.live as (λ (live : Bool). may_listen (Some (after live (record slot_state { live = live }))) ≡ true → may_listen (Some (record slot_state { live = live })) ≡ true) [
+      | true ↦ λ is. configured (is_some slot_state.link.key) slot_state.row is
+      | false ↦ λ is. is
+    ])
+    (λ slot_state. elim slot_state.live as (λ (live : Bool). waits (Some (after live slot_state)) ≡ true → waits (Some slot_state) ≡ true) [
+      | true ↦ λ is. cc is
+      | false ↦ λ is. is
+    ])
+  where
+    after : Bool → SlotState → SlotState
+    after live slot_state =
+        let kept' : SlotState = record slot_state { row = kept_row old new slot_state.row } in
+        if live then record kept' { queue = []; pending = after_replacement slot_state.pending } else kept'
+
+    some : (count : ℕ) → not (suc count == 0) ≡ true
+    some count = grind (arith, nat_tests)
+
+    configured : (key : Bool) (row : Row) → (key || not (length (kept_row old new row) == 0)) ≡ true → (key || not (length row == 0)) ≡ true
+    configured true row is = is
+    configured false [] is = is
+    configured false (entry ∷ row) is = some (length row)
 
 -- an empty set covers nothing, and so nothing is due
 pub none_covered : (due : Due) (places : ℕ) (slots : SlotStates) → Covers due places slots → places ≡ 0 → position (is_slot_due due) slots ≡ None
@@ -229,6 +345,28 @@ idle_outside due places slots place covers outside = by (is_slot_due due (slot_s
 none-any : (due : Due) (slots : SlotStates) → ((place : ℕ) → is_slot_due due (slot_state_at slots place) ≡ false) → list_any (is_slot_due due) slots ≡ false
 none-any due [] idle = refl
 none-any due (slot ∷ slots) idle = λ i. idle zero i || none-any due slots (λ place. idle (suc place)) i
+
+pub unmarked_idle : (due : Due) (places : ℕ) (slots : SlotStates) (place : ℕ) → Covers due places slots → is_in places place ≡ false → is_slot_due due (slot_state_at slots place) ≡ false
+unmarked_idle due places slots place covers outside = by (is_slot_due due (slot_state_at slots place)) refl
+  where
+    by : (so : Bool) → is_slot_due due (slot_state_at slots place) ≡ so → is_slot_due due (slot_state_at slots place) ≡ false
+    by false is = is
+    by true is = clash (ap (λ (bit : ℕ). bit == 1) (covers place is)) outside
+
+-- where none is marked at which a value waits, what is due of what waits is nothing
+pub quiet_where_unmarked : (table : Contents) (now : ℕ) (rows : Subscriptions) (own : Option ℕ) (places : ℕ) (slots : SlotStates) → Covers Indication places slots → places ≡ 0
+    → slots ≡ all_heard table now rows own [] [] slots
+quiet_where_unmarked table now rows own places slots covers empty =
+    nothing_heard_by_all table now rows own slots (none-any Indication slots (λ place.
+    idle_outside Indication places slots place covers (ap (λ (it : ℕ). bit_at it place) empty ∙ bit_at-zero place)))
+
+-- nor does a value come to wait by it
+pub heard_waits : (table : Contents) (now : ℕ) (rows : Subscriptions) (slot : Option SlotState) → waits (slot_heard table now rows [] slot) ≡ true → waits slot ≡ true
+heard_waits table now rows slot still = by (waits slot) refl
+  where
+    by : (so : Bool) → waits slot ≡ so → waits slot ≡ true
+    by true is = is
+    by false is = clash still (ap waits (quiet_slot table now rows slot is) ∙ is)
 
 turned : (is : Bool) → not is ≡ false → is ≡ true
 turned true e = refl

@@ -1,13 +1,19 @@
 -- Values are notified one by one for all connections: the same as if each connection heard all of them in its turn.
-use Rattle.std.proofs.Common.{◌≡◌, ℕ, zero, suc, ◌+◌, Bool, true, false, not, if◌then◌else◌, List, [], ◌∷◌, Option, Some, None, refl, sym, ap, ◌∙◌, arith}
+use Rattle.std.proofs.Common.{◌≡◌, ℕ, zero, suc, ◌+◌, ◌<◌, ◌≤◌, ◌==◌, Bool, true, false, if◌then◌else◌, List, [], ◌∷◌, length, Option, Some, None, refl, sym, ap, subst, ◌∙◌, arith}
+use Rattle.std.specs.Int.{bit_at}
+use Rattle.std.proofs.lemmas.Bool.{cases_lt}
+use Rattle.std.proofs.Math.Logic.{⊎_elim}
 use Rattle.att_numbers.specs.Types.{Handle, Row}
 use Rattle.att_policy.specs.declared.standing.Standing.{Standing}
 use Rattle.att_table.specs.Table.{Contents}
 use Rattle.gatt_slots.specs.SlotState.{SlotState}
-use Rattle.gatt_slots.specs.Places.{may_listen}
-use Rattle.gatt_slots.specs.Slots.{SlotStates, all_heard, all_notified, all_notified_in_turn, handles_for, slot_heard, heard_from, is_among, is_own_place, slot_state_at, slot_notified_at, slot_notified}
-use Rattle.gatt_slots.proofs.Found.{clash}
-use Rattle.gatt_slots.proofs.Quiet.{nothing_raised, unlistening}
+use Rattle.gatt_slots.specs.Places.{may_listen, Covers}
+use Rattle.gatt_slots.specs.Slots.{SlotStates, all_heard, all_notified, all_notified_in_turn, handles_for, slot_heard, heard_from, is_in, is_own_place, slot_state_at, slot_notified_at, slot_notified}
+use Rattle.gatt_slots.specs.declared.places.Due.TheVariants.{Indication, Value}
+use Rattle.gatt_laws.specs.declared.TheConstants.{MAX_SLOTS}
+use Rattle.gatt_slots.proofs.Found.{clash, past}
+use Rattle.gatt_slots.proofs.Covering.{unmarked_idle}
+use Rattle.gatt_slots.proofs.Quiet.{nothing_raised, quiet_slot, unlistening}
 use Rattle.gatt_subs.specs.Hearing.{may_hear_at}
 use Rattle.gatt_subs.specs.Rows.{Subscriptions}
 
@@ -69,60 +75,123 @@ module _ (table : Contents) (now : ℕ) (rows : Subscriptions) where
       ∙ ap (λ (it : Option SlotState). slot_heard table now rows handles it) (unlistening table now rows handle slot deaf)
       ∙ unlistened handles slot deaf
 
+  raised-none : (handles : List Handle) → raised handles None ≡ None
+  raised-none [] = refl
+  raised-none (handle ∷ handles) = raised-none handles
+
+  -- for those of a set
+  abbrev raised-if : Bool → List Handle → Option SlotState → Option SlotState
+  raised-if among handles slot = if among then raised handles slot else slot
+
+  abbrev raised-where : ℕ → List Handle → ℕ → Option SlotState → Option SlotState
+  raised-where places handles place slot = raised-if (is_in places place) handles slot
+
+  in-turn : (places : ℕ) (handles : List Handle) (slots : SlotStates)
+      → all_notified_in_turn table now rows places handles slots ≡ heard_from 0 (raised-where places handles) slots
+  in-turn places [] slots = sym (alike (raised-where places []) (λ place slot. slot) slots (λ place slot. either (is_in places place) slot) ∙ nothing 0 slots)
+  in-turn places (handle ∷ handles) slots =
+      in-turn places handles (all_notified table now rows places handle slots)
+      ∙ together (raised-where places handles) (slot_notified_at table now rows places handle) 0 slots
+      ∙ alike (λ place slot. raised-where places handles place (slot_notified_at table now rows places handle place slot)) (raised-where places (handle ∷ handles)) slots
+      (λ place slot. both place slot)
+    where
+      both : (place : ℕ) (slot : Option SlotState) → raised-where places handles place (slot_notified_at table now rows places handle place slot) ≡ raised-where places (handle ∷ handles) place slot
+      both place slot = elim (is_in places place) as (λ (among : Bool).
+          (if among then raised handles (if among then slot_notified table now rows handle slot else slot) else (if among then slot_notified table now rows handle slot else slot))
+          ≡ (if among then raised handles (slot_notified table now rows handle slot) else slot)) [
+            | true ↦ refl
+            | false ↦ refl
+          ]
+
+  -- of a value of which nobody may hear
+  pub nobody_hears : (places : ℕ) (handle : Handle) (slots : SlotStates)
+      → ((row : Row) (standing : Standing) → may_hear_at table.attributes row standing handle ≡ false)
+      → slots ≡ all_notified table now rows places handle slots
+  nobody_hears places handle slots silent =
+      sym (alike (slot_notified_at table now rows places handle) (λ place slot. slot) slots (λ place slot. same (is_in places place) slot) ∙ nothing 0 slots)
+    where
+      same : (among : Bool) (slot : Option SlotState) → (if among then slot_notified table now rows handle slot else slot) ≡ slot
+      same true slot = nothing_raised table now rows handle silent slot
+      same false slot = refl
+
+  -- what is due of what waits is heard by all, if those hear it that are marked
+  pub waiting_heard : (places : ℕ) (slots : SlotStates) → Covers Indication places slots
+      → heard_from 0 (λ place slot. if is_in places place then slot_heard table now rows [] slot else slot) slots ≡ all_heard table now rows None [] [] slots
+  waiting_heard places slots covers =
+      alike-there (λ place slot. if is_in places place then slot_heard table now rows [] slot else slot) (λ place slot. slot_heard table now rows (handles_for None [] [] place) slot) 0 slots
+      (λ place. let first : 0 + place ≡ place = omega arith in
+      ap (λ (it : ℕ). if is_in places it then slot_heard table now rows [] (slot_state_at slots place) else slot_state_at slots place) first ∙ by place (is_in places place) refl)
+    where
+      by : (place : ℕ) (is : Bool) → is_in places place ≡ is
+          → (if is then slot_heard table now rows [] (slot_state_at slots place) else slot_state_at slots place) ≡ slot_heard table now rows [] (slot_state_at slots place)
+      by place true is = refl
+      by place false is = sym (quiet_slot table now rows (slot_state_at slots place) (unmarked_idle Indication places slots place covers is))
+
   -- for all of them
   module _ (own : Option ℕ) where
-    abbrev raised-where : Bool → List Handle → ℕ → Option SlotState → Option SlotState
-    raised-where others handles place slot = if is_among own others place then raised handles slot else slot
+    -- of the set of those that may listen, `mine` has the connection that it happened to, and `theirs` the others
+    module _ (mine theirs listening : ℕ) (here handles : List Handle) (slots : SlotStates) (covers : Covers Value listening slots)
+        (own_mine : (place : ℕ) → place < MAX_SLOTS → is_own_place own place ≡ true → bit_at mine place ≡ 1)
+        (others_mine : (place : ℕ) → place < MAX_SLOTS → is_own_place own place ≡ false → bit_at mine place ≡ 0)
+        (own_theirs : (place : ℕ) → place < MAX_SLOTS → is_own_place own place ≡ true → bit_at theirs place ≡ 0)
+        (others_theirs : (place : ℕ) → place < MAX_SLOTS → is_own_place own place ≡ false → bit_at theirs place ≡ bit_at listening place) where
+      abbrev raised-by : ℕ → ℕ → Option SlotState → Option SlotState
+      raised-by my their slot = slot_heard table now rows [] (raised-if (their == 1) handles (raised-if (my == 1) here slot))
 
-    in-turn : (others : Bool) (handles : List Handle) (slots : SlotStates)
-        → all_notified_in_turn table now rows own others handles slots ≡ heard_from 0 (raised-where others handles) slots
-    in-turn others [] slots = sym (alike (raised-where others []) (λ place slot. slot) slots (λ place slot. either (is_among own others place) slot) ∙ nothing 0 slots)
-    in-turn others (handle ∷ handles) slots =
-        in-turn others handles (all_notified table now rows own others handle slots)
-        ∙ together (raised-where others handles) (slot_notified_at table now rows own others handle) 0 slots
-        ∙ alike (λ place slot. raised-where others handles place (slot_notified_at table now rows own others handle place slot)) (raised-where others (handle ∷ handles)) slots
-        (λ place slot. both place slot)
-      where
-        both : (place : ℕ) (slot : Option SlotState) → raised-where others handles place (slot_notified_at table now rows own others handle place slot) ≡ raised-where others (handle ∷ handles) place slot
-        both place slot = elim (is_among own others place) as (λ (among : Bool).
-            (if among then raised handles (if among then slot_notified table now rows handle slot else slot) else (if among then slot_notified table now rows handle slot else slot))
-            ≡ (if among then raised handles (slot_notified table now rows handle slot) else slot)) [
-              | true ↦ refl
-              | false ↦ refl
-            ]
+      abbrev heard-by : Bool → Option SlotState → Option SlotState
+      heard-by is slot = slot_heard table now rows (if is then here else handles) slot
 
-    pub all_in_turn : (here handles : List Handle) (slots : SlotStates)
-        → all_heard table now rows None [] [] (all_notified_in_turn table now rows own true handles (all_notified_in_turn table now rows own false here slots))
-        ≡ all_heard table now rows own here handles slots
-    all_in_turn here handles slots =
-        let mine : ℕ → Option SlotState → Option SlotState = raised-where false here in
-        let theirs : ℕ → Option SlotState → Option SlotState = raised-where true handles in
-        let released : ℕ → Option SlotState → Option SlotState = λ place slot. slot_heard table now rows [] slot in
-        ap (heard_from 0 released) (in-turn true handles (all_notified_in_turn table now rows own false here slots)
-        ∙ ap (heard_from 0 theirs) (in-turn false here slots) ∙ together theirs mine 0 slots)
-        ∙ together released (λ place slot. theirs place (mine place slot)) 0 slots
-        ∙ alike (λ place slot. released place (theirs place (mine place slot))) (λ place slot. slot_heard table now rows (handles_for own here handles place) slot) slots
-        (λ place slot. each place slot)
-      where
-        each : (place : ℕ) (slot : Option SlotState)
-            → slot_heard table now rows [] (raised-where true handles place (raised-where false here place slot)) ≡ slot_heard table now rows (handles_for own here handles place) slot
-        each place slot = elim (is_own_place own place) as (λ (is : Bool).
-            slot_heard table now rows [] (if not is then raised handles (if is then raised here slot else slot) else (if is then raised here slot else slot))
-            ≡ slot_heard table now rows (if is then here else handles) slot) [
-              | true ↦ sym (heard-in-turn here slot)
-              | false ↦ sym (heard-in-turn handles slot)
-            ]
+      theirs-heard : (place : ℕ) (in-it : Bool) → is_in listening place ≡ in-it
+          → slot_heard table now rows [] (raised-if in-it handles (slot_state_at slots place)) ≡ slot_heard table now rows handles (slot_state_at slots place)
+      theirs-heard place true is = sym (heard-in-turn handles (slot_state_at slots place))
+      theirs-heard place false is = sym (unlistened handles (slot_state_at slots place) (deaf (may_listen (slot_state_at slots place)) refl))
+        where
+          deaf : (so : Bool) → may_listen (slot_state_at slots place) ≡ so → may_listen (slot_state_at slots place) ≡ false
+          deaf true so = clash (ap (λ (bit : ℕ). bit == 1) (covers place so)) is
+          deaf false so = so
 
-    -- of a value of which nobody may hear
-    pub nobody_hears : (others : Bool) (handle : Handle) (slots : SlotStates)
-        → ((row : Row) (standing : Standing) → may_hear_at table.attributes row standing handle ≡ false)
-        → slots ≡ all_notified table now rows own others handle slots
-    nobody_hears others handle slots silent =
-        sym (alike (slot_notified_at table now rows own others handle) (λ place slot. slot) slots (λ place slot. same (is_among own others place) slot) ∙ nothing 0 slots)
-      where
-        same : (among : Bool) (slot : Option SlotState) → (if among then slot_notified table now rows handle slot else slot) ≡ slot
-        same true slot = nothing_raised table now rows handle silent slot
-        same false slot = refl
+      each-within : (place : ℕ) → place < MAX_SLOTS → (is : Bool) → is_own_place own place ≡ is
+          → raised-by (bit_at mine place) (bit_at theirs place) (slot_state_at slots place) ≡ heard-by (is_own_place own place) (slot_state_at slots place)
+      each-within place few true is =
+          (λ i. raised-by (own_mine place few is i) (own_theirs place few is i) (slot_state_at slots place))
+          ∙ sym (heard-in-turn here (slot_state_at slots place))
+          ∙ ap (λ (so : Bool). heard-by so (slot_state_at slots place)) (sym is)
+      each-within place few false is =
+          (λ i. raised-by (others_mine place few is i) (others_theirs place few is i) (slot_state_at slots place))
+          ∙ theirs-heard place (is_in listening place) refl
+          ∙ ap (λ (so : Bool). heard-by so (slot_state_at slots place)) (sym is)
+
+      nobody-there : (my their : Bool) (is : Bool) → slot_heard table now rows [] (raised-if their handles (raised-if my here None)) ≡ heard-by is None
+      nobody-there my their is = ap (λ (it : Option SlotState). slot_heard table now rows [] it)
+          (ap (raised-if their handles) (none my here) ∙ none their handles)
+        where
+          none : (among : Bool) (values : List Handle) → raised-if among values None ≡ None
+          none true values = raised-none values
+          none false values = refl
+
+      each : length slots ≤ MAX_SLOTS → (place : ℕ)
+          → slot_heard table now rows [] (raised-where theirs handles (0 + place) (raised-where mine here (0 + place) (slot_state_at slots place)))
+          ≡ slot_heard table now rows (handles_for own here handles (0 + place)) (slot_state_at slots place)
+      each few place =
+          let first : 0 + place ≡ place = omega arith in
+          subst (λ (at : ℕ). raised-by (bit_at mine at) (bit_at theirs at) (slot_state_at slots place) ≡ heard-by (is_own_place own at) (slot_state_at slots place)) (sym first)
+          (⊎_elim (λ within. each-within place within (is_own_place own place) refl)
+          (λ beyond. subst (λ (it : Option SlotState). raised-by (bit_at mine place) (bit_at theirs place) it ≡ heard-by (is_own_place own place) it)
+          (sym (past slots place (omega (arith, few, beyond)))) (nobody-there (bit_at mine place == 1) (bit_at theirs place == 1) (is_own_place own place)))
+          (cases_lt place MAX_SLOTS))
+
+      pub all_in_turn : length slots ≤ MAX_SLOTS
+          → all_heard table now rows None [] [] (all_notified_in_turn table now rows theirs handles (all_notified_in_turn table now rows mine here slots))
+          ≡ all_heard table now rows own here handles slots
+      all_in_turn few =
+          let first : ℕ → Option SlotState → Option SlotState = raised-where mine here in
+          let second : ℕ → Option SlotState → Option SlotState = raised-where theirs handles in
+          let released : ℕ → Option SlotState → Option SlotState = λ place slot. slot_heard table now rows [] slot in
+          ap (heard_from 0 released) (in-turn theirs handles (all_notified_in_turn table now rows mine here slots)
+          ∙ ap (heard_from 0 second) (in-turn mine here slots) ∙ together second first 0 slots)
+          ∙ together released (λ place slot. second place (first place slot)) 0 slots
+          ∙ alike-there (λ place slot. released place (second place (first place slot))) (λ place slot. slot_heard table now rows (handles_for own here handles place) slot) 0 slots
+          (each few)
 
     -- where no other connection may listen, what is notified changes nothing
     pub nobody_listens : (handles : List Handle) (slots : SlotStates) → ((place : ℕ) → may_listen (slot_state_at slots place) ≡ true → is_own_place own place ≡ true)

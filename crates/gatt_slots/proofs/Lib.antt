@@ -7,6 +7,7 @@ pub mod states
 pub mod Found
 mod SlotBits
 pub mod Covering
+mod OneByOne
 pub mod AtPlace
 pub mod InTurn
 pub mod Noted

@@ -13,7 +13,7 @@ use Rattle.std.specs.Int.Bits.{and_zero_l}
 use Rattle.std.proofs.lemmas.Bool.{and_right}
 use Rattle.gatt_slots.specs.Hearing.{HearerFacts, Delivery, slot_after_hearing, hearer_facts_of, row_by_key, slot_row_in_force, delivery_of, delivery_when_notifying, delivery_when_indicating, delivery_with_heard, with_delivery}
 use Rattle.gatt_subs.specs.Hearing.{may_hear_at, wants_indications}
-use Rattle.gatt_subs.specs.Indications.{with_handle}
+use Rattle.gatt_subs.specs.Indications.{after_notify, hears, is_notified, with_handle}
 use Rattle.gatt_subs.specs.Told.{notification_of}
 use Rattle.std.specs.List.{list_any}
 use Rattle.std.specs.Option.{option_map_or, option_to_list}
@@ -92,9 +92,9 @@ none-waits : (waiting : List Handle) → is_some_handle waiting ≡ false → wa
 none-waits [] none = refl
 none-waits (handle ∷ handles) none = cc none
 
-quiet-slot : (table : Contents) (now : ℕ) (rows : Subscriptions) (slot : Option SlotState) → waits slot ≡ false → slot_heard table now rows [] slot ≡ slot
-quiet-slot table now rows None none = refl
-quiet-slot table now rows (Some slot_state) none =
+pub quiet_slot : (table : Contents) (now : ℕ) (rows : Subscriptions) (slot : Option SlotState) → waits slot ≡ false → slot_heard table now rows [] slot ≡ slot
+quiet_slot table now rows None none = refl
+quiet_slot table now rows (Some slot_state) none =
     ap (λ (it : SlotState). Some it) (nothing_heard table now (row_of rows slot_state.peer) slot_state (none-waits slot_state.pending.waiting none))
 
 both-none : (first rest : Bool) → (first || rest) ≡ false → (first ≡ false) × (rest ≡ false)
@@ -113,7 +113,7 @@ pub nothing_heard_by_all : (table : Contents) (now : ℕ) (rows : Subscriptions)
 nothing_heard_by_all table now rows own slots none =
     sym (all-quiet (λ place slot. slot_heard table now rows (handles_for own [] [] place) slot)
     (λ place slot idle. ap (λ (handles : List Handle). slot_heard table now rows handles slot) (either (is_own_place own place) [])
-    ∙ quiet-slot table now rows slot idle)
+    ∙ quiet_slot table now rows slot idle)
     0 slots none)
 
 pub none_there : {A : Type 0} (items : List A) → (length items == 0) ≡ true → items ≡ []
@@ -154,3 +154,15 @@ unlistening table now rows handle (Some slot_state) deaf =
           ∙ unasked table.attributes ear.standing handle))
       | false ↦ λ none. refl
     ] deaf
+
+-- one that is notified of a value waits for nothing more
+pub notified_stays : (pending : Indications) (attributes : List Attr) (row : Row) (standing : Standing) (handle : Handle) (backlog : ℕ)
+    → is_notified pending attributes row standing handle backlog ≡ true → after_notify pending attributes row standing handle ≡ pending
+notified_stays pending attributes row standing handle backlog =
+    by (hears pending attributes row standing handle) (wants_indications row handle) (nat_lt backlog MAX_BACKLOG)
+  where
+    by : (heard wanted few : Bool) → (heard && not wanted && few) ≡ true
+        → (if heard && wanted then record pending { waiting = with_handle pending.waiting handle } else pending) ≡ pending
+    by true true few is = cc is
+    by true false few is = refl
+    by false wanted few is = refl

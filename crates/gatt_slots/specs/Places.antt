@@ -7,7 +7,7 @@ use Rattle.gatt_slots.specs.Commands.{gives, has_command}
 use Rattle.gatt_slots.specs.declared.marks.Marks.{Marks}
 use Rattle.gatt_slots.specs.declared.telling.Heard.{Heard}
 use Rattle.gatt_slots.specs.declared.places.Due.{Due}
-use Rattle.gatt_slots.specs.declared.places.Due.TheVariants.{Command, Packet, Value}
+use Rattle.gatt_slots.specs.declared.places.Due.TheVariants.{Command, Packet, Value, Indication}
 use Rattle.gatt_slots.specs.SlotState.{SlotState}
 use Rattle.gatt_slots.specs.Slots.{SlotStates, slot_state_at}
 use Rattle.gatt_laws.specs.declared.TheConstants.{MAX_SLOTS}
@@ -17,11 +17,21 @@ use Rattle.gatt_laws.specs.declared.TheConstants.{MAX_SLOTS}
 abbrev pub may_listen : Option SlotState → Bool
 may_listen slot = option_map_or (λ (slot_state : SlotState). slot_state.live && (is_some slot_state.link.key || not (length slot_state.row == 0))) slot false
 
--- a command is due for the connection of a slot, a packet of it may be given, or it may hear of a value that is written
+-- a value waits to be indicated to the connection of a slot
+abbrev pub is_some_handle : List ℕ → Bool
+is_some_handle [] = false
+is_some_handle (handle ∷ handles) = true
+
+abbrev pub waits : Option SlotState → Bool
+waits slot = option_map_or (λ (slot_state : SlotState). is_some_handle slot_state.pending.waiting) slot false
+
+-- a command is due for the connection of a slot, a packet of it may be given, it may hear of a value that is written, or one
+-- waits to be indicated to it
 abbrev pub is_slot_due : Due → Option SlotState → Bool
 is_slot_due Command slot = has_command slot
 is_slot_due Packet slot = gives slot
 is_slot_due Value slot = may_listen slot
+is_slot_due Indication slot = waits slot
 
 -- the first place of a set
 pub record IsFirstPlace (set place : ℕ) : Type 0 where
@@ -33,27 +43,19 @@ pub record IsFirstPlace (set place : ℕ) : Type 0 where
 abbrev pub Covers : Due → ℕ → SlotStates → Type 0
 Covers due set slots = (place : ℕ) → is_slot_due due (slot_state_at slots place) ≡ true → bit_at set place ≡ 1
 
--- a value waits to be indicated to the connection of a slot
-abbrev pub is_some_handle : List ℕ → Bool
-is_some_handle [] = false
-is_some_handle (handle ∷ handles) = true
-
-abbrev pub waits : Option SlotState → Bool
-waits slot = option_map_or (λ (slot_state : SlotState). is_some_handle slot_state.pending.waiting) slot false
-
 -- nothing is due or heard, waits or is free but where it is marked
 pub record IsMarked (slots : SlotStates) (marks : Marks) : Type 0 where
   pub few : length slots ≤ MAX_SLOTS
   pub commands : Covers Command marks.commands.bits slots
   pub packets : Covers Packet marks.packets.bits slots
   pub listening : Covers Value marks.listening.bits slots
-  pub waiting : marks.waiting ≡ false → list_any waits slots ≡ false
+  pub waiting : Covers Indication marks.waiting.bits slots
   pub free : marks.free ≡ false → list_any (λ slot. is_none slot) slots ≡ false
 
 -- the same of what connections hear: packets, and values that wait
 pub record CoversHeard (slots : SlotStates) (heard : Heard) : Type 0 where
   pub packets : Covers Packet heard.packets.bits slots
-  pub waiting : heard.waiting ≡ false → list_any waits slots ≡ false
+  pub waiting : Covers Indication heard.waiting.bits slots
 
 -- a connection goes on: its slot is not freed, no command is due that was not, and nothing waits that did not wait
 pub record WaitsForNothingNew (old new : Option SlotState) : Type 0 where

@@ -1,5 +1,6 @@
 -- All slots of a host, in their order.
-use Rattle.std.specs.Prelude.{ℕ, ◌+◌, ◌==◌, ◌<◌, ◌&&◌, Bool, false, not, is_none, if◌then◌else◌, List, [], ◌∷◌, length, map, set, slice_get, min, filter_map, Option, Some, None, IsSome}
+use Rattle.std.specs.Prelude.{ℕ, ◌+◌, ◌==◌, ◌<◌, ◌&&◌, Bool, false, is_none, if◌then◌else◌, List, [], ◌∷◌, length, map, set, slice_get, min, filter_map, Option, Some, None, IsSome}
+use Rattle.std.specs.Int.{bit_at}
 use Rattle.std.specs.List.{flat_map, position, reduce}
 use Rattle.std.specs.Option.{option_map, option_map_or}
 use Rattle.att_numbers.specs.Types.{Handle, Row}
@@ -75,24 +76,25 @@ abbrev pub all_heard : Contents → ℕ → Subscriptions → Option ℕ → Lis
 all_heard table now rows own here handles slots =
     heard_from 0 (λ place slot. slot_heard table now rows (handles_for own here handles place) slot) slots
 
--- value by value: one is notified to the connection that it happened to, or for the others
+-- value by value: one is notified to a connection
 abbrev pub slot_notified : Contents → ℕ → Subscriptions → Handle → Option SlotState → Option SlotState
 slot_notified table now rows handle slot = option_map (λ (slot_state : SlotState). slot_after_notifying table now (row_of rows slot_state.peer) handle slot_state) slot
 
-abbrev pub is_among : Option ℕ → Bool → ℕ → Bool
-is_among own others place = if others then not (is_own_place own place) else is_own_place own place
+-- and to those whose places are in a set, as the bits of a number; of the code alone
+abbrev pub is_in : ℕ → ℕ → Bool
+is_in places place = bit_at places place == 1
 
-abbrev pub slot_notified_at : Contents → ℕ → Subscriptions → Option ℕ → Bool → Handle → ℕ → Option SlotState → Option SlotState
-slot_notified_at table now rows own others handle place slot = if is_among own others place then slot_notified table now rows handle slot else slot
+abbrev pub slot_notified_at : Contents → ℕ → Subscriptions → ℕ → Handle → ℕ → Option SlotState → Option SlotState
+slot_notified_at table now rows places handle place slot = if is_in places place then slot_notified table now rows handle slot else slot
 
-abbrev pub all_notified : Contents → ℕ → Subscriptions → Option ℕ → Bool → Handle → SlotStates → SlotStates
-all_notified table now rows own others handle slots = heard_from 0 (λ place slot. slot_notified_at table now rows own others handle place slot) slots
+abbrev pub all_notified : Contents → ℕ → Subscriptions → ℕ → Handle → SlotStates → SlotStates
+all_notified table now rows places handle slots = heard_from 0 (λ place slot. slot_notified_at table now rows places handle place slot) slots
 
 -- the same value by value, and not slot by slot; of the code alone
-abbrev pub all_notified_in_turn : Contents → ℕ → Subscriptions → Option ℕ → Bool → List Handle → SlotStates → SlotStates
-all_notified_in_turn table now rows own others [] slots = slots
-all_notified_in_turn table now rows own others (handle ∷ handles) slots =
-    all_notified_in_turn table now rows own others handles (all_notified table now rows own others handle slots)
+abbrev pub all_notified_in_turn : Contents → ℕ → Subscriptions → ℕ → List Handle → SlotStates → SlotStates
+all_notified_in_turn table now rows places [] slots = slots
+all_notified_in_turn table now rows places (handle ∷ handles) slots =
+    all_notified_in_turn table now rows places handles (all_notified table now rows places handle slots)
 
 -- the handles of the connections that are timed out at a moment, in the order of their slots
 abbrev pub late_handle : ℕ → SlotState → List ℕ

@@ -100,6 +100,7 @@ impl Slot {
     /// Tells the connection of a value that was written: whether it is notified. Where it is indicated
     /// the value waits.
     #[inline(always)]
+    #[tactic(auto, using(crate::proofs::Quiet::notified_stays))]
     pub(crate) fn notify(&mut self, raised: &Raised<'_>, moment: Moment<'_>) -> bool
         requires table { IsTable moment.table.now }
         requires bonds { HasBondsOfTable moment.table.now.attributes moment.rows.now }
@@ -108,6 +109,7 @@ impl Slot {
             ≡ slot_notified raised.now.table moment.entry.now moment.entry.rows.now
             raised.now.handle self.old }
         ensures unnotified { OnFalse result (gives self.new ≡ gives self.old) }
+        ensures told { OnTrue result (waits self.new ≡ waits self.old) }
     {
         if self.used != Use::Live {
             return false;

@@ -1,6 +1,6 @@
 //! Where something may be due in the slots of a host, so that an event looks at no others.
 
-ghost use Rattle.std.specs.Prelude.{◌≡◌, false, true, ◌<◌, ◌≤◌, length, set, Option};
+ghost use Rattle.std.specs.Prelude.{◌≡◌, ℕ, false, true, ◌<◌, ◌≤◌, length, set, replicate, Option, None};
 ghost use Rattle.gatt_slots.specs.Commands.{gives};
 ghost use Rattle.gatt_slots.specs.SlotState.{SlotState};
 ghost use Rattle.gatt_slots.specs.Places.{may_listen, WaitsForNothingNew, IsMarked};
@@ -18,23 +18,23 @@ pub(crate) struct Marks {
     pub(crate) packets: Places,
     /// Where a connection may hear of values.
     pub(crate) listening: Places,
-    /// Whether a value may wait to be indicated.
-    pub(crate) waiting: bool,
+    /// Where a value may wait to be indicated.
+    pub(crate) waiting: Places,
     /// Whether a slot may be free.
     pub(crate) free: bool,
 }
 
 impl Marks {
-    /// Anything may be so of any slot.
-    #[tactic(auto, using(crate::proofs::Covering::all_marked))]
-    pub(crate) fn all() -> Marks
-        ensures { (slots : SlotStates) → length slots ≤ MAX_SLOTS → IsMarked slots result }
+    /// Slots that are all free: nothing is due.
+    #[tactic(auto, using(crate::proofs::Covering::none_marked_of_free))]
+    pub(crate) fn of_free_slots() -> Marks
+        ensures { (count : ℕ) → count ≤ MAX_SLOTS → IsMarked (replicate count None) result }
     {
         Marks {
-            commands: Places::ALL,
-            packets: Places::ALL,
-            listening: Places::ALL,
-            waiting: true,
+            commands: Places::NONE,
+            packets: Places::NONE,
+            listening: Places::NONE,
+            waiting: Places::NONE,
             free: true,
         }
     }
@@ -48,7 +48,7 @@ impl Marks {
         self.commands.add(place);
         self.packets.add(place);
         self.listening.add(place);
-        self.waiting = true;
+        self.waiting.add(place);
         self.free = true;
     }
 

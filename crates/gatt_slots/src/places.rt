@@ -1,6 +1,6 @@
 //! Sets of places among slots: where something may be due, so that no other slot is looked at.
 
-ghost use Rattle.std.specs.Prelude.{◌≡◌, ◌≢◌, ℕ, ◌<◌, ◌≤◌, length, true, None, IfSome};
+ghost use Rattle.std.specs.Prelude.{◌≡◌, ◌≢◌, ℕ, ◌<◌, ◌≤◌, length, true, false, None, IfSome};
 ghost use Rattle.std.specs.Bool.{OnTrue};
 ghost use Rattle.std.specs.Int.{bit_at};
 ghost use Rattle.std.specs.List.{position};
@@ -20,6 +20,8 @@ pub(crate) enum Due {
     Packet,
     /// A value that was written, if its connection may hear of any.
     Value,
+    /// The indication of a value that waits.
+    Indication,
 }
 
 /// The places of a set, a bit each: as many as there may be slots.
@@ -37,11 +39,6 @@ pub(crate) struct Places {
 impl Places {
     /// No place.
     pub(crate) const NONE: Places = Places { bits: 0 };
-
-    /// Every place.
-    pub(crate) const ALL: Places = Places {
-        bits: SlotBits::MAX,
-    };
 
     /// No place is in the set.
     #[inline(always)]
@@ -74,12 +71,30 @@ impl Places {
         self.bits &= !(1 << place);
     }
 
-    /// No place is in the set but that of the slot `own`.
+    /// The place of the slot `own`, and no other.
     #[inline(always)]
-    pub(crate) fn is_empty_but(self, own: Option<usize>) -> bool
-        ensures { OnTrue result
-            ((place : ℕ) → place < MAX_SLOTS → bit_at self.bits place ≡ 1
-            → is_own_place own place ≡ true) }
+    pub(crate) fn of_own(own: Option<usize>) -> Places
+        ensures own { (place : ℕ) → place < MAX_SLOTS → is_own_place own place ≡ true
+            → bit_at result.bits place ≡ 1 }
+        ensures others { (place : ℕ) → place < MAX_SLOTS → is_own_place own place ≡ false
+            → bit_at result.bits place ≡ 0 }
+    {
+        let mut places = Places::NONE;
+        if let Some(place) = own {
+            if place < MAX_SLOTS {
+                places.add(place);
+            }
+        }
+        places
+    }
+
+    /// The places of the set but that of the slot `own`.
+    #[inline(always)]
+    pub(crate) fn without_own(self, own: Option<usize>) -> Places
+        ensures own { (place : ℕ) → place < MAX_SLOTS → is_own_place own place ≡ true
+            → bit_at result.bits place ≡ 0 }
+        ensures others { (place : ℕ) → place < MAX_SLOTS → is_own_place own place ≡ false
+            → bit_at result.bits place ≡ bit_at self.bits place }
     {
         let mut others = self;
         if let Some(place) = own {
@@ -87,12 +102,22 @@ impl Places {
                 others.remove(place);
             }
         }
-        others.is_empty()
+        others
+    }
+
+    /// No place is in the set but that of the slot `own`.
+    #[inline(always)]
+    pub(crate) fn is_empty_but(self, own: Option<usize>) -> bool
+        ensures { OnTrue result
+            ((place : ℕ) → place < MAX_SLOTS → bit_at self.bits place ≡ 1
+            → is_own_place own place ≡ true) }
+    {
+        self.without_own(own).is_empty()
     }
 
     /// The first place of the set.
     #[inline(always)]
-    fn first(self) -> Option<usize>
+    pub(crate) fn first(self) -> Option<usize>
         ensures none { result ≡ None → self.bits ≡ 0 }
         ensures first { IfSome result (λ place. IsFirstPlace self.bits place) }
     {
@@ -113,6 +138,7 @@ impl Slot {
             Due::Command => self.has_command(),
             Due::Packet => self.gives(),
             Due::Value => self.may_listen(),
+            Due::Indication => self.waits(),
         }
     }
 

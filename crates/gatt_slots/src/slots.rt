@@ -23,7 +23,7 @@ use crate::each::{
 use crate::handles::Handles;
 use crate::marks::Marks;
 use crate::moment::Moment;
-use crate::places::{Due, first_due};
+use crate::places::{Due, Places, first_due};
 use crate::request::Brought;
 use crate::slot::Slot;
 use crate::telling::{Heard, indicate_due, notify_all};
@@ -66,7 +66,7 @@ impl Slots {
         Ok(Slots {
             slots: free_slots(alloc, count)?,
             handles: Handles::none(),
-            marks: Marks::all(),
+            marks: Marks::of_free_slots(),
         })
     }
 
@@ -83,7 +83,6 @@ impl Slots {
         ensures { self.new ≡ take count self.old }
     {
         self.slots.truncate(count);
-        self.marks = Marks::all();
     }
 
     /// The slot whose connection has a handle and serves.
@@ -223,7 +222,6 @@ impl Slots {
         ensures late { late.new.items ≡ late_handles now self.old }
     {
         tick_all(self.slots.as_mut_slice(), now, late);
-        self.marks = Marks::all();
     }
 
     /// Takes in that a table replaces another.
@@ -231,7 +229,6 @@ impl Slots {
         ensures { self.new ≡ all_after_table old.now.attributes new.now.attributes self.old }
     {
         replace_all(self.slots.as_mut_slice(), old, new);
-        self.marks = Marks::all();
     }
 
     /// Ends an event: the connections hear of the values that it notified to them, in the order of their
@@ -270,7 +267,7 @@ impl Slots {
         ensures { OnFalse result ((table : Contents) (rows : Subscriptions) (now : ℕ)
             → all_heard table now rows None [] [] self.now ≡ self.now) }
     {
-        self.marks.waiting
+        !self.marks.waiting.is_empty()
     }
 
     /// The first slot whose connection may hear of values. Those before it are marked no more.
@@ -326,9 +323,10 @@ impl Slots {
             packets: self.marks.packets,
             waiting: self.marks.waiting,
         };
+        let others = self.marks.listening.without_own(own);
         let slots = self.slots.as_mut_slice();
-        notify_all(slots, &mut heard, moment, own, false, here);
-        notify_all(slots, &mut heard, moment, own, true, handles);
+        notify_all(slots, &mut heard, moment, Places::of_own(own), here);
+        notify_all(slots, &mut heard, moment, others, handles);
         indicate_due(slots, &mut heard, moment);
         self.marks.packets = heard.packets;
         self.marks.waiting = heard.waiting;

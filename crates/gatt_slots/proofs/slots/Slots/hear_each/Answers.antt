@@ -1,4 +1,4 @@
-use Rattle.std.proofs.Common.{◌≡◌, true, [], None, length, sym, ap, subst, ◌∙◌, arith}
+use Rattle.std.proofs.Common.{◌≡◌, ◌≤◌, ℕ, [], None, length, sym, ap, subst, ◌∙◌, arith}
 use Rattle.gatt_slots.proofs.Covering.{commands_heard, free_heard, listening_heard}
 use Rattle.gatt_slots.proofs.InTurn.{all_in_turn}
 use Rattle.gatt_slots.proofs.Noted.{heard_noted, written_over}
@@ -6,8 +6,10 @@ use Rattle.gatt_slots.proofs.OfTable.{of_table_then}
 use Rattle.gatt_slots.specs.Handles.{AreNotedIfAny}
 use Rattle.gatt_slots.specs.declared.marks.Marks.{Marks}
 use Rattle.gatt_slots.specs.OfTable.{AreOfTableIfAny}
-use Rattle.gatt_slots.specs.Places.{IsMarked}
+use Rattle.gatt_slots.specs.Places.{Covers, IsMarked}
 use Rattle.gatt_slots.specs.Slots.{SlotStates, all_heard, all_notified_in_turn}
+use Rattle.gatt_slots.specs.declared.places.Due.TheVariants.{Value}
+use Rattle.gatt_laws.specs.declared.TheConstants.{MAX_SLOTS}
 use Rattle.gatt_slots.proofs.slots.Slots.hear_each.Goals as goal
 
 pub invariant_of-self : goal.invariant_of-self
@@ -25,11 +27,16 @@ invariant_of-self c =
     let noted = c.self.inside.handles.noted in
     let marked = c.self.invariant.0 in
     let is : lent ≡ old = c.as_mut_slice-slots.ensures.value in
+    let mine : ℕ = c.of_own.result.bits in
+    let theirs : ℕ = c.without_own-others.result.bits in
+    let few : length lent ≤ MAX_SLOTS = omega (arith, ap (λ (it : SlotStates). length it) is, c.self.invariant.0.few) in
+    let listens : Covers Value c.self.inside.marks.listening.bits lent = subst (Covers Value c.self.inside.marks.listening.bits) (sym is) c.self.invariant.0.listening in
     let heard : new ≡ all_heard table now rows own here handles old =
     c.indicate_due.ensures.heard
     ∙ ap (λ (it : SlotStates). all_heard table now rows None [] [] it)
-    (c.notify_all-2.ensures.notified ∙ ap (λ (it : SlotStates). all_notified_in_turn table now rows own true handles it) c.notify_all.ensures.notified)
-    ∙ all_in_turn table now rows own here handles lent
+    (c.notify_all-2.ensures.notified ∙ ap (λ (it : SlotStates). all_notified_in_turn table now rows theirs handles it) c.notify_all.ensures.notified)
+    ∙ all_in_turn table now rows own mine theirs c.self.inside.marks.listening.bits here handles lent listens
+    c.of_own.ensures.own c.of_own.ensures.others c.without_own-others.ensures.own c.without_own-others.ensures.others few
     ∙ ap (λ (it : SlotStates). all_heard table now rows own here handles it) is in
     let count : length new ≡ length old =
     c.indicate_due.ensures.count ∙ c.notify_all-2.ensures.count ∙ c.notify_all.ensures.count ∙ ap (λ (it : SlotStates). length it) is in
@@ -61,13 +68,18 @@ returns-clause-heard c =
     let lent = c.as_mut_slice-slots.result.now in
     let new = c.indicate_due.new.slots in
     let is : lent ≡ old = c.as_mut_slice-slots.ensures.value in
+    let mine : ℕ = c.of_own.result.bits in
+    let theirs : ℕ = c.without_own-others.result.bits in
+    let few : length lent ≤ MAX_SLOTS = omega (arith, ap (λ (it : SlotStates). length it) is, c.self.invariant.0.few) in
+    let listens : Covers Value c.self.inside.marks.listening.bits lent = subst (Covers Value c.self.inside.marks.listening.bits) (sym is) c.self.invariant.0.listening in
     let count : length new ≡ length old =
     c.indicate_due.ensures.count ∙ c.notify_all-2.ensures.count ∙ c.notify_all.ensures.count ∙ ap (λ (it : SlotStates). length it) is in
     written_over c.self.inside.slots.len old new count (ap (λ (it : SlotStates). length it) (sym is) ∙ c.as_mut_slice-slots.ensures.len)
     ∙ c.indicate_due.ensures.heard
     ∙ ap (λ (it : SlotStates). all_heard table now rows None [] [] it)
-    (c.notify_all-2.ensures.notified ∙ ap (λ (it : SlotStates). all_notified_in_turn table now rows own true handles it) c.notify_all.ensures.notified)
-    ∙ all_in_turn table now rows own here handles lent
+    (c.notify_all-2.ensures.notified ∙ ap (λ (it : SlotStates). all_notified_in_turn table now rows theirs handles it) c.notify_all.ensures.notified)
+    ∙ all_in_turn table now rows own mine theirs c.self.inside.marks.listening.bits here handles lent listens
+    c.of_own.ensures.own c.of_own.ensures.others c.without_own-others.ensures.own c.without_own-others.ensures.others few
     ∙ ap (λ (it : SlotStates). all_heard table now rows own here handles it) (is ∙ c.self.view_is)
 
 pub notify_all-requires-clause-of_table : goal.notify_all-requires-clause-of_table
