@@ -281,9 +281,11 @@ fn pass_fragment(pdus: &mut Pdus, gone: &mut usize, acl_len: usize, frame_len: u
     ensures within { IsWithin acl_len gone.new pdus.new.pdus }
     ensures room { pdus.new.room ≡ pdus.old.room }
 {
-    *gone += acl_len;
-    if *gone >= frame_len {
+    let passed = *gone + acl_len;
+    if passed >= frame_len {
         pdus.pop();
         *gone = 0;
+    } else {
+        *gone = passed;
     }
 }
