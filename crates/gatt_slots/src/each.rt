@@ -154,7 +154,7 @@ fn entry_completed(
     if let Some(place) = handles.find(slots, entry.handle) {
         let slot = &mut slots[place];
         slot.packets_completed(entry.packets);
-        let giving = slot.gives();
+        let giving = slot.may_give();
         marks.mark_giving(place, giving);
     }
 }

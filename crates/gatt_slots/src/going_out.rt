@@ -66,6 +66,15 @@ impl Slot {
         self.used != Use::Free && self.sender.may_give()
     }
 
+    /// A packet may perhaps be given: where it is not so, none may. It is not asked whether there is a
+    /// connection.
+    #[inline(always)]
+    pub(crate) fn may_give(&self) -> bool
+        ensures { OnFalse result (gives self.now ≡ false) }
+    {
+        self.sender.may_give()
+    }
+
     /// Writes the next packet in place of what `out` holds. There is none, and nothing changes, where
     /// all is given that may be.
     #[inline(always)]
@@ -175,7 +184,7 @@ impl Slots {
     {
         let slot = &mut self.slots[place];
         let given = slot.next_packet(out);
-        let giving = slot.gives();
+        let giving = slot.may_give();
         self.marks.mark_giving(place, giving);
         given
     }
@@ -198,7 +207,7 @@ impl Slots {
     {
         let slot = &mut self.slots[place];
         let given = slot.next_into(out);
-        let giving = slot.gives();
+        let giving = slot.may_give();
         self.marks.mark_giving(place, giving);
         given
     }

@@ -1,5 +1,6 @@
-use Rattle.std.proofs.Common.{◌≡◌, get_or, Option, refl, sym, ap, ◌∙◌}
+use Rattle.std.proofs.Common.{◌≡◌, get_or, Option, refl, ap, ◌∙◌}
 use Rattle.std.specs.Option.{option_map, option_map_or}
+use Rattle.std.proofs.lemmas.Bool.{OnFalse_at}
 use Rattle.gatt_slots.proofs.AtPlace.{changed_at, completed_goes_on, completed_listens, there_at}
 use Rattle.gatt_slots.proofs.Noted.{changed_noted}
 use Rattle.gatt_slots.specs.SlotEffects.{slot_after_packets_completed}
@@ -28,7 +29,7 @@ returns-in-Some-clause-marked c =
     (there_at slots slots (λ i. slots) place (get_or slots place c.index-slots-place.result) within (ap (λ it. get_or slots place it) c.index-slots-place.is)) in
     c.mark_giving.ensures slots new within c.requires.marked
     (completed_goes_on count (slot_state_at slots place) new is) (completed_listens count (slot_state_at slots place) new is)
-    (λ none. sym c.gives-giving.ensures ∙ none)
+    (λ none. OnFalse_at none c.may_give-giving.ensures)
 
 pub returns-in-Some-clause-noted : goal.returns-in-Some-clause-noted
 returns-in-Some-clause-noted c = λ other some.

@@ -30,7 +30,7 @@ invariant_of-self c =
       c.mark_giving.ensures slots c.next_into-given.new.self within c.self.invariant.0
           (subst (λ (it : Option SlotState). WaitsForNothingNew it c.next_into-given.new.self) there goes)
           (λ listens. sym (ap may_listen there) ∙ given_listens slot c.next_into-given.new.self (is_some c.next_into-given.result) c.next_into-given.ensures.after c.next_into-given.ensures.unchanged listens)
-          (λ none. sym c.gives-giving.ensures ∙ none),
+          (λ none. OnFalse_at none c.may_give-giving.ensures),
       λ other some. noted_still slots c.self.inside.handles.noted (c.self.invariant.1 other some) place c.next_into-given.new.self within
           (given_noted slot c.next_into-given.new.self (is_some c.next_into-given.result) c.next_into-given.ensures.after c.next_into-given.ensures.unchanged ∙ ap noted_of there),
     )
