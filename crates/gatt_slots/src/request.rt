@@ -91,8 +91,14 @@ impl Slot {
             &mut self.sender,
             written,
         );
-        let knows_change = knows_change(&self.link, &self.pending, changer);
-        owe_unless(served.confirmed, knows_change, &self.peer, rows);
+        owe_unless_told(
+            served.confirmed,
+            &self.link,
+            &self.pending,
+            changer,
+            &self.peer,
+            rows,
+        );
         Brought {
             confirmed: take_confirmation(served.confirmed, &mut self.pending),
             ended: false,
@@ -132,6 +138,27 @@ fn take_confirmation(confirmed: bool, pending: &mut PendingOfTable) -> Option<u1
     ensures confirmed { result ≡ (if confirmed then confirmed_handle pending.old else None) }
 {
     if confirmed { pending.confirm() } else { None }
+}
+
+/// Takes in that a peer is owed nothing more, once it has confirmed that it knows of the change. Whether
+/// a confirmation would tell so is asked only where there is one.
+#[inline(always)]
+#[tactic(auto, using(crate::proofs::Bonds::unconfirmed_owed))]
+fn owe_unless_told(
+    confirmed: bool,
+    link: &Link,
+    pending: &PendingOfTable,
+    changer: Option<u16>,
+    peer: &Peer,
+    rows: &mut Rows,
+)
+    ensures { ChangesBond (with_owed_after (confirmed && (is_some link.now.key
+        && option_map_or (is_told pending.now) changer false))) peer.now rows.old rows.new }
+{
+    if confirmed {
+        let knows_change = knows_change(link, pending, changer);
+        owe_unless(confirmed, knows_change, peer, rows);
+    }
 }
 
 /// Takes in that a peer is owed nothing more, once it has confirmed that it knows of the change.

@@ -1,6 +1,6 @@
-use Rattle.std.proofs.Common.{sym, ◌∙◌, ap, subst, Option}
-use Rattle.std.specs.Option.{option_map}
-use Rattle.std.specs.Prelude.{◌==◌, is_some, length, IfSome, IsSome}
+use Rattle.std.proofs.Common.{sym, ◌∙◌, ap, subst, false, refl, Option}
+use Rattle.std.specs.Option.{option_map, option_map_or}
+use Rattle.std.specs.Prelude.{◌==◌, ◌&&◌, is_some, length, IfSome, IsSome}
 use Rattle.att_policy.specs.declared.standing.KeyFacts.{KeyFacts}
 use Rattle.att_policy.specs.declared.standing.Standing.{Standing}
 use Rattle.att_table.specs.ConfigRow.{IsRowOf}
@@ -9,6 +9,7 @@ use Rattle.gatt_slots.specs.SlotState.{SlotState}
 use Rattle.gatt_slots.specs.Request.{bond_served, slot_after_request}
 use Rattle.gatt_slots.proofs.Confirming.{confirms_nothing}
 use Rattle.gatt_slots.proofs.Served.{bond_of_served, kept_after_serving, row_of_table}
+use Rattle.gatt_subs.specs.Indications.{is_told}
 use Rattle.gatt_subs.specs.Rows.{row_of, ChangesBond}
 use Rattle.gatt_slots.proofs.slot.Slot.serve.Goals as goal
 
@@ -26,16 +27,16 @@ pub returns-clause-bond : goal.returns-clause-bond
 returns-clause-bond c =
     let inside = c.self.inside in
     let old = c.args.rows.now in
-    let new = c.owe_unless.new.rows in
+    let new = c.owe_unless_told.new.rows in
     subst (λ (self : Option SlotState). IfSome self (λ slot_state.
     ChangesBond (bond_served c.args.table.now c.args.now c.args.changer (row_of old slot_state.peer) c.args.pdu.now slot_state) slot_state.peer old new)) c.self.view_is
     (bond_of_served c.args.table.now c.args.now c.args.changer c.args.pdu.now old c.answer_by_row-served.new.rows new
     inside.handle inside.peer inside.key_known inside.until inside.row inside.link inside.conn inside.pending inside.sender inside.reply inside.reason inside.used
-    c.is_some-has_key.result c.knows_change-knows_change.result c.stand.new.self c.answer_by_row-served.result.confirmed
+    c.is_some-has_key.result (is_some inside.link.key && option_map_or (is_told inside.pending) c.args.changer false) c.stand.new.self c.answer_by_row-served.result.confirmed
     (sym c.is_full.ensures.full ∙ c.if-is_full.false)
     (c.is_some-has_key.ensures ∙ ap (λ (key : Option KeyFacts). is_some key) c.facts.ensures.key)
     (c.stand.ensures ∙ ap (λ (standing : Standing). record inside.conn { standing = standing }) c.standing-standing.ensures)
-    c.answer_by_row-served.ensures.answered.confirmed c.knows_change-knows_change.ensures c.answer_by_row-served.ensures.bond c.owe_unless.ensures)
+    c.answer_by_row-served.ensures.answered.confirmed refl c.answer_by_row-served.ensures.bond c.owe_unless_told.ensures)
 
 pub returns-clause-after : goal.returns-clause-after
 returns-clause-after c =
