@@ -1,14 +1,14 @@
 //! The command `check`.
 
+use crate::files::{make_files, remove_files};
 use att_table::examples::{BELL, DOOR};
 use gatt_commands::{KeysPath, ShellFault, TablePath, check_files, check_paths};
 use le_security::examples::KEYS;
 use std::alloc::Global;
 use std::fs::Files;
+use std::io;
 use std::io::{ErrorKind, Read};
 use std::process::Abort;
-use std::test::Fail;
-use std::{fs, io};
 
 /// Fails at each read.
 #[derive(Drop)]
@@ -64,29 +64,12 @@ const OCTETS: &[(&[u8], &[u8], Result<(), ShellFault>)] = &[
 
 #[test]
 fn counts_attributes_and_keys_or_tells_the_fault(rt: HostRuntime) {
-    check_texts(&rt, rt.alloc(), TEXTS);
-    check_octets(&rt, rt.alloc(), OCTETS);
-}
-
-fn check_texts(
-    rt: &impl Abort,
-    alloc: Global,
-    cases: &[(&str, &str, Result<(), ShellFault>, &str)],
-) {
-    for (table, keys, answer, printed) in cases {
-        judge(
-            rt,
-            alloc,
-            (table.as_bytes(), keys.as_bytes()),
-            *answer,
-            printed,
-        );
+    for (table, keys, answer, printed) in TEXTS {
+        let files = (table.as_bytes(), keys.as_bytes());
+        judge(&rt, rt.alloc(), files, *answer, printed);
     }
-}
-
-fn check_octets(rt: &impl Abort, alloc: Global, cases: &[(&[u8], &[u8], Result<(), ShellFault>)]) {
-    for (table, keys, answer) in cases {
-        judge(rt, alloc, (table, keys), *answer, "");
+    for (table, keys, answer) in OCTETS {
+        judge(&rt, rt.alloc(), (table, keys), *answer, "");
     }
 }
 
@@ -124,20 +107,7 @@ fn judges_table(rt: &impl Abort, alloc: Global, table: &[u8], answer: Result<(),
     judges(rt, alloc, &mut table, &mut Unreadable, answer, "");
 }
 
-/// Judges the files at two paths.
-fn judges_paths(
-    rt: &(impl Abort + AllocGlobal + Files),
-    table: &str,
-    keys: &str,
-    answer: Result<(), ShellFault>,
-    printed: &str,
-) {
-    assert!(rt;
-        are_judged(rt, (TablePath(table), KeysPath(keys)), answer, printed),
-        "{printed}"
-    );
-}
-
+/// Judges the files at two paths, and says whether that ends so and this is printed.
 fn are_judged(
     rt: &(impl AllocGlobal + Files),
     paths: (TablePath<'_>, KeysPath<'_>),
@@ -170,34 +140,14 @@ const PATHS: &[(&str, &str, Result<(), ShellFault>, &str)] = &[
     (TABLE, "check_nothing.toml", Err(ShellFault::Unreadable), ""),
 ];
 
-/// Writes the files.
-fn make_files(rt: &impl Files) -> io::Result<()> {
-    fs::write(rt, TABLE, BELL)?;
-    fs::write(rt, PEERS, KEYS)
-}
-
-/// Removes them.
-fn remove_files(rt: &impl Files) -> io::Result<()> {
-    fs::remove_file(rt, TABLE)?;
-    fs::remove_file(rt, PEERS)
-}
+const FILES: &[(&str, &str)] = &[(TABLE, BELL), (PEERS, KEYS)];
 
 #[test]
-fn takes_the_files_in_their_order(rt: HostRuntime) -> Result<(), Fail> {
-    Ok(judges_files(&rt)?)
-}
-
-fn judges_files(rt: &(impl Abort + AllocGlobal + Files)) -> io::Result<()> {
-    make_files(rt)?;
-    judges_each(rt, PATHS);
-    remove_files(rt)
-}
-
-fn judges_each(
-    rt: &(impl Abort + AllocGlobal + Files),
-    cases: &[(&str, &str, Result<(), ShellFault>, &str)],
-) {
-    for (table, keys, answer, printed) in cases {
-        judges_paths(rt, table, keys, *answer, printed);
+fn takes_the_files_in_their_order(rt: HostRuntime) {
+    make_files(&rt, FILES);
+    for (table, keys, answer, printed) in PATHS {
+        let paths = (TablePath(table), KeysPath(keys));
+        assert!(rt; are_judged(&rt, paths, *answer, printed), "{printed}");
     }
+    remove_files(&rt, &[TABLE, PEERS]);
 }

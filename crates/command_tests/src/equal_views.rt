@@ -4,7 +4,6 @@
 use crate::run_files::{Inputs, run};
 use le_security::examples::KEYS;
 use std::alloc::{AllocError, Global};
-use std::process::Abort;
 use std::str;
 use std::str::Lines;
 
@@ -165,6 +164,25 @@ U > 1b030007
 /// What U sees stays in its order, and the rest falls between: V comes first, or behind U.
 const UNSEEN_ORDERS: &[&str] = &["VVVVVVUUUUUUU", "UUUVUVUVUVVVU", "VUVUVUVUVVUUU"];
 
+/// Lines of U and of V, and what phones hear of them, by their names.
+struct View {
+    of_u: &'static str,
+    of_v: &'static str,
+    heard: &'static [(&'static str, &'static str)],
+}
+
+const BOTH: &View = &View {
+    of_u: LINES_OF_U,
+    of_v: LINES_OF_V,
+    heard: &[("U", HEARD_BY_U), ("V", HEARD_BY_V)],
+};
+
+const SEEN: &View = &View {
+    of_u: SEEN_BY_U,
+    of_v: UNSEEN_BY_U,
+    heard: &[("U", TOLD_U)],
+};
+
 /// Writes lines of two texts in an order, U for the first of them and V for the other.
 fn interleave(
     order: &str,
@@ -194,31 +212,16 @@ fn put_line(line: &str, script: &mut String) -> Result<(), AllocError> {
     script.push('\n')
 }
 
-/// Whether both phones hear what they are to hear of a script with their lines in an order.
-fn hear(alloc: Global, order: &str) -> bool {
+/// Whether phones hear what they are to hear of a script with these lines in an order.
+fn hear(alloc: Global, order: &str, view: &View) -> bool {
     let mut script = String::new(alloc);
-    interleave(order, LINES_OF_U, LINES_OF_V, &mut script).is_ok() && hear_script(alloc, &script)
+    interleave(order, view.of_u, view.of_v, &mut script).is_ok()
+        && hear_script(alloc, &script, view.heard)
 }
 
-/// Whether U hears what it is to hear where it sees the same.
-fn hear_seen(alloc: Global, order: &str) -> bool {
-    let mut script = String::new(alloc);
+fn hear_script(alloc: Global, script: &str, heard: &[(&str, &str)]) -> bool {
     let mut printed: Vec<u8> = Vec::new(alloc);
-    interleave(order, SEEN_BY_U, UNSEEN_BY_U, &mut script).is_ok()
-        && is_run(alloc, &script, &mut printed)
-        && is_told(printed.as_slice())
-}
-
-fn is_told(printed: &[u8]) -> bool {
-    match str::from_utf8(printed) {
-        Ok(text) => is_heard_by(text, "U", TOLD_U),
-        Err(_) => false,
-    }
-}
-
-fn hear_script(alloc: Global, script: &str) -> bool {
-    let mut printed: Vec<u8> = Vec::new(alloc);
-    is_run(alloc, script, &mut printed) && is_heard(printed.as_slice())
+    is_run(alloc, script, &mut printed) && are_heard(printed.as_slice(), heard)
 }
 
 /// Runs a script, and writes what is printed.
@@ -233,11 +236,16 @@ fn is_run(alloc: Global, script: &str, printed: &mut Vec<u8>) -> bool {
     run(alloc, &inputs, &mut Vec::new(alloc), printed).is_ok()
 }
 
-fn is_heard(printed: &[u8]) -> bool {
-    match str::from_utf8(printed) {
-        Ok(text) => is_heard_by(text, "U", HEARD_BY_U) && is_heard_by(text, "V", HEARD_BY_V),
-        Err(_) => false,
+fn are_heard(printed: &[u8], heard: &[(&str, &str)]) -> bool {
+    let Ok(text) = str::from_utf8(printed) else {
+        return false;
+    };
+    for (name, lines) in heard {
+        if !is_heard_by(text, name, lines) {
+            return false;
+        }
     }
+    true
 }
 
 /// Whether the lines that begin with a name are these.
@@ -258,22 +266,14 @@ fn is_next(line: &str, name: &str, wanted: &mut Lines<'_>) -> bool {
 
 #[test]
 fn each_hears_the_same_in_each_order(rt: HostRuntime) {
-    check_orders(&rt, rt.alloc(), ORDERS);
+    for order in ORDERS {
+        assert!(rt; hear(rt.alloc(), order, BOTH), "{order}");
+    }
 }
 
 #[test]
 fn hears_the_same_where_it_sees_the_same(rt: HostRuntime) {
-    check_seen(&rt, rt.alloc(), UNSEEN_ORDERS);
-}
-
-fn check_seen(rt: &impl Abort, alloc: Global, orders: &[&str]) {
-    for order in orders {
-        assert!(rt; hear_seen(alloc, order), "{order}");
-    }
-}
-
-fn check_orders(rt: &impl Abort, alloc: Global, orders: &[&str]) {
-    for order in orders {
-        assert!(rt; hear(alloc, order), "{order}");
+    for order in UNSEEN_ORDERS {
+        assert!(rt; hear(rt.alloc(), order, SEEN), "{order}");
     }
 }

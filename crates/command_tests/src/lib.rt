@@ -13,6 +13,8 @@ mod command_faults;
 #[cfg(test)]
 mod equal_views;
 #[cfg(test)]
+mod files;
+#[cfg(test)]
 mod long_scripts;
 #[cfg(test)]
 mod machine;

@@ -1,9 +1,8 @@
 //! Scripts of many lines, and lines of many octets.
 
-use crate::run_files;
-use crate::run_files::Inputs;
+use crate::run_command::{Run, is_printed};
+use crate::run_files::UNASKED;
 use att_table::examples::DOOR;
-use le_security::examples::KEYS;
 use std::alloc::{AllocError, Global};
 use std::process::Abort;
 
@@ -23,8 +22,19 @@ fn prints(rt: &impl Abort, alloc: Global, runs: &[LongRun]) {
 
 fn is_long_run(alloc: Global, run: &LongRun) -> Result<bool, AllocError> {
     let script = text_of(alloc, run.script)?;
-    let wanted = text_of(alloc, run.printed)?;
-    Ok(is_printed(alloc, run.table, script.as_str(), wanted.as_str()))
+    let printed = text_of(alloc, run.printed)?;
+    Ok(is_printed_of(alloc, run.table, &script, &printed))
+}
+
+fn is_printed_of<'a>(alloc: Global, table: &'a str, script: &'a str, printed: &'a str) -> bool {
+    let run = Run {
+        shows: UNASKED,
+        table,
+        next: None,
+        script,
+        printed,
+    };
+    is_printed(alloc, &run)
 }
 
 /// The pieces of a text, one behind the other.
@@ -36,19 +46,6 @@ fn text_of(alloc: Global, pieces: &[(&str, usize)]) -> Result<String, AllocError
         }
     }
     Ok(text)
-}
-
-fn is_printed<'a>(alloc: Global, table: &'a str, script: &'a str, wanted: &str) -> bool {
-    let inputs = Inputs {
-        table,
-        next: None,
-        keys: KEYS,
-        rows: "",
-        script,
-    };
-    let mut printed: Vec<u8> = Vec::new(alloc);
-    run_files::run(alloc, &inputs, &mut Vec::new(alloc), &mut printed) == Ok(())
-        && printed.as_slice() == wanted.as_bytes()
 }
 
 const MANY_LINES: LongRun = LongRun {

@@ -1,35 +1,37 @@
 //! The command `run`: scripts, and what is printed for them.
 
-use crate::run_files;
-use crate::run_files::Inputs;
+use crate::run_files::{Inputs, UNASKED, run_showing};
 use att_table::examples::{DOOR, PORCH, PORCH_NEXT, POST};
+use gatt_commands::Shows;
 use le_security::examples::KEYS;
 use std::alloc::Global;
 use std::process::Abort;
 
-/// A script over a table and, where there is one, another that replaces it; and what it prints.
+/// A script over a table and, where there is one, another that replaces it; what is shown beside what
+/// the phones hear; and what it prints.
 #[derive(Clone, Copy)]
-struct Run {
-    table: &'static str,
-    next: Option<&'static str>,
-    script: &'static str,
-    printed: &'static str,
+pub struct Run<'a> {
+    pub shows: Shows,
+    pub table: &'a str,
+    pub next: Option<&'a str>,
+    pub script: &'a str,
+    pub printed: &'a str,
 }
 
 /// Runs scripts, each over a host of its own with no rows, and compares what they print.
-fn prints(rt: &impl Abort, alloc: Global, runs: &[Run]) {
+pub fn prints(rt: &impl Abort, alloc: Global, runs: &[Run<'_>]) {
     for run in runs {
         assert!(rt; is_printed(alloc, run), "{}", run.script);
     }
 }
 
-fn is_printed(alloc: Global, run: &Run) -> bool {
+pub fn is_printed(alloc: Global, run: &Run<'_>) -> bool {
     let mut printed: Vec<u8> = Vec::new(alloc);
     is_run(alloc, run, &mut printed) && printed.as_slice() == run.printed.as_bytes()
 }
 
 /// Runs a script, and writes what is printed.
-fn is_run(alloc: Global, run: &Run, printed: &mut Vec<u8>) -> bool {
+fn is_run(alloc: Global, run: &Run<'_>, printed: &mut Vec<u8>) -> bool {
     let inputs = Inputs {
         table: run.table,
         next: run.next,
@@ -37,17 +39,18 @@ fn is_run(alloc: Global, run: &Run, printed: &mut Vec<u8>) -> bool {
         rows: "",
         script: run.script,
     };
-    run_files::run(alloc, &inputs, &mut Vec::new(alloc), printed).is_ok()
+    run_showing(alloc, &inputs, &mut Vec::new(alloc), run.shows, printed).is_ok()
 }
 
-const AT_THE_DOOR: Run = Run {
+const AT_THE_DOOR: Run<'_> = Run {
+    shows: UNASKED,
     table: DOOR,
     next: None,
     script: "",
     printed: "",
 };
 
-const REQUESTS: Run = Run {
+const REQUESTS: Run<'_> = Run {
     script: "\
 connect U 1 c0:00:00:00:00:0a
 U < 0a0300
@@ -63,7 +66,7 @@ U >6 0505
 };
 
 /// The last line needs no line feed.
-const SIGNALLING: Run = Run {
+const SIGNALLING: Run<'_> = Run {
     script: "\
 # A phone, and what it asks.
 
@@ -79,7 +82,7 @@ U > 0b4c6f636b
     ..AT_THE_DOOR
 };
 
-const BY_CHANNEL: &[Run] = &[AT_THE_DOOR, REQUESTS, SIGNALLING];
+const BY_CHANNEL: &[Run<'_>] = &[AT_THE_DOOR, REQUESTS, SIGNALLING];
 
 #[test]
 fn prints_what_each_phone_hears_by_channel(rt: HostRuntime) {
@@ -88,7 +91,7 @@ fn prints_what_each_phone_hears_by_channel(rt: HostRuntime) {
 
 /// What one phone has prepared, another neither writes nor drops. A third kind of Execute Write is
 /// not there.
-const PREPARED: Run = Run {
+const PREPARED: Run<'_> = Run {
     script: "\
 connect A 1 c0:00:00:00:00:0a
 connect B 1 c0:00:00:00:00:0b
@@ -112,7 +115,7 @@ B > 0118000004
     ..AT_THE_DOOR
 };
 
-const APART: &[Run] = &[PREPARED];
+const APART: &[Run<'_>] = &[PREPARED];
 
 #[test]
 fn keeps_what_each_phone_prepares_apart(rt: HostRuntime) {
@@ -120,7 +123,8 @@ fn keeps_what_each_phone_prepares_apart(rt: HostRuntime) {
 }
 
 /// What is prepared, and what is configured for a value of another type, goes with the old table.
-const REPLACED: Run = Run {
+const REPLACED: Run<'_> = Run {
+    shows: UNASKED,
     table: PORCH,
     next: Some(PORCH_NEXT),
     script: "\
@@ -151,7 +155,8 @@ U > 0b0200
 };
 
 /// The two tables change places each time, and each keeps the values that it has.
-const REPLACED_TWICE: Run = Run {
+const REPLACED_TWICE: Run<'_> = Run {
+    shows: UNASKED,
     table: PORCH,
     next: Some(PORCH_NEXT),
     script: "\
@@ -168,7 +173,7 @@ U > 0b01
 ",
 };
 
-const REPLACEMENTS: &[Run] = &[REPLACED, REPLACED_TWICE];
+const REPLACEMENTS: &[Run<'_>] = &[REPLACED, REPLACED_TWICE];
 
 #[test]
 fn replaces_the_table(rt: HostRuntime) {
@@ -176,7 +181,8 @@ fn replaces_the_table(rt: HostRuntime) {
 }
 
 /// A phone is authorized up to a moment, and not at it. That moment stays past.
-const AUTHORIZED: Run = Run {
+const AUTHORIZED: Run<'_> = Run {
+    shows: UNASKED,
     table: POST,
     next: None,
     script: "\
@@ -198,7 +204,8 @@ U > 010a030008
 ",
 };
 
-const ALLOWED_AND_DENIED: Run = Run {
+const ALLOWED_AND_DENIED: Run<'_> = Run {
+    shows: UNASKED,
     table: POST,
     next: None,
     script: "\
@@ -216,7 +223,8 @@ U > 010a030008
 };
 
 /// What is allowed or denied to one phone is not to another.
-const SECOND_ALLOWED: Run = Run {
+const SECOND_ALLOWED: Run<'_> = Run {
+    shows: UNASKED,
     table: POST,
     next: None,
     script: "\
@@ -238,14 +246,14 @@ V > 010a030008
 ",
 };
 
-const AUTHORIZATIONS: &[Run] = &[AUTHORIZED, ALLOWED_AND_DENIED, SECOND_ALLOWED];
+const AUTHORIZATIONS: &[Run<'_>] = &[AUTHORIZED, ALLOWED_AND_DENIED, SECOND_ALLOWED];
 
 #[test]
 fn ends_an_authorization_at_its_moment(rt: HostRuntime) {
     prints(&rt, rt.alloc(), AUTHORIZATIONS);
 }
 
-const CALLS_REFUSED: Run = Run {
+const CALLS_REFUSED: Run<'_> = Run {
     script: "\
 update 99 01
 update 7 0100
@@ -265,7 +273,7 @@ fault 5
     ..AT_THE_DOOR
 };
 
-const REPLACEMENT_REFUSED: Run = Run {
+const REPLACEMENT_REFUSED: Run<'_> = Run {
     next: Some(PORCH),
     script: "\
 replace
@@ -280,7 +288,7 @@ U > 0b4c6f636b
 };
 
 /// There is room for four connections.
-const ACTS_REFUSED: Run = Run {
+const ACTS_REFUSED: Run<'_> = Run {
     script: "\
 drop U
 connect U 1 c0:00:00:00:00:0a
@@ -302,7 +310,7 @@ Y > 0b4c6f636b
     ..AT_THE_DOOR
 };
 
-const REFUSALS: &[Run] = &[CALLS_REFUSED, REPLACEMENT_REFUSED, ACTS_REFUSED];
+const REFUSALS: &[Run<'_>] = &[CALLS_REFUSED, REPLACEMENT_REFUSED, ACTS_REFUSED];
 
 #[test]
 fn prints_the_number_of_each_refusal(rt: HostRuntime) {
@@ -310,7 +318,7 @@ fn prints_the_number_of_each_refusal(rt: HostRuntime) {
 }
 
 /// A link that had a key goes on without one: authentication failure.
-const CLEARED: Run = Run {
+const CLEARED: Run<'_> = Run {
     script: "\
 connect P 1 c0:00:00:00:00:01
 encrypt P 0101010101010101 257
@@ -328,7 +336,7 @@ P refused 1
 
 /// Two packets may be on their way to a phone, and sixteen answers wait for them: remote user
 /// terminated connection.
-const NOT_FETCHED: Run = Run {
+const NOT_FETCHED: Run<'_> = Run {
     script: "\
 connect U 1 c0:00:00:00:00:0a
 hold U
@@ -361,7 +369,7 @@ U ended 13
 };
 
 /// A phone that is held gets as many packets more as it has taken.
-const FETCHED: Run = Run {
+const FETCHED: Run<'_> = Run {
     script: "\
 connect U 1 c0:00:00:00:00:0a
 hold U
@@ -379,7 +387,7 @@ U > 0b64
     ..AT_THE_DOOR
 };
 
-const ENDS: &[Run] = &[CLEARED, NOT_FETCHED, FETCHED];
+const ENDS: &[Run<'_>] = &[CLEARED, NOT_FETCHED, FETCHED];
 
 #[test]
 fn prints_which_connection_is_ended(rt: HostRuntime) {

@@ -148,27 +148,23 @@ const GOOD_KEYS: Inputs<'static> = Inputs {
     ..GOOD_NEXT
 };
 
-const GOOD_ROWS: Inputs<'static> = Inputs {
+const GOOD_ROWS: &Inputs<'static> = &Inputs {
     rows: SUBSCRIBED,
     ..GOOD_KEYS
 };
 
-const IN_TURN: &[(Inputs<'_>, ShellFault)] = &[
-    (BAD, ShellFault::Table(1)),
-    (GOOD_TABLE, ShellFault::Next(2)),
-    (GOOD_NEXT, ShellFault::Keys(9)),
-    (GOOD_KEYS, ShellFault::Rows(1)),
+const IN_TURN: &[(&Inputs<'_>, ShellFault)] = &[
+    (&BAD, ShellFault::Table(1)),
+    (&GOOD_TABLE, ShellFault::Next(2)),
+    (&GOOD_NEXT, ShellFault::Keys(9)),
+    (&GOOD_KEYS, ShellFault::Rows(1)),
     (GOOD_ROWS, ShellFault::Script(2)),
 ];
 
 #[test]
 fn judges_table_next_keys_rows_and_script_in_turn(rt: HostRuntime) {
-    refuses(&rt, rt.alloc(), IN_TURN);
-}
-
-fn refuses(rt: &impl Abort, alloc: Global, cases: &[(Inputs<'_>, ShellFault)]) {
-    for (inputs, fault) in cases {
-        assert!(rt; is_refused(alloc, inputs, *fault), "{}", inputs.script);
+    for (inputs, fault) in IN_TURN {
+        assert!(rt; is_refused(rt.alloc(), inputs, *fault), "{}", inputs.script);
     }
 }
 
@@ -190,12 +186,8 @@ const BAD_LINES: &[(&str, u64)] = &[
 
 #[test]
 fn prints_nothing_of_a_script_with_a_bad_line(rt: HostRuntime) {
-    check_lines(&rt, rt.alloc(), BAD_LINES);
-}
-
-fn check_lines(rt: &impl Abort, alloc: Global, cases: &[(&str, u64)]) {
-    for &(script, line) in cases {
-        assert!(rt; is_bad_line(alloc, script, line), "{script}");
+    for &(script, line) in BAD_LINES {
+        assert!(rt; is_bad_line(rt.alloc(), script, line), "{script}");
     }
 }
 
@@ -256,8 +248,11 @@ fn writes_the_rows_at_the_end(rt: HostRuntime) {
     runs(&rt, rt.alloc(), WRITTEN);
 }
 
+/// A phone reads a value, and is answered.
+const READS: &Inputs<'static> = &GOOD;
+
 /// The rows are written, and what is printed is not.
-const UNPRINTED: Outcome = Outcome {
+const UNPRINTED: &Outcome = &Outcome {
     printed: "",
     rows: SUBSCRIBED,
     ended: Err(ShellFault::Unwritten),
@@ -265,7 +260,7 @@ const UNPRINTED: Outcome = Outcome {
 
 #[test]
 fn writes_the_rows_where_the_output_fails(rt: HostRuntime) {
-    assert!(&rt; is_written(rt.alloc(), &GOOD, &UNPRINTED, &mut Closed));
+    assert!(&rt; is_written(rt.alloc(), READS, UNPRINTED, &mut Closed));
 }
 
 #[test]
@@ -276,12 +271,12 @@ fn tells_rows_that_cannot_be_written(rt: HostRuntime) {
 /// Whether the rows are not written, and this is printed.
 fn is_unwritten(alloc: Global, wanted: &[u8]) -> bool {
     let mut printed: Vec<u8> = Vec::new(alloc);
-    run(alloc, &GOOD, &mut Closed, &mut printed) == Err(ShellFault::Unwritten)
+    run(alloc, READS, &mut Closed, &mut printed) == Err(ShellFault::Unwritten)
         && printed.as_slice() == wanted
 }
 
 /// A phone with a key subscribes to the battery level, and is answered.
-const SUBSCRIBES: Inputs<'static> = Inputs {
+const SUBSCRIBES: &Inputs<'static> = &Inputs {
     rows: "",
     script: "connect P 1 c0:00:00:00:00:01\nencrypt P 0101010101010101 257\nP < 1207000100\n",
     ..GOOD
@@ -289,7 +284,7 @@ const SUBSCRIBES: Inputs<'static> = Inputs {
 
 #[test]
 fn saves_the_rows_once_where_the_output_fails(rt: HostRuntime) {
-    assert!(&rt; is_saved_once(rt.alloc(), &SUBSCRIBES, SUBSCRIBED));
+    assert!(&rt; is_saved_once(rt.alloc(), SUBSCRIBES, SUBSCRIBED));
 }
 
 /// Whether a run whose output fails has asked once for this text of the rows to be saved.
@@ -301,7 +296,7 @@ fn is_saved_once(alloc: Global, inputs: &Inputs<'_>, text: &str) -> bool {
 
 #[test]
 fn saves_no_rows_where_a_file_is_refused(rt: HostRuntime) {
-    assert!(&rt; is_unsaved(rt.alloc(), &GOOD_ROWS));
+    assert!(&rt; is_unsaved(rt.alloc(), GOOD_ROWS));
 }
 
 /// Whether a run is refused for its script, and no rows are to be saved.

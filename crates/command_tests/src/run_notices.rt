@@ -1,12 +1,8 @@
 //! The command `run` with notices, and with the lines of its script.
 
-use crate::run_files;
-use crate::run_files::Inputs;
+use crate::run_command::{Run, prints};
 use att_table::examples::{BELL, DOOR};
 use gatt_commands::Shows;
-use le_security::examples::KEYS;
-use std::alloc::Global;
-use std::process::Abort;
 
 /// Notices alone, lines alone, and both.
 const NOTICES: Shows = Shows {
@@ -24,43 +20,11 @@ const ALL: Shows = Shows {
     lines: true,
 };
 
-/// A script over a table, and what it prints with what is asked for.
-#[derive(Clone, Copy)]
-struct Run {
-    shows: Shows,
-    table: &'static str,
-    script: &'static str,
-    printed: &'static str,
-}
-
-/// Runs scripts, each over a host of its own with no rows, and compares what they print.
-fn prints(rt: &impl Abort, alloc: Global, runs: &[Run]) {
-    for run in runs {
-        assert!(rt; is_printed(alloc, run), "{}", run.script);
-    }
-}
-
-fn is_printed(alloc: Global, run: &Run) -> bool {
-    let mut printed: Vec<u8> = Vec::new(alloc);
-    is_run(alloc, run, &mut printed) && printed.as_slice() == run.printed.as_bytes()
-}
-
-/// Runs a script, and writes what is printed.
-fn is_run(alloc: Global, run: &Run, printed: &mut Vec<u8>) -> bool {
-    let inputs = Inputs {
-        table: run.table,
-        next: None,
-        keys: KEYS,
-        rows: "",
-        script: run.script,
-    };
-    run_files::run_showing(alloc, &inputs, &mut Vec::new(alloc), run.shows, printed).is_ok()
-}
-
 /// A key is gained and lost, which ends the connection.
-const KEY: Run = Run {
+const KEY: Run<'_> = Run {
     shows: NOTICES,
     table: DOOR,
+    next: None,
     script: "\
 connect Q 0 00:11:22:33:44:55
 Q < 120a0001
@@ -83,9 +47,10 @@ Q ended 05
 };
 
 /// Prepared writes are told once they are executed, and a value of no octets as a hyphen.
-const WRITES: Run = Run {
+const WRITES: Run<'_> = Run {
     shows: NOTICES,
     table: DOOR,
+    next: None,
     script: "\
 connect U 1 c0:00:00:00:00:0a
 U < 16150000004869
@@ -112,9 +77,10 @@ U refused 1
 };
 
 /// An indication is confirmed, and another one is not in time.
-const INDICATIONS: Run = Run {
+const INDICATIONS: Run<'_> = Run {
     shows: NOTICES,
     table: BELL,
+    next: None,
     script: "\
 connect U 1 c0:00:00:00:00:0a
 U < 1204000200
@@ -139,9 +105,10 @@ fault 2
 };
 
 /// What two phones do is told by their handles, and of a phone that acts alone nothing is told again.
-const TWO: Run = Run {
+const TWO: Run<'_> = Run {
     shows: NOTICES,
     table: DOOR,
+    next: None,
     script: "\
 connect P 1 c0:00:00:00:00:01
 connect Q 0 00:11:22:33:44:55
@@ -159,9 +126,10 @@ done P 1
 };
 
 /// Where there is no room for an answer the connection is ended.
-const FULL_QUEUE: Run = Run {
+const FULL_QUEUE: Run<'_> = Run {
     shows: NOTICES,
     table: DOOR,
+    next: None,
     script: "\
 connect U 1 c0:00:00:00:00:0a
 hold U
@@ -197,9 +165,10 @@ U ended 13
 
 /// A comment and a blank line stand in front of the line behind them, and what stands behind the last
 /// line brings nothing.
-const ECHOED: Run = Run {
+const ECHOED: Run<'_> = Run {
     shows: LINES,
     table: DOOR,
+    next: None,
     script: "\
 # A stranger reads the name.
 connect U 1 c0:00:00:00:00:0a
@@ -219,9 +188,10 @@ U < 520300ff
 };
 
 /// A line is printed before its notices, and the last one may lack its line feed.
-const ECHOED_WITH_NOTICES: Run = Run {
+const ECHOED_WITH_NOTICES: Run<'_> = Run {
     shows: ALL,
     table: DOOR,
+    next: None,
     script: "\
 connect U 1 c0:00:00:00:00:0a
 drop U",

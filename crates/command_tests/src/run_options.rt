@@ -1,5 +1,6 @@
 //! The command `run` over files at paths: which files are opened.
 
+use crate::files::{make_files, remove_files};
 use crate::machine::Machine;
 use crate::run_files::UNASKED;
 use att_table::examples::{PORCH, PORCH_NEXT};
@@ -7,10 +8,8 @@ use gatt_commands::{
     KeysPath, NextPath, RowsPath, RunPaths, ScriptPath, ShellFault, TablePath, run_paths,
 };
 use le_security::examples::KEYS;
+use std::fs;
 use std::fs::Files;
-use std::process::Abort;
-use std::test::Fail;
-use std::{fs, io};
 
 const TABLE: &str = "options_table.toml";
 
@@ -67,46 +66,23 @@ const SEALED_ROWS: Case = Case {
     ..KEPT_NOWHERE
 };
 
-/// Writes the files beside the script.
-fn make_files(rt: &impl Files) -> io::Result<()> {
-    fs::write(rt, TABLE, PORCH)?;
-    fs::write(rt, NEXT, PORCH_NEXT)?;
-    fs::write(rt, PEERS, KEYS)
-}
-
-/// Removes all files.
-fn remove_files(rt: &impl Files) -> io::Result<()> {
-    fs::remove_file(rt, TABLE)?;
-    fs::remove_file(rt, NEXT)?;
-    fs::remove_file(rt, PEERS)?;
-    fs::remove_file(rt, SCRIPT)
-}
+/// The files beside the script.
+const FILES: &[(&str, &str)] = &[(TABLE, PORCH), (NEXT, PORCH_NEXT), (PEERS, KEYS)];
 
 const CASES: &[Case] = &[REPLACED, KEPT_NOWHERE, SEALED_NEXT, SEALED_ROWS];
 
 #[test]
-fn opens_the_files_that_it_is_given(rt: HostRuntime) -> Result<(), Fail> {
-    Ok(opens(&rt)?)
-}
-
-fn opens(rt: &(impl Abort + AllocGlobal + Files)) -> io::Result<()> {
-    make_files(rt)?;
-    runs_each(rt, CASES);
-    remove_files(rt)
-}
-
-fn runs_each(rt: &(impl Abort + AllocGlobal + Files), cases: &[Case]) {
-    for case in cases {
-        assert!(rt;
-            is_script(rt, case.script) && is_run(rt, case),
-            "{}",
-            case.script
-        );
+fn opens_the_files_that_it_is_given(rt: HostRuntime) {
+    make_files(&rt, FILES);
+    for case in CASES {
+        assert!(rt; is_script(&rt, case), "{}", case.script);
     }
+    remove_files(&rt, PATHS);
 }
 
-fn is_script(rt: &impl Files, script: &str) -> bool {
-    fs::write(rt, SCRIPT, script).is_ok()
+/// Writes a script and runs it.
+fn is_script(rt: &(impl AllocGlobal + Files), case: &Case) -> bool {
+    fs::write(rt, SCRIPT, case.script).is_ok() && is_run(rt, case)
 }
 
 fn is_run(rt: &(impl AllocGlobal + Files), case: &Case) -> bool {

@@ -1,15 +1,14 @@
 //! The command `run` over files at paths.
 
+use crate::files::{has_text, make_files, remove_files};
 use crate::run_files::UNASKED;
 use att_table::examples::DOOR;
 use gatt_commands::{
     KeysPath, NextPath, RowsPath, RunPaths, ScriptPath, ShellFault, TablePath, run_paths,
 };
 use le_security::examples::KEYS;
+use std::fs;
 use std::fs::Files;
-use std::process::Abort;
-use std::test::Fail;
-use std::{fs, io};
 
 const TABLE: &str = "run_table.toml";
 
@@ -19,20 +18,14 @@ const ROWS: &str = "run_rows.txt";
 
 const SCRIPT: &str = "run_script.txt";
 
-/// Runs a script over the other files, and compares how it ends and what the rows file then has.
+/// Runs a script over the other files, and says whether it ends so and the rows file then has this text.
 fn leaves(
-    rt: &(impl Abort + AllocGlobal + Files),
+    rt: &(impl AllocGlobal + Files),
     script: &str,
     ended: Result<(), ShellFault>,
     rows: &str,
-) {
-    assert!(rt; is_script(rt, script) && run(rt) == ended, "{script}");
-    assert!(rt; has_rows(rt, rows), "{script}");
-}
-
-/// Writes a script.
-fn is_script(rt: &impl Files, script: &str) -> bool {
-    fs::write(rt, SCRIPT, script).is_ok()
+) -> bool {
+    fs::write(rt, SCRIPT, script).is_ok() && run(rt) == ended && has_text(rt, ROWS, rows)
 }
 
 fn run(rt: &(impl AllocGlobal + Files)) -> Result<(), ShellFault> {
@@ -48,28 +41,11 @@ fn run(rt: &(impl AllocGlobal + Files)) -> Result<(), ShellFault> {
     run_paths(rt.alloc(), rt, paths, &mut printed)
 }
 
-fn has_rows(rt: &(impl AllocGlobal + Files), rows: &str) -> bool {
-    match fs::read(rt, ROWS) {
-        Ok(written) => written.as_slice() == rows.as_bytes(),
-        Err(_) => false,
-    }
-}
+/// The table and the keys. There is no rows file at first.
+const FILES: &[(&str, &str)] = &[(TABLE, DOOR), (PEERS, KEYS)];
 
-/// Writes the table and the keys. There is no rows file.
-fn make_files(rt: &impl Files) -> io::Result<()> {
-    // Only a run that was stopped has left one.
-    let _ = fs::remove_file(rt, ROWS);
-    fs::write(rt, TABLE, DOOR)?;
-    fs::write(rt, PEERS, KEYS)
-}
-
-/// Removes all files.
-fn remove_files(rt: &impl Files) -> io::Result<()> {
-    fs::remove_file(rt, TABLE)?;
-    fs::remove_file(rt, PEERS)?;
-    fs::remove_file(rt, ROWS)?;
-    fs::remove_file(rt, SCRIPT)
-}
+/// All files in the end.
+const PATHS: &[&str] = &[TABLE, PEERS, ROWS, SCRIPT];
 
 /// A phone with a key subscribes to the battery level.
 const SUBSCRIBES: &str = "\
@@ -90,21 +66,12 @@ const CASES: &[(&str, Result<(), ShellFault>, &str)] = &[
 ];
 
 #[test]
-fn keeps_the_rows_file(rt: HostRuntime) -> Result<(), Fail> {
-    Ok(keeps(&rt)?)
-}
-
-fn keeps(rt: &(impl Abort + AllocGlobal + Files)) -> io::Result<()> {
-    make_files(rt)?;
-    leaves_each(rt, CASES);
-    remove_files(rt)
-}
-
-fn leaves_each(
-    rt: &(impl Abort + AllocGlobal + Files),
-    cases: &[(&str, Result<(), ShellFault>, &str)],
-) {
-    for (script, ended, rows) in cases {
-        leaves(rt, script, *ended, rows);
+fn keeps_the_rows_file(rt: HostRuntime) {
+    // Only a run that was stopped has left one.
+    let _ = fs::remove_file(&rt, ROWS);
+    make_files(&rt, FILES);
+    for (script, ended, rows) in CASES {
+        assert!(rt; leaves(&rt, script, *ended, rows), "{script}");
     }
+    remove_files(&rt, PATHS);
 }

@@ -98,18 +98,7 @@ pub fn listening<R: Abort + Net<Listener = TcpListener, Stream = TcpStream>>(
     TcpListener::bind(rt, "127.0.0.1:0").expect(rt, "a listener")
 }
 
-/// A controller that has connected to a listener, has sent its packets and sends no more.
-fn connected<R: Abort + Net<Listener = TcpListener, Stream = TcpStream>>(
-    rt: &R,
-    listener: &TcpListener,
-    packets: &[&[u8]],
-) -> TcpStream {
-    let stream = connected_to(rt, listener);
-    sends(rt, &stream, packets, 1);
-    sends_no_more(rt, &stream);
-    stream
-}
-
+/// A controller that has connected to a listener.
 pub fn connected_to<R: Abort + Net<Listener = TcpListener, Stream = TcpStream>>(
     rt: &R,
     listener: &TcpListener,
@@ -208,12 +197,40 @@ fn ends(mut stream: &TcpStream) -> bool {
     matches!(stream.read(&mut [0; 1]), Ok(0))
 }
 
+/// What a controller sends, and how often, how serving it ends, and what it hears.
+struct Served {
+    told: &'static [(&'static [&'static [u8]], usize)],
+    ended: Result<(), ShellFault>,
+    heard: &'static [&'static [&'static [u8]]],
+}
+
+/// A controller sends packets and no more, and is served from then on. The rows are written.
+fn plays<R: Abort + AllocGlobal + Net<Listener = TcpListener, Stream = TcpStream>>(
+    rt: &R,
+    served: &Served,
+) {
+    let listener = listening(rt);
+    let controller = connected_to(rt, &listener);
+    for &(packets, times) in served.told {
+        sends(rt, &controller, packets, times);
+    }
+    sends_no_more(rt, &controller);
+    serves(rt, rt.alloc(), &listener, served.ended, SUBSCRIBED);
+    for packets in served.heard {
+        hears_first(rt, &controller, packets);
+    }
+    assert!(rt; served.heard.is_empty() || ends(&controller));
+}
+
+const INITIALISED: &Served = &Served {
+    told: &[(TOLD, 1)],
+    ended: Ok(()),
+    heard: &[WRITTEN],
+};
+
 #[test]
 fn serves_the_first_connection(rt: HostRuntime) {
-    let listener = listening(&rt);
-    let controller = connected(&rt, &listener, TOLD);
-    serves(&rt, rt.alloc(), &listener, Ok(()), SUBSCRIBED);
-    hears(&rt, &controller, WRITTEN);
+    plays(&rt, INITIALISED);
 }
 
 /// An event that no host knows, in two parts.
@@ -229,18 +246,16 @@ const ANSWERED: &[u8] = &[
 ];
 
 /// 220 unknown events take more than a hundred reads of 512 octets.
+const MANY_READS: &Served = &Served {
+    told: &[(TOLD, 1), (UNKNOWN, 220), (ASKED, 1)],
+    ended: Ok(()),
+    heard: &[WRITTEN, &[ANSWERED]],
+};
+
 #[test]
 fn serves_as_many_reads_as_it_may_make(rt: HostRuntime) {
     assert_eq!(&rt; TURNS, 1_000_000_000);
-    let listener = listening(&rt);
-    let controller = connected_to(&rt, &listener);
-    sends(&rt, &controller, TOLD, 1);
-    sends(&rt, &controller, UNKNOWN, 220);
-    sends(&rt, &controller, ASKED, 1);
-    sends_no_more(&rt, &controller);
-    serves(&rt, rt.alloc(), &listener, Ok(()), SUBSCRIBED);
-    hears_first(&rt, &controller, WRITTEN);
-    hears(&rt, &controller, &[ANSWERED]);
+    plays(&rt, MANY_READS);
 }
 
 /// Has reads of what is accepted fail where nothing comes for a short time: a new connection has the
@@ -264,12 +279,15 @@ fn tells_a_read_that_fails(rt: HostRuntime) {
 }
 
 /// The rows are written after a fault too.
+const LOST: &Served = &Served {
+    told: &[(&[&[0x07]], 1)],
+    ended: Err(ShellFault::Host(1)),
+    heard: &[],
+};
+
 #[test]
 fn tells_a_fault_of_the_host(rt: HostRuntime) {
-    let listener = listening(&rt);
-    let _controller = connected(&rt, &listener, &[&[0x07]]);
-    let fault = ShellFault::Host(1);
-    serves(&rt, rt.alloc(), &listener, Err(fault), SUBSCRIBED);
+    plays(&rt, LOST);
 }
 
 fn set_nonblocking(rt: &impl Abort, listener: &TcpListener) {

@@ -1,13 +1,11 @@
 //! The command `serve` over files at paths, and an address where nothing can be accepted.
 
+use crate::files::{has_text, make_files, remove_files};
 use att_table::examples::DOOR;
 use gatt_commands::{Address, KeysPath, RowsPath, ServePaths, ShellFault, TablePath, serve_paths};
 use le_security::examples::KEYS;
 use std::fs::Files;
 use std::net::{Net, TcpListener, TcpStream};
-use std::process::Abort;
-use std::test::Fail;
-use std::{fs, io};
 
 const TABLE: &str = "serve_table.toml";
 
@@ -17,15 +15,14 @@ const ROWS: &str = "serve_rows.txt";
 
 const SUBSCRIBED: &str = "1 c0:00:00:00:00:01 7 1\n";
 
-/// Serves files at an address, and compares the fault of that. The rows file stays as it is.
+/// Serves files at an address, and says whether that has this fault. The rows file stays as it is.
 fn fails(
-    rt: &(impl Abort + AllocGlobal + Files + Net<Listener = TcpListener, Stream = TcpStream>),
+    rt: &(impl AllocGlobal + Files + Net<Listener = TcpListener, Stream = TcpStream>),
     table: &str,
     address: &str,
     fault: ShellFault,
-) {
-    assert!(rt; serve(rt, table, address) == Err(fault), "{address}");
-    assert!(rt; has_rows(rt), "{address}");
+) -> bool {
+    serve(rt, table, address) == Err(fault) && has_text(rt, ROWS, SUBSCRIBED)
 }
 
 fn serve(
@@ -41,27 +38,9 @@ fn serve(
     serve_paths(rt.alloc(), rt, paths, Address(address))
 }
 
-/// Whether the rows file is as it was.
-fn has_rows(rt: &(impl AllocGlobal + Files)) -> bool {
-    match fs::read(rt, ROWS) {
-        Ok(rows) => rows.as_slice() == SUBSCRIBED.as_bytes(),
-        Err(_) => false,
-    }
-}
+const FILES: &[(&str, &str)] = &[(TABLE, DOOR), (PEERS, KEYS), (ROWS, SUBSCRIBED)];
 
-/// Writes the files.
-fn make_files(rt: &impl Files) -> io::Result<()> {
-    fs::write(rt, TABLE, DOOR)?;
-    fs::write(rt, PEERS, KEYS)?;
-    fs::write(rt, ROWS, SUBSCRIBED)
-}
-
-/// Removes them.
-fn remove_files(rt: &impl Files) -> io::Result<()> {
-    fs::remove_file(rt, TABLE)?;
-    fs::remove_file(rt, PEERS)?;
-    fs::remove_file(rt, ROWS)
-}
+const PATHS: &[&str] = &[TABLE, PEERS, ROWS];
 
 /// Tables and addresses, and the fault of each: the files are judged in front of the address. The
 /// first address is that of another machine.
@@ -75,23 +54,10 @@ const CASES: &[(&str, &str, ShellFault)] = &[
 ];
 
 #[test]
-fn tells_an_address_where_it_cannot_listen(rt: HostRuntime) -> Result<(), Fail> {
-    Ok(tells(&rt)?)
-}
-
-fn tells(
-    rt: &(impl Abort + AllocGlobal + Files + Net<Listener = TcpListener, Stream = TcpStream>),
-) -> io::Result<()> {
-    make_files(rt)?;
-    fails_each(rt, CASES);
-    remove_files(rt)
-}
-
-fn fails_each(
-    rt: &(impl Abort + AllocGlobal + Files + Net<Listener = TcpListener, Stream = TcpStream>),
-    cases: &[(&str, &str, ShellFault)],
-) {
-    for (table, address, fault) in cases {
-        fails(rt, table, address, *fault);
+fn tells_an_address_where_it_cannot_listen(rt: HostRuntime) {
+    make_files(&rt, FILES);
+    for (table, address, fault) in CASES {
+        assert!(rt; fails(&rt, table, address, *fault), "{address}");
     }
+    remove_files(&rt, PATHS);
 }

@@ -1,5 +1,6 @@
 //! The command `serve` over files at paths, with a controller that has connected already.
 
+use crate::files::{has_text, make_files, remove_files};
 use crate::machine::Machine;
 use crate::serve_command::{
     TOLD, WRITTEN, connected_to, hears, hears_first, listening, sends, sends_no_more,
@@ -10,8 +11,6 @@ use le_security::examples::KEYS;
 use std::fs::Files;
 use std::net::{Net, TcpListener, TcpStream};
 use std::process::Abort;
-use std::test::Fail;
-use std::{fs, io};
 
 const TABLE: &str = "serving_table.toml";
 
@@ -74,33 +73,15 @@ const READ: &str = "1 C0:00:00:00:00:01 7 1\n\n0 00:11:22:33:44:55 11 1";
 
 const KEPT: &str = "0 00:11:22:33:44:55 11 1\n1 c0:00:00:00:00:01 7 1\n";
 
-/// Writes the files.
-fn make_files(rt: &impl Files) -> io::Result<()> {
-    fs::write(rt, TABLE, DOOR)?;
-    fs::write(rt, PEERS, KEYS)?;
-    fs::write(rt, ROWS, READ)
-}
-
-/// Removes them.
-fn remove_files(rt: &impl Files) -> io::Result<()> {
-    fs::remove_file(rt, TABLE)?;
-    fs::remove_file(rt, PEERS)?;
-    fs::remove_file(rt, ROWS)
-}
+const FILES: &[(&str, &str)] = &[(TABLE, DOOR), (PEERS, KEYS), (ROWS, READ)];
 
 /// The rows are read at the start and written at the end, in order. Where none are asked for, no file
 /// of rows is opened.
 #[test]
-fn serves_files_at_an_address(rt: HostRuntime) -> Result<(), Fail> {
-    Ok(serves(&rt)?)
-}
-
-fn serves(
-    rt: &(impl Abort + AllocGlobal + Files + Net<Listener = TcpListener, Stream = TcpStream>),
-) -> io::Result<()> {
-    make_files(rt)?;
-    serves_each(rt, &[Some(ROWS), None]);
-    remove_files(rt)
+fn serves_files_at_an_address(rt: HostRuntime) {
+    make_files(&rt, FILES);
+    serves_each(&rt, &[Some(ROWS), None]);
+    remove_files(&rt, PATHS);
 }
 
 fn serves_each(
@@ -110,7 +91,7 @@ fn serves_each(
     let listener = listening(rt);
     for rows in cases {
         is_served(rt, &listener, *rows);
-        assert!(rt; has_rows(rt, KEPT), "{rows:?}");
+        assert!(rt; has_text(rt, ROWS, KEPT), "{rows:?}");
     }
 }
 
@@ -145,11 +126,4 @@ fn serve(
         rows: RowsPath(rows),
     };
     serve_paths(rt.alloc(), &machine, paths, Address(ADDRESS))
-}
-
-fn has_rows(rt: &(impl AllocGlobal + Files), rows: &str) -> bool {
-    match fs::read(rt, ROWS) {
-        Ok(written) => written.as_slice() == rows.as_bytes(),
-        Err(_) => false,
-    }
 }
