@@ -3,7 +3,6 @@
 use super::cases::{Example, assert_case, text_of};
 use att_table::Table;
 use std::alloc::Global;
-use std::process::Abort;
 
 const SERVICE: &str = "uuid = \"1801\"";
 
@@ -82,22 +81,10 @@ const CHANGERS: &[(Example, &str, &str, Option<u16>)] = &[
 
 #[test]
 fn changers(rt: HostRuntime) {
-    check_changers(&rt, rt.alloc(), CHANGERS);
-}
-
-fn check_changers(rt: &impl Abort, alloc: Global, cases: &[(Example, &str, &str, Option<u16>)]) {
-    for case in cases {
-        check_changer(rt, alloc, case);
+    for &(example, old, new, wanted) in CHANGERS {
+        let change = (text_of(example), old, new);
+        assert_case(&rt, is_changer(rt.alloc(), change, wanted), new);
     }
-}
-
-fn check_changer(rt: &impl Abort, alloc: Global, case: &(Example, &str, &str, Option<u16>)) {
-    let &(example, old, new, wanted) = case;
-    assert_case(
-        rt,
-        is_changer(alloc, (text_of(example), old, new), wanted),
-        new,
-    );
 }
 
 fn is_changer(alloc: Global, change: (&str, &str, &str), wanted: Option<u16>) -> bool {

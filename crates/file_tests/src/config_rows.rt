@@ -3,7 +3,6 @@
 use super::cases::{Example, assert_at, text_of};
 use att_table::{ConfigRow, Table};
 use std::alloc::Global;
-use std::process::Abort;
 
 /// A table, the text of the one in its place with a change of it, and entries by handle and bits,
 /// each with whether it stays.
@@ -77,18 +76,14 @@ const REPLACEMENTS: &[Replacement] = &[
     },
 ];
 
+/// Handles, with the bits that a full row has there, and whether they can be set.
+const FULL_ROW: &[(u16, u8, bool)] = &[(1, 1, true), (9, 1, true), (64, 1, true), (65, 0, false)];
+
 #[test]
 fn keeps_what_was_written_last(rt: HostRuntime) {
-    check_full_row(
-        &rt,
-        &[(1, 1, true), (9, 1, true), (64, 1, true), (65, 0, false)],
-    );
-}
-
-fn check_full_row(rt: &impl Abort, cases: &[(u16, u8, bool)]) {
-    for &(handle, bits, can_set) in cases {
+    for &(handle, bits, can_set) in FULL_ROW {
         assert_at(
-            rt,
+            &rt,
             full_row_at(handle) == (bits, can_set),
             usize::from(handle),
         );
@@ -109,12 +104,8 @@ fn full_row_at(handle: u16) -> (u8, bool) {
 
 #[test]
 fn keeps_what_has_its_meaning(rt: HostRuntime) {
-    check_replacements(&rt, rt.alloc(), REPLACEMENTS);
-}
-
-fn check_replacements(rt: &impl Abort, alloc: Global, cases: &[Replacement]) {
-    for (place, case) in cases.iter().enumerate() {
-        assert_at(rt, is_kept(alloc, case) == Some(true), place);
+    for (place, case) in REPLACEMENTS.iter().enumerate() {
+        assert_at(&rt, is_kept(rt.alloc(), case) == Some(true), place);
     }
 }
 

@@ -110,11 +110,7 @@ const SECURE_CHANGES: &[(&str, &str, Result<usize, u8>)] = &[
 
 #[test]
 fn addresses(rt: HostRuntime) {
-    check_addresses(&rt, ADDRESSES);
-}
-
-fn check_addresses(rt: &impl Abort, cases: &[(&[u8], Option<[u8; 6]>)]) {
-    for &(text, address) in cases {
+    for &(text, address) in ADDRESSES {
         assert!(rt; read_address(text) == address, "{text:?}");
     }
 }
@@ -136,12 +132,8 @@ fn read_made(alloc: Global, text: Result<String, AllocError>) -> Result<usize, u
 
 #[test]
 fn files(rt: HostRuntime) {
-    check_files(&rt, rt.alloc(), FILES);
-}
-
-fn check_files(rt: &impl Abort, alloc: Global, cases: &[(&str, Result<usize, u8>)]) {
-    for &(text, answer) in cases {
-        assert_case(rt, read(alloc, text) == answer, text);
+    for &(text, answer) in FILES {
+        assert_case(&rt, read(rt.alloc(), text) == answer, text);
     }
 }
 
@@ -183,13 +175,9 @@ fn push_lines(text: &mut String, place: usize, line: &str) -> Result<(), AllocEr
 
 #[test]
 fn secure_keys(rt: HostRuntime) {
-    check_secure(&rt, rt.alloc(), SECURE_CHANGES);
-}
-
-fn check_secure(rt: &impl Abort, alloc: Global, cases: &[(&str, &str, Result<usize, u8>)]) {
-    for &(old, new, answer) in cases {
-        let told = read_made(alloc, SECURE_KEY.replacen(alloc, old, new, 1));
-        assert_case(rt, told == answer, new);
+    for &(old, new, answer) in SECURE_CHANGES {
+        let changed = SECURE_KEY.replacen(rt.alloc(), old, new, 1);
+        assert_case(&rt, read_made(rt.alloc(), changed) == answer, new);
     }
 }
 
@@ -311,11 +299,7 @@ fn is_answer(keys: &Keys, request: &Request, key: Option<&Key>) -> bool {
 #[test]
 fn peers(rt: HostRuntime) {
     let keys = read_keys(&rt, rt.alloc(), KEYS);
-    check_peers(&rt, &keys);
-}
-
-fn check_peers(rt: &impl Abort, keys: &Keys) {
-    assert!(rt; has_peers(keys) && knows_peers(keys));
+    assert!(rt; has_peers(&keys) && knows_peers(&keys));
 }
 
 fn has_peers(keys: &Keys) -> bool {

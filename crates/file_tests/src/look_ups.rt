@@ -108,12 +108,12 @@ const SHAPES: &[(&str, bool)] = &[
 
 #[test]
 fn keys_and_types(rt: HostRuntime) {
-    check_shapes(&rt, rt.alloc(), SHAPES);
-}
-
-fn check_shapes(rt: &impl Abort, alloc: Global, cases: &[(&str, bool)]) {
-    for &(document, shaped) in cases {
-        assert_case(rt, is_shaped(alloc, document) == Some(shaped), document);
+    for &(document, shaped) in SHAPES {
+        assert_case(
+            &rt,
+            is_shaped(rt.alloc(), document) == Some(shaped),
+            document,
+        );
     }
 }
 

@@ -113,14 +113,10 @@ fn is_written(rows: &Rows, text: &str) -> bool {
 
 #[test]
 fn texts(rt: HostRuntime) {
-    check_texts(&rt, rt.alloc(), READ);
-    check_faults(&rt, rt.alloc(), FAULTS);
-}
-
-fn check_texts(rt: &impl Abort, alloc: Global, cases: &[(&str, &str)]) {
-    for &(text, written) in cases {
-        assert_case(rt, reads_as(alloc, text, written), text);
+    for &(text, written) in READ {
+        assert_case(&rt, reads_as(rt.alloc(), text, written), text);
     }
+    check_faults(&rt, rt.alloc(), FAULTS);
 }
 
 fn reads_as(alloc: Global, text: &str, written: &str) -> bool {
@@ -138,12 +134,8 @@ fn check_faults(rt: &impl Abort, alloc: Global, cases: &[(&str, RowsFault)]) {
 
 #[test]
 fn fitted(rt: HostRuntime) {
-    check_fitted(&rt, rt.alloc(), FITTED);
-}
-
-fn check_fitted(rt: &impl Abort, alloc: Global, cases: &[(&str, &str, &str)]) {
-    for &(text, table, written) in cases {
-        assert_case(rt, fits_as(alloc, text, table, written), text);
+    for &(text, table, written) in FITTED {
+        assert_case(&rt, fits_as(rt.alloc(), text, table, written), text);
     }
 }
 
@@ -221,7 +213,9 @@ fn set_all(rows: &mut Rows) {
 
 #[test]
 fn too_many(rt: HostRuntime) {
-    check_many(&rt, rt.alloc(), MANY);
+    for &(handles, peers, answer) in MANY {
+        assert!(rt; is_refused(rt.alloc(), handles, peers, answer));
+    }
 }
 
 /// How many configurations and peers that are owed there are, and the fault of that.
@@ -230,17 +224,6 @@ const MANY: &[(u16, u16, Option<RowsFault>)] = &[
     (4097, 64, Some(RowsFault::TooMany)),
     (4096, 65, Some(RowsFault::TooMany)),
 ];
-
-fn check_many(rt: &impl Abort, alloc: Global, cases: &[(u16, u16, Option<RowsFault>)]) {
-    for case in cases {
-        check_count(rt, alloc, case);
-    }
-}
-
-fn check_count(rt: &impl Abort, alloc: Global, case: &(u16, u16, Option<RowsFault>)) {
-    let &(handles, peers, answer) = case;
-    assert!(rt; is_refused(alloc, handles, peers, answer));
-}
 
 fn is_refused(alloc: Global, handles: u16, peers: u16, answer: Option<RowsFault>) -> bool {
     match many(alloc, handles, peers) {

@@ -133,11 +133,7 @@ const TEXTS: &[(&str, &[Wanted<'static>])] = &[
 #[test]
 fn lines(rt: HostRuntime) {
     check_texts(&rt, rt.alloc(), LINES);
-    check_application_lines(&rt, rt.alloc());
-}
-
-fn check_application_lines(rt: &impl Abort, alloc: Global) {
-    check_texts(rt, alloc, APPLICATION_LINES);
+    check_texts(&rt, rt.alloc(), APPLICATION_LINES);
 }
 
 #[test]

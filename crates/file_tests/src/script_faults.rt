@@ -3,7 +3,6 @@
 use super::cases::assert_case;
 use scripts::{Name, Script, ScriptFault};
 use std::alloc::{AllocError, Global};
-use std::process::Abort;
 
 /// Texts, and the numbers of their first lines with faults.
 const FAULTS: &[(&str, u64)] = &[("\n# here\nU < 0a0300\nbad\nbad", 4), ("drop U\n\r\n", 2)];
@@ -107,19 +106,11 @@ const EIGHT: &str =
 
 #[test]
 fn faults(rt: HostRuntime) {
-    check_faults(&rt, rt.alloc(), FAULTS);
-    check_bad_lines(&rt, rt.alloc(), BAD_LINES);
-}
-
-fn check_faults(rt: &impl Abort, alloc: Global, cases: &[(&str, u64)]) {
-    for &(text, line) in cases {
-        assert_case(rt, is_bad_at(alloc, text, true, line), text);
+    for &(text, line) in FAULTS {
+        assert_case(&rt, is_bad_at(rt.alloc(), text, true, line), text);
     }
-}
-
-fn check_bad_lines(rt: &impl Abort, alloc: Global, texts: &[&str]) {
-    for text in texts {
-        assert_case(rt, is_bad_at(alloc, text, true, 1), text);
+    for text in BAD_LINES {
+        assert_case(&rt, is_bad_at(rt.alloc(), text, true, 1), text);
     }
 }
 
@@ -131,21 +122,16 @@ fn is_bad_at(alloc: Global, text: &str, has_next: bool, line: u64) -> bool {
 /// Without a table to replace by, the first line with a fault is that of the replacement.
 #[test]
 fn no_next(rt: HostRuntime) {
-    check_no_next(&rt, rt.alloc(), "tick 1\nreplace\nbad");
-}
-
-fn check_no_next(rt: &impl Abort, alloc: Global, text: &str) {
-    assert!(rt; is_bad_at(alloc, text, false, 2) && is_bad_at(alloc, text, true, 3));
+    let text = "tick 1\nreplace\nbad";
+    assert!(&rt; is_bad_at(rt.alloc(), text, false, 2));
+    assert!(&rt; is_bad_at(rt.alloc(), text, true, 3));
 }
 
 /// A ninth name is a fault of its line.
 #[test]
 fn names(rt: HostRuntime) {
-    check_names(&rt, rt.alloc());
-}
-
-fn check_names(rt: &impl Abort, alloc: Global) {
-    assert!(rt; is_bad_at(alloc, NINE, true, 11) && has_names(alloc, EIGHT, "ABCDEFGH"));
+    assert!(&rt; is_bad_at(rt.alloc(), NINE, true, 11));
+    assert!(&rt; has_names(rt.alloc(), EIGHT, "ABCDEFGH"));
 }
 
 fn has_names(alloc: Global, text: &str, wanted: &str) -> bool {

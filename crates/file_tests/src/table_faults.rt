@@ -4,7 +4,6 @@ use super::cases::{assert_at, assert_case};
 use att_table::Table;
 use att_table::examples::DOOR;
 use std::alloc::{AllocError, Global};
-use std::process::Abort;
 
 /// Whole files.
 const FILES: &[(&str, Result<usize, u8>)] = &[
@@ -192,23 +191,15 @@ fn read_made(alloc: Global, text: Result<String, AllocError>) -> Result<usize, u
 
 #[test]
 fn files(rt: HostRuntime) {
-    check_files(&rt, rt.alloc(), FILES);
-}
-
-fn check_files(rt: &impl Abort, alloc: Global, cases: &[(&str, Result<usize, u8>)]) {
-    for &(text, answer) in cases {
-        assert_case(rt, read(alloc, text) == answer, text);
+    for &(text, answer) in FILES {
+        assert_case(&rt, read(rt.alloc(), text) == answer, text);
     }
 }
 
 #[test]
 fn changes_of_the_door(rt: HostRuntime) {
-    check_changes(&rt, rt.alloc(), CHANGES);
-}
-
-fn check_changes(rt: &impl Abort, alloc: Global, cases: &[(&str, &str, Result<usize, u8>)]) {
-    for &(old, new, answer) in cases {
-        assert_case(rt, read_changed(alloc, old, new) == answer, new);
+    for &(old, new, answer) in CHANGES {
+        assert_case(&rt, read_changed(rt.alloc(), old, new) == answer, new);
     }
 }
 
@@ -218,12 +209,8 @@ fn read_changed(alloc: Global, old: &str, new: &str) -> Result<usize, u8> {
 
 #[test]
 fn repeated_parts(rt: HostRuntime) {
-    check_repeated(&rt, rt.alloc(), REPEATED);
-}
-
-fn check_repeated(rt: &impl Abort, alloc: Global, cases: &[Repeated]) {
-    for (place, case) in cases.iter().enumerate() {
-        assert_at(rt, is_told(alloc, case), place);
+    for (place, case) in REPEATED.iter().enumerate() {
+        assert_at(&rt, is_told(rt.alloc(), case), place);
     }
 }
 
@@ -249,12 +236,8 @@ fn with_repeated(
 
 #[test]
 fn names_of_the_door(rt: HostRuntime) {
-    check_names(&rt, rt.alloc(), NAMES);
-}
-
-fn check_names(rt: &impl Abort, alloc: Global, cases: &[(&str, (u16, u8, Option<u8>))]) {
-    for &(lines, wanted) in cases {
-        assert_case(rt, name_told(alloc, lines) == Some(wanted), lines);
+    for &(lines, wanted) in NAMES {
+        assert_case(&rt, name_told(rt.alloc(), lines) == Some(wanted), lines);
     }
 }
 

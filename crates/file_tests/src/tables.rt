@@ -223,11 +223,7 @@ fn group_end_of(table: &Table, handle: u16) -> u16 {
 #[test]
 fn code_of_the_door(rt: HostRuntime) {
     let table = read_table(&rt, rt.alloc(), DOOR);
-    check_code(&rt, &table);
-}
-
-fn check_code(rt: &impl Abort, table: &Table) {
-    assert!(rt; has_code(table));
+    assert!(rt; has_code(&table));
 }
 
 fn has_code(table: &Table) -> bool {

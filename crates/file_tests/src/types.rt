@@ -4,7 +4,6 @@ use super::cases::assert_case;
 use att_numbers::attribute_type::{BASE_UUID, PRIMARY_SERVICE, from_16_bits};
 use att_table::{Table, is_of_16_bits, is_service, type_octets};
 use std::alloc::{AllocError, Global};
-use std::process::Abort;
 
 const CUSTOM: u128 = 0x1234_5678_9ABC_DEF0_0123_4567_89AB_CDEF;
 
@@ -28,12 +27,8 @@ const TEXTS: &[(&str, Option<&[u8]>)] = &[
 
 #[test]
 fn texts(rt: HostRuntime) {
-    check_texts(&rt, rt.alloc(), TEXTS);
-}
-
-fn check_texts(rt: &impl Abort, alloc: Global, cases: &[(&str, Option<&[u8]>)]) {
-    for &(uuid, octets) in cases {
-        assert_case(rt, is_value_of_service(alloc, uuid, octets), uuid);
+    for &(uuid, octets) in TEXTS {
+        assert_case(&rt, is_value_of_service(rt.alloc(), uuid, octets), uuid);
     }
 }
 
