@@ -2,7 +2,7 @@
 //! the table has.
 
 use crate::player::{Setting, read_table, ready};
-use crate::wire::{Octets, Written, put, put_told, spelled};
+use crate::wire::{Written, asked, spelled};
 use arrayvec::ArrayVec;
 use att_table::Table;
 use att_table::examples::DOOR;
@@ -121,20 +121,7 @@ const DAY: &[Event] = &[
 fn happens(rt: &impl Abort, host: &mut Host, kept: &mut Kept, event: Event) -> bool {
     match event {
         Event::Sends(octets) => hears(host, kept, spelled(rt, octets, 0).as_slice()),
-        Event::Asks(handle, pdu) => {
-            let mut octets = Octets::new();
-            put_told(
-                rt,
-                &mut octets,
-                handle,
-                0x04,
-                spelled(rt, pdu, 0).as_slice(),
-            );
-            put(rt, &mut octets, &[0x04, 0x13, 0x05, 0x01]);
-            put(rt, &mut octets, &handle.to_le_bytes());
-            put(rt, &mut octets, &[0x01, 0x00]);
-            hears(host, kept, octets.as_slice())
-        }
+        Event::Asks(handle, pdu) => hears(host, kept, asked(rt, handle, pdu).as_slice()),
         Event::Sets(handle, value) => {
             kept.keep(handle, value);
             calls(host, kept, App::Update(handle, value))

@@ -1,7 +1,7 @@
 //! The lock of the example at a door: its motor, its button and its strangers.
 
 use crate::player::{Setting, ready};
-use crate::wire::{Octets, Written, put_told, spell, spelled};
+use crate::wire::{Written, asked, spelled};
 use arrayvec::ArrayVec;
 use att_table::examples::DOOR;
 use gatt_host::Host;
@@ -98,9 +98,7 @@ fn asks(
     wants: &str,
 ) -> bool {
     let mut written = Written::new();
-    let mut sent = Octets::new();
-    put_told(rt, &mut sent, 0x40, 0x04, spelled(rt, pdu, 0).as_slice());
-    spell(rt, &mut sent, "0413050140000100");
+    let sent = asked(rt, 0x40, pdu);
     let served = lock.serve(host, now, sent.as_slice(), &mut written).is_ok();
     let wanted = spelled(rt, wants, 0);
     served && written.octets().ends_with(wanted.as_slice())

@@ -90,7 +90,7 @@ fn len(table: Table) -> usize {
 }
 
 /// How many attributes the table has that comes back, and the fault.
-fn replaced(
+pub fn replaced(
     rt: &impl Abort,
     alloc: Global,
     host: &mut Host,

@@ -4,8 +4,6 @@ use crate::peers::Who::{Phone, Stranger};
 use crate::player::{Setting, Step, play};
 use att_table::examples::{DOOR, PORCH, PORCH_NEXT};
 use gatt_host::{App, AppFault};
-use std::alloc::Global;
-use std::process::Abort;
 
 const AT_THE_PORCH: &Setting<'static> = &Setting {
     table: PORCH,
@@ -65,11 +63,7 @@ const WITHOUT_A_CHANGER: &[Step] = &[
 
 #[test]
 fn tables_replaced(rt: HostRuntime) {
-    replace_at_the_porch(&rt, rt.alloc());
+    play(&rt, rt.alloc(), AT_THE_PORCH, CONNECTED);
+    play(&rt, rt.alloc(), AT_THE_PORCH, AWAY);
     play(&rt, rt.alloc(), AT_THE_DOOR, WITHOUT_A_CHANGER);
-}
-
-fn replace_at_the_porch(rt: &impl Abort, alloc: Global) {
-    play(rt, alloc, AT_THE_PORCH, CONNECTED);
-    play(rt, alloc, AT_THE_PORCH, AWAY);
 }

@@ -4,8 +4,6 @@ use crate::peers::Who::Stranger;
 use crate::player::{Setting, Step, play};
 use att_table::examples::DOOR;
 use gatt_host::{App, AppFault, HostFault};
-use std::alloc::Global;
-use std::process::Abort;
 
 const SETTING: &Setting<'static> = &Setting {
     table: DOOR,
@@ -49,21 +47,13 @@ const ERROR: &[Step] = &[
 
 #[test]
 fn faults(rt: HostRuntime) {
-    play(&rt, rt.alloc(), SETTING, REFUSED);
-    play(&rt, rt.alloc(), SETTING, LOST);
-    stop(&rt, rt.alloc());
-}
-
-fn stop(rt: &impl Abort, alloc: Global) {
-    play(rt, alloc, SETTING, SHORT);
-    play(rt, alloc, SETTING, WITHOUT_SUBEVENT);
-    play(rt, alloc, SETTING, ERROR);
+    for steps in [REFUSED, LOST, SHORT, WITHOUT_SUBEVENT, ERROR] {
+        play(&rt, rt.alloc(), SETTING, steps);
+    }
 }
 
 #[test]
 fn numbers_of_faults(rt: HostRuntime) {
-    assert!(&rt; HostFault::Desync(0x07).number() == 1);
-    assert!(&rt; HostFault::Hardware(0x42).number() == 4);
-    assert!(&rt; AppFault::NoSuchHandle.number() == 1);
-    assert!(&rt; AppFault::NoServiceChanged.number() == 7);
+    assert!(&rt; HostFault::Desync(0x07).number() == 1 && HostFault::Hardware(0x42).number() == 4);
+    assert!(&rt; AppFault::NoSuchHandle.number() == 1 && AppFault::NoServiceChanged.number() == 7);
 }

@@ -186,24 +186,17 @@ fn stop(rt: &impl Abort, host: &mut Host, octets: &str, wanted: &str, fault: Hos
     compare(rt, octets, written.octets(), wanted);
 }
 
-fn check_faults(rt: &impl Abort, alloc: Global, cases: &[(usize, &str, &str, HostFault)]) {
-    for (count, octets, wanted, fault) in cases {
-        exchange_with_new(rt, alloc, *count, Last::Fault(octets, wanted, *fault));
-    }
-}
-
-fn check_others(rt: &impl Abort, alloc: Global, cases: &[(usize, &str, &str)]) {
-    for (count, octets, wanted) in cases {
-        exchange_with_new(rt, alloc, *count, Last::Exchange(octets, wanted));
-    }
-}
-
 #[test]
 fn faults_of_a_controller(rt: HostRuntime) {
-    check_faults(&rt, rt.alloc(), FAULTS);
+    for (count, octets, wanted, fault) in FAULTS {
+        let last = Last::Fault(octets, wanted, *fault);
+        exchange_with_new(&rt, rt.alloc(), *count, last);
+    }
 }
 
 #[test]
 fn other_answers_of_a_controller(rt: HostRuntime) {
-    check_others(&rt, rt.alloc(), WITHOUT_A_FAULT);
+    for (count, octets, wanted) in WITHOUT_A_FAULT {
+        exchange_with_new(&rt, rt.alloc(), *count, Last::Exchange(octets, wanted));
+    }
 }

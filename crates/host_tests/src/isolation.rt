@@ -5,8 +5,6 @@ use crate::peers::Who::{Phone, Stranger, Tablet};
 use crate::player::{Setting, Step, play};
 use att_table::examples::DOOR;
 use gatt_host::App;
-use std::alloc::Global;
-use std::process::Abort;
 
 /// The table of the door, but for one value that needs an encrypted link.
 const OTHER_DOOR: &str = r#"# The table of another door lock: one value of type fff3 differs.
@@ -145,18 +143,10 @@ const ONE_FULL_QUEUE: &[Step] = &[
 
 #[test]
 fn nothing_crosses(rt: HostRuntime) {
-    ask_both(&rt, rt.alloc(), ASKED_OF_A_HIDDEN_VALUE);
-    hold_nothing_up(&rt, rt.alloc());
+    // The same steps at both tables.
+    play(&rt, rt.alloc(), TWO_EACH, ASKED_OF_A_HIDDEN_VALUE);
+    play(&rt, rt.alloc(), OTHER_TABLE, ASKED_OF_A_HIDDEN_VALUE);
+    play(&rt, rt.alloc(), ONE_EACH, COMPLETED_FOR_ANOTHER);
+    play(&rt, rt.alloc(), ONE_EACH, AFTER_A_DISCONNECTION);
     play(&rt, rt.alloc(), ONE_EACH, ONE_FULL_QUEUE);
-}
-
-/// Makes the same steps at both tables.
-fn ask_both(rt: &impl Abort, alloc: Global, steps: &[Step]) {
-    play(rt, alloc, TWO_EACH, steps);
-    play(rt, alloc, OTHER_TABLE, steps);
-}
-
-fn hold_nothing_up(rt: &impl Abort, alloc: Global) {
-    play(rt, alloc, ONE_EACH, COMPLETED_FOR_ANOTHER);
-    play(rt, alloc, ONE_EACH, AFTER_A_DISCONNECTION);
 }

@@ -45,12 +45,6 @@ fn fault_of(rt: &impl Abort, alloc: Global, config: Config) -> Option<OpenFault>
     Host::open(alloc, table, keys, rows, config).err()
 }
 
-fn check(rt: &impl Abort, alloc: Global, cases: &[Case]) {
-    for (place, case) in cases.iter().enumerate() {
-        assert!(rt; is_fault(rt, alloc, case), "{place}");
-    }
-}
-
 fn is_fault(rt: &impl Abort, alloc: Global, case: &Case) -> bool {
     let (slots, rx_mtu, address, fault) = *case;
     let config = Config {
@@ -64,14 +58,12 @@ fn is_fault(rt: &impl Abort, alloc: Global, case: &Case) -> bool {
 
 #[test]
 fn configurations(rt: HostRuntime) {
-    check(&rt, rt.alloc(), CASES);
+    for (place, case) in CASES.iter().enumerate() {
+        assert!(rt; is_fault(&rt, rt.alloc(), case), "{place}");
+    }
 }
 
 /// Reset goes out at once, and nothing more before the controller answers.
-fn check_first(rt: &impl Abort, host: &mut Host) {
-    assert!(rt; is_reset_first(host));
-}
-
 fn is_reset_first(host: &mut Host) -> bool {
     let mut written = Written::new();
     !host.drained()
@@ -92,6 +84,7 @@ const SETTING: &Setting<'static> = &Setting {
 #[test]
 fn first_command(rt: HostRuntime) {
     let mut host = opened(&rt, rt.alloc(), SETTING);
-    check_first(&rt, &mut host);
+    let is_first = is_reset_first(&mut host);
     drop(host);
+    assert!(rt; is_first);
 }

@@ -75,14 +75,10 @@ const PREPARED: &[Step] = &[
 
 #[test]
 fn policy_over_links(rt: HostRuntime) {
-    open_the_lock(&rt, rt.alloc());
+    play(&rt, rt.alloc(), AT_THE_DOOR, STATE_OF_THE_LOCK);
+    play(&rt, rt.alloc(), AT_THE_DOOR, CODE_OF_THE_LOCK);
     play(&rt, rt.alloc(), AT_THE_DOOR, LISTED);
     play(&rt, rt.alloc(), AT_THE_DOOR, PREPARED);
-}
-
-fn open_the_lock(rt: &impl Abort, alloc: Global) {
-    play(rt, alloc, AT_THE_DOOR, STATE_OF_THE_LOCK);
-    play(rt, alloc, AT_THE_DOOR, CODE_OF_THE_LOCK);
 }
 
 /// That code, where it also needs a key of LE Secure Connections.

@@ -39,18 +39,14 @@ const DEADLINES: &[(Taken, Option<u64>)] = &[
     (Taken::Call(App::Disconnect(0x40)), None),
 ];
 
-fn play(rt: &impl Abort, alloc: Global, cases: &[(Taken, Option<u64>)]) {
-    let mut host = ready(rt, alloc, &at(BELL));
-    for (place, &(taken, deadline)) in cases.iter().enumerate() {
-        go_on(rt, alloc, &mut host, taken);
+#[test]
+fn deadlines_are_known(rt: HostRuntime) {
+    let mut host = ready(&rt, rt.alloc(), &at(BELL));
+    for (place, &(taken, deadline)) in DEADLINES.iter().enumerate() {
+        go_on(&rt, rt.alloc(), &mut host, taken);
         assert!(rt; host.deadline() == deadline, "deadline {place}");
     }
     drop(host);
-}
-
-#[test]
-fn deadlines_are_known(rt: HostRuntime) {
-    play(&rt, rt.alloc(), DEADLINES);
 }
 
 const STRANGER: Peer = Peer {
@@ -119,15 +115,6 @@ const CONNECTIONS: &[(Taken, &[Connection])] = &[
     (Taken::Packet("04050400410016"), &[]),
 ];
 
-fn play_connections(rt: &impl Abort, alloc: Global, cases: &[(Taken, &[Connection])]) {
-    let mut host = ready(rt, alloc, &at(DOOR));
-    for (place, &(taken, connections)) in cases.iter().enumerate() {
-        go_on(rt, alloc, &mut host, taken);
-        assert!(rt; are(&host, connections), "connections {place}");
-    }
-    drop(host);
-}
-
 fn are(host: &Host, connections: &[Connection]) -> bool {
     let mut seen = host.connections();
     for connection in connections {
@@ -142,7 +129,12 @@ fn are(host: &Host, connections: &[Connection]) -> bool {
 
 #[test]
 fn connections_are_seen(rt: HostRuntime) {
-    play_connections(&rt, rt.alloc(), CONNECTIONS);
+    let mut host = ready(&rt, rt.alloc(), &at(DOOR));
+    for (place, &(taken, connections)) in CONNECTIONS.iter().enumerate() {
+        go_on(&rt, rt.alloc(), &mut host, taken);
+        assert!(rt; are(&host, connections), "connections {place}");
+    }
+    drop(host);
 }
 
 /// A phone writes a value, and then the stream is lost.

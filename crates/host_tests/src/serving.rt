@@ -31,12 +31,6 @@ const CASES: &[(u64, Result<End, HostFault>)] = &[
     (0, Err(HostFault::Turns)),
 ];
 
-fn serve_each(rt: &impl Abort, alloc: Global, cases: &[(u64, Result<End, HostFault>)]) {
-    for (turns, outcome) in cases {
-        assert!(rt; leads_to(rt, alloc, *turns, *outcome), "{turns}");
-    }
-}
-
 /// Whether serving leads a new host to this outcome.
 fn leads_to(rt: &impl Abort, alloc: Global, turns: u64, outcome: Result<End, HostFault>) -> bool {
     let mut host = opened(rt, alloc, SETTING);
@@ -47,5 +41,7 @@ fn leads_to(rt: &impl Abort, alloc: Global, turns: u64, outcome: Result<End, Hos
 
 #[test]
 fn end_of_input_and_of_turns(rt: HostRuntime) {
-    serve_each(&rt, rt.alloc(), CASES);
+    for (turns, outcome) in CASES {
+        assert!(rt; leads_to(&rt, rt.alloc(), *turns, *outcome), "{turns}");
+    }
 }

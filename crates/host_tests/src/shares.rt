@@ -4,8 +4,6 @@ use crate::peers::Who::{Phone, Stranger};
 use crate::player::{Setting, Step, play};
 use att_table::examples::DOOR;
 use gatt_host::App;
-use std::alloc::Global;
-use std::process::Abort;
 
 /// Each connection has a share of two packets.
 const TWO_EACH: &Setting<'static> = &Setting {
@@ -103,12 +101,8 @@ const ENCRYPTION_LOST: &[Step] = &[
 
 #[test]
 fn shares(rt: HostRuntime) {
-    fill_shares(&rt, rt.alloc());
+    play(&rt, rt.alloc(), TWO_EACH, COMPLETED);
+    play(&rt, rt.alloc(), TWO_EACH, NEVER_COMPLETED);
     play(&rt, rt.alloc(), ONE_ALONE, TOO_MANY_READS);
     play(&rt, rt.alloc(), ONE_EACH, ENCRYPTION_LOST);
-}
-
-fn fill_shares(rt: &impl Abort, alloc: Global) {
-    play(rt, alloc, TWO_EACH, COMPLETED);
-    play(rt, alloc, TWO_EACH, NEVER_COMPLETED);
 }

@@ -4,8 +4,6 @@ use crate::peers::Who::{Phone, Stranger, Tablet};
 use crate::player::{Setting, Step, play};
 use att_table::examples::{BELL, DOOR, POST};
 use gatt_host::App;
-use std::alloc::Global;
-use std::process::Abort;
 
 const AT_THE_DOOR: &Setting<'static> = &Setting {
     table: DOOR,
@@ -108,18 +106,10 @@ const TOLD_IN_TIME: &[Step] = &[
 
 #[test]
 fn told_unasked(rt: HostRuntime) {
-    keep_configurations(&rt, rt.alloc());
-    keep_to_authorizations(&rt, rt.alloc());
+    play(&rt, rt.alloc(), AT_THE_DOOR, KEPT_BY_A_BOND);
+    play(&rt, rt.alloc(), AT_THE_DOOR, OF_AN_UNENCRYPTED_LINK);
+    play(&rt, rt.alloc(), AT_THE_LETTER_BOX, AUTHORIZED);
+    play(&rt, rt.alloc(), AT_THE_LETTER_BOX, READ_IN_TIME);
+    play(&rt, rt.alloc(), AT_THE_LETTER_BOX, TOLD_IN_TIME);
     play(&rt, rt.alloc(), AT_THE_BELL, INDICATED);
-}
-
-fn keep_configurations(rt: &impl Abort, alloc: Global) {
-    play(rt, alloc, AT_THE_DOOR, KEPT_BY_A_BOND);
-    play(rt, alloc, AT_THE_DOOR, OF_AN_UNENCRYPTED_LINK);
-}
-
-fn keep_to_authorizations(rt: &impl Abort, alloc: Global) {
-    play(rt, alloc, AT_THE_LETTER_BOX, AUTHORIZED);
-    play(rt, alloc, AT_THE_LETTER_BOX, READ_IN_TIME);
-    play(rt, alloc, AT_THE_LETTER_BOX, TOLD_IN_TIME);
 }

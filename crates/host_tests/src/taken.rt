@@ -1,8 +1,8 @@
 //! What a host takes in, and what its application is told of it.
 
-use crate::player::{Setting, read_table, ready};
+use crate::calls::replaced;
+use crate::player::{Setting, ready};
 use crate::wire::{Octets, Written, put_told, spelled};
-use att_table::Table;
 use gatt_host::{App, Host, Notice, feed};
 use std::alloc::Global;
 use std::process::Abort;
@@ -54,15 +54,12 @@ fn take(rt: &impl Abort, alloc: Global, host: &mut Host, taken: Taken) {
                 ask(rt, host, pdu);
             }
         }
-        Taken::Call(call) => {
-            assert!(rt; host.drained());
-            assert!(rt; host.app(call).is_ok());
+        Taken::Call(call) => assert!(rt; is_accepted(host, call) == Some(true)),
+        Taken::Refused(call) => assert!(rt; is_accepted(host, call) == Some(false)),
+        Taken::Table(text) => {
+            let (_, fault) = replaced(rt, alloc, host, text);
+            assert!(rt; fault.is_none());
         }
-        Taken::Refused(call) => {
-            assert!(rt; host.drained());
-            assert!(rt; host.app(call).is_err());
-        }
-        Taken::Table(text) => replace(rt, host, read_table(rt, alloc, text)),
     }
 }
 
@@ -79,9 +76,13 @@ fn ask(rt: &impl Abort, host: &mut Host, pdu: &str) {
     hear(rt, host, octets.as_slice());
 }
 
-fn replace(rt: &impl Abort, host: &mut Host, table: Table) {
-    assert!(rt; host.drained());
-    assert!(rt; host.replace(table).is_ok());
+/// Whether a call is accepted, if all is out.
+fn is_accepted(host: &mut Host, call: App<'_>) -> Option<bool> {
+    if host.drained() {
+        Some(host.app(call).is_ok())
+    } else {
+        None
+    }
 }
 
 /// What goes out for calls goes out afterwards, and packets are completed.

@@ -65,6 +65,22 @@ pub fn put_told(rt: &impl Abort, octets: &mut Octets, handle: u16, channel: u8, 
     put_packet(rt, octets, handle, 0x2000, frame.as_slice());
 }
 
+/// A PDU of the Attribute Protocol of a connection, and behind it that what goes out for it is completed.
+pub fn asked(rt: &impl Abort, handle: u16, pdu: &str) -> Octets {
+    let mut octets = Octets::new();
+    put_told(
+        rt,
+        &mut octets,
+        handle,
+        0x04,
+        spelled(rt, pdu, 0).as_slice(),
+    );
+    put(rt, &mut octets, &[0x04, 0x13, 0x05, 0x01]);
+    put(rt, &mut octets, &handle.to_le_bytes());
+    put(rt, &mut octets, &[0x01, 0x00]);
+    octets
+}
+
 /// A frame of a connection, in ACL packets of the host with at most 27 octets of data.
 pub fn put_sent(rt: &impl Abort, octets: &mut Octets, handle: u16, channel: u8, payload: &[u8]) {
     let frame = frame(rt, channel, payload);

@@ -4,7 +4,6 @@ use gatt_host::{
     AppFault, Fault, HostFault, InitFault, KeyFault, OpenFault, RowsFault, TableFault, TableKey,
 };
 use std::alloc::Global;
-use std::process::Abort;
 
 /// A fault of each kind, and its words.
 const WORDS: &[(Fault, &str)] = &[
@@ -53,13 +52,9 @@ fn says(alloc: Global, fault: Fault, words: &str) -> bool {
     }
 }
 
-fn say_each(rt: &impl Abort, alloc: Global, faults: &[(Fault, &str)]) {
-    for &(fault, words) in faults {
-        assert!(rt; says(alloc, fault, words), "{words}");
-    }
-}
-
 #[test]
 fn words_of_faults(rt: HostRuntime) {
-    say_each(&rt, rt.alloc(), WORDS);
+    for &(fault, words) in WORDS {
+        assert!(rt; says(rt.alloc(), fault, words), "{words}");
+    }
 }
