@@ -6,9 +6,11 @@ use std::alloc::Global;
 use std::process::Abort;
 use std::test::Fail;
 
-/// Table files, and what is told of their first faults.
-const TABLES: &[(&str, &str)] = &[
-    (DOOR, ""),
+/// A table file without a fault.
+const FAULTLESS: &[(&str, &str)] = &[(DOOR, "")];
+
+/// Table files, and what is told of their first faults, in services.
+const SERVICES: &[(&str, &str)] = &[
     (
         "service = ",
         "line 1, column 11: invalid value, expected a string, number, boolean, date-time, array or inline table",
@@ -36,6 +38,10 @@ const TABLES: &[(&str, &str)] = &[
         "[[service]]\nuuid = \"1800\"\n[[service]]\nuuid = \"1801\"\ninclude = [0, 1]",
         "service 2, include 2: an include of a service that does not stand before",
     ),
+];
+
+/// In the keys of characteristics.
+const CHARACTERISTICS: &[(&str, &str)] = &[
     (
         r#"
         [[service]]
@@ -109,6 +115,10 @@ const TABLES: &[(&str, &str)] = &[
         "#,
         "service 1, characteristic 1, max: it has to be from 4 to 512",
     ),
+];
+
+/// In what characteristics need, and in their descriptors.
+const GUARDS: &[(&str, &str)] = &[
     (
         r#"
         [[service]]
@@ -356,6 +366,10 @@ const KEYS: &[(&str, &str)] = &[
         "#,
         "key 2, kind: it is neither public nor random",
     ),
+];
+
+/// In their numbers.
+const KEY_NUMBERS: &[(&str, &str)] = &[
     (
         r#"
         [[key]]
@@ -455,8 +469,8 @@ const ROWS: &[(&str, &str)] = &[
 
 #[test]
 fn tells_where_a_table_file_has_its_fault(rt: HostRuntime) {
-    for (file, told) in TABLES {
-        tells(&rt, told_of_table(rt.alloc(), file.as_bytes(), told), told);
+    for tables in [FAULTLESS, SERVICES, CHARACTERISTICS, GUARDS] {
+        tell_of_tables(&rt, rt.alloc(), tables);
     }
     tells(
         &rt,
@@ -467,9 +481,7 @@ fn tells_where_a_table_file_has_its_fault(rt: HostRuntime) {
 
 #[test]
 fn tells_where_further_table_files_have_their_faults(rt: HostRuntime) {
-    for (file, told) in MORE_TABLES {
-        tells(&rt, told_of_table(rt.alloc(), file.as_bytes(), told), told);
-    }
+    tell_of_tables(&rt, rt.alloc(), MORE_TABLES);
 }
 
 #[test]
@@ -481,8 +493,8 @@ fn tells_which_key_of_a_characteristic_has_the_fault(rt: HostRuntime) {
 
 #[test]
 fn tells_where_a_key_file_has_its_fault(rt: HostRuntime) {
-    for (file, told) in KEYS {
-        tells(&rt, told_of_keys(rt.alloc(), file, told), told);
+    for keys in [KEYS, KEY_NUMBERS] {
+        tell_of_keys(&rt, rt.alloc(), keys);
     }
 }
 
@@ -490,6 +502,18 @@ fn tells_where_a_key_file_has_its_fault(rt: HostRuntime) {
 fn tells_where_a_rows_file_has_its_fault(rt: HostRuntime) {
     for (file, told) in ROWS {
         tells(&rt, told_of_rows(rt.alloc(), file.as_bytes(), told), told);
+    }
+}
+
+fn tell_of_tables(rt: &impl Abort, alloc: Global, cases: &[(&str, &str)]) {
+    for (file, told) in cases {
+        tells(rt, told_of_table(alloc, file.as_bytes(), told), told);
+    }
+}
+
+fn tell_of_keys(rt: &impl Abort, alloc: Global, cases: &[(&str, &str)]) {
+    for (file, told) in cases {
+        tells(rt, told_of_keys(alloc, file, told), told);
     }
 }
 
