@@ -1,8 +1,8 @@
 //! Rows files, and rows that are fitted to keys and a table.
 
-use super::cases::assert_case;
+use super::cases::{Example, assert_case, text_of};
 use att_table::Table;
-use att_table::examples::{DOOR, PORCH};
+use att_table::examples::PORCH;
 use gatt_subs::{Rows, RowsFault};
 use le_hci::{PUBLIC_ADDRESS, Peer, RANDOM_ADDRESS};
 use le_security::Keys;
@@ -82,27 +82,27 @@ const FAULTS: &[(&str, RowsFault)] = &[
 ];
 
 /// Texts, tables, and what is written once the rows are fitted to the keys of the door and the table.
-const FITTED: &[(&str, &str, &str)] = &[
-    (BATTERY, DOOR, BATTERY),
-    ("1 c0:00:00:00:00:01 8 1\n", DOOR, ""),
-    ("1 c0:00:00:00:00:01 7 2\n", DOOR, ""),
-    ("1 c0:00:00:00:00:01 7 3\n", DOOR, ""),
-    ("1 c0:00:00:00:00:09 7 1\n", DOOR, ""),
-    ("0 c0:00:00:00:00:01 7 1\n", DOOR, ""),
+const FITTED: &[(&str, Example, &str)] = &[
+    (BATTERY, Example::Door, BATTERY),
+    ("1 c0:00:00:00:00:01 8 1\n", Example::Door, ""),
+    ("1 c0:00:00:00:00:01 7 2\n", Example::Door, ""),
+    ("1 c0:00:00:00:00:01 7 3\n", Example::Door, ""),
+    ("1 c0:00:00:00:00:09 7 1\n", Example::Door, ""),
+    ("0 c0:00:00:00:00:01 7 1\n", Example::Door, ""),
     (
         "1 c0:00:00:00:00:01 11 1\n1 c0:00:00:00:00:01 7 1\n0 00:11:22:33:44:55 11 1\n",
-        DOOR,
+        Example::Door,
         "0 00:11:22:33:44:55 11 1\n1 c0:00:00:00:00:01 7 1\n1 c0:00:00:00:00:01 11 1\n",
     ),
-    (CHANGES, PORCH, CHANGES),
+    (CHANGES, Example::Porch, CHANGES),
     (
         "! 1 c0:00:00:00:00:01\n1 c0:00:00:00:00:01 8 1\n",
-        PORCH,
+        Example::Porch,
         "1 c0:00:00:00:00:01 8 1\n",
     ),
-    ("! 1 c0:00:00:00:00:01\n", PORCH, ""),
-    ("! 1 c0:00:00:00:00:09\n", PORCH, ""),
-    (CHANGES, DOOR, ""),
+    ("! 1 c0:00:00:00:00:01\n", Example::Porch, ""),
+    ("! 1 c0:00:00:00:00:09\n", Example::Porch, ""),
+    (CHANGES, Example::Door, ""),
 ];
 
 /// What is written of rows, as far as 512 octets go.
@@ -135,7 +135,11 @@ fn check_faults(rt: &impl Abort, alloc: Global, cases: &[(&str, RowsFault)]) {
 #[test]
 fn fitted(rt: HostRuntime) {
     for &(text, table, written) in FITTED {
-        assert_case(&rt, fits_as(rt.alloc(), text, table, written), text);
+        assert_case(
+            &rt,
+            fits_as(rt.alloc(), text, text_of(table), written),
+            text,
+        );
     }
 }
 
