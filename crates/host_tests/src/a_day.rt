@@ -1,17 +1,18 @@
 //! A day of two phones, heard by somebody who keeps a copy of the values: at its end the copy is what
 //! the table has.
 
-use crate::player::{Setting, read_table, ready};
+use crate::player::{Setting, ready};
+use crate::tables::File::Door;
+use crate::tables::read_table;
 use crate::wire::{Written, asked, spelled};
 use arrayvec::ArrayVec;
 use att_table::Table;
-use att_table::examples::DOOR;
 use gatt_host::{App, Host, Input, Listener, Notice, drive_to};
 use std::alloc::Global;
 use std::process::Abort;
 
 const SETTING: &Setting<'static> = &Setting {
-    table: DOOR,
+    table: Door,
     slots: 2,
     rx_mtu: 247,
     packets: 8,
@@ -160,7 +161,7 @@ fn value_of(table: &Table, attribute: u16) -> &[u8] {
 
 fn play(rt: &impl Abort, alloc: Global, events: &[Event], written: usize) {
     let mut host = ready(rt, alloc, SETTING);
-    let first = read_table(rt, alloc, DOOR);
+    let first = read_table(rt, alloc, Door);
     let mut kept = Kept {
         values: ArrayVec::new(),
     };

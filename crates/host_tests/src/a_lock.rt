@@ -1,16 +1,16 @@
 //! The lock of the example at a door: its motor, its button and its strangers.
 
 use crate::player::{Setting, ready};
+use crate::tables::File::Door;
 use crate::wire::{Written, asked, spelled};
 use arrayvec::ArrayVec;
-use att_table::examples::DOOR;
 use gatt_host::Host;
 use lock::{Lock, Motor};
 use std::alloc::Global;
 use std::process::Abort;
 
 const SETTING: &Setting<'static> = &Setting {
-    table: DOOR,
+    table: Door,
     slots: 2,
     rx_mtu: 247,
     packets: 4,

@@ -1,15 +1,15 @@
 //! Calls of the application one after another, each with what is written for it.
 
 use crate::player::{Setting, ready};
+use crate::tables::File::Bell;
 use crate::taken::{Taken, go_on};
 use crate::wire::{Written, spelled};
-use att_table::examples::BELL;
 use gatt_host::{App, AppFault, Fault, Host, HostFault, call, feed};
 use std::alloc::Global;
 use std::process::Abort;
 
 const SETTING: &Setting<'static> = &Setting {
-    table: BELL,
+    table: Bell,
     slots: 2,
     rx_mtu: 247,
     packets: 4,

@@ -1,7 +1,8 @@
 //! What the application asks of a host, step by step.
 
 use crate::controller::take;
-use crate::player::{Step, read_table};
+use crate::player::Step;
+use crate::tables::{File, read_table};
 use crate::told::put_pdus;
 use crate::wire::{Octets, Written, spell};
 use att_table::Table;
@@ -42,12 +43,12 @@ fn ask_for_table(
     wanted: &mut Octets,
 ) {
     match step {
-        Step::Replaces(table, pdus) => {
+        Step::Replaces(file, pdus) => {
             put_pdus(rt, wanted, pdus);
-            replace(rt, alloc, host, table, None);
+            replace(rt, alloc, host, file, None);
             take(rt, host, &[], written);
         }
-        Step::Keeps(table, fault) => replace(rt, alloc, host, table, Some(fault)),
+        Step::Keeps(file, fault) => replace(rt, alloc, host, file, Some(fault)),
         _ => {}
     }
 }
@@ -75,13 +76,19 @@ fn refusal(host: &mut Host, call: App<'_>) -> Option<AppFault> {
 }
 
 /// Replaces the table of a host, which gives the old one back; or hands the new one back, for a fault.
-fn replace(rt: &impl Abort, alloc: Global, host: &mut Host, text: &str, fault: Option<AppFault>) {
+fn replace(
+    rt: &impl Abort,
+    alloc: Global,
+    host: &mut Host,
+    file: File<'_>,
+    fault: Option<AppFault>,
+) {
     let back = if fault.is_some() {
-        len(read_table(rt, alloc, text))
+        len(read_table(rt, alloc, file))
     } else {
         host.table().len()
     };
-    assert!(rt; replaced(rt, alloc, host, text) == (back, fault));
+    assert!(rt; replaced(rt, alloc, host, file) == (back, fault));
 }
 
 /// How many attributes a table has, which is not needed any more.
@@ -94,10 +101,10 @@ pub fn replaced(
     rt: &impl Abort,
     alloc: Global,
     host: &mut Host,
-    text: &str,
+    file: File<'_>,
 ) -> (usize, Option<AppFault>) {
     assert!(rt; host.drained());
-    came_back(host.replace(read_table(rt, alloc, text)))
+    came_back(host.replace(read_table(rt, alloc, file)))
 }
 
 fn came_back(replaced: Result<Table, (AppFault, Table)>) -> (usize, Option<AppFault>) {

@@ -2,18 +2,18 @@
 
 use crate::peers::Who::{Phone, Stranger};
 use crate::player::{Setting, Step, play};
-use att_table::examples::{DOOR, PORCH, PORCH_NEXT};
+use crate::tables::File::{Door, Porch, PorchNext};
 use gatt_host::{App, AppFault};
 
 const AT_THE_PORCH: &Setting<'static> = &Setting {
-    table: PORCH,
+    table: Porch,
     slots: 2,
     rx_mtu: 247,
     packets: 4,
 };
 
 const AT_THE_DOOR: &Setting<'static> = &Setting {
-    table: DOOR,
+    table: Door,
     slots: 2,
     rx_mtu: 247,
     packets: 4,
@@ -26,7 +26,7 @@ const CONNECTED: &[Step] = &[
     Step::Asks(0x40, "1208000100", "13"),
     Step::Calls(App::Update(7, &[0x01]), &[(0x40, "1b070001")]),
     Step::Asks(0x40, "160a00000061", "170a00000061"),
-    Step::Replaces(PORCH_NEXT, &[(0x40, "1d03000100ffff")]),
+    Step::Replaces(PorchNext, &[(0x40, "1d03000100ffff")]),
     Step::Tells(0x40, "1e", &[]),
     Step::Asks(0x40, "1801", "19"),
     Step::Asks(0x40, "0a0a00", "0b"),
@@ -41,7 +41,7 @@ const AWAY: &[Step] = &[
     Step::Encrypts(0x40, Phone, &[]),
     Step::Asks(0x40, "1204000200", "13"),
     Step::Leaves(0x40, ""),
-    Step::Replaces(PORCH_NEXT, &[]),
+    Step::Replaces(PorchNext, &[]),
     Step::Rows("1 c0:00:00:00:00:01 4 2\n! 1 c0:00:00:00:00:01\n"),
     Step::Connects(0x40, Phone, "010a200101"),
     Step::Encrypts(0x40, Phone, &[(0x40, "1d03000100ffff")]),
@@ -57,7 +57,7 @@ const AWAY: &[Step] = &[
 
 /// A table that tells of no changes neither replaces another nor is replaced.
 const WITHOUT_A_CHANGER: &[Step] = &[
-    Step::Keeps(PORCH, AppFault::NoServiceChanged),
+    Step::Keeps(Porch, AppFault::NoServiceChanged),
     Step::Value(3, "4c6f636b"),
 ];
 

@@ -1,14 +1,14 @@
 //! A stream that is cut at each place, and one that ends there.
 
 use crate::player::{Setting, feed_pieces, opened};
+use crate::tables::File::Door;
 use crate::wire::{Octets, Written, spell};
-use att_table::examples::DOOR;
 use gatt_host::{Host, feed};
 use std::alloc::Global;
 use std::process::Abort;
 
 pub const SETTING: &Setting<'static> = &Setting {
-    table: DOOR,
+    table: Door,
     slots: 2,
     rx_mtu: 247,
     packets: 4,

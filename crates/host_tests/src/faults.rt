@@ -2,11 +2,11 @@
 
 use crate::peers::Who::Stranger;
 use crate::player::{Setting, Step, play};
-use att_table::examples::DOOR;
+use crate::tables::File::Door;
 use gatt_host::{App, AppFault, HostFault};
 
 const SETTING: &Setting<'static> = &Setting {
-    table: DOOR,
+    table: Door,
     slots: 2,
     rx_mtu: 247,
     packets: 4,
@@ -33,7 +33,7 @@ const LOST: &[Step] = &[
     Step::Stops("", HostFault::Desync(0x07)),
     Step::Refuses(App::Tick(5), AppFault::Stopped),
     Step::Refuses(App::Update(99, &[0x01]), AppFault::Stopped),
-    Step::Keeps(DOOR, AppFault::Stopped),
+    Step::Keeps(Door, AppFault::Stopped),
 ];
 
 const SHORT: &[Step] = &[Step::Stops("040503004000", HostFault::BadEvent(0x05))];

@@ -2,10 +2,10 @@
 
 use crate::peers::Who::Stranger;
 use crate::player::{Setting, Step, play};
-use att_table::examples::DOOR;
+use crate::tables::File::Door;
 
 const SETTING: &Setting<'static> = &Setting {
-    table: DOOR,
+    table: Door,
     slots: 2,
     rx_mtu: 247,
     packets: 4,

@@ -4,8 +4,8 @@ ghost use Rattle.std.specs.Prelude.{None};
 
 use crate::listening::Expects;
 use crate::player::{Setting, ready};
+use crate::tables::File::Bell;
 use crate::wire::spelled;
-use att_table::examples::BELL;
 use gatt_device::{End, Happenings, Next, serve_happenings};
 use gatt_host::{App, AppFault, HostFault, Notice, Peer};
 use octets::{ArraySink, Sink};
@@ -13,7 +13,7 @@ use std::alloc::Global;
 use std::process::Abort;
 
 const SETTING: &Setting<'static> = &Setting {
-    table: BELL,
+    table: Bell,
     slots: 1,
     rx_mtu: 247,
     packets: 4,

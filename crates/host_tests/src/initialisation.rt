@@ -3,15 +3,15 @@
 ghost use Rattle.std.specs.Prelude.{◌<◌};
 
 use crate::player::{Setting, feed_pieces, opened};
+use crate::tables::File::Door;
 use crate::wire::{Written, spelled};
-use att_table::examples::DOOR;
 use gatt_host::{Host, HostFault, feed};
 use le_hci::InitFault;
 use std::alloc::Global;
 use std::process::Abort;
 
 const SETTING: &Setting<'static> = &Setting {
-    table: DOOR,
+    table: Door,
     slots: 2,
     rx_mtu: 247,
     packets: 4,

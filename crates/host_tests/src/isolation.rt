@@ -3,7 +3,7 @@
 
 use crate::peers::Who::{Phone, Stranger, Tablet};
 use crate::player::{Setting, Step, play};
-use att_table::examples::DOOR;
+use crate::tables::File::{Door, Other};
 use gatt_host::App;
 
 /// The table of the door, but for one value that needs an encrypted link.
@@ -61,21 +61,21 @@ properties = ["read", "write", "command"]
 "#;
 
 const TWO_EACH: &Setting<'static> = &Setting {
-    table: DOOR,
+    table: Door,
     slots: 2,
     rx_mtu: 247,
     packets: 4,
 };
 
 const OTHER_TABLE: &Setting<'static> = &Setting {
-    table: OTHER_DOOR,
+    table: Other(OTHER_DOOR),
     slots: 2,
     rx_mtu: 247,
     packets: 4,
 };
 
 const ONE_EACH: &Setting<'static> = &Setting {
-    table: DOOR,
+    table: Door,
     slots: 2,
     rx_mtu: 247,
     packets: 2,

@@ -53,6 +53,8 @@ mod steps;
 #[cfg(test)]
 mod subscriptions;
 #[cfg(test)]
+mod tables;
+#[cfg(test)]
 mod taken;
 #[cfg(test)]
 mod told;

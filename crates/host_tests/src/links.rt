@@ -2,11 +2,11 @@
 
 use crate::peers::Who::{Phone, Stranger, Tablet, Watch};
 use crate::player::{Setting, Step, play};
-use att_table::examples::DOOR;
+use crate::tables::File::Door;
 use gatt_host::{App, AppFault};
 
 const SETTING: &Setting<'static> = &Setting {
-    table: DOOR,
+    table: Door,
     slots: 2,
     rx_mtu: 247,
     packets: 4,

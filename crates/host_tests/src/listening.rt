@@ -1,8 +1,8 @@
 //! Who listens hears what octets and calls tell, however they come.
 
 use crate::player::{Setting, ready};
+use crate::tables::File::Door;
 use crate::wire::{Octets, Written, put_told, spell};
-use att_table::examples::DOOR;
 use gatt_host::{
     App, End, Host, HostFault, Input, Listener, Notice, Peer, drive_to, feed, feed_to, serve_to,
 };
@@ -11,7 +11,7 @@ use std::alloc::Global;
 use std::process::Abort;
 
 const SETTING: &Setting<'static> = &Setting {
-    table: DOOR,
+    table: Door,
     slots: 2,
     rx_mtu: 247,
     packets: 4,

@@ -1,11 +1,12 @@
 //! What the application is told of packets, calls and tables.
 
 use crate::player::Setting;
+use crate::tables::File;
+use crate::tables::File::{Bell, Door, Porch, PorchNext};
 use crate::taken::{Case, Taken, play};
-use att_table::examples::{BELL, DOOR, PORCH, PORCH_NEXT};
 use gatt_host::{App, KeyFacts, Notice, Peer};
 
-const fn at(table: &'static str) -> Setting<'static> {
+const fn at(table: File<'static>) -> Setting<'static> {
     Setting {
         table,
         slots: 2,
@@ -288,7 +289,7 @@ const REPLACEMENT: &[Case] = &[
         }],
     ),
     (Taken::Call(App::Update(3, &[1, 0, 2, 0])), &[]),
-    (Taken::Table(PORCH_NEXT), &[]),
+    (Taken::Table(PorchNext), &[]),
     (Taken::Pdu("1e"), &[]),
     (
         Taken::Pdu("1e"),
@@ -337,34 +338,34 @@ const A_FULL_QUEUE_FOR_PAIRING: &[Case] = &[
 
 #[test]
 fn links_are_told(rt: HostRuntime) {
-    play(&rt, rt.alloc(), &at(DOOR), LINKS);
+    play(&rt, rt.alloc(), &at(Door), LINKS);
 }
 
 #[test]
 fn writes_are_told(rt: HostRuntime) {
-    play(&rt, rt.alloc(), &at(DOOR), WRITES);
+    play(&rt, rt.alloc(), &at(Door), WRITES);
 }
 
 #[test]
 fn keys_are_told(rt: HostRuntime) {
-    play(&rt, rt.alloc(), &at(DOOR), KEYS);
+    play(&rt, rt.alloc(), &at(Door), KEYS);
 }
 
 #[test]
 fn indications_are_told(rt: HostRuntime) {
-    play(&rt, rt.alloc(), &at(BELL), INDICATIONS);
-    play(&rt, rt.alloc(), &at(BELL), TWO_INDICATIONS);
+    play(&rt, rt.alloc(), &at(Bell), INDICATIONS);
+    play(&rt, rt.alloc(), &at(Bell), TWO_INDICATIONS);
 }
 
 #[test]
 fn a_replacement_is_no_confirmation(rt: HostRuntime) {
-    play(&rt, rt.alloc(), &at(PORCH), REPLACEMENT);
+    play(&rt, rt.alloc(), &at(Porch), REPLACEMENT);
 }
 
 #[test]
 fn a_full_queue_is_told(rt: HostRuntime) {
-    play(&rt, rt.alloc(), &at(DOOR), A_FULL_QUEUE);
-    play(&rt, rt.alloc(), &at(DOOR), A_FULL_QUEUE_FOR_PAIRING);
+    play(&rt, rt.alloc(), &at(Door), A_FULL_QUEUE);
+    play(&rt, rt.alloc(), &at(Door), A_FULL_QUEUE_FOR_PAIRING);
 }
 
 /// The application ends a connection, which is told as an end of the host's own.
@@ -396,5 +397,5 @@ const AN_END: &[Case] = &[
 
 #[test]
 fn an_end_is_told(rt: HostRuntime) {
-    play(&rt, rt.alloc(), &at(DOOR), AN_END);
+    play(&rt, rt.alloc(), &at(Door), AN_END);
 }

@@ -1,6 +1,7 @@
 //! A host is opened.
 
 use crate::player::{Setting, opened};
+use crate::tables::File::Door;
 use crate::wire::Written;
 use arrayvec::ArrayVec;
 use att_table::Table;
@@ -75,7 +76,7 @@ fn is_reset_first(host: &mut Host) -> bool {
 }
 
 const SETTING: &Setting<'static> = &Setting {
-    table: DOOR,
+    table: Door,
     slots: 2,
     rx_mtu: 247,
     packets: 4,

@@ -5,9 +5,9 @@ ghost use Rattle.std.specs.Prelude.{◌<◌};
 use crate::controller::{Controller, answer_all};
 use crate::peers::Who;
 use crate::steps::act;
+use crate::tables::{File, read_table};
 use crate::wire::{Octets, Written};
 use arrayvec::ArrayVec;
-use att_table::Table;
 use gatt_host::{App, AppFault, Config, Host, HostFault, feed};
 use gatt_subs::Rows;
 use le_security::Keys;
@@ -56,9 +56,9 @@ pub enum Step {
     /// A call that is refused, and for what.
     Refuses(App<'static>, AppFault),
     /// Another table, and what goes out then.
-    Replaces(&'static str, Pdus),
+    Replaces(File<'static>, Pdus),
     /// Another table, which is refused and handed back.
-    Keeps(&'static str, AppFault),
+    Keeps(File<'static>, AppFault),
     /// The rows, as text.
     Rows(&'static str),
     /// The value at a handle.
@@ -70,7 +70,7 @@ pub enum Step {
 /// What a host is opened with, and how many ACL packets its controller takes.
 #[derive(Clone, Copy)]
 pub struct Setting<'a> {
-    pub table: &'a str,
+    pub table: File<'a>,
     pub slots: usize,
     pub rx_mtu: u16,
     pub packets: u8,
@@ -132,10 +132,6 @@ pub fn opened(rt: &impl Abort, alloc: Global, setting: &Setting<'_>) -> Host {
         config(setting),
     )
     .expect(rt, "the host")
-}
-
-pub fn read_table(rt: &impl Abort, alloc: Global, text: &str) -> Table {
-    Table::read(alloc, text).expect(rt, "the table")
 }
 
 /// The keys of both example files.

@@ -2,6 +2,7 @@
 
 use crate::peers::Who::{Phone, Stranger, Tablet, TabletByItsShortKey, Watch};
 use crate::player::{Setting, Step, play};
+use crate::tables::File::{Door, Other};
 use att_table::examples::DOOR;
 use gatt_host::App;
 use std::alloc::Global;
@@ -9,7 +10,7 @@ use std::process::Abort;
 
 /// The door, with two slots.
 const AT_THE_DOOR: &Setting<'static> = &Setting {
-    table: DOOR,
+    table: Door,
     slots: 2,
     rx_mtu: 247,
     packets: 4,
@@ -110,7 +111,7 @@ fn reads_of_a_secure_value(rt: HostRuntime) {
 /// Makes the steps with this table in place of that of the door.
 fn play_at(rt: &impl Abort, alloc: Global, table: &str, steps: &[Step]) {
     let setting = Setting {
-        table,
+        table: Other(table),
         ..*AT_THE_DOOR
     };
     play(rt, alloc, &setting, steps);
@@ -140,7 +141,7 @@ const LONG_VALUES: &[Step] = &[
 ];
 
 const AT_THE_WIDE_DOOR: &Setting<'static> = &Setting {
-    table: DOOR,
+    table: Door,
     slots: 2,
     rx_mtu: 517,
     packets: 4,

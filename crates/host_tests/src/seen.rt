@@ -1,15 +1,16 @@
 //! What can be seen of a host: when an indication is late, who is connected, and what is left of it.
 
 use crate::player::{Setting, ready};
+use crate::tables::File;
+use crate::tables::File::{Bell, Door};
 use crate::taken::{Taken, go_on};
 use crate::wire::Written;
 use att_table::Table;
-use att_table::examples::{BELL, DOOR};
 use gatt_host::{App, Connection, Host, Peer, feed};
 use std::alloc::Global;
 use std::process::Abort;
 
-const fn at(table: &'static str) -> Setting<'static> {
+const fn at(table: File<'static>) -> Setting<'static> {
     Setting {
         table,
         slots: 2,
@@ -41,7 +42,7 @@ const DEADLINES: &[(Taken, Option<u64>)] = &[
 
 #[test]
 fn deadlines_are_known(rt: HostRuntime) {
-    let mut host = ready(&rt, rt.alloc(), &at(BELL));
+    let mut host = ready(&rt, rt.alloc(), &at(Bell));
     for (place, &(taken, deadline)) in DEADLINES.iter().enumerate() {
         go_on(&rt, rt.alloc(), &mut host, taken);
         assert!(rt; host.deadline() == deadline, "deadline {place}");
@@ -129,7 +130,7 @@ fn are(host: &Host, connections: &[Connection]) -> bool {
 
 #[test]
 fn connections_are_seen(rt: HostRuntime) {
-    let mut host = ready(&rt, rt.alloc(), &at(DOOR));
+    let mut host = ready(&rt, rt.alloc(), &at(Door));
     for (place, &(taken, connections)) in CONNECTIONS.iter().enumerate() {
         go_on(&rt, rt.alloc(), &mut host, taken);
         assert!(rt; are(&host, connections), "connections {place}");
@@ -139,7 +140,7 @@ fn connections_are_seen(rt: HostRuntime) {
 
 /// A phone writes a value, and then the stream is lost.
 fn lost(rt: &impl Abort, alloc: Global) -> Host {
-    let mut host = ready(rt, alloc, &at(DOOR));
+    let mut host = ready(rt, alloc, &at(Door));
     go_on(rt, alloc, &mut host, COMES);
     go_on(rt, alloc, &mut host, Taken::Pdu("12150061"));
     let mut written = Written::new();

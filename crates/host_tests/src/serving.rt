@@ -1,15 +1,15 @@
 //! A host between a reader and a writer.
 
 use crate::player::{Setting, opened};
+use crate::tables::File::Door;
 use crate::wire::Written;
-use att_table::examples::DOOR;
 use gatt_host::{End, Host, HostFault, serve};
 use octets::SliceSource;
 use std::alloc::Global;
 use std::process::Abort;
 
 const SETTING: &Setting<'static> = &Setting {
-    table: DOOR,
+    table: Door,
     slots: 2,
     rx_mtu: 247,
     packets: 4,

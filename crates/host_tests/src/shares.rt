@@ -2,12 +2,12 @@
 
 use crate::peers::Who::{Phone, Stranger};
 use crate::player::{Setting, Step, play};
-use att_table::examples::DOOR;
+use crate::tables::File::Door;
 use gatt_host::App;
 
 /// Each connection has a share of two packets.
 const TWO_EACH: &Setting<'static> = &Setting {
-    table: DOOR,
+    table: Door,
     slots: 2,
     rx_mtu: 247,
     packets: 4,
@@ -15,14 +15,14 @@ const TWO_EACH: &Setting<'static> = &Setting {
 
 /// Each connection has a share of one packet.
 const ONE_EACH: &Setting<'static> = &Setting {
-    table: DOOR,
+    table: Door,
     slots: 2,
     rx_mtu: 247,
     packets: 2,
 };
 
 const ONE_ALONE: &Setting<'static> = &Setting {
-    table: DOOR,
+    table: Door,
     slots: 1,
     rx_mtu: 247,
     packets: 1,

@@ -2,25 +2,25 @@
 
 use crate::peers::Who::{Phone, Stranger, Tablet};
 use crate::player::{Setting, Step, play};
-use att_table::examples::{BELL, DOOR, POST};
+use crate::tables::File::{Bell, Door, Post};
 use gatt_host::App;
 
 const AT_THE_DOOR: &Setting<'static> = &Setting {
-    table: DOOR,
+    table: Door,
     slots: 2,
     rx_mtu: 247,
     packets: 4,
 };
 
 const AT_THE_BELL: &Setting<'static> = &Setting {
-    table: BELL,
+    table: Bell,
     slots: 2,
     rx_mtu: 247,
     packets: 4,
 };
 
 const AT_THE_LETTER_BOX: &Setting<'static> = &Setting {
-    table: POST,
+    table: Post,
     slots: 2,
     rx_mtu: 247,
     packets: 4,

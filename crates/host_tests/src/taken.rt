@@ -2,6 +2,7 @@
 
 use crate::calls::replaced;
 use crate::player::{Setting, ready};
+use crate::tables::File;
 use crate::wire::{Octets, Written, put_told, spelled};
 use gatt_host::{App, Host, Notice, feed};
 use std::alloc::Global;
@@ -21,7 +22,7 @@ pub enum Taken {
     /// A call that is refused.
     Refused(App<'static>),
     /// Another table.
-    Table(&'static str),
+    Table(File<'static>),
 }
 
 /// What is told of each.
@@ -56,8 +57,8 @@ fn take(rt: &impl Abort, alloc: Global, host: &mut Host, taken: Taken) {
         }
         Taken::Call(call) => assert!(rt; is_accepted(host, call) == Some(true)),
         Taken::Refused(call) => assert!(rt; is_accepted(host, call) == Some(false)),
-        Taken::Table(text) => {
-            let (_, fault) = replaced(rt, alloc, host, text);
+        Taken::Table(file) => {
+            let (_, fault) = replaced(rt, alloc, host, file);
             assert!(rt; fault.is_none());
         }
     }
