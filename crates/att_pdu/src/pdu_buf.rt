@@ -1,5 +1,6 @@
-ghost use Rattle.std.specs.Prelude.{◌≡◌, ◌+◌, ◌-◌, ◌≤◌, ◌↔◌, [], ◌∷◌, ◌++◌, length, IsTrue, take};
+ghost use Rattle.std.specs.Prelude.{◌≡◌, ◌+◌, ◌-◌, ◌≤◌, ◌↔◌, [], ◌∷◌, ◌++◌, length, IsTrue, take, drop, replicate};
 ghost use Rattle.std.specs.Bool.{OnTrue, OnFalse};
+ghost use Rattle.octets.specs.Number.{two_octets};
 ghost use Rattle.arrayvec.specs.ArrayVec.{array_vec_len};
 ghost use Rattle.att_pdu.specs.declared.pdu_buf.TheConstants.{MAX_MTU, MIN_MTU};
 
@@ -15,6 +16,9 @@ pub const MAX_MTU: u16 = MAX_PDU as u16;
 // The largest value stands in one PDU behind an opcode, a handle and an offset.
 const _: () = prove!(1 + 2 + 2 + MAX_VALUE == MAX_PDU);
 
+/// What makes a PDU longer.
+const ZEROS: [u8; MAX_PDU] = [0; MAX_PDU];
+
 /// A PDU that is being put together in a buffer of its caller's, and never outgrows an ATT_MTU of
 /// `MIN_MTU` to `MAX_MTU` octets.
 #[derive(Drop)]
@@ -27,7 +31,6 @@ pub struct PduBuf<'a> {
 }
 
 impl<'a> PduBuf<'a> {
-    ghost use Rattle.octets.specs.Number.{two_octets};
     ghost use Rattle.att_pdu.specs.PduBuf.{contents, mtu_of, IsIn, IsSameBuffer, AppendsWhereFits};
     ghost use Rattle.att_pdu.specs.Response.{OfAttribute, OfGroup, element_octets, ErrorResponse, sent};
 
@@ -87,6 +90,74 @@ impl<'a> PduBuf<'a> {
         ensures same_buffer { IsSameBuffer self.old self.new }
     {
         overwrite(self.octets, first, rest, &[]);
+    }
+
+    /// Gives the content a length, by as few octets as it takes: it ends early, or zeros come behind it.
+    #[inline(always)]
+    pub fn resize(&mut self, size: usize)
+        requires { size ≤ mtu_of self.old }
+        ensures resized { contents self.new ≡ take size (contents self.old)
+            ++ replicate (size - length (contents self.old)) 0 }
+        ensures size { length (contents self.new) ≡ size }
+        ensures same_buffer { IsSameBuffer self.old self.new }
+    {
+        if self.octets.len() != size {
+            set_length(self.octets, size);
+        }
+    }
+
+    /// Puts octets over those of the content from `place` on.
+    #[inline(always)]
+    pub fn put(&mut self, place: usize, octets: &[u8])
+        requires { place + length octets.now ≤ length (contents self.old) }
+        ensures put { contents self.new ≡ take place (contents self.old) ++ octets.now
+            ++ drop (place + length octets.now) (contents self.old) }
+        ensures front { take (place + length octets.now) (contents self.new)
+            ≡ take place (contents self.old) ++ octets.now }
+        ensures size { length (contents self.new) ≡ length (contents self.old) }
+        ensures same_buffer { IsSameBuffer self.old self.new }
+    {
+        let end = place + octets.len();
+        self.octets.as_mut_slice()[place..end].copy_from_slice(octets);
+    }
+
+    /// Puts octets of two places, a few and a value behind them, over those of the content from `place`
+    /// on.
+    #[inline(always)]
+    pub fn put_both(&mut self, place: usize, first: &[u8], value: &[u8])
+        requires { place + length first.now + length value.now ≤ length (contents self.old) }
+        ensures put { contents self.new ≡ take place (contents self.old) ++ first.now ++ value.now
+            ++ drop (place + length first.now + length value.now) (contents self.old) }
+        ensures front { take (place + length first.now + length value.now) (contents self.new)
+            ≡ take place (contents self.old) ++ first.now ++ value.now }
+        ensures size { length (contents self.new) ≡ length (contents self.old) }
+        ensures same_buffer { IsSameBuffer self.old self.new }
+    {
+        write_both(self.octets.as_mut_slice(), place, first, value);
+    }
+
+    /// Puts a handle and octets over those of the content from `place` on.
+    #[inline(always)]
+    pub fn put_pair(&mut self, place: usize, handle: u16, octets: &[u8])
+        requires { place + 2 + length octets.now ≤ length (contents self.old) }
+        ensures put { contents self.new ≡ take place (contents self.old)
+            ++ element_octets (OfAttribute handle octets.now)
+            ++ drop (place + 2 + length octets.now) (contents self.old) }
+        ensures front { take (place + 2 + length octets.now) (contents self.new)
+            ≡ take place (contents self.old) ++ element_octets (OfAttribute handle octets.now) }
+        ensures size { length (contents self.new) ≡ length (contents self.old) }
+        ensures same_buffer { IsSameBuffer self.old self.new }
+    {
+        write_pair(self.octets.as_mut_slice(), place, handle, octets);
+    }
+
+    /// Ends the content before its octet `place`, where it is longer.
+    #[inline(always)]
+    pub fn truncate(&mut self, place: usize)
+        ensures ended { contents self.new ≡ take place (contents self.old) }
+        ensures same_buffer { IsSameBuffer self.old self.new }
+    {
+        self.octets.truncate(place);
     }
 
     /// Replaces the content by an opcode and as much of a value, from its front, as fits: a value that
@@ -206,15 +277,74 @@ impl<'a> PduBuf<'a> {
         count <= usize::from(self.mtu) - self.octets.len()
     }
 
-    /// Appends octets for which there is room, so the `unwrap` is proved and tests nothing.
+    /// Appends octets for which there is room.
     #[inline(always)]
     fn append(&mut self, octets: &[u8])
         requires { length (contents self.old) + length octets.now ≤ mtu_of self.old }
         ensures appended { contents self.new ≡ contents self.old ++ octets.now }
         ensures same_buffer { IsSameBuffer self.old self.new }
     {
-        self.octets.try_extend_from_slice(octets).unwrap();
+        extend(self.octets, octets);
     }
+}
+
+/// Gives octets a length: they end early, or zeros come behind them. It is not inlined, since a list
+/// is mostly as long as the one before it.
+#[inline(never)]
+fn set_length(octets: &mut PduOctets, size: usize)
+    requires { size ≤ MAX_PDU }
+    ensures { octets.new.items
+        ≡ take size octets.old.items ++ replicate (size - array_vec_len octets.old) 0 }
+{
+    let before = octets.len();
+    if size <= before {
+        octets.truncate(size);
+    } else {
+        extend(octets, &ZEROS[..size - before]);
+    }
+}
+
+/// Appends octets for which there is room, so the `unwrap` is proved and tests nothing.
+#[inline(always)]
+fn extend(octets: &mut PduOctets, more: &[u8])
+    requires { array_vec_len octets.old + length more.now ≤ MAX_PDU }
+    ensures { octets.new.items ≡ octets.old.items ++ more.now }
+{
+    octets.try_extend_from_slice(more).unwrap();
+}
+
+/// Writes octets of two places, a few and a value behind them, over others from a place on.
+#[inline(always)]
+fn write_both(octets: &mut [u8], place: usize, first: &[u8], value: &[u8])
+    requires { place + length first.now + length value.now ≤ length octets.old }
+    ensures { octets.new ≡ take place octets.old ++ first.now ++ value.now
+        ++ drop (place + length first.now + length value.now) octets.old }
+{
+    let middle = place + first.len();
+    octets[place..middle].copy_from_slice(first);
+    copy(&mut octets[middle..middle + value.len()], value);
+}
+
+/// Writes a handle and octets over others from a place on.
+#[inline(always)]
+fn write_pair(octets: &mut [u8], place: usize, handle: u16, rest: &[u8])
+    requires { place + 2 + length rest.now ≤ length octets.old }
+    ensures { octets.new ≡ take place octets.old ++ two_octets handle ++ rest.now
+        ++ drop (place + 2 + length rest.now) octets.old }
+{
+    let [low, high] = handle.to_le_bytes();
+    octets[place] = low;
+    octets[place + 1] = high;
+    copy(&mut octets[place + 2..place + 2 + rest.len()], rest);
+}
+
+/// Copies octets. It is not inlined, so that the loop of a list has few values to keep.
+#[inline(never)]
+fn copy(to: &mut [u8], from: &[u8])
+    requires { length to.old ≡ length from.now }
+    ensures { to.new ≡ from.now }
+{
+    to.copy_from_slice(from);
 }
 
 /// Drops octets. It is not inlined, so that a PDU that is empty already pays for a test alone.
