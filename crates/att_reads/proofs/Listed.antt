@@ -1,6 +1,6 @@
 -- How candidates are listed one after another.
 use Rattle.std.proofs.Common.{◌≡◌, ◌<◌, ◌≤◌, ℕ, ◌+◌, ◌-◌, ◌/◌, Bool, true, false, List, None, [], ◌∷◌, ◌++◌, length, take, zero, suc, refl, sym, ap, ◌∙◌, arith, append_assoc, length-append}
-use Rattle.std.specs.Prelude.{take_while, cond}
+use Rattle.std.specs.Prelude.{take_while, cond, min, map}
 use Rattle.std.proofs.Math.Nat.{div-eq-sub-div, div-eq_of_lt}
 use Rattle.std.proofs.lemmas.Grind.{common_steps}
 use Rattle.std.proofs.lemmas.List.{append-nil}
@@ -81,3 +81,30 @@ list_begun opcode header mtu first rest permitted above fits =
     let is : is_listed (candidate_size first) first ≡ true = grind (arith, common_steps, permitted) in
     let next : HasNext mtu (candidate_size first) first octets (octets ++ element_octets first.element) = record { listed = is; fits = fits; appended = refl } in
     listed_next mtu (candidate_size first) octets (octets ++ element_octets first.element) first rest above next
+
+-- those that there is no room for need not be looked at
+cut-at : (k : ℕ) (candidate : Candidate) (xs ys : List Candidate) (test : Bool) → take k xs ≡ take k ys
+    → take (suc k) (cond test (candidate ∷ xs) []) ≡ take (suc k) (cond test (candidate ∷ ys) [])
+cut-at k candidate xs ys true same = ap (λ candidates. candidate ∷ candidates) same
+cut-at k candidate xs ys false same = refl
+
+cut-empty : {A : Type 0} (n : ℕ) → take {A = A} n [] ≡ []
+cut-empty zero = refl
+cut-empty (suc n) = refl
+
+cut_run : {A : Type 0} (of : A → Candidate) (size k : ℕ) (xs : List A)
+    → take k (take_while (is_listed size) (map of (take (min (length xs) k) xs))) ≡ take k (take_while (is_listed size) (map of xs))
+cut_run of size zero xs = refl
+cut_run of size (suc k) [] = ap (λ left. take (suc k) (take_while (is_listed size) (map of left))) (cut-empty (min 0 (suc k)))
+cut_run of size (suc k) (x ∷ xs) =
+    let fewer : min (length (x ∷ xs)) (suc k) ≡ suc (min (length xs) k) = omega arith in
+    ap (λ n. take (suc k) (take_while (is_listed size) (map of (take n (x ∷ xs))))) fewer
+    ∙ ap (take (suc k)) (take_while-cons (is_listed size) (of x) (map of (take (min (length xs) k) xs)))
+    ∙ cut-at k (of x) _ _ (is_listed size (of x)) (cut_run of size k xs)
+    ∙ sym (ap (take (suc k)) (take_while-cons (is_listed size) (of x) (map of xs)))
+
+pub listed_fitting : {A : Type 0} (of : A → Candidate) (mtu size count : ℕ) (octets : Octets) (xs : List A) → count ≡ min (length xs) ((mtu - length octets) / size)
+    → with_listed mtu size octets (map of (take count xs)) ≡ with_listed mtu size octets (map of xs)
+listed_fitting of mtu size count octets xs is =
+    ap (λ n. with_listed mtu size octets (map of (take n xs))) is
+    ∙ ap (λ candidates. octets ++ joined candidates) (cut_run of size ((mtu - length octets) / size) xs)

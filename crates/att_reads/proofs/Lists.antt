@@ -1,7 +1,8 @@
 -- What is left of a list, and what a test finds in it.
-use Rattle.std.proofs.Common.{◌≡◌, ◌<◌, ◌≤◌, ℕ, ◌+◌, ◌-◌, Bool, true, false, List, [], ◌∷◌, length, take, drop, get_or, suc, refl, sym, ap, ◌∙◌, arith}
+use Rattle.std.proofs.Common.{◌≡◌, ◌<◌, ◌≤◌, ℕ, ◌+◌, ◌-◌, ◌*◌, Bool, true, false, List, [], ◌∷◌, length, take, drop, get_or, suc, refl, sym, ap, ◌∙◌, arith, length-drop}
 use Rattle.std.specs.Prelude.{filter, ◌||◌}
 use Rattle.std.specs.List.{list_any}
+use Rattle.std.proofs.Math.Nat.{mul-suc}
 use Rattle.std.proofs.Math.Seq.{drop-cons}
 use Rattle.std.proofs.lemmas.List.{take_all}
 
@@ -9,6 +10,23 @@ pub drop_next : {A : Type 0} (xs : List A) (i : ℕ) (d : A) → i < length xs �
 drop_next xs i d below =
     let next : suc i ≡ i + 1 = omega arith in
     drop-cons xs i d below ∙ ap (λ n. get_or xs i d ∷ drop n xs) next
+
+-- the room for what is left is the room for the next one and for what is left then
+pub room_next : {A : Type 0} (xs : List A) (i place size held : ℕ) → i < length xs → place + size * length (drop i xs) ≡ held
+    → place + size + size * length (drop (i + 1) xs) ≡ held
+room_next xs i place size held below room =
+    let here = length-drop i xs in
+    let later = length-drop (i + 1) xs in
+    let one_less : length (drop i xs) ≡ suc (length (drop (i + 1) xs)) = omega (arith, here, later, below) in
+    let product = ap (λ n. size * n) one_less in
+    let next = mul-suc size (length (drop (i + 1) xs)) in
+    omega (arith, room, product, next)
+
+-- and where nothing is left, all stands before the place
+pub room_end : {A : Type 0} (octets : List ℕ) (xs : List A) (place size : ℕ) → xs ≡ [] → place + size * length xs ≡ length octets → take place octets ≡ octets
+room_end {A = A} octets xs place size none room =
+    let product = ap (λ (left : List A). size * length left) none in
+    take_all place octets (omega (arith, room, product))
 
 pub first_and_rest : {A : Type 0} (xs : List A) (d : A) → 1 ≤ length xs → xs ≡ get_or xs 0 d ∷ take (length xs - 1) (drop 1 xs)
 first_and_rest [] d some = absurd (omega (arith, some))

@@ -55,8 +55,9 @@ pub record HasNoNext (mtu : Mtu) (size : ℕ) (candidate : Candidate) (old new :
   pub not_listed : is_listed size candidate ≡ true → length old + size ≤ mtu → ⊥
   pub unchanged : new ≡ old
 
--- a candidate was appended to a PDU where it may be listed and fits, and else nothing changed
-pub record AppendsNext (old new : PduBuf) (size : ℕ) (candidate : Candidate) (result : Bool) : Type 0 where
-  pub appended : OnTrue result (HasNext (mtu_of old) size candidate (contents old) (contents new))
-  pub unchanged : OnFalse result (HasNoNext (mtu_of old) size candidate (contents old) (contents new))
+-- a candidate was put into a PDU from a place on where it may be listed and fits, and else what stands before the place is the same
+pub record PutsNext (old new : PduBuf) (place size : ℕ) (candidate : Candidate) (result : Bool) : Type 0 where
+  pub put : OnTrue result (HasNext (mtu_of old) size candidate (take place (contents old)) (take (place + size) (contents new)))
+  pub kept : OnFalse result (HasNoNext (mtu_of old) size candidate (take place (contents old)) (take place (contents new)))
+  pub held : length (contents new) ≡ length (contents old)
   pub same_buffer : IsSameBuffer old new

@@ -1,16 +1,18 @@
 //! The requests that find attributes: Core 5.0, Vol 3 Part F, 3.4.3.
 
-ghost use Rattle.std.specs.Prelude.{◌≡◌, ◌-◌, ◌<◌, ◌/◌, ◌∷◌, ◌++◌, [], map, filter, take, IsSome};
+ghost use Rattle.std.specs.Prelude.{◌≡◌, ◌-◌, ◌<◌, ◌≤◌, ◌+◌, ◌*◌, ◌/◌, ◌∷◌, ◌++◌, [], map, filter, length, take, IsSome};
 ghost use Rattle.std.specs.List.{list_any};
 ghost use Rattle.std.specs.Bool.{OnTrue};
-ghost use Rattle.att_numbers.specs.declared.opcode.TheConstants.{FIND_INFORMATION_REQUEST, FIND_BY_TYPE_VALUE_REQUEST};
+ghost use Rattle.att_numbers.specs.declared.opcode.TheConstants.{FIND_INFORMATION_REQUEST, FIND_INFORMATION_RESPONSE, FIND_BY_TYPE_VALUE_REQUEST};
 ghost use Rattle.att_pdu.specs.PduBuf.{contents, mtu_of, IsSameBuffer, AppendsWhereFits};
+ghost use Rattle.att_pdu.specs.declared.pdu_buf.TheConstants.{MAX_MTU};
 ghost use Rattle.att_pdu.specs.Response.{element_octets, sent, FindInformationResponse, FindByTypeValueResponse};
 ghost use Rattle.att_attributes.specs.Attributes.{attribute_at};
 ghost use Rattle.att_reads.specs.Answer.{is_match, with_groups, group_of, information_of, information_format};
-ghost use Rattle.att_reads.specs.Listing.{size_of_first, elements_within, with_listed, AppendsNext};
+ghost use Rattle.att_reads.specs.Listing.{size_of_first, elements_within, with_listed, PutsNext};
 ghost use Rattle.att_reads.specs.Refusals.{unless_refused, not_found};
 
+use crate::list::fitting;
 use crate::reader::Reader;
 use att_numbers::{error_code, opcode};
 use att_pdu::PduBuf;
@@ -44,34 +46,66 @@ pub fn information(attributes: &[Attr], start: u16, out: &mut PduBuf<'_>)
     } else {
         (LONG_TYPES, 18)
     };
-    out.replace(&[opcode::FIND_INFORMATION_RESPONSE, format], &[]);
-    append_all(attributes, size, out);
+    list(attributes, format, size, out);
 }
 
-/// Appends these attributes, up to the first that has another size or does not fit.
-fn append_all(attributes: &[Attr], size: usize, out: &mut PduBuf<'_>)
-    requires { 0 < size }
-    ensures appended { contents out.new
-        ≡ with_listed (mtu_of out.old) size (contents out.old)
+/// Lists these attributes, up to the first that has another size or does not fit.
+#[inline(always)]
+fn list(attributes: &[Attr], format: u8, size: usize, out: &mut PduBuf<'_>)
+    requires size { 0 < size }
+    requires most { size ≤ MAX_MTU }
+    ensures listed { contents out.new
+        ≡ with_listed (mtu_of out.old) size (FIND_INFORMATION_RESPONSE ∷ format ∷ [])
         (map information_of attributes.now) }
     ensures same_buffer { IsSameBuffer out.old out.new }
 {
+    let count = fitting(attributes.len(), size as u16, out.mtu() - 2);
+    out.resize(2 + size * count);
+    out.put(0, &[opcode::FIND_INFORMATION_RESPONSE, format]);
+    put_all(&attributes[..count], size, out);
+}
+
+/// Puts these attributes, for which there is just room, behind the opcode and the format, up to the
+/// first that has another size, where the list ends.
+#[inline(always)]
+fn put_all(attributes: &[Attr], size: usize, out: &mut PduBuf<'_>)
+    requires size { 0 < size }
+    requires room { 2 + size * length attributes.now ≡ length (contents out.old) }
+    ensures listed { contents out.new
+        ≡ with_listed (mtu_of out.old) size (take 2 (contents out.old))
+        (map information_of attributes.now) }
+    ensures same_buffer { IsSameBuffer out.old out.new }
+{
+    let mut place = 2;
     for attr in attributes {
-        if !append_next(attr, size, out) {
+        if !put_next(attr, size, place, out) {
+            out.truncate(place);
             return;
         }
+        place += size;
     }
 }
 
-/// Appends an attribute that has this size and fits.
-fn append_next(attr: &Attr, size: usize, out: &mut PduBuf<'_>) -> bool
-    ensures { AppendsNext out.old out.new size (information_of attr.now) result }
+/// Puts an attribute that has this size.
+#[inline(always)]
+fn put_next(attr: &Attr, size: usize, place: usize, out: &mut PduBuf<'_>) -> bool
+    requires { place + size ≤ length (contents out.old) }
+    ensures { PutsNext out.old out.new place size (information_of attr.now) result }
 {
     if is_of_16_bits(attr.kind) {
-        size == 4 && out.numbers(attr.handle, (attr.kind >> 96) as u16)
-    } else {
-        size == 18 && out.pair(attr.handle, &attr.kind.to_le_bytes())
+        if size != 4 {
+            return false;
+        }
+        let [low, high] = attr.handle.to_le_bytes();
+        let [kind_low, kind_high] = ((attr.kind >> 96) as u16).to_le_bytes();
+        out.put(place, &[low, high, kind_low, kind_high]);
+        return true;
     }
+    if size != 18 {
+        return false;
+    }
+    out.put_pair(place, attr.handle, &attr.kind.to_le_bytes());
+    true
 }
 
 /// Answers a Find By Type Value Request of the attributes at these handles, of which all have the

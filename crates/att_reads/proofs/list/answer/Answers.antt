@@ -1,10 +1,12 @@
-use Rattle.std.proofs.Common.{◌≡◌, ◌≤◌, ◌+◌, ◌-◌, ◌∷◌, length, take, drop, get_or, map, ap, sym, ◌∙◌}
+use Rattle.std.proofs.Common.{◌≡◌, ◌+◌, ◌-◌, ◌/◌, ◌∷◌, length, take, drop, get_or, map, ap, sym, ◌∙◌, arith, length-take}
+use Rattle.std.specs.Prelude.{min}
 use Rattle.att_pdu.specs.PduBuf.{contents, mtu_of}
-use Rattle.att_pdu.specs.Response.{sent}
+use Rattle.att_pdu.specs.Response.{element_octets, sent}
 use Rattle.att_reads.specs.Access.{value_for}
-use Rattle.att_reads.specs.List.{head_of, cut_of, candidate_of, list_answer}
+use Rattle.att_reads.specs.List.{listing_request, head_of, cut_of, element_of, candidate_of, list_answer}
 use Rattle.att_reads.specs.Listing.{with_listed}
 use Rattle.att_reads.proofs.Entries.{list_of_first}
+use Rattle.att_reads.proofs.Listed.{listed_fitting}
 use Rattle.att_reads.proofs.Lists.{first_and_rest}
 use Rattle.att_reads.proofs.list.answer.Goals as goal
 
@@ -20,13 +22,26 @@ returns-in-Ok-clause-answer c =
     let first = get_or handles 0 0 in
     let rest = take (length handles - 1) (drop 1 handles) in
     let at : handles ≡ first ∷ rest = first_and_rest handles 0 c.in-len1-up.len_at_least in
-    let front : c.cut-front.result.now ≡ take (cut_of listing mtu) (value_for table row first) =
-    c.cut-front.ensures ∙ ap (λ n. take (cut_of listing n) c.in-Ok.value.now) c.mtu.ensures.mtu ∙ ap (take (cut_of listing mtu)) c.in-Ok.ensures.value in
-    let size : c.from.result + length c.cut-front.result.now ≡ head_of listing + length c.cut-front.result.now =
-    ap (λ n. n + length c.cut-front.result.now) (c.from.ensures ∙ c.head.ensures) in
-    c.append_all.ensures.appended
-    ∙ ap (λ n. with_listed n (c.from.result + length c.cut-front.result.now) (contents c.begin.new.out) (map (candidate_of listing table row standing n) rest)) c.begin.ensures.same_buffer.mtu
-    ∙ ap (λ n. with_listed mtu n (contents c.begin.new.out) (map (candidate_of listing table row standing mtu) rest)) size
-    ∙ list_of_first listing table row standing mtu c.args.start first rest c.cut-front.result.now (contents c.begin.new.out)
-    c.in-Ok.ensures.permitted c.args.out.now.least front c.begin.ensures.begun
+    let cut : c.cut-cut.result ≡ cut_of listing mtu = c.cut-cut.ensures ∙ ap (cut_of listing) c.mtu.ensures.mtu in
+    let front : c.front-front.result.now ≡ take (cut_of listing mtu) (value_for table row first) =
+    c.front-front.ensures ∙ ap (λ n. take n c.in-Ok.value.now) cut ∙ ap (take (cut_of listing mtu)) c.in-Ok.ensures.value in
+    let size : c.from.result + length c.front-front.result.now ≡ head_of listing + length c.front-front.result.now =
+    ap (λ n. n + length c.front-front.result.now) (c.from.ensures ∙ c.head.ensures) in
+    let begun = take (2 + (c.from.result + length c.front-front.result.now)) (contents c.begin.new.out) in
+    let first_is : begun ≡ (listing_request listing + 1) ∷ (head_of listing + length c.front-front.result.now) ∷ element_octets (element_of listing table first c.front-front.result.now) =
+    ap (λ n. take (2 + n) (contents c.begin.new.out)) size ∙ c.begin.ensures.begun in
+    let held : length begun ≡ 2 + (c.from.result + length c.front-front.result.now) =
+    let all = length-take (2 + (c.from.result + length c.front-front.result.now)) (contents c.begin.new.out) in
+    omega (arith, all, c.begin.ensures.size, c.resize.ensures.size) in
+    let count : c.fitting-more.result ≡ min (length rest) ((mtu - length begun) / (c.from.result + length c.front-front.result.now)) =
+    c.fitting-more.ensures.count
+    ∙ ap (λ n. min (length rest) ((n - (2 + (c.from.result + length c.front-front.result.now))) / (c.from.result + length c.front-front.result.now))) c.mtu-in-Ok.ensures.mtu
+    ∙ ap (λ n. min (length rest) ((mtu - n) / (c.from.result + length c.front-front.result.now))) (sym held) in
+    c.put_all.ensures.listed
+    ∙ ap (λ n. with_listed n (c.from.result + length c.front-front.result.now) begun (map (candidate_of listing table row standing n) (take c.fitting-more.result rest)))
+    (c.begin.ensures.same_buffer.mtu ∙ c.resize.ensures.same_buffer.mtu)
+    ∙ listed_fitting (candidate_of listing table row standing mtu) mtu (c.from.result + length c.front-front.result.now) c.fitting-more.result begun rest count
+    ∙ ap (λ n. with_listed mtu n begun (map (candidate_of listing table row standing mtu) rest)) size
+    ∙ list_of_first listing table row standing mtu c.args.start first rest c.front-front.result.now begun
+    c.in-Ok.ensures.permitted c.args.out.now.least front first_is
     ∙ ap (λ hs. sent (list_answer listing table row standing mtu c.args.start hs)) (sym at)
