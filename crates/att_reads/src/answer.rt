@@ -1,6 +1,5 @@
 ghost use Rattle.std.specs.Prelude.{◌≡◌, ◌≤◌, nat_lt, ◌==◌, ◌||◌, not, length};
 ghost use Rattle.att_numbers.specs.AttributeType.{of_16_bits};
-ghost use Rattle.att_pdu.specs.Uuid.{uuid_number};
 ghost use Rattle.att_pdu.specs.PduBuf.{contents, mtu_of, IsSameBuffer};
 ghost use Rattle.att_pdu.specs.Request.{asked};
 ghost use Rattle.att_pdu.specs.Response.{sent, sent_if_any};
@@ -71,7 +70,7 @@ fn answer_to(reader: Reader<'_>, request: &Request<'_>, out: &mut PduBuf<'_>)
             first,
             last,
             attribute_type,
-        } => read_by_type(reader, first, last, attribute_type, out),
+        } => read_by_type(reader, first, last, attribute_type.number(), out),
         Request::Read { handle } => value::read(reader, handle, out),
         Request::ReadBlob { handle, offset } => value::read_blob(reader, handle, offset, out),
         Request::ReadMultiple { handles } => value::read_multiple(reader, handles, out),
@@ -79,7 +78,7 @@ fn answer_to(reader: Reader<'_>, request: &Request<'_>, out: &mut PduBuf<'_>)
             first,
             last,
             attribute_type,
-        } => read_by_group_type(reader, first, last, attribute_type, out),
+        } => read_by_group_type(reader, first, last, attribute_type.number(), out),
         Request::ExchangeMtu { .. }
         | Request::Write { .. }
         | Request::PrepareWrite { .. }
@@ -150,12 +149,12 @@ fn read_by_type(
     reader: Reader<'_>,
     first: u16,
     last: u16,
-    attribute_type: Uuid,
+    attribute_type: u128,
     out: &mut PduBuf<'_>,
 )
     ensures answer { contents out.new ≡ sent
         (values_answer reader.entry.table.now reader.entry.row.now reader.entry.standing.now
-        (mtu_of out.old) first last (uuid_number attribute_type)) }
+        (mtu_of out.old) first last attribute_type) }
     ensures same_buffer { IsSameBuffer out.old out.new }
 {
     if !is_range(first, last) {
@@ -168,7 +167,7 @@ fn read_by_type(
     }
     let handles = reader
         .table
-        .of_type(attribute_type.number(), first, last, &mut Uncounted);
+        .of_type(attribute_type, first, last, &mut Uncounted);
     list::answer(Listing::Values, reader, handles, first, out);
 }
 
@@ -178,12 +177,12 @@ fn read_by_group_type(
     reader: Reader<'_>,
     first: u16,
     last: u16,
-    attribute_type: Uuid,
+    attribute_type: u128,
     out: &mut PduBuf<'_>,
 )
     ensures answer { contents out.new ≡ sent
         (groups_answer reader.entry.table.now reader.entry.row.now reader.entry.standing.now
-        (mtu_of out.old) first last (uuid_number attribute_type)) }
+        (mtu_of out.old) first last attribute_type) }
     ensures same_buffer { IsSameBuffer out.old out.new }
 {
     if !is_range(first, last) {
@@ -194,7 +193,6 @@ fn read_by_group_type(
         );
         return;
     }
-    let attribute_type = attribute_type.number();
     if !is_service(attribute_type) {
         out.error(
             opcode::READ_BY_GROUP_TYPE_REQUEST,
