@@ -55,7 +55,7 @@ impl Listing {
         requires { MIN_MTU ≤ mtu }
         ensures { result ≡ cut_of self mtu }
     {
-        usize::from(mtu.min(2 + MAX_ELEMENT) - 2 - self.head())
+        usize::from(mtu.min(2 + MAX_ELEMENT)) - usize::from(2 + self.head())
     }
 
     /// Puts an attribute with the front of its value over the content from `place` on.
