@@ -71,4 +71,20 @@ sizes_left places i octets below sizes =
     let all = ap sizes_of (drop_next places i no_place below) ∙ sizes_cons (get_or places i no_place) (drop (i + 1) places) in
     grind (arith, common_steps)
 
-pub ruleset laid = (length_entries, octets_laid, entry_pushed)
+-- the same of octets of which so many are used
+pub length_used : (octets : List ℕ) (used : ℕ) → used ≤ length octets → length (take used octets) ≡ used
+length_used octets used within = grind (arith, common_steps)
+
+pub octets_used : (places : List Place) (octets : List ℕ) (used : ℕ) → sizes_of places ≡ used → used ≤ length octets
+    → prepared_octets (entries_in places (take used octets)) ≡ used
+octets_used places octets used sizes within =
+    let count = length_used octets used within in
+    octets_laid places (take used octets) (sizes ∙ sym count) ∙ count
+
+pub part_pushed : (places : List Place) (octets part : List ℕ) (used : ℕ) (place : Place) → sizes_of places ≡ used → used ≤ length octets → place.len ≡ length part
+    → entries_in (places ++ place ∷ []) (take used octets ++ part)
+    ≡ entries_in places (take used octets) ++ record { handle = place.handle; offset = place.offset; part = part } ∷ []
+part_pushed places octets part used place sizes within size =
+    entry_pushed places (take used octets) part place (sizes ∙ sym (length_used octets used within)) size
+
+pub ruleset laid = (length_entries, length_used, octets_used, part_pushed)

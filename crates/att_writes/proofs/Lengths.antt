@@ -1,5 +1,5 @@
 -- What is written depends on the lengths of the values that stand, and leaves all values that it does not touch.
-use Rattle.std.proofs.Common.{◌≡◌, ℕ, ◌+◌, ◌-◌, ◌<◌, ◌≤◌, Bool, true, false, ◌==◌, cond, nat_le, if◌then◌else◌, List, [], ◌∷◌, ◌++◌, length, take, drop, Option, Some, None, Result, Ok, Err, refl, sym, ap, ◌∙◌, subst, arith, length-append, length-take, length-drop}
+use Rattle.std.proofs.Common.{◌≡◌, ℕ, ◌-◌, ◌<◌, ◌≤◌, Bool, true, false, ◌==◌, nat_le, if◌then◌else◌, List, [], ◌∷◌, length, Option, Some, None, Ok, refl, sym, ap, ◌∙◌, subst, arith, length-append, length-take, length-drop}
 use Rattle.std.proofs.lemmas.Bool.Decides.{nat_tests}
 use Rattle.std.proofs.lemmas.Grind.{common_steps}
 use Rattle.std.proofs.lemmas.List.{length-set}
@@ -8,14 +8,14 @@ use Rattle.att_policy.specs.declared.policy.Access.{Access}
 use Rattle.att_policy.specs.declared.standing.Standing.{Standing}
 use Rattle.att_attributes.specs.declared.attr.Attr.{Attr}
 use Rattle.att_values.specs.Cell.{value_with_part}
-use Rattle.att_attributes.specs.Attributes.{attribute_at, is_configuration_at, is_fixed_at}
+use Rattle.att_attributes.specs.Attributes.{is_configuration_at, is_fixed_at}
 use Rattle.att_table.specs.ConfigRow.{with_bits}
 use Rattle.att_table.specs.Table.{value_at, with_value}
-use Rattle.att_writes.specs.Applied.{Stored, after_entry, after_entries, first_octet, unless_entry_refused}
+use Rattle.att_writes.specs.Applied.{Stored, after_entry, after_entries, first_octet}
 use Rattle.att_writes.specs.Entry.{Entry}
 use Rattle.att_writes.specs.Fault.{entry_fault}
 use Rattle.att_writes.specs.SameBut.{SameBut, SameApplied}
-use Rattle.att_writes.proofs.AtOnce.{fits_unless_refused, applied_more, refused_more, applied_none}
+use Rattle.att_writes.proofs.AtOnce.{fits_unless_refused}
 use Rattle.att_writes.proofs.Reached.{same_by_then}
 use Rattle.att_writes.proofs.Sizes.{used, value_written}
 use Rattle.octets.specs.Number.{Octets}

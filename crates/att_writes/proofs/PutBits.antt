@@ -1,5 +1,5 @@
 -- What is written is the old row with the bits of the touched configurations set.
-use Rattle.std.proofs.Common.{◌≡◌, ℕ, ◌<◌, Bool, true, false, ◌==◌, ◌||◌, if◌then◌else◌, List, [], ◌∷◌, length, map, filter, Option, Some, None, Result, Ok, Err, refl, sym, ap, ◌∙◌, arith}
+use Rattle.std.proofs.Common.{◌≡◌, ℕ, Bool, true, false, ◌==◌, ◌||◌, if◌then◌else◌, List, [], ◌∷◌, length, map, filter, Option, Some, None, Ok, refl, sym, ap, ◌∙◌, arith}
 use Rattle.std.proofs.lemmas.Bool.Decides.{nat_tests}
 use Rattle.std.proofs.lemmas.Grind.{common_steps}
 use Rattle.std.specs.List.{list_any}
@@ -7,14 +7,13 @@ use Rattle.att_numbers.specs.Types.{Handle, Code, Row}
 use Rattle.att_policy.specs.declared.policy.Access.{Access}
 use Rattle.att_policy.specs.declared.standing.Standing.{Standing}
 use Rattle.att_attributes.specs.declared.attr.Attr.{Attr}
-use Rattle.att_attributes.specs.Attributes.{is_configuration_at, is_fixed_at}
-use Rattle.att_table.specs.Cell.{value_with_part}
+use Rattle.att_attributes.specs.Attributes.{is_configuration_at}
 use Rattle.att_table.specs.ConfigRow.{bits_at, with_bits, has_entry}
-use Rattle.att_table.specs.Table.{value_at, with_value}
+use Rattle.att_table.specs.Table.{value_at}
 use Rattle.att_writes.specs.Applied.{Stored, after_entry, after_entries, first_octet, unless_entry_refused}
 use Rattle.att_writes.specs.Entry.{Entry}
 use Rattle.att_writes.specs.Fault.{entry_fault}
-use Rattle.att_writes.specs.SameBut.{KeepsOthers, is_touched, bits_put}
+use Rattle.att_writes.specs.SameBut.{is_touched, bits_put}
 use Rattle.att_writes.proofs.Untouched.{keeps_others}
 
 -- bits that are set twice at a handle are the last

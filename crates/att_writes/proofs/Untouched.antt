@@ -1,13 +1,11 @@
 -- What entries do not touch stays as it was.
-use Rattle.std.proofs.Common.{◌≡◌, ℕ, ◌+◌, ◌-◌, ◌<◌, ◌≤◌, Bool, true, false, ◌==◌, ◌||◌, nat_le, if◌then◌else◌, List, [], ◌∷◌, length, Option, Some, None, Result, Ok, Err, refl, sym, subst, ap, ◌∙◌, arith}
+use Rattle.std.proofs.Common.{◌≡◌, ℕ, ◌-◌, ◌<◌, Bool, true, false, ◌==◌, if◌then◌else◌, List, [], ◌∷◌, length, Option, Some, None, Ok, refl, subst, ap, ◌∙◌, arith}
 use Rattle.std.proofs.lemmas.Bool.Decides.{nat_tests}
 use Rattle.std.proofs.lemmas.Grind.{common_steps}
 use Rattle.std.proofs.lemmas.List.{length-set}
-use Rattle.std.specs.List.{list_any}
 use Rattle.att_numbers.specs.Types.{Handle, Code, Values, Row}
 use Rattle.att_policy.specs.declared.policy.Access.{Access}
 use Rattle.att_policy.specs.declared.standing.Standing.{Standing}
-use Rattle.att_policy.specs.Refusal.{Refusal}
 use Rattle.att_attributes.specs.declared.attr.Attr.{Attr}
 use Rattle.att_values.specs.Cell.{value_with_part}
 use Rattle.att_attributes.specs.Attributes.{is_configuration_at, is_fixed_at}

@@ -42,13 +42,13 @@ entries_in (place ∷ places) octets =
 abbrev pub sizes_of : List Place → ℕ
 sizes_of places = sum_by (λ (place : Place). place.len) places
 
--- the parts have the lengths that their places say, within the limits, for which there is room
-pub record PartsAreLaidOut (places : List Place) (octets : Octets) (place_room octet_room : ℕ) : Type 0 where
-  pub sizes : sizes_of places ≡ length octets
+-- the parts, in octets of which so many are used, have the lengths that their places say, within the limits, for which there is room
+pub record PartsAreLaidOut (places : List Place) (octets : Octets) (used place_room : ℕ) : Type 0 where
+  pub sizes : sizes_of places ≡ used
   pub few_entries : length places ≤ MAX_PREPARED
-  pub few_octets : length octets ≤ MAX_PREPARED_OCTETS
+  pub few_octets : used ≤ MAX_PREPARED_OCTETS
   pub has_place_room : MAX_PREPARED ≤ place_room
-  pub has_octet_room : MAX_PREPARED_OCTETS ≤ octet_room
+  pub has_octet_room : length octets ≡ MAX_PREPARED_OCTETS
 
 -- why a write is not prepared, if it is not: the policy goes before the room
 abbrev pub broken_or_full : Option (Rule × Code) → Bool → Option Code

@@ -1,5 +1,5 @@
 -- Values that differ in nothing but some of them.
-use Rattle.std.specs.Prelude.{◌≡◌, ℕ, ◌<◌, Bool, false, ◌==◌, List, [], ◌∷◌, length, map, filter, Result, Ok, Err}
+use Rattle.std.specs.Prelude.{◌≡◌, ◌<◌, Bool, false, ◌==◌, List, [], ◌∷◌, length, map, filter, Result, Ok, Err}
 use Rattle.std.specs.List.{list_any}
 use Rattle.att_numbers.specs.Types.{Handle, Values, Row}
 use Rattle.att_policy.specs.Refusal.{Refusal}

@@ -1,4 +1,4 @@
-ghost use Rattle.std.specs.Prelude.{◌≡◌, ◌+◌, ◌<◌, ◌≤◌, [], ◌∷◌, ◌++◌, length, vec_capacity, IfOk, IsTrue};
+ghost use Rattle.std.specs.Prelude.{◌≡◌, ◌+◌, ◌<◌, ◌≤◌, [], ◌∷◌, ◌++◌, length, take, vec_capacity, IfOk, IsTrue};
 ghost use Rattle.att_writes.specs.Entry.{entry_of};
 ghost use Rattle.att_writes.specs.Queue.{entries_in, sizes_of, has_queue_room};
 ghost use Rattle.att_writes.specs.SameBut.{JudgesByLengths, LeavesOthers, StoresTouched, SetsTouched};
@@ -18,7 +18,7 @@ pub type Touched = ArrayVec<u16, MAX_PREPARED>;
 const MAX_PREPARED_OCTETS: usize = 1_024;
 
 /// Where a prepared write is to be made, and how many octets its part has.
-#[derive(Clone, Copy, Debug)]
+#[derive(Clone, Copy)]
 pub(crate) struct Place {
     /// The handle of the attribute.
     pub handle: u16,
@@ -44,24 +44,27 @@ impl Place {
 
 /// The prepared writes of one client, in their order, within the limits of a queue. (Core 5.0, Vol 3
 /// Part F, 3.4.6)
-#[derive(Debug, Drop)]
+#[derive(Drop)]
 pub struct Queue {
     places: Vec<Place>,
-    /// The parts, one behind the other.
+    /// As many octets as all parts may have: at their front the parts, one behind the other.
     octets: Vec<u8>,
+    /// How many octets the parts have.
+    used: usize,
 }
 
 impl Model for Queue {
-    ghost use Rattle.std.specs.Prelude.{List, vec_capacity};
+    ghost use Rattle.std.specs.Prelude.{List, take, vec_capacity};
     ghost use Rattle.att_writes.specs.Entry.{Entry};
     ghost use Rattle.att_writes.specs.Queue.{entries_in, PartsAreLaidOut};
 
     ghost Value = { List Entry };
 
-    ghost view = { λ queue. entries_in queue.places.items queue.octets.items };
+    ghost view = { λ queue. entries_in queue.places.items
+        (take queue.used queue.octets.items) };
 
-    ghost invariant = { λ queue. PartsAreLaidOut queue.places.items queue.octets.items
-        (vec_capacity queue.places) (vec_capacity queue.octets) };
+    ghost invariant = { λ queue. PartsAreLaidOut queue.places.items queue.octets.items queue.used
+        (vec_capacity queue.places) };
 }
 
 impl Queue {
@@ -77,7 +80,8 @@ impl Queue {
     {
         Ok(Queue {
             places: Vec::with_capacity(alloc, MAX_PREPARED)?,
-            octets: Vec::with_capacity(alloc, MAX_PREPARED_OCTETS)?,
+            octets: vec![in alloc; 0; MAX_PREPARED_OCTETS]?,
+            used: 0,
         })
     }
 
@@ -86,7 +90,7 @@ impl Queue {
     pub(crate) fn has_room(&self, part: &[u8]) -> bool
         ensures { result ≡ has_queue_room self.now part.now }
     {
-        self.places.len() < MAX_PREPARED && self.octets.len() + part.len() <= MAX_PREPARED_OCTETS
+        self.places.len() < MAX_PREPARED && self.used + part.len() <= MAX_PREPARED_OCTETS
     }
 
     /// Adds an entry at the end. It takes no memory.
@@ -101,7 +105,8 @@ impl Queue {
             len: entry.part.len() as u16,
         };
         push_place(&mut self.places, place);
-        push_octets(&mut self.octets, entry.part);
+        write_part(self.octets.as_mut_slice(), self.used, entry.part);
+        self.used += entry.part.len();
     }
 
     /// Where the entries are to be made, and their parts, one behind the other.
@@ -110,7 +115,7 @@ impl Queue {
         ensures sizes { sizes_of result.0.now ≡ length result.1.now }
         ensures within { length result.0.now ≤ MAX_PREPARED }
     {
-        (&self.places, &self.octets)
+        (&self.places, &self.octets[..self.used])
     }
 
     /// Drops all entries.
@@ -118,7 +123,7 @@ impl Queue {
         ensures { self.new ≡ [] }
     {
         self.places.clear();
-        self.octets.clear();
+        self.used = 0;
     }
 }
 
@@ -132,14 +137,11 @@ fn push_place(places: &mut Vec<Place>, place: Place)
     places.push_reserved(place);
 }
 
-/// Adds octets, for which the room is there. It stands apart for its proof.
-fn push_octets(octets: &mut Vec<u8>, part: &[u8])
-    requires room { length octets.old.items + length part.now ≤ vec_capacity octets.old }
-    ensures items { octets.new.items ≡ octets.old.items ++ part.now }
-    // So it takes no memory.
-    ensures capacity { vec_capacity octets.new ≡ vec_capacity octets.old }
+/// Writes a part behind the octets that are used. It stands apart for its proof.
+fn write_part(octets: &mut [u8], used: usize, part: &[u8])
+    requires room { used + length part.now ≤ length octets.old }
+    ensures front { take (used + length part.now) octets.new ≡ take used octets.old ++ part.now }
+    ensures length { length octets.new ≡ length octets.old }
 {
-    for octet in part {
-        octets.push_reserved(*octet);
-    }
+    octets[used..used + part.len()].copy_from_slice(part);
 }

@@ -1,4 +1,4 @@
-use Rattle.std.proofs.Common.{◌≡◌, ℕ, List, length, take, drop}
+use Rattle.std.proofs.Common.{◌≡◌, length, take, drop}
 use Rattle.att_numbers.specs.Types.{Row}
 use Rattle.att_policy.specs.declared.policy.Access.TheVariants.{Write}
 use Rattle.att_writes.specs.Applied.{Stored, stored_in}
