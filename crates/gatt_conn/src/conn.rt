@@ -28,7 +28,7 @@ const UNKNOWN: Standing = Standing {
 };
 
 /// What the server keeps of one connection.
-#[derive(Debug, Drop)]
+#[derive(Drop)]
 pub struct Conn {
     standing: Standing,
     mtu: u16,
