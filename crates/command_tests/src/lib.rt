@@ -1,5 +1,5 @@
 //! Tests of the commands and of what each says where it ends: inputs, with what is printed and written
-//! for them, and a controller over a connection.
+//! for them, what is shown of tables and of faults in files, and a controller over a connection.
 #![tactic(auto)]
 
 #[cfg(test)]
@@ -38,5 +38,9 @@ mod serve_command;
 mod serve_paths;
 #[cfg(test)]
 mod serving;
+#[cfg(test)]
+mod show_faults;
+#[cfg(test)]
+mod show_tables;
 #[cfg(test)]
 mod showing;
