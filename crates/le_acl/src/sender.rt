@@ -16,8 +16,8 @@ use crate::boundary::{CONTINUATION, FIRST_NOT_FLUSHED};
 use crate::fragment_ref::FragmentRef;
 use crate::frame::HEADER;
 use crate::pdus::{MAX_PDUS, Pdus};
-use le_h4::{PacketBuf, PacketOctets, acl_into};
-use octets::{PduOctets, overwrite};
+use le_h4::{PacketBuf, PacketOctets, acl_into, write_acl_parts};
+use octets::PduOctets;
 use std::alloc::{AllocError, Global};
 use std::marker::Model;
 
@@ -136,8 +136,7 @@ impl Sender {
     }
 
     /// Writes the first packet not yet given in place of what `out` holds. There is none, and nothing
-    /// changes, where no PDU is queued or as many packets are outstanding as may be. This is
-    /// `next_packet` and a copy of its octets.
+    /// changes, where no PDU is queued or as many packets are outstanding as may be.
     pub fn next(&mut self, handle: u16, out: &mut PacketOctets) -> bool
         requires { handle < 2 ^ 12 }
         ensures gives { result ≡ may_give self.old.outgoing }
@@ -148,11 +147,23 @@ impl Sender {
         ensures unchanged { OnFalse result (self.new ≡ self.old) }
         ensures out_unchanged { OnFalse result (out.new.items ≡ out.old.items) }
     {
-        let mut packet = PacketBuf::new();
-        if !self.next_packet(handle, &mut packet) {
+        if self.share <= self.outstanding {
             return false;
         }
-        overwrite(out, packet.as_slice(), &[], &[]);
+        let Some((channel, payload)) = self.pdus.front() else {
+            return false;
+        };
+        let frame_len = HEADER + payload.len();
+        match FragmentRef::at(channel, payload, self.gone, self.acl_len) {
+            FragmentRef::Beginning { header, payload } => {
+                write_acl_parts(handle, FIRST_NOT_FLUSHED, &header, payload, out);
+            }
+            FragmentRef::Continuation { payload } => {
+                write_acl_parts(handle, CONTINUATION, &[], payload, out);
+            }
+        }
+        self.outstanding += 1;
+        pass_fragment(&mut self.pdus, &mut self.gone, self.acl_len, frame_len);
         true
     }
 

@@ -15,4 +15,4 @@ pub use octets::{ArraySink, Failed, Reader, Sink, SliceSource, Source, Writer};
 pub use packet::{PacketRef, WholePacket};
 pub use packet_buf::{MAX_ACL_DATA_OUT, MAX_PACKET_OUT, PacketBuf, PacketOctets};
 pub use progress::{MAX_ACL_DATA, MAX_PACKET_IN};
-pub use write::{acl_into, write_acl, write_command};
+pub use write::{acl_into, write_acl, write_acl_parts, write_command};

@@ -3,15 +3,15 @@ ghost use Rattle.octets.specs.Number.{two_octets};
 ghost use Rattle.le_h4.specs.declared.packet_buf.TheConstants.{MAX_ACL_DATA_OUT, MAX_PACKET_OUT};
 
 use crate::indicator;
-use crate::packet_buf::{PacketBuf, PacketOctets};
+use crate::packet_buf::PacketOctets;
 use octets::{overwrite, write_parts};
 
 /// The octets in front of ACL data.
 pub(crate) const HEADER: usize = 5;
 
 /// Writes an ACL packet in place of what `out` holds: a connection handle of 12 bits, the packet
-/// boundary flag, and at most `MAX_ACL_DATA_OUT` octets of data. Its broadcast flag is 0. This is
-/// `PacketBuf::acl` with no header apart, and a copy of its octets. (Core 5.0, Vol 2 Part E, 5.4.2)
+/// boundary flag, and at most `MAX_ACL_DATA_OUT` octets of data. Its broadcast flag is 0. (Core 5.0,
+/// Vol 2 Part E, 5.4.2)
 pub fn write_acl(handle: u16, pb: u8, octets: &[u8], out: &mut PacketOctets)
     requires handle { handle < 2 ^ 12 }
     requires pb { pb ≤ 3 }
@@ -20,9 +20,23 @@ pub fn write_acl(handle: u16, pb: u8, octets: &[u8], out: &mut PacketOctets)
         ≡ 0x02 ∷ two_octets (handle + 2 ^ 12 * pb) ++ two_octets (length octets.now)
         ++ octets.now }
 {
-    let mut packet = PacketBuf::new();
-    packet.acl(handle, pb, &[], octets);
-    overwrite(out, packet.as_slice(), &[], &[]);
+    write_acl_parts(handle, pb, &[], octets, out);
+}
+
+/// Writes an ACL packet in place of what `out` holds, as `write_acl`: its data are the octets of
+/// `header` and then those of `octets`.
+#[inline(always)]
+pub fn write_acl_parts(handle: u16, pb: u8, header: &[u8], octets: &[u8], out: &mut PacketOctets)
+    requires handle { handle < 2 ^ 12 }
+    requires pb { pb ≤ 3 }
+    requires octets { length header.now + length octets.now ≤ MAX_ACL_DATA_OUT }
+    ensures { out.new.items
+        ≡ 0x02 ∷ two_octets (handle + 2 ^ 12 * pb) ++ two_octets
+        (length (header.now ++ octets.now))
+        ++ header.now ++ octets.now }
+{
+    let length = header.len() + octets.len();
+    overwrite(out, &acl_header(handle, pb, length as u16), header, octets);
 }
 
 /// Writes an ACL packet at the front of `out`, and says how many octets it has: a connection handle of
