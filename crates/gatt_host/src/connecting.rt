@@ -29,9 +29,7 @@ impl HostState {
         let quota = quota(self.slots.len(), buffers.packets);
         let acl_len = acl_len(buffers.length);
         let key_known = self.keys.known(&peer);
-        self.slots
-            .at(place)
-            .connect(handle, peer, key_known, self.rx_mtu, quota, acl_len);
+        self.slots.connect(place, handle, peer, key_known, self.rx_mtu, quota, acl_len);
         self.controller.note_connected();
         self.end_event(LastEvent::Connected { handle, peer });
     }

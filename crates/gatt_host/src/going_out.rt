@@ -156,7 +156,6 @@ fn slot_command_out(slots: &mut Slots, out: &mut PacketBuf) -> Option<u16>
 /// opcode.
 #[cold]
 #[inline(never)]
-#[tactic(auto, using(gatt_slots::proofs::AtPlace::lent_at))]
 fn command_at_out(slots: &mut Slots, place: usize, out: &mut PacketBuf) -> u16
     requires place { place < length slots.old }
     requires due { has_command (slot_state_at slots.old place) ≡ true }
@@ -167,12 +166,11 @@ fn command_at_out(slots: &mut Slots, place: usize, out: &mut PacketBuf) -> u16
         → out.new ≡ command_octets command }
     ensures after { slots.new ≡ slots_at place slot_without_command slots.old }
 {
-    let slot = slots.at(place);
-    let Some(command) = slot.command() else {
+    let Some(command) = slots.get(place).command() else {
         unreachable!()
     };
     write_command(&command, out);
-    slot.command_sent();
+    slots.command_sent(place);
     command.opcode()
 }
 

@@ -167,27 +167,23 @@ impl HostState {
     }
 
     /// The controller asks for the key of the connection of a slot.
-    #[tactic(auto, using(gatt_slots::proofs::AtPlace::lent_at))]
     pub(crate) fn ask_key(&mut self, place: usize, random_number: [u8; 8], diversifier: u16)
         requires { place < length self.old.slots }
         ensures { self.new ≡ after_ask_key place random_number diversifier self.old }
     {
         self.slots
-            .at(place)
-            .ask_key(&self.keys, random_number, diversifier);
+            .ask_key(place, &self.keys, random_number, diversifier);
         self.end_event(LastEvent::Quiet);
     }
 
     /// A payload comes on a channel that is not that of the Attribute Protocol.
-    #[tactic(auto, using(gatt_slots::proofs::AtPlace::lent_at))]
     pub(crate) fn other_channel(&mut self, place: usize, channel: u16, payload: &[u8])
         requires place { place < length self.old.slots }
         requires there { IsSome (server_slot_at self.old place) }
         ensures { self.new ≡ server_after_other_channel place channel payload.now self.old }
     {
-        let slot = self.slots.at(place);
-        let handle = slot.handle();
-        let ended = slot.other_channel(channel, payload);
+        let handle = self.slots.get(place).handle();
+        let ended = self.slots.other_channel(place, channel, payload);
         self.end_event(ended_if(ended, handle));
     }
 
@@ -202,15 +198,13 @@ impl HostState {
     }
 
     /// A connection goes.
-    #[tactic(auto, using(gatt_slots::proofs::AtPlace::left_at))]
     pub(crate) fn disconnected(&mut self, place: usize)
         requires place { place < length self.old.slots }
         requires there { IsSome (server_slot_at self.old place) }
         ensures { self.new ≡ after_disconnection_complete place self.old }
     {
-        let slot = self.slots.at(place);
-        let handle = slot.handle();
-        slot.disconnected();
+        let handle = self.slots.get(place).handle();
+        self.slots.disconnected(place);
         self.controller.note_disconnected();
         self.end_event(LastEvent::Disconnected { handle });
     }
@@ -249,32 +243,30 @@ impl HostState {
     }
 
     /// Encryption of the link of the connection of a slot was changed, or could not be.
-    #[tactic(auto, using(gatt_slots::proofs::AtPlace::lent_at))]
     pub(crate) fn encrypt(&mut self, place: usize, status: u8, enabled: u8)
         requires place { place < length self.old.slots }
         requires there { IsSome (server_slot_at self.old place) }
         requires of_table { IsOfItsTable self.old }
         ensures { self.new ≡ after_link place (Encryption status enabled) self.old }
     {
-        let slot = self.slots.at(place);
+        let slot = self.slots.get(place);
         let before = slot.key();
         let owed = slot.is_owed(&self.rows);
-        let gained = slot.encrypt(status, enabled);
+        let gained = self.slots.encrypt(place, status, enabled);
         self.hear_link(place, before, gained && owed);
     }
 
     /// The key of the link of the connection of a slot was refreshed, or could not be.
-    #[tactic(auto, using(gatt_slots::proofs::AtPlace::lent_at))]
     pub(crate) fn refresh(&mut self, place: usize, status: u8)
         requires place { place < length self.old.slots }
         requires there { IsSome (server_slot_at self.old place) }
         requires of_table { IsOfItsTable self.old }
         ensures { self.new ≡ after_link place (Refresh status) self.old }
     {
-        let slot = self.slots.at(place);
+        let slot = self.slots.get(place);
         let before = slot.key();
         let owed = slot.is_owed(&self.rows);
-        let gained = slot.refresh(status);
+        let gained = self.slots.refresh(place, status);
         self.hear_link(place, before, gained && owed);
     }
 

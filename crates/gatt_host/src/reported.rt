@@ -12,7 +12,6 @@ ghost use Rattle.le_hci.specs.InitTold.{told_in};
 use crate::frames::Frames;
 use crate::host_state::HostState;
 use crate::last_event::LastEvent;
-use le_acl::Reassembler;
 use le_hci::{Event, LAST_CONNECTION_HANDLE, PERIPHERAL, Peer};
 
 impl HostState {
@@ -142,7 +141,7 @@ impl HostState {
         }
         match self.slots.find_free() {
             Some(place) => {
-                frames[place] = Reassembler::new();
+                frames[place].clear();
                 self.connect(place, handle, peer);
             }
             None => self.end_event(LastEvent::Quiet),

@@ -1,6 +1,6 @@
 -- What happens at one place of the slots.
-use Rattle.std.proofs.Common.{◌≡◌, ℕ, ◌<◌, Bool, true, false, List, length, set, get_or, Option, Some, None, refl, sym, ap, subst, ◌∙◌}
-use Rattle.std.specs.Prelude.{is_none, if◌then◌else◌, slice_get, IfSome}
+use Rattle.std.proofs.Common.{◌≡◌, ℕ, ◌<◌, ◌==◌, Bool, true, false, List, length, set, get_or, Option, Some, None, refl, sym, ap, subst, ◌∙◌}
+use Rattle.std.specs.Prelude.{is_none, is_some, if◌then◌else◌, slice_get, IfSome}
 use Rattle.std.specs.Option.{option_map, option_map_or}
 use Rattle.std.proofs.lemmas.List.{set-get_or}
 use Rattle.std.proofs.lemmas.Option.{slice_get-get_or}
@@ -10,15 +10,18 @@ use Rattle.gatt_conn.specs.Answer.{is_confirmation}
 use Rattle.std.specs.Bool.{OnFalse, OnTrue}
 use Rattle.std.proofs.lemmas.Bool.{OnFalse_at, OnTrue_at}
 use Rattle.gatt_slots.proofs.Covering.{read_at}
-use Rattle.gatt_slots.specs.Commands.{has_command, slot_without_packet}
-use Rattle.gatt_slots.specs.SlotState.{SlotState}
-use Rattle.gatt_slots.specs.Places.{is_some_handle, may_listen, waits, WaitsForNothingNew}
+use Rattle.gatt_slots.specs.Commands.{has_command, slot_without_command, slot_without_packet}
+use Rattle.gatt_slots.specs.SlotState.{SlotState, slot_backlog}
+use Rattle.gatt_slots.specs.Places.{is_some_handle, may_listen, waits, HasNoValueMore, WaitsForNothingNew}
 use Rattle.gatt_slots.specs.Request.{overflows, slot_after_request, pending_after}
-use Rattle.gatt_laws.specs.machine.Effect.{remote_user_terminated}
-use Rattle.gatt_slots.specs.SlotEffects.{slot_after_ending, slot_after_packets_completed}
+use Rattle.gatt_laws.specs.machine.Effect.{authentication_failure, channel_answer, lost_encryption, remote_user_terminated}
+use Rattle.gatt_slots.specs.SlotEffects.{after_link_step, slot_after_ending, slot_after_other_channel, slot_after_packets_completed, with_channel_answer}
 use Rattle.gatt_slots.specs.Slots.{SlotStates, at_place, slot_state_at, slots_at}
 use Rattle.gatt_subs.specs.Indications.{Indications}
 use Rattle.gatt_subs.specs.Rows.{Subscriptions, row_of}
+use Rattle.le_acl.specs.Outgoing.{with_pdu}
+use Rattle.le_acl.specs.declared.pdus.TheConstants.{MAX_PDUS}
+use Rattle.le_security.specs.Link.{Linking, Step, after_step}
 use Rattle.octets.specs.Number.{Octets}
 
 pub set_at_place : {A : Type 0} (xs : List A) (place : ℕ) (change : A → A) (x : A) → place < length xs → x ≡ get_or xs place x
@@ -131,3 +134,69 @@ module _ (count : ℕ) (slot left : Option SlotState) (is : left ≡ option_map 
       same : (slot : Option SlotState) → may_listen (option_map (slot_after_packets_completed count) slot) ≡ may_listen slot
       same None = refl
       same (Some slot_state) = refl
+
+-- something happens to a connection by which no value comes to wait
+pub happened_at : (slots : SlotStates) (place : ℕ) (slot left : Option SlotState) → place < length slots → slot ≡ get_or slots place slot → (change : SlotState → SlotState)
+    → ((slot_state : SlotState) → waits (Some (change slot_state)) ≡ true → waits (Some slot_state) ≡ true) → left ≡ option_map change slot
+    → HasNoValueMore (slot_state_at slots place) left
+happened_at slots place slot left within is change keeps changes =
+    subst (λ (it : Option SlotState). HasNoValueMore it left) (sym (read_at slots place slot within is))
+    (subst (λ (it : Option SlotState). HasNoValueMore slot it) (sym changes) (goes slot))
+  where
+    goes : (slot : Option SlotState) → HasNoValueMore slot (option_map change slot)
+    goes None = record { waiting = λ is. is; free = λ is. is }
+    goes (Some slot_state) = record { waiting = keeps slot_state; free = λ is. is }
+
+ended-waits : (ended : Bool) (reason : ℕ) (slot_state other : SlotState) → waits (let after : SlotState = if ended then slot_after_ending reason slot_state else other in Some after) ≡ true
+    → waits (Some other) ≡ true
+ended-waits true reason slot_state other is = cc is
+ended-waits false reason slot_state other is = is
+
+pub linked_waits : (step : Step) (slot_state : SlotState) → waits (Some (after_link_step step slot_state)) ≡ true → waits (Some slot_state) ≡ true
+linked_waits step slot_state is =
+    let link : Linking = after_step slot_state.link step in
+    let new : SlotState = record slot_state { link = link } in
+    ended-waits (lost_encryption slot_state.link.key link.key) authentication_failure new new is
+
+answered-waits : (channel : ℕ) (answer : Option Octets) (slot_state : SlotState) → waits (Some (with_channel_answer channel answer slot_state)) ≡ true → waits (Some slot_state) ≡ true
+answered-waits channel None slot_state is = is
+answered-waits channel (Some answer) slot_state is =
+    ended-waits (slot_backlog slot_state == MAX_PDUS) remote_user_terminated slot_state (record slot_state { outgoing = with_pdu slot_state.outgoing (channel, answer) }) is
+
+pub other_channel_waits : (channel : ℕ) (payload : Octets) (slot_state : SlotState) → waits (Some (slot_after_other_channel channel payload slot_state)) ≡ true → waits (Some slot_state) ≡ true
+other_channel_waits channel payload slot_state is = answered-waits channel (channel_answer channel payload) slot_state is
+
+-- the command that was due for one is sent
+module _ (slot_state : SlotState) where
+  sent-waits : (ending : Bool) → waits (let after : SlotState = if ending then record slot_state { reason = None } else record slot_state { reply = None } in Some after) ≡ true
+      → waits (Some slot_state) ≡ true
+  sent-waits true is = is
+  sent-waits false is = is
+
+  sent-listens : (ending : Bool) → may_listen (let after : SlotState = if ending then record slot_state { reason = None } else record slot_state { reply = None } in Some after) ≡ true
+      → may_listen (Some slot_state) ≡ true
+  sent-listens true is = is
+  sent-listens false is = is
+
+  sent-command : (reason : Option ℕ) → has_command (Some (slot_without_command (record slot_state { reason = reason }))) ≡ true → has_command (Some (record slot_state { reason = reason })) ≡ true
+  sent-command None is = cc is
+  sent-command (Some reason) is = refl
+
+module _ (slot left : Option SlotState) (is : left ≡ option_map slot_without_command slot) where
+  pub sent_goes_on : WaitsForNothingNew slot left
+  sent_goes_on = subst (λ (it : Option SlotState). WaitsForNothingNew slot it) (sym is) (goes slot)
+    where
+      goes : (slot : Option SlotState) → WaitsForNothingNew slot (option_map slot_without_command slot)
+      goes None = record { command = λ is. is; waiting = λ is. is; free = λ is. is }
+      goes (Some slot_state) = record {
+        command = sent-command slot_state slot_state.reason;
+        waiting = sent-waits slot_state (is_some slot_state.reason);
+        free = λ is. is;
+      }
+
+  pub sent_listens : may_listen left ≡ true → may_listen slot ≡ true
+  sent_listens listens = by slot (ap may_listen (sym is) ∙ listens)
+    where
+      by : (slot : Option SlotState) → may_listen (option_map slot_without_command slot) ≡ true → may_listen slot ≡ true
+      by None is = is
+      by (Some slot_state) is = sent-listens slot_state (is_some slot_state.reason) is

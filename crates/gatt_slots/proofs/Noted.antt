@@ -1,6 +1,6 @@
 -- What is noted of slots, as they change, and what is found by it.
 use Rattle.std.proofs.Common.{◌≡◌, replicate, ℕ, zero, suc, ◌+◌, ◌<◌, ◌==◌, ◌&&◌, Bool, true, false, List, [], ◌∷◌, ◌++◌, drop, length, map, set, get_or, take, Option, Some, None, refl, sym, ap, subst, ◌∙◌, arith}
-use Rattle.std.specs.Prelude.{if◌then◌else◌}
+use Rattle.std.specs.Prelude.{is_some, if◌then◌else◌}
 use Rattle.std.specs.Bool.{OnFalse, OnTrue}
 use Rattle.std.specs.List.{position}
 use Rattle.std.specs.Option.{option_map, option_map_or}
@@ -13,19 +13,22 @@ use Rattle.att_numbers.specs.Types.{Handle, Row}
 use Rattle.att_attributes.specs.declared.attr.Attr.{Attr}
 use Rattle.att_table.specs.ConfigRow.{kept_row}
 use Rattle.att_table.specs.Table.{Contents}
-use Rattle.gatt_laws.specs.machine.Effect.{remote_user_terminated}
+use Rattle.gatt_laws.specs.machine.Effect.{authentication_failure, channel_answer, lost_encryption, remote_user_terminated}
 use Rattle.gatt_slots.proofs.Covering.{at-other, at-same, heard-at, read_at}
 use Rattle.gatt_slots.proofs.Found.{clash, first_at, kept-is}
-use Rattle.gatt_slots.specs.Commands.{slot_without_packet}
+use Rattle.gatt_slots.specs.Commands.{slot_without_command, slot_without_packet}
 use Rattle.gatt_slots.specs.Handles.{noted_of, AreNoted, AreNotedIfAny}
 use Rattle.gatt_slots.specs.Hearing.{hearer_facts_of, delivery_in_turn, delivery_of, with_delivery}
-use Rattle.gatt_slots.specs.SlotState.{SlotState}
+use Rattle.gatt_slots.specs.SlotState.{SlotState, slot_backlog}
 use Rattle.gatt_slots.specs.Request.{overflows, slot_after_request}
 use Rattle.gatt_slots.specs.Slots.{SlotStates, all_heard, handles_for, slot_heard, is_holding, is_serving, slot_state_at, place_holding, place_serving}
-use Rattle.gatt_slots.specs.SlotEffects.{slot_after_ending, after_table}
+use Rattle.gatt_slots.specs.SlotEffects.{after_link_step, slot_after_ending, slot_after_other_channel, after_table, with_channel_answer}
 use Rattle.gatt_laws.specs.declared.TheConstants.{MAX_SLOTS}
 use Rattle.gatt_slots.specs.declared.handles.TheConstants.{FREE}
 use Rattle.gatt_subs.specs.Rows.{Subscriptions, row_of}
+use Rattle.le_acl.specs.Outgoing.{with_pdu}
+use Rattle.le_acl.specs.declared.pdus.TheConstants.{MAX_PDUS}
+use Rattle.le_security.specs.Link.{Linking, Step, after_step}
 use Rattle.octets.specs.Number.{Octets}
 
 -- a handle is noted of the connection that has it
@@ -174,3 +177,25 @@ found_serving slots handle place is live =
     live-holds handle (slot_state_at slots other) (ap (is_holding handle) (kept-is slots other (omega (arith, less, found.0))) ∙ found.2 other less) in
     sym (first_at (is_serving handle) refl slots place
     (serves-live handle (slot_state_at slots place) (ap (is_holding handle) (kept-is slots place found.0) ∙ found.1) live) held)
+
+-- and of what happens beside requests
+pub linked_handle : (step : Step) (slot_state : SlotState) → (after_link_step step slot_state).handle ≡ slot_state.handle
+linked_handle step slot_state =
+    let link : Linking = after_step slot_state.link step in
+    let new : SlotState = record slot_state { link = link } in
+    ended-or (lost_encryption slot_state.link.key link.key) authentication_failure new new refl
+
+answered-handle : (channel : ℕ) (answer : Option Octets) (slot_state : SlotState) → (with_channel_answer channel answer slot_state).handle ≡ slot_state.handle
+answered-handle channel None slot_state = refl
+answered-handle channel (Some answer) slot_state =
+    ended-or (slot_backlog slot_state == MAX_PDUS) remote_user_terminated slot_state (record slot_state { outgoing = with_pdu slot_state.outgoing (channel, answer) }) refl
+
+pub other_channel_handle : (channel : ℕ) (payload : Octets) (slot_state : SlotState) → (slot_after_other_channel channel payload slot_state).handle ≡ slot_state.handle
+other_channel_handle channel payload slot_state = answered-handle channel (channel_answer channel payload) slot_state
+
+pub sent_handle : (slot_state : SlotState) → (slot_without_command slot_state).handle ≡ slot_state.handle
+sent_handle slot_state = by (is_some slot_state.reason)
+  where
+    by : (ending : Bool) → (let after : SlotState = if ending then record slot_state { reason = None } else record slot_state { reply = None } in after).handle ≡ slot_state.handle
+    by true = refl
+    by false = refl

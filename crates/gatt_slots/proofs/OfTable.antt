@@ -22,6 +22,7 @@ use Rattle.gatt_laws.proofs.WaitingOfTheTable.{configured_where_wanted, notified
 use Rattle.gatt_laws.specs.laws.WaitingOfTheTable.{HasConfiguration, AreConfigured}
 use Rattle.gatt_laws.specs.machine.ConnectionState.{KeyReply}
 use Rattle.gatt_laws.specs.machine.Effect.{authentication_failure, lost_encryption, remote_user_terminated}
+use Rattle.gatt_slots.proofs.AtPlace.{lent_at}
 use Rattle.gatt_slots.proofs.Covering.{at-other, at-same}
 use Rattle.gatt_slots.proofs.Found.{clash}
 use Rattle.gatt_slots.specs.declared.slot.Use.{Use}
@@ -331,3 +332,11 @@ pub of_table_then : (handles : List Handle) (attributes : List Attr) (rows : Sub
     → AreOfTableIfAny handles attributes rows slots → AreOfTableIfAny handles attributes rows new
 of_table_then [] attributes rows slots new keeps of = tt
 of_table_then (handle ∷ handles) attributes rows slots new keeps of = keeps of
+
+pub linked_at_of_table : (attributes : List Attr) (rows : Subscriptions) (slots left : SlotStates) (place : ℕ) (step : Step) → place < length slots
+    → left ≡ slots_at place (after_link_step step) slots → AreOfTable attributes rows slots → AreOfTable attributes rows left
+linked_at_of_table attributes rows slots left place step within is of =
+    let lent : Option SlotState = slot_state_at slots place in
+    let linked' : Option SlotState = option_map (after_link_step step) lent in
+    subst (λ (it : SlotStates). AreOfTable attributes rows it) (lent_at slots place lent linked' within refl (after_link_step step) refl ∙ sym is)
+    (linked_of_table attributes rows slots place step lent linked' within refl refl of)

@@ -62,3 +62,8 @@ pub record WaitsForNothingNew (old new : Option SlotState) : Type 0 where
   pub command : has_command new ≡ true → has_command old ≡ true
   pub waiting : waits new ≡ true → waits old ≡ true
   pub free : is_none new ≡ true → is_none old ≡ true
+
+-- no value comes to wait for the connection of a slot, which is not freed
+pub record HasNoValueMore (old new : Option SlotState) : Type 0 where
+  pub waiting : waits new ≡ true → waits old ≡ true
+  pub free : is_none new ≡ true → is_none old ≡ true

@@ -43,7 +43,7 @@ impl Handles {
 
     /// Notes the handle of each slot.
     #[tactic(auto, using(crate::proofs::Noted::noted_more))]
-    fn note_all(&mut self, slots: &[Slot])
+    pub(crate) fn note_all(&mut self, slots: &[Slot])
         requires { length slots.now ≤ MAX_SLOTS }
         ensures { AreNoted slots.now self.new.noted }
     {

@@ -2,6 +2,7 @@
 //! goes out on it.
 #![tactic(auto)]
 
+mod at_place;
 mod connection;
 mod each;
 mod effects;

@@ -3,7 +3,7 @@
 ghost use Rattle.std.specs.Prelude.{◌≡◌, ℕ, false, true, ◌<◌, ◌≤◌, length, set, replicate, Option, None};
 ghost use Rattle.gatt_slots.specs.Commands.{gives};
 ghost use Rattle.gatt_slots.specs.SlotState.{SlotState};
-ghost use Rattle.gatt_slots.specs.Places.{may_listen, WaitsForNothingNew, IsMarked};
+ghost use Rattle.gatt_slots.specs.Places.{may_listen, HasNoValueMore, WaitsForNothingNew, IsMarked};
 ghost use Rattle.gatt_slots.specs.Slots.{slot_state_at, SlotStates};
 ghost use Rattle.gatt_laws.specs.declared.TheConstants.{MAX_SLOTS};
 
@@ -49,6 +49,26 @@ impl Marks {
         self.packets.add(place);
         self.listening.add(place);
         self.waiting.add(place);
+        self.free = true;
+    }
+
+    /// Takes in that something happened to the connection of a slot, by which no value comes to wait.
+    pub(crate) fn happen(&mut self, place: usize)
+        requires { place < MAX_SLOTS }
+        ensures { (slots : SlotStates) (slot : Option SlotState) → place < length slots
+            → IsMarked slots self.old → HasNoValueMore (slot_state_at slots place) slot
+            → IsMarked (set slots place slot) self.new }
+    {
+        self.commands.add(place);
+        self.packets.add(place);
+        self.listening.add(place);
+    }
+
+    /// Takes in that a connection is gone: its slot is free, and nothing is due there.
+    pub(crate) fn leave(&mut self)
+        ensures { (slots : SlotStates) (place : ℕ) → IsMarked slots self.old
+            → IsMarked (set slots place None) self.new }
+    {
         self.free = true;
     }
 

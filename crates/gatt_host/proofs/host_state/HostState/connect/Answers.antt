@@ -1,10 +1,7 @@
-use Rattle.std.proofs.Common.{◌<◌, ℕ, Option, Some, length, set, subst, sym, ap, ◌∙◌}
+use Rattle.std.proofs.Common.{ℕ, Option, length, sym, ap, ◌∙◌}
 use Rattle.gatt_host.specs.contracts.host_state.HostState.{the_view}
 use Rattle.gatt_host.specs.ServerState.{ServerState}
 use Rattle.gatt_host.proofs.places.Places.{come_then_heard}
-use Rattle.gatt_slots.proofs.AtPlace.{left_at}
-use Rattle.gatt_slots.specs.SlotEffects.{new_slot_state}
-use Rattle.gatt_slots.specs.SlotState.{SlotState}
 use Rattle.gatt_laws.specs.machine.SharedState.{quota_of, fragment_size_of}
 use Rattle.le_acl.specs.Quotas.{quota}
 use Rattle.le_hci.specs.declared.buffers.Buffers.{Buffers}
@@ -13,11 +10,9 @@ use Rattle.gatt_host.proofs.host_state.HostState.connect.Goals as goal
 pub returns : goal.returns
 returns c =
     let old : ServerState = the_view c.self.inside in
-    let new : Option SlotState = Some (new_slot_state c.args.handle c.args.peer c.known-key_known.result old.rx_mtu c.quota-quota.result c.acl_len-acl_len.result) in
-    let within : c.args.place < length old.slots = subst (λ (it : ServerState). c.args.place < length it.slots) (sym c.self.view_is) c.requires.place in
     c.end_event.ensures ∙ come_then_heard old c.args.self.now c.self.view_is c.args.place c.args.handle c.args.peer c.quota-quota.result c.acl_len-acl_len.result c.known-key_known.result
-    c.note_connected.new.self (set old.slots c.args.place c.connect.new.self)
+    c.note_connected.new.self c.connect.new.self
     (c.quota-quota.ensures.quota ∙ ap (λ (count : ℕ). quota count c.in-Some.buffers.packets) c.len.ensures.count
     ∙ ap (λ (buffers : Option Buffers). quota_of (length old.slots) buffers) (sym c.in-Some.is ∙ c.buffers.ensures.buffers))
     (c.acl_len-acl_len.ensures ∙ ap (λ (buffers : Option Buffers). fragment_size_of buffers) (sym c.in-Some.is ∙ c.buffers.ensures.buffers))
-    c.known-key_known.ensures (left_at old.slots c.args.place c.at.result.now c.connect.new.self within c.at.ensures.value new c.connect.ensures) (c.note_connected.ensures c.args.handle c.args.peer)
+    c.known-key_known.ensures c.connect.ensures (c.note_connected.ensures c.args.handle c.args.peer)

@@ -2,7 +2,7 @@ use Rattle.std.proofs.Common.{◌<◌, length, subst, sym}
 use Rattle.gatt_host.specs.contracts.host_state.HostState.{the_view}
 use Rattle.gatt_host.specs.Meaning.{IsOfItsTable}
 use Rattle.gatt_host.specs.ServerState.{ServerState}
-use Rattle.gatt_slots.proofs.OfTable.{linked_of_table}
+use Rattle.gatt_slots.proofs.OfTable.{linked_at_of_table}
 use Rattle.le_security.specs.Link.{Encryption}
 use Rattle.gatt_host.proofs.host_state.HostState.encrypt.Goals as goal
 
@@ -10,5 +10,5 @@ pub hear_link-requires-clause-of_table : goal.hear_link-requires-clause-of_table
 hear_link-requires-clause-of_table c =
     let old : ServerState = the_view c.self.inside in
     let within : c.args.place < length old.slots = subst (λ (it : ServerState). c.args.place < length it.slots) (sym c.self.view_is) c.requires.place in
-    linked_of_table old.table.attributes old.rows old.slots c.args.place (Encryption c.args.status c.args.enabled) c.at-slot.result.now c.encrypt-gained.new.self within c.at-slot.ensures.value c.encrypt-gained.ensures.after
+    linked_at_of_table old.table.attributes old.rows old.slots c.encrypt-gained.new.self c.args.place (Encryption c.args.status c.args.enabled) within c.encrypt-gained.ensures.after
     (subst (λ (server : ServerState). IsOfItsTable server) (sym c.self.view_is) c.requires.of_table)
