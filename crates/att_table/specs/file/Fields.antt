@@ -7,7 +7,6 @@ use Rattle.att_numbers.specs.Types.{Handle, AttributeType}
 use Rattle.att_policy.specs.declared.guard.Properties.{Properties}
 use Rattle.att_attributes.specs.declared.attr.Attr.{Attr}
 use Rattle.att_attributes.specs.declared.attr.Role.{Role}
-use Rattle.att_table.specs.declared.file.placed.Placed.{Placed}
 use Rattle.att_table.specs.declared.table_fault.TableKey.TheVariants.{Uuid, Properties as PropertiesName, Value}
 use Rattle.att_table.specs.declared.table_fault.TableFault.{TableFault}
 use Rattle.att_table.specs.declared.table_fault.TableFault.TheVariants.{Missing, BadUuid, BadProperty, Shape}
@@ -69,7 +68,3 @@ placed_of role handle allowed members = do
     },
     value,
   )
-
--- the same as the code has it
-abbrev pub placed_view : Placed → Attr × Octets
-placed_view placed = (placed.attr, placed.value.items)

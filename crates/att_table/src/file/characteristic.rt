@@ -51,9 +51,11 @@ impl Part for Characteristic {
         if !toml_tables::is_shaped(table, &keys::CHARACTERISTIC) {
             return Err(TableFault::Shape);
         }
-        let placed = placed::read_placed(table, Role::Value, draft.next_handle() + 1, ALLOWED)?;
-        let need = read_config(table, placed.attr.guard.properties)?;
-        characterize(draft, placed.attr, placed.value.as_slice(), need)?;
+        let mut value = ArrayVec::new();
+        let handle = draft.next_handle() + 1;
+        let attr = placed::read_placed(table, Role::Value, handle, ALLOWED, &mut value)?;
+        let need = read_config(table, attr.guard.properties)?;
+        characterize(draft, attr, value.as_slice(), need)?;
         part::read_all::<Descriptor>(draft, toml_tables::items(table, "descriptor"))
     }
 }
@@ -63,8 +65,9 @@ impl Part for Characteristic {
 fn read_config(table: &Table, properties: Properties) -> Result<Need, TableFault>
     ensures { result ≡ config_at properties (table_view table.now) }
 {
-    let need = needs::read_need_at(table, "config")?;
-    if !is_announced(properties) && toml_tables::table(table, "config").is_some() {
+    let config = toml_tables::table(table, "config");
+    let need = needs::read_need(config)?;
+    if !is_announced(properties) && config.is_some() {
         return Err(TableFault::BadProperty);
     }
     Ok(need)

@@ -7,6 +7,7 @@ use crate::file::draft::Draft;
 use crate::file::part::Part;
 use crate::file::{keys, placed};
 use crate::table_fault::TableFault;
+use arrayvec::ArrayVec;
 use att_attributes::Role;
 use att_policy::Properties;
 use toml::Value;
@@ -25,7 +26,9 @@ impl Part for Descriptor {
         if !toml_tables::is_shaped(table, &keys::DESCRIPTOR) {
             return Err(TableFault::Shape);
         }
-        let placed = placed::read_placed(table, Role::Descriptor, draft.next_handle(), ALLOWED)?;
-        draft.add(placed.attr, placed.value.as_slice())
+        let mut value = ArrayVec::new();
+        let handle = draft.next_handle();
+        let attr = placed::read_placed(table, Role::Descriptor, handle, ALLOWED, &mut value)?;
+        draft.add(attr, value.as_slice())
     }
 }

@@ -1,6 +1,6 @@
 //! The fields of a characteristic or of another descriptor that are texts and numbers.
 
-ghost use Rattle.std.specs.Prelude.{◌≡◌, ◌≤◌, is_ok};
+ghost use Rattle.std.specs.Prelude.{◌≡◌, ◌≤◌, [], is_ok};
 ghost use Rattle.std.specs.Char.{is_ascii_hexdigit};
 ghost use Rattle.std.specs.List.{list_all};
 ghost use Rattle.std.specs.Result.{result_map_both};
@@ -12,10 +12,15 @@ use arrayvec::ArrayVec;
 use att_numbers::limit::MAX_VALUE;
 use att_policy::Properties;
 
-/// The value that a text writes, two hexadecimal digits an octet: `BadHex` where it is not an even
-/// number of digits, or else `TooLong` where it has more than `MAX_VALUE` octets.
-pub fn read_value(text: &str) -> Result<ArrayVec<u8, MAX_VALUE>, TableFault>
-    ensures { result_map_both (λ octets. octets.items) (λ fault. fault) result
+/// What makes a buffer longer.
+const ZEROS: [u8; MAX_VALUE] = [0; MAX_VALUE];
+
+/// Puts the value that a text writes, two hexadecimal digits an octet, into an empty buffer:
+/// `BadHex` where it is not an even number of digits, or else `TooLong` where it has more than
+/// `MAX_VALUE` octets.
+pub fn read_value(text: &str, value: &mut ArrayVec<u8, MAX_VALUE>) -> Result<(), TableFault>
+    requires { value.old.items ≡ [] }
+    ensures { result_map_both (λ _. value.new.items) (λ fault. fault) result
         ≡ value_of text.now }
 {
     if !is_hex(text) {
@@ -24,10 +29,11 @@ pub fn read_value(text: &str) -> Result<ArrayVec<u8, MAX_VALUE>, TableFault>
     if text.len() / 2 > MAX_VALUE {
         return Err(TableFault::TooLong);
     }
-    let mut octets = ArrayVec::from([0; MAX_VALUE]);
-    octets.truncate(text.len() / 2);
-    hex::decode_to_slice(text, octets.as_mut_slice()).unwrap();
-    Ok(octets)
+    value
+        .try_extend_from_slice(&ZEROS[..text.len() / 2])
+        .unwrap();
+    hex::decode_to_slice(text, value.as_mut_slice()).unwrap();
+    Ok(())
 }
 
 /// Whether a text is an even number of hexadecimal digits.

@@ -1,11 +1,11 @@
 //! What the tables of a characteristic and of another descriptor have in common: a value, and who
 //! may use it.
 
-ghost use Rattle.std.specs.Prelude.{◌≡◌, ◌≤◌, true, length, IfOk};
+ghost use Rattle.std.specs.Prelude.{◌≡◌, ◌≤◌, true, [], length, IfOk};
 ghost use Rattle.std.specs.Result.{result_map_both};
 ghost use Rattle.toml.specs.View.{view, items_view, table_view};
 ghost use Rattle.toml_tables.specs.Reading.{each};
-ghost use Rattle.att_table.specs.file.Fields.{attribute_type_in, value_type_at, no_properties, property_step, properties_at, value_read_at, placed_of, placed_view};
+ghost use Rattle.att_table.specs.file.Fields.{attribute_type_in, value_type_at, no_properties, property_step, properties_at, value_read_at, placed_of};
 
 use crate::file::{field, needs, type_text};
 use crate::table_fault::{TableFault, TableKey};
@@ -15,15 +15,6 @@ use att_numbers::limit::MAX_VALUE;
 use att_policy::{Guard, Properties};
 use bitflags::Flags;
 use toml::{Table, Value};
-
-/// An attribute with its value.
-#[derive(Drop)]
-pub struct Placed {
-    /// The attribute.
-    pub attr: Attr,
-    /// Its value.
-    pub value: ArrayVec<u8, MAX_VALUE>,
-}
 
 /// The type at `uuid`.
 pub fn read_type(table: &Table) -> Result<u128, TableFault>
@@ -81,41 +72,43 @@ fn with_property(
     Ok(properties.union(property))
 }
 
-/// The value at `value`.
-fn read_value(table: &Table) -> Result<ArrayVec<u8, MAX_VALUE>, TableFault>
-    ensures { result_map_both (λ octets. octets.items) (λ fault. fault) result
+/// Puts the value at `value` into an empty buffer.
+fn read_value(table: &Table, value: &mut ArrayVec<u8, MAX_VALUE>) -> Result<(), TableFault>
+    requires { value.old.items ≡ [] }
+    ensures { result_map_both (λ _. value.new.items) (λ fault. fault) result
         ≡ value_read_at (table_view table.now) }
 {
     let text = toml_tables::text(table, "value").ok_or(TableFault::Missing(TableKey::Value))?;
-    field::read_value(text)
+    field::read_value(text, value)
 }
 
-/// The attribute with its value that a table describes, at a handle. The fields are judged in the
-/// order of the format.
+/// The attribute that a table describes, at a handle, with its value put into an empty buffer. The
+/// fields are judged in the order of the format.
 pub fn read_placed(
     table: &Table,
     role: Role,
     handle: u16,
     allowed: Properties,
-) -> Result<Placed, TableFault>
-    ensures placed { result_map_both placed_view (λ fault. fault) result
+    value: &mut ArrayVec<u8, MAX_VALUE>,
+) -> Result<Attr, TableFault>
+    requires { value.old.items ≡ [] }
+    ensures placed { result_map_both (λ attr. (attr, value.new.items)) (λ fault. fault) result
         ≡ placed_of role handle allowed (table_view table.now) }
-    ensures handle { IfOk result (λ placed. placed.attr.handle ≡ handle) }
-    ensures fits { IfOk result (λ placed. length placed.value.items ≤ placed.attr.largest) }
-    ensures largest { IfOk result (λ placed. placed.attr.largest ≤ MAX_VALUE) }
+    ensures handle { IfOk result (λ attr. attr.handle ≡ handle) }
+    ensures fits { IfOk result (λ attr. length value.new.items ≤ attr.largest) }
+    ensures largest { IfOk result (λ attr. attr.largest ≤ MAX_VALUE) }
     ensures exact { IfOk result
-        (λ placed. placed.attr.fixed ≡ true → length placed.value.items
-        ≡ placed.attr.largest) }
-    ensures role { IfOk result (λ placed. placed.attr.role ≡ role) }
+        (λ attr. attr.fixed ≡ true → length value.new.items ≡ attr.largest) }
+    ensures role { IfOk result (λ attr. attr.role ≡ role) }
 {
     let kind = read_value_type(table)?;
     let properties = read_properties(table, allowed)?;
-    let value = read_value(table)?;
+    read_value(table, value)?;
     let fixed = toml_tables::flag(table, "fixed");
     let largest = field::read_largest(toml_tables::integer(table, "max"), fixed, value.len())?;
     let read = needs::read_need_at(table, "read")?;
     let write = needs::read_need_at(table, "write")?;
-    let attr = Attr {
+    Ok(Attr {
         handle,
         kind,
         largest,
@@ -126,6 +119,5 @@ pub fn read_placed(
             read,
             write,
         },
-    };
-    Ok(Placed { attr, value })
+    })
 }

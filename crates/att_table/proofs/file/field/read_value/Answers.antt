@@ -10,8 +10,8 @@ returns-then-text-gt-MAX_VALUE c =
     let hex : is_ok (decode_of c.args.text.now) ≡ true = search rules in
     sym (value_of-long c.args.text.now hex (omega arith))
 
-pub unwrap-requires : goal.unwrap-requires
-unwrap-requires c =
+pub unwrap-requires-2 : goal.unwrap-requires-2
+unwrap-requires-2 c =
     let hex : is_ok (decode_of c.args.text.now) ≡ true = search rules in
     let room : length c.as_mut_slice.result.now ≡ length c.args.text.now / 2 = grind (arith, common_steps) in
     (IsOk-written _ _ _ c.decode_to_slice.ensures.value).1 (IsOk-decode_sized-half c.args.text.now _ hex room)
