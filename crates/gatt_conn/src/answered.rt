@@ -64,16 +64,19 @@ pub fn answer(
     ensures where_due { is_some (answer_to table.old row.old conn.old
         (request_of pdu.now conn.old.mtu)) ≡ is_due (request_of pdu.now conn.old.mtu) }
 {
-    let mut touched = Touched::new();
-    let served = serve(table, row, conn, pdu, out, &mut touched);
+    // It is made before its list is filled, so that no list is moved.
+    let mut answered = Answered {
+        due: false,
+        confirmed: false,
+        touched: Touched::new(),
+    };
+    let served = serve(table, row, conn, pdu, out, &mut answered.touched);
     if !served.due {
         out.clear();
     }
-    Answered {
-        due: served.due,
-        confirmed: served.confirmed,
-        touched,
-    }
+    answered.due = served.due;
+    answered.confirmed = served.confirmed;
+    answered
 }
 
 /// Answers a PDU in place of what `out` holds, which stays where no answer is due, and puts the handles
