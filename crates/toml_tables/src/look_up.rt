@@ -7,6 +7,7 @@ use toml::{Table, Value};
 
 /// What the table has at the key, of whatever type.
 #[tactic(auto, using(toml::proofs::Views::table_get))]
+#[inline(always)]
 fn get<'a>(table: &'a Table, key: &str) -> Option<&'a Value>
     ensures { option_map (λ value. view value.now) result
         ≡ get_member key.now (table_view table.now) }
@@ -15,6 +16,7 @@ fn get<'a>(table: &'a Table, key: &str) -> Option<&'a Value>
 }
 
 /// The text at the key: `None` where there is no value, or one of another type.
+#[inline(always)]
 pub fn text<'a>(table: &'a Table, key: &str) -> Option<&'a str>
     ensures { option_copied result ≡ text_at key.now (table_view table.now) }
 {
@@ -22,6 +24,7 @@ pub fn text<'a>(table: &'a Table, key: &str) -> Option<&'a str>
 }
 
 /// The boolean at the key: `None` where there is no value, or one of another type.
+#[inline(always)]
 pub fn boolean(table: &Table, key: &str) -> Option<bool>
     ensures { result ≡ boolean_at key.now (table_view table.now) }
 {
@@ -29,6 +32,7 @@ pub fn boolean(table: &Table, key: &str) -> Option<bool>
 }
 
 /// The boolean at the key, or `false` where there is none.
+#[inline(always)]
 pub fn flag(table: &Table, key: &str) -> bool
     ensures { result ≡ flag_at key.now (table_view table.now) }
 {
@@ -36,6 +40,7 @@ pub fn flag(table: &Table, key: &str) -> bool
 }
 
 /// The integer at the key: `None` where there is no value, or one of another type.
+#[inline(always)]
 pub fn integer(table: &Table, key: &str) -> Option<i64>
     ensures { result ≡ integer_at key.now (table_view table.now) }
 {
@@ -43,6 +48,7 @@ pub fn integer(table: &Table, key: &str) -> Option<i64>
 }
 
 /// The elements of the array at the key: `None` where there is no value, or one of another type.
+#[inline(always)]
 pub fn array<'a>(table: &'a Table, key: &str) -> Option<&'a [Value]>
     ensures { option_map (λ items. items_view items.now) result
         ≡ array_at key.now (table_view table.now) }
@@ -51,6 +57,7 @@ pub fn array<'a>(table: &'a Table, key: &str) -> Option<&'a [Value]>
 }
 
 /// The elements of the array at the key, none where there is no array.
+#[inline(always)]
 pub fn items<'a>(table: &'a Table, key: &str) -> &'a [Value]
     ensures { items_view result.now ≡ items_at key.now (table_view table.now) }
 {
@@ -58,6 +65,7 @@ pub fn items<'a>(table: &'a Table, key: &str) -> &'a [Value]
 }
 
 /// The table at the key: `None` where there is no value, or one of another type.
+#[inline(always)]
 pub fn table<'a>(table: &'a Table, key: &str) -> Option<&'a Table>
     ensures { option_map (λ t. table_view t.now) result
         ≡ table_at key.now (table_view table.now) }

@@ -11,6 +11,7 @@ use toml::Table;
 
 /// The needs at a key of a table, none where it has no table there. `BadSecurity` where they have
 /// a key that is unknown or of another type, or a key size that is not from 7 to 16.
+#[inline(always)]
 pub fn read_need_at(table: &Table, key: &str) -> Result<Need, TableFault>
     ensures { result ≡ need_at key.now (table_view table.now) }
 {
@@ -18,6 +19,7 @@ pub fn read_need_at(table: &Table, key: &str) -> Result<Need, TableFault>
 }
 
 /// The needs that a table writes, none where there is no table.
+#[inline(always)]
 pub fn read_need(table: Option<&Table>) -> Result<Need, TableFault>
     ensures { result ≡ need_read (option_map (λ t. table_view t.now) table.entry) }
 {
