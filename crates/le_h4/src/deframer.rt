@@ -6,7 +6,7 @@ ghost use Rattle.le_h4.specs.Division.{unfinished, lost, before, kept_first};
 ghost use Rattle.le_h4.specs.Deframer.{deframing_at_start, lost_at, still, marks, EndsWith, MarksTheDivision};
 ghost use Rattle.le_h4.specs.Progress.{IsWithinFirst, packet_in};
 ghost use Rattle.le_h4.specs.Gathering.{Gathers};
-ghost use Rattle.le_h4.specs.Held.{unless_marked};
+ghost use Rattle.le_h4.specs.Held.{deframing_of, unless_marked};
 ghost use Rattle.le_h4.specs.Whole.{lying_in, is_at_border};
 ghost use Rattle.le_h4.specs.declared.progress.TheConstants.{MAX_PACKET_IN};
 
@@ -40,6 +40,8 @@ pub struct Deframer {
     marked: bool,
     /// How many octets of a long ACL packet are still to be passed over.
     skipping: usize,
+    /// Whether no packet is unfinished, and none is passed over: each packet asks for it.
+    at_border: bool,
 }
 
 impl Model for Deframer {
@@ -47,11 +49,14 @@ impl Model for Deframer {
 
     ghost Value = { Deframing };
 
+    ghost use Rattle.std.specs.Prelude.{◌≡◌};
     ghost use Rattle.le_h4.specs.Held.{deframing_of, IsHeld};
+    ghost use Rattle.le_h4.specs.Whole.{is_at_border};
 
     ghost view = { λ d. deframing_of d.skipping d.gathered d.marked };
 
-    ghost invariant = { λ d. IsHeld d.skipping d.gathered d.marked };
+    ghost invariant = { λ d. IsHeld d.skipping d.gathered d.marked
+        × (d.at_border ≡ is_at_border (deframing_of d.skipping d.gathered d.marked)) };
 }
 
 impl Deframer {
@@ -67,6 +72,7 @@ impl Deframer {
             gathered: Gathered::new(),
             marked: false,
             skipping: 0,
+            at_border: true,
         }
     }
 
@@ -97,10 +103,12 @@ impl Deframer {
         match gather(&mut self.gathered, &mut self.skipping, octets) {
             Ok(fed) => {
                 self.marked = fed.packet;
+                self.at_border = is_at_border(&self.gathered, self.skipping, fed.packet);
                 Ok(fed)
             }
             Err(fault) => {
                 self.marked = false;
+                self.at_border = is_at_border(&self.gathered, self.skipping, false);
                 Err(fault)
             }
         }
@@ -123,19 +131,11 @@ impl Deframer {
         ensures used_some { IfSome result (λ whole. 0 < whole.used) }
         ensures unfinished { IfSome result (λ whole. still self.now [] ≡ unfinished) }
     {
-        if self.is_at_border() {
+        if self.at_border {
             first_packet(octets)
         } else {
             None
         }
-    }
-
-    /// Whether no packet is unfinished, and none is passed over. One that is marked is whole.
-    #[inline(always)]
-    fn is_at_border(&self) -> bool
-        ensures { result ≡ is_at_border self.now }
-    {
-        self.skipping == 0 && (self.marked || self.gathered.is_empty())
     }
 
     /// The packet that the last call of `feed` marked.
@@ -145,6 +145,13 @@ impl Deframer {
     {
         read_packet(self.gathered.as_slice())
     }
+}
+
+/// Whether no packet is unfinished, and none is passed over. One that is marked is whole.
+fn is_at_border(gathered: &Gathered, skipping: usize, marked: bool) -> bool
+    ensures { result ≡ is_at_border (deframing_of skipping gathered.now marked) }
+{
+    skipping == 0 && (marked || gathered.is_empty())
 }
 
 /// Forgets what is gathered where it is a packet that is marked.

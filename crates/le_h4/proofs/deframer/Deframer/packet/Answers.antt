@@ -9,4 +9,4 @@ pub returns : goal.returns
 returns c =
     let view = ap (λ (d : Deframing). d.marked) c.self.view_is in
     let marked = subst IsSome (sym view) c.requires in
-    sym view ∙ marked_reading _ _ _ c.self.invariant marked ∙ ap Some (ap reading (sym c.as_slice.ensures.value) ∙ sym c.read_packet.ensures)
+    sym view ∙ marked_reading _ _ _ c.self.invariant.0 marked ∙ ap Some (ap reading (sym c.as_slice.ensures.value) ∙ sym c.read_packet.ensures)
