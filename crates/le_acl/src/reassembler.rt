@@ -2,7 +2,8 @@ ghost use Rattle.std.specs.Prelude.{◌≡◌, ◌≤◌, ◌↔◌, ◌++◌, l
 ghost use Rattle.le_acl.specs.Frame.{FragmentsMakeTheirFrame, is_frame};
 ghost use Rattle.le_acl.specs.Reassembler.{GivesFrames, no_assembly, assembled_of, with_continuation, assembly_of};
 
-use crate::frame::MAX_FRAME;
+use crate::frame::{HEADER, MAX_FRAME};
+use octets::MAX_PDU;
 use std::cmp::Ordering;
 use std::marker::Model;
 
@@ -120,7 +121,11 @@ impl Reassembler {
 pub fn is_frame(octets: &[u8]) -> bool
     ensures { result ≡ is_frame octets.now }
 {
-    octets.len() <= MAX_FRAME && state_of(octets) == State::Whole
+    // Both ends of its length are asked for at once.
+    match octets.len().checked_sub(HEADER) {
+        Some(count) if count <= MAX_PDU => state_of(octets) == State::Whole,
+        _ => false,
+    }
 }
 
 /// Joins a fragment to the octets so far, which are less than a frame.
