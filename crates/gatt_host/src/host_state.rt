@@ -188,6 +188,7 @@ impl HostState {
     }
 
     /// Packets are completed.
+    #[inline(always)]
     #[tactic(auto, using(gatt_slots::proofs::states::Found::entries_at_places))]
     pub(crate) fn packets_completed(&mut self, entries: &[[u8; 4]])
         ensures { self.new ≡ server_after_packets_completed (entries_of_connections

@@ -204,6 +204,7 @@ impl Slots {
 
     /// Counts packets as completed, each entry at most those that are outstanding. Entries of unknown
     /// handles are ignored.
+    #[inline(always)]
     pub fn packets_completed(&mut self, entries: &[[u8; 4]])
         ensures { self.new ≡ slots_after_entries (map completed_packets_of entries.now) self.old }
     {
