@@ -116,6 +116,7 @@ impl<const ROOM: usize> PendingOf<ROOM> {
 
     /// The handle of the value of which an indication is due now, if one is: the first that waits
     /// and that the connection may still hear. It is unconfirmed from then on.
+    #[inline(always)]
     pub fn release(
         &mut self,
         table: &Table,
@@ -204,6 +205,8 @@ impl<const ROOM: usize> PendingOf<ROOM> {
     /// Whether a confirmation, if it came now, would tell that the client knows the value at a
     /// handle: the indication that it confirms is of that value and not from before a replacement,
     /// and no later one waits.
+    #[cold]
+    #[inline(never)]
     pub fn told(&self, handle: u16) -> bool
         ensures { result ≡ is_told self.now handle }
     {
@@ -251,7 +254,7 @@ impl PendingOf<MAX_ATTRIBUTES> {
 }
 
 /// Puts a handle at the end, if it does not wait yet.
-#[inline(never)]
+#[inline(always)]
 #[tactic(auto, using(crate::proofs::Places::places))]
 fn wait_once<const ROOM: usize>(waiting: &mut ArrayVec<u16, ROOM>, handle: u16)
     requires places { HaveOnePlace waiting.old.items }
@@ -270,7 +273,7 @@ fn wait_once<const ROOM: usize>(waiting: &mut ArrayVec<u16, ROOM>, handle: u16)
 fn is_waiting(waiting: &[u16], handle: u16) -> bool
     ensures { result ≡ is_waiting waiting.now handle }
 {
-    waiting.contains(&handle)
+    waiting.iter().any(|other| *other == handle)
 }
 
 /// Takes out the handles up to the first of which an indication is due, and gives that one.
