@@ -153,6 +153,8 @@ impl Slots {
         ensures within { IfSome result (λ place. place < length self.old) }
         ensures unchanged { self.new ≡ self.old }
     {
+        // Where a slot was lent a command is marked, and no handle is noted.
+        self.handles.note_again(self.slots.as_slice());
         first_due(
             self.slots.as_slice(),
             Due::Command,

@@ -131,6 +131,7 @@ impl Slot {
     }
 
     /// Sends the connection the indication that is due, if one is. `false` where nothing waits.
+    #[inline(always)]
     #[tactic(auto, using(crate::proofs::Quiet::nothing_heard))]
     pub(crate) fn indicate(&mut self, moment: Moment<'_>) -> bool
         ensures heard { self.new

@@ -298,7 +298,6 @@ impl Slots {
             handles.now self.old }
         ensures count { length self.new ≡ length self.old }
     {
-        self.handles.note_again(self.slots.as_slice());
         let first = self.first_that_listens();
         let another_listens = first.is_some() && first != own;
         if another_listens || !self.nobody_hears(own, here, handles) {

@@ -91,6 +91,7 @@ pub(crate) fn notify_all(
 
 /// A value is notified to the connections of the slots of `whom`, slot by slot. It is looked up once for
 /// all of them, and none is looked at where nobody may hear of it.
+#[inline(always)]
 #[tactic(auto, using(crate::proofs::InTurn::nobody_hears))]
 fn notify_for(slots: &mut [Slot], heard: &mut Heard, moment: Moment<'_>, whom: Places, handle: u16)
     requires few { length slots.old ≤ MAX_SLOTS }
@@ -139,7 +140,7 @@ pub(crate) fn indicate_due(slots: &mut [Slot], heard: &mut Heard, moment: Moment
 }
 
 /// What is due is indicated, slot by slot, where a value may wait.
-#[inline(never)]
+#[inline(always)]
 fn indicate_all(slots: &mut [Slot], heard: &mut Heard, moment: Moment<'_>)
     requires few { length slots.old ≤ MAX_SLOTS }
     requires covered { CoversHeard slots.old heard.old }
