@@ -277,6 +277,7 @@ fn is_waiting(waiting: &[u16], handle: u16) -> bool
 }
 
 /// Takes out the handles up to the first of which an indication is due, and gives that one.
+#[inline(always)]
 fn take_due<const ROOM: usize>(
     waiting: &mut ArrayVec<u16, ROOM>,
     table: &Table,
