@@ -120,6 +120,7 @@ pub(crate) fn replace_all(slots: &mut [Slot], old: &Table, new: &Table)
 
 /// Counts packets as completed, each entry at most those that are outstanding. Entries of unknown
 /// handles are ignored.
+#[inline(always)]
 pub(crate) fn packets_completed(
     slots: &mut [Slot],
     handles: &Handles,
