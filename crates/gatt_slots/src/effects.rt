@@ -49,7 +49,7 @@ impl Slot {
 
     /// Takes in a new connection, to a server that receives PDUs of `rx_mtu` octets. At most `quota`
     /// of its packets may be outstanding, with at most `acl_len` octets of data each.
-    pub fn connect(
+    pub(crate) fn connect(
         &mut self,
         handle: u16,
         peer: Peer,
@@ -82,7 +82,7 @@ impl Slot {
     }
 
     /// Frees the slot.
-    pub fn disconnected(&mut self)
+    pub(crate) fn disconnected(&mut self)
         ensures { self.new ≡ None }
     {
         self.used = Use::Free;
@@ -96,7 +96,7 @@ impl Slot {
     }
 
     /// The controller asked for the key of the link: it is looked up, and a reply is due.
-    pub fn ask_key(&mut self, keys: &Keys, random_number: [u8; 8], diversifier: u16)
+    pub(crate) fn ask_key(&mut self, keys: &Keys, random_number: [u8; 8], diversifier: u16)
         ensures { self.new ≡ option_map (λ slot_state. after_key_asked
             (key_asked_for keys.now slot_state.peer random_number diversifier) slot_state)
             self.old }
@@ -108,7 +108,7 @@ impl Slot {
 
     /// Encryption of the link was changed, or could not be: `true` where it has a key now and had
     /// none. Where it lost its key the connection is ended.
-    pub fn encrypt(&mut self, status: u8, enabled: u8) -> bool
+    pub(crate) fn encrypt(&mut self, status: u8, enabled: u8) -> bool
         ensures after { self.new
             ≡ option_map (after_link_step (Encryption status enabled)) self.old }
         ensures gained { IfSome self.old
@@ -121,7 +121,7 @@ impl Slot {
     }
 
     /// The key of the link was refreshed, or could not be.
-    pub fn refresh(&mut self, status: u8) -> bool
+    pub(crate) fn refresh(&mut self, status: u8) -> bool
         ensures after { self.new ≡ option_map (after_link_step (Refresh status)) self.old }
         ensures gained { IfSome self.old (λ slot_state. result
             ≡ gained_encryption slot_state.link.key
@@ -148,7 +148,7 @@ impl Slot {
 
     /// Takes in a payload on the channel of LE signalling or of the Security Manager: `true` where the
     /// connection is ended, since there is no room for the answer.
-    pub fn other_channel(&mut self, channel: u16, payload: &[u8]) -> bool
+    pub(crate) fn other_channel(&mut self, channel: u16, payload: &[u8]) -> bool
         ensures after { self.new
             ≡ option_map (slot_after_other_channel channel payload.now) self.old }
         ensures ended { IfSome self.old

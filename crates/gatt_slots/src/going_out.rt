@@ -41,7 +41,7 @@ impl Slot {
     }
 
     /// Takes in that the command that was due is sent.
-    pub fn command_sent(&mut self)
+    pub(crate) fn command_sent(&mut self)
         ensures { self.new ≡ option_map slot_without_command self.old }
     {
         if self.reason.is_some() {
