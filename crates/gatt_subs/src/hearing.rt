@@ -152,6 +152,7 @@ pub fn wants_indications(row: &ConfigRow, handle: u16) -> bool
 
 /// Whether an indication of the value at a handle is due: the connection may hear of it, and has
 /// asked for indications.
+#[inline(always)]
 pub fn is_indicated(table: &Table, row: &ConfigRow, standing: &Standing, handle: u16) -> bool
     ensures due { result ≡ is_indicated table.now.attributes row.now standing.entry.now handle }
     ensures value { OnTrue result (is_value_at table.now.attributes handle ≡ true) }
