@@ -18,21 +18,21 @@ use Rattle.gatt_subs.specs.Hearing.{may_hear_at}
 use Rattle.gatt_subs.specs.Rows.{Subscriptions}
 
 -- what happens to each slot, one thing behind the other
-together : (later first : ℕ → Option SlotState → Option SlotState) (start : ℕ) (slots : SlotStates)
+pub together : (later first : ℕ → Option SlotState → Option SlotState) (start : ℕ) (slots : SlotStates)
     → heard_from start later (heard_from start first slots) ≡ heard_from start (λ place slot. later place (first place slot)) slots
 together later first start [] = refl
 together later first start (slot ∷ slots) = ap (λ (rest : SlotStates). later start (first start slot) ∷ rest) (together later first (start + 1) slots)
 
-nothing : (start : ℕ) (slots : SlotStates) → heard_from start (λ place slot. slot) slots ≡ slots
+pub nothing : (start : ℕ) (slots : SlotStates) → heard_from start (λ place slot. slot) slots ≡ slots
 nothing start [] = refl
 nothing start (slot ∷ slots) = ap (λ (rest : SlotStates). slot ∷ rest) (nothing (start + 1) slots)
 
-alike : (one other : ℕ → Option SlotState → Option SlotState) (slots : SlotStates) → ((place : ℕ) (slot : Option SlotState) → one place slot ≡ other place slot)
+pub alike : (one other : ℕ → Option SlotState → Option SlotState) (slots : SlotStates) → ((place : ℕ) (slot : Option SlotState) → one place slot ≡ other place slot)
     → heard_from 0 one slots ≡ heard_from 0 other slots
 alike one other slots same = λ i. heard_from 0 (λ place slot. same place slot i) slots
 
 -- the same where the slots that are there hear the same
-alike-there : (one other : ℕ → Option SlotState → Option SlotState) (start : ℕ) (slots : SlotStates)
+pub alike-there : (one other : ℕ → Option SlotState → Option SlotState) (start : ℕ) (slots : SlotStates)
     → ((place : ℕ) → one (start + place) (slot_state_at slots place) ≡ other (start + place) (slot_state_at slots place)) → heard_from start one slots ≡ heard_from start other slots
 alike-there one other start [] same = refl
 alike-there one other start (slot ∷ slots) same =
@@ -68,7 +68,7 @@ module _ (table : Contents) (now : ℕ) (rows : Subscriptions) where
   heard-in-turn (handle ∷ handles) slot = next-heard handle handles slot ∙ heard-in-turn handles (slot_notified table now rows handle slot)
 
   -- one that may not listen hears of no value
-  unlistened : (handles : List Handle) (slot : Option SlotState) → may_listen slot ≡ false → slot_heard table now rows handles slot ≡ slot_heard table now rows [] slot
+  pub unlistened : (handles : List Handle) (slot : Option SlotState) → may_listen slot ≡ false → slot_heard table now rows handles slot ≡ slot_heard table now rows [] slot
   unlistened [] slot deaf = refl
   unlistened (handle ∷ handles) slot deaf =
       next-heard handle handles slot

@@ -8,6 +8,7 @@ pub mod Found
 mod SlotBits
 pub mod Covering
 mod OneByOne
+pub mod Alone
 pub mod AtPlace
 pub mod InTurn
 pub mod Noted

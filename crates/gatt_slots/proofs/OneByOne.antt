@@ -74,7 +74,7 @@ module _ (hear : Option SlotState → Option SlotState) (nobody : hear None ≡ 
         (λ apart. so.within other within (sym (same-in other within apart) ∙ in-it))
         (cases_eq other place)
 
-    unheard : slot_state_at now place ≡ slot_state_at old place
+    pub unheard : slot_state_at now place ≡ slot_state_at old place
     unheard = so.each place few ∙ ap (λ (done : Bool). heard_if hear done (slot_state_at old place)) (on whom left place in-left)
 
     heard-here : heard_if hear (is_done whom rest place) (slot_state_at old place) ≡ hear (slot_state_at old place)

@@ -1,10 +1,12 @@
 -- What a connection hears unasked, by what its slot keeps.
 use Rattle.std.specs.Prelude.{ℕ, Bool, true, is_some, if◌then◌else◌, unwrap_or, List, [], ◌∷◌, length, map, Option}
+use Rattle.std.specs.Option.{option_map, option_to_list}
 use Rattle.att_numbers.specs.Types.{Handle, Mtu, Row}
 use Rattle.att_policy.specs.declared.standing.Standing.{Standing}
 use Rattle.att_table.specs.Table.{Contents}
 use Rattle.gatt_laws.specs.machine.Heard.{Heard, att_pdu, heard_when_notifying, heard_when_indicating}
 use Rattle.gatt_slots.specs.SlotState.{SlotState, slot_standing}
+use Rattle.gatt_subs.specs.Alone.{after_notify_alone, telling_alone, telling_of}
 use Rattle.gatt_subs.specs.Indications.{Indications}
 use Rattle.gatt_subs.specs.Told.{Hearer}
 use Rattle.le_acl.specs.Outgoing.{Outgoing, with_pdu}
@@ -75,3 +77,16 @@ slot_after_hearing table now bond handles slot_state =
 abbrev pub slot_after_notifying : Contents → ℕ → Option Row → Handle → SlotState → SlotState
 slot_after_notifying table now bond handle slot_state =
     if slot_state.live then with_delivery slot_state (delivery_when_notifying table (hearer_facts_of now bond slot_state) handle (delivery_of slot_state)) else slot_state
+
+-- and where it is the only one: told at once, unless something waits before it; of the code alone
+abbrev pub delivery_when_notifying_alone : Contents → HearerFacts → ℕ → Handle → Delivery → Delivery
+delivery_when_notifying_alone table ear now handle delivery =
+    let backlog = length delivery.outgoing.queue in
+    delivery_with_heard delivery (record {
+      responses = option_to_list (option_map (telling_of table.values handle ear.mtu) (telling_alone delivery.pending table.attributes ear.row ear.standing handle backlog));
+      pending = after_notify_alone delivery.pending table.attributes ear.row ear.standing handle backlog now;
+    })
+
+abbrev pub slot_after_notifying_alone : Contents → ℕ → Option Row → Handle → SlotState → SlotState
+slot_after_notifying_alone table now bond handle slot_state =
+    if slot_state.live then with_delivery slot_state (delivery_when_notifying_alone table (hearer_facts_of now bond slot_state) now handle (delivery_of slot_state)) else slot_state

@@ -6,7 +6,7 @@ use Rattle.std.specs.Option.{option_map, option_map_or}
 use Rattle.att_numbers.specs.Types.{Handle, Row}
 use Rattle.att_attributes.specs.declared.attr.Attr.{Attr}
 use Rattle.att_table.specs.Table.{Contents}
-use Rattle.gatt_slots.specs.Hearing.{slot_after_hearing, slot_after_notifying, slot_row_in_force}
+use Rattle.gatt_slots.specs.Hearing.{slot_after_hearing, slot_after_notifying, slot_after_notifying_alone, slot_row_in_force}
 use Rattle.gatt_slots.specs.SlotState.{SlotState}
 use Rattle.gatt_slots.specs.SlotEffects.{slot_after_packets_completed, after_table, after_time}
 use Rattle.gatt_subs.specs.Deadline.{deadline_of}
@@ -95,6 +95,15 @@ abbrev pub all_notified_in_turn : Contents → ℕ → Subscriptions → ℕ →
 all_notified_in_turn table now rows places [] slots = slots
 all_notified_in_turn table now rows places (handle ∷ handles) slots =
     all_notified_in_turn table now rows places handles (all_notified table now rows places handle slots)
+
+-- a value that is the only one, which is told at once; of the code alone
+abbrev pub slot_notified_alone : Contents → ℕ → Subscriptions → Handle → Option SlotState → Option SlotState
+slot_notified_alone table now rows handle slot =
+    option_map (λ (slot_state : SlotState). slot_after_notifying_alone table now (row_of rows slot_state.peer) handle slot_state) slot
+
+abbrev pub all_notified_alone : Contents → ℕ → Subscriptions → ℕ → Handle → SlotStates → SlotStates
+all_notified_alone table now rows places handle slots =
+    heard_from 0 (λ place slot. if is_in places place then slot_notified_alone table now rows handle slot else slot) slots
 
 -- the handles of the connections that are timed out at a moment, in the order of their slots
 abbrev pub late_handle : ℕ → SlotState → List ℕ

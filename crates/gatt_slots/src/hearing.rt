@@ -10,7 +10,7 @@ ghost use Rattle.att_table.specs.Facts.{IsTable};
 ghost use Rattle.gatt_slots.specs.Hearing.{row_by_key, slot_row_in_force, delivery_when_indicating};
 ghost use Rattle.gatt_slots.specs.OfTable.{HasBondsOfTable, SlotIsOfTable};
 ghost use Rattle.gatt_slots.specs.Places.{waits};
-ghost use Rattle.gatt_slots.specs.Slots.{slot_heard, slot_notified};
+ghost use Rattle.gatt_slots.specs.Slots.{slot_heard, slot_notified, slot_notified_alone};
 ghost use Rattle.gatt_subs.specs.Rows.{owes, row_of};
 ghost use Rattle.le_acl.specs.Outgoing.{with_pdu};
 ghost use Rattle.octets.specs.Number.{two_octets};
@@ -22,7 +22,7 @@ use crate::slot::{Slot, Use};
 use att_numbers::opcode::{HANDLE_VALUE_INDICATION, HANDLE_VALUE_NOTIFICATION};
 use att_policy::Standing;
 use att_table::{ConfigRow, Table};
-use gatt_subs::{PendingOfTable, Raised, Rows};
+use gatt_subs::{PendingOfTable, Raised, Rows, Telling};
 use le_acl::Sender;
 use le_hci::Peer;
 use le_l2cap::channel::ATT;
@@ -128,6 +128,54 @@ impl Slot {
             );
         }
         notified
+    }
+
+    /// Tells the connection of a value that was written, the only one: whether it is told at once, by a
+    /// notification or an indication. Where something waits before it, it waits.
+    #[inline(always)]
+    #[tactic(auto, using(crate::proofs::Alone::told_stays))]
+    pub(crate) fn notify_alone(&mut self, raised: &Raised<'_>, moment: Moment<'_>) -> bool
+        requires table { IsTable moment.table.now }
+        requires bonds { HasBondsOfTable moment.table.now.attributes moment.rows.now }
+        requires slot { SlotIsOfTable moment.table.now.attributes self.old }
+        ensures notified { self.new
+            ≡ slot_notified_alone raised.now.table moment.entry.now moment.entry.rows.now
+            raised.now.handle self.old }
+        ensures untold { OnFalse result (gives self.new ≡ gives self.old) }
+        ensures told { OnTrue result (waits self.new ≡ waits self.old) }
+    {
+        if self.used != Use::Live {
+            return false;
+        }
+        let row = row_in_force(&self.link, &self.peer, &self.row, moment.rows);
+        let standing = standing(&self.link, self.key_known, self.until, moment.now);
+        let backlog = self.sender.backlog();
+        match self
+            .pending
+            .raise_alone(raised, row, &standing, backlog, moment.now)
+        {
+            None => false,
+            Some(Telling::Notification) => {
+                queue_value(
+                    HANDLE_VALUE_NOTIFICATION,
+                    raised.handle(),
+                    raised.octets(),
+                    self.conn.mtu(),
+                    &mut self.sender,
+                );
+                true
+            }
+            Some(Telling::Indication) => {
+                queue_value(
+                    HANDLE_VALUE_INDICATION,
+                    raised.handle(),
+                    raised.octets(),
+                    self.conn.mtu(),
+                    &mut self.sender,
+                );
+                true
+            }
+        }
     }
 
     /// Sends the connection the indication that is due, if one is. `false` where nothing waits.

@@ -1,6 +1,6 @@
 //! The slots of a host, as one value that knows where something may be due.
 
-ghost use Rattle.std.specs.Prelude.{◌≡◌, ℕ, false, ◌<◌, ◌≤◌, length, map, replicate, take, [], None, Some, IfOk, IfSome, IsSome};
+ghost use Rattle.std.specs.Prelude.{◌≡◌, ℕ, false, ◌<◌, ◌≤◌, length, map, replicate, take, [], ◌∷◌, None, Some, IfOk, IfSome, IsSome};
 ghost use Rattle.std.specs.Bool.{OnTrue, OnFalse};
 ghost use Rattle.std.specs.Borrow.{sem};
 ghost use Rattle.std.specs.List.{list_any, position};
@@ -9,7 +9,7 @@ ghost use Rattle.att_table.specs.Table.{Contents};
 ghost use Rattle.gatt_slots.specs.Connections.{FindsNext};
 ghost use Rattle.gatt_slots.specs.Hearing.{slot_row_in_force};
 ghost use Rattle.gatt_slots.specs.Lending.{LendsSlot};
-ghost use Rattle.gatt_slots.specs.OfTable.{AreOfTableIfAny};
+ghost use Rattle.gatt_slots.specs.OfTable.{AreOfTable, AreOfTableIfAny};
 ghost use Rattle.gatt_slots.specs.Places.{may_listen};
 ghost use Rattle.gatt_slots.specs.Request.{bond_served, confirmed_of, handles_written_by, overflows, slot_after_request, table_after};
 ghost use Rattle.gatt_slots.specs.Slots.{slots_after_entries, all_after_table, all_after_time, all_heard, slot_state_at, late_handles, place_free, place_holding, place_serving, slot_row_at, slots_at, slots_deadline, IsThere};
@@ -26,7 +26,7 @@ use crate::moment::Moment;
 use crate::places::{Due, Places, first_due};
 use crate::request::Brought;
 use crate::slot::Slot;
-use crate::telling::{Heard, indicate_due, notify_all};
+use crate::telling::{Heard, indicate_due, notify_all, notify_alone};
 use arrayvec::ArrayVec;
 use att_table::Table;
 use gatt_app::Connection;
@@ -301,10 +301,49 @@ impl Slots {
         let first = self.first_that_listens();
         let another_listens = first.is_some() && first != own;
         if another_listens || !self.nobody_hears(own, here, handles) {
-            self.hear_each(moment, own, here, handles);
+            self.hear_values(moment, own, here, handles);
         } else if self.may_wait() {
             self.hear_each(moment, None, &[], &[]);
         }
+    }
+
+    /// Has each slot hear what is notified: most often it is one value, which only others hear of.
+    #[inline(always)]
+    fn hear_values(&mut self, moment: Moment<'_>, own: Option<usize>, here: &[u16], handles: &[u16])
+        requires here { AreOfTableIfAny here.now moment.table.now.attributes
+            moment.rows.now self.old }
+        requires handles { AreOfTableIfAny handles.now moment.table.now.attributes
+            moment.rows.now self.old }
+        ensures heard { self.new
+            ≡ all_heard moment.entry.table.now moment.entry.now moment.entry.rows.now own here.now
+            handles.now self.old }
+        ensures count { length self.new ≡ length self.old }
+    {
+        match handles {
+            [handle] if here.is_empty() => self.hear_alone(moment, own, *handle),
+            _ => self.hear_each(moment, own, here, handles),
+        }
+    }
+
+    /// Has each slot hear of one value, the only one that is notified, and then what is due.
+    #[inline(always)]
+    fn hear_alone(&mut self, moment: Moment<'_>, own: Option<usize>, handle: u16)
+        requires { AreOfTable moment.table.now.attributes moment.rows.now self.old }
+        ensures heard { self.new
+            ≡ all_heard moment.entry.table.now moment.entry.now moment.entry.rows.now own []
+            (handle ∷ []) self.old }
+        ensures count { length self.new ≡ length self.old }
+    {
+        let mut heard = Heard {
+            packets: self.marks.packets,
+            waiting: self.marks.waiting,
+        };
+        let whom = self.marks.listening.without_own(own);
+        let slots = self.slots.as_mut_slice();
+        notify_alone(slots, &mut heard, moment, whom, handle);
+        indicate_due(slots, &mut heard, moment);
+        self.marks.packets = heard.packets;
+        self.marks.waiting = heard.waiting;
     }
 
     /// Has each slot hear what is notified, value by value, and then what is due.

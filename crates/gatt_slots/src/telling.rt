@@ -5,7 +5,7 @@ ghost use Rattle.gatt_slots.specs.Commands.{gives};
 ghost use Rattle.gatt_slots.specs.SlotState.{SlotState};
 ghost use Rattle.gatt_slots.specs.OfTable.{AreOfTable, AreOfTableIfAny};
 ghost use Rattle.gatt_slots.specs.Places.{waits, CoversHeard};
-ghost use Rattle.gatt_slots.specs.Slots.{all_heard, all_notified, all_notified_in_turn, slot_heard, slot_state_at, SlotStates};
+ghost use Rattle.gatt_slots.specs.Slots.{all_heard, all_notified, all_notified_alone, all_notified_in_turn, slot_heard, slot_state_at, SlotStates};
 ghost use Rattle.gatt_laws.specs.declared.TheConstants.{MAX_SLOTS};
 
 use crate::moment::Moment;
@@ -117,6 +117,43 @@ fn notify_for(slots: &mut [Slot], heard: &mut Heard, moment: Moment<'_>, whom: P
             let slot = &mut slots[place];
             let notified = slot.notify(&raised, moment);
             heard.take(place, notified, slot.may_wait());
+        }
+    }
+}
+
+/// A value, the only one, is notified to the connections of the slots of `whom`, slot by slot: it is
+/// looked up once for all of them, and told at once where nothing waits before it.
+#[inline(always)]
+#[tactic(auto, using(crate::proofs::Alone::nobody_hears_alone))]
+pub(crate) fn notify_alone(
+    slots: &mut [Slot],
+    heard: &mut Heard,
+    moment: Moment<'_>,
+    whom: Places,
+    handle: u16,
+)
+    requires few { length slots.old ≤ MAX_SLOTS }
+    requires covered { CoversHeard slots.old heard.old }
+    requires of_table { AreOfTable moment.table.now.attributes moment.rows.now
+        slots.old }
+    ensures notified { slots.new
+        ≡ all_notified_alone moment.entry.table.now moment.entry.now moment.entry.rows.now
+        whom.bits handle slots.old }
+    ensures covered { CoversHeard slots.new heard.new }
+    ensures count { length slots.new ≡ length slots.old }
+{
+    let Some(raised) = Raised::of(moment.table, handle) else {
+        return;
+    };
+    // Whoever asks for it knows what holds of each table.
+    let _count = moment.table.len();
+    let mut left = whom;
+    while let Some(place) = left.first() {
+        left.remove(place);
+        if place < slots.len() {
+            let slot = &mut slots[place];
+            let told = slot.notify_alone(&raised, moment);
+            heard.take(place, told, slot.may_wait());
         }
     }
 }

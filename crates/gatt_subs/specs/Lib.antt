@@ -1,3 +1,4 @@
+pub mod Alone
 pub mod Deadline
 pub mod Hearing
 pub mod HeardOnly

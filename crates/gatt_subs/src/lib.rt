@@ -13,7 +13,7 @@ mod rows_line;
 mod rows_text;
 mod unfitted;
 
-pub use hearing::Raised;
+pub use hearing::{Raised, Telling};
 pub use pending::{MAX_BACKLOG, Pending, PendingOf, PendingOfTable};
 pub use rows::Rows;
 pub use rows_fault::RowsFault;

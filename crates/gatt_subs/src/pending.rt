@@ -2,6 +2,7 @@ ghost use Rattle.std.specs.Prelude.{◌≡◌, ◌≢◌, ◌<◌, ◌≤◌, tr
 ghost use Rattle.std.specs.Bool.{OnTrue, OnFalse};
 ghost use Rattle.att_numbers.specs.declared.limit.TheConstants.{MAX_ATTRIBUTES};
 ghost use Rattle.att_attributes.specs.Attributes.{is_value_at};
+ghost use Rattle.gatt_subs.specs.Alone.{after_notify_alone, telling_alone};
 ghost use Rattle.gatt_subs.specs.Deadline.{deadline_of};
 ghost use Rattle.gatt_subs.specs.Hearing.{is_indicated, wants_indications};
 ghost use Rattle.gatt_subs.specs.HeardOnly.{NotifiesOnlyWhatIsHeard, IndicatesOnlyWhatIsHeard, IndicatesOnlyWhatWaits};
@@ -111,6 +112,52 @@ impl<const ROOM: usize> PendingOf<ROOM> {
                 wait_once(&mut self.waiting, raised.handle());
                 false
             }
+        }
+    }
+
+    /// Raises a value that was looked up, the only one that an event wrote, and says how it is told at
+    /// once, if it is. Where it is to be indicated, and something waits before it or is unconfirmed, it
+    /// waits as in `raise_value`, and else `release` would give it. There is room for it, if it is to
+    /// wait.
+    #[inline(always)]
+    pub fn raise_alone(
+        &mut self,
+        raised: &Raised<'_>,
+        row: &ConfigRow,
+        standing: &Standing,
+        backlog: usize,
+        now: u64,
+    ) -> Option<Telling>
+        requires fits { HaveOnePlace self.old.waiting
+            → wants_indications row.now raised.now.handle ≡ true
+            → has_room_to_wait ROOM self.old.waiting raised.now.handle ≡ true }
+        ensures told { result
+            ≡ telling_alone self.old raised.now.table.attributes row.now standing.entry.now
+            raised.now.handle backlog }
+        ensures pending { self.new
+            ≡ after_notify_alone self.old raised.now.table.attributes row.now standing.entry.now
+            raised.now.handle backlog now }
+        ensures room { IfSome result (λ telling. backlog < MAX_BACKLOG) }
+    {
+        if self.timed_out {
+            return None;
+        }
+        let few = backlog < MAX_BACKLOG;
+        match raised.telling(row, standing)? {
+            Telling::Notification if few => Some(Telling::Notification),
+            Telling::Indication if few && self.waiting.is_empty() && self.unconfirmed.is_none() => {
+                self.unconfirmed = Some(Unconfirmed {
+                    handle: raised.handle(),
+                    since: now,
+                    outdated: false,
+                });
+                Some(Telling::Indication)
+            }
+            Telling::Indication => {
+                wait_once(&mut self.waiting, raised.handle());
+                None
+            }
+            Telling::Notification => None,
         }
     }
 

@@ -1,0 +1,42 @@
+use Rattle.std.proofs.Common.{◌≡◌, Option, subst, sym, ap, ◌∙◌, arith, rules}
+use Rattle.gatt_slots.proofs.Alone.{told_stays, waits_as_before}
+use Rattle.gatt_slots.proofs.OfTable.{room_in_slot}
+use Rattle.gatt_slots.specs.Places.{waits}
+use Rattle.gatt_subs.specs.Indications.{Indications}
+use Rattle.gatt_slots.specs.declared.slot.Use.TheVariants.{Live}
+use Rattle.gatt_slots.specs.OfTable.{SlotIsOfTable}
+use Rattle.gatt_slots.specs.SlotState.{SlotState}
+use Rattle.gatt_slots.proofs.slot.Slot.notify_alone.Goals as goal
+
+pub raise_alone-requires : goal.raise_alone-requires
+raise_alone-requires c =
+    let a = c.args in
+    let inside = c.self.inside in
+    let live : inside.used ≡ Live = search rules in (
+      omega arith,
+      room_in_slot a.moment.table.now a.moment.rows.now inside.used inside.handle inside.peer inside.key_known inside.until inside.row inside.link inside.conn inside.pending inside.sender inside.reply
+          inside.reason c.row_in_force-row.result.now a.raised.now.handle c.requires.table c.requires.bonds live
+          (subst (λ (it : Option SlotState). SlotIsOfTable a.moment.table.now.attributes it) (sym c.self.view_is) c.requires.slot) c.row_in_force-row.ensures,
+    )
+
+pub returns-in-Some-Notification-clause-told : goal.returns-in-Some-Notification-clause-told
+returns-in-Some-Notification-clause-told c =
+    let a = c.args in
+    let inside = c.self.inside in
+    waits_as_before inside.used inside.handle inside.peer inside.key_known inside.until inside.row inside.link inside.conn inside.pending c.raise_alone.new.self inside.sender
+    c.queue_value.new.sender inside.reply inside.reason
+    (ap (λ (it : Indications). it.waiting) c.raise_alone.ensures.pending
+    ∙ told_stays inside.pending a.raised.now.table.attributes c.row_in_force-row.result.now c.standing-standing.result a.raised.now.handle c.backlog-backlog.result a.moment.now
+    c.in-Some-Notification.field-0 (sym c.raise_alone.ensures.told ∙ c.in-Some-Notification.is))
+    ∙ ap waits c.self.view_is
+
+pub returns-in-Some-Indication-clause-told : goal.returns-in-Some-Indication-clause-told
+returns-in-Some-Indication-clause-told c =
+    let a = c.args in
+    let inside = c.self.inside in
+    waits_as_before inside.used inside.handle inside.peer inside.key_known inside.until inside.row inside.link inside.conn inside.pending c.raise_alone.new.self inside.sender
+    c.queue_value-in-Some-Indication.new.sender inside.reply inside.reason
+    (ap (λ (it : Indications). it.waiting) c.raise_alone.ensures.pending
+    ∙ told_stays inside.pending a.raised.now.table.attributes c.row_in_force-row.result.now c.standing-standing.result a.raised.now.handle c.backlog-backlog.result a.moment.now
+    c.in-Some-Indication.field-0 (sym c.raise_alone.ensures.told ∙ c.in-Some-Indication.is))
+    ∙ ap waits c.self.view_is

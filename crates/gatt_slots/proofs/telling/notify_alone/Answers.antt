@@ -1,0 +1,76 @@
+use Rattle.std.proofs.Common.{◌≡◌, ◌<◌, ◌≤◌, refl, Option, None, get_or, length, subst, sym, ap, ◌∙◌, arith}
+use Rattle.std.proofs.lemmas.Bool.{OnFalse_at, OnTrue_at}
+use Rattle.std.proofs.lemmas.List.{get_or_default}
+use Rattle.gatt_slots.specs.Commands.{gives}
+use Rattle.gatt_slots.specs.SlotState.{SlotState}
+use Rattle.gatt_slots.specs.OfTable.{SlotIsOfTable}
+use Rattle.gatt_slots.specs.Places.{waits}
+use Rattle.gatt_slots.specs.Slots.{slot_state_at, slot_notified_alone}
+use Rattle.gatt_slots.proofs.Found.{kept-is}
+use Rattle.gatt_slots.proofs.OneByOne.{begins, goes_on, goes_past, ends, unheard}
+use Rattle.gatt_slots.proofs.telling.notify_alone.Goals as goal
+use Rattle.gatt_subs.specs.Raised.{InTable}
+
+pub loop-place-init : goal.loop-place-init
+loop-place-init c =
+    let a = c.args in
+    (begins (slot_notified_alone a.moment.table.now a.moment.now a.moment.rows.now a.handle) refl a.whom.bits a.slots.now, c.requires.covered)
+
+pub notify_alone-told-requires-clause-slot : goal.notify_alone-told-requires-clause-slot
+notify_alone-told-requires-clause-slot c =
+    let a = c.args in
+    let slots = c.loop-place.slots in
+    let place = c.in-Some-first.place in
+    let first = c.in-Some-first.ensures.first in
+    let there : place < length slots = omega (arith, c.if-place-slots.true) in
+    let read : get_or slots place c.index-slots-place.result ≡ slot_state_at slots place =
+    get_or_default slots place c.index-slots-place.result None there ∙ sym (kept-is slots place there) in
+    let as-before : slot_state_at slots place ≡ slot_state_at a.slots.now place =
+    unheard (slot_notified_alone a.moment.table.now a.moment.now a.moment.rows.now a.handle) refl a.whom.bits c.loop-place.left.bits c.remove.new.self.bits place a.slots.now slots
+    c.loop-place.invariant.0 first.few first.within c.remove.ensures.removed c.remove.ensures.others in
+    subst (λ (it : Option SlotState). SlotIsOfTable a.moment.table.now.attributes it) (sym (read ∙ as-before)) (c.requires.of_table.each place)
+
+pub loop-place-preserved-then-place-slots : goal.loop-place-preserved-then-place-slots
+loop-place-preserved-then-place-slots c =
+    let a = c.args in
+    let table = a.moment.table.now in
+    let now = a.moment.now in
+    let rows = a.moment.rows.now in
+    let place = c.in-Some-first.place in
+    let slots = c.loop-place.slots in
+    let so-far = c.loop-place.invariant in
+    let there : place < length slots = omega (arith, c.if-place-slots.true) in
+    let slot : Option SlotState = slot_state_at slots place in
+    let lent : Option SlotState = get_or slots place c.index-slots-place.result in
+    let read : lent ≡ slot = get_or_default slots place c.index-slots-place.result None there ∙ sym (kept-is slots place there) in
+    let new : Option SlotState = c.notify_alone-told.new.self in
+    let notified : new ≡ slot_notified_alone table now rows a.handle slot =
+    c.notify_alone-told.ensures.notified ∙ ap (λ (it : InTable). slot_notified_alone it.table now rows it.handle lent) c.in-Some.ensures.raised
+    ∙ ap (λ (it : Option SlotState). slot_notified_alone table now rows a.handle it) read in
+    let first = c.in-Some-first.ensures.first in (
+      goes_on (slot_notified_alone table now rows a.handle) refl a.whom.bits c.loop-place.left.bits c.remove.new.self.bits place a.slots.now slots so-far.0
+          first.few first.within c.remove.ensures.removed c.remove.ensures.others new there notified,
+      c.take.ensures slots new so-far.1
+          (λ none. OnFalse_at none c.notify_alone-told.ensures.untold ∙ ap gives read)
+          (λ told. OnTrue_at told c.notify_alone-told.ensures.told ∙ ap waits read)
+          (λ none. OnFalse_at none c.may_wait.ensures),
+    )
+
+pub loop-place-preserved : goal.loop-place-preserved
+loop-place-preserved c =
+    let a = c.args in
+    let place = c.in-Some-first.place in
+    let slots = c.loop-place.slots in
+    let so-far = c.loop-place.invariant in
+    let first = c.in-Some-first.ensures.first in
+    let beyond : length slots ≤ place = omega (arith, c.if-place-slots.false) in (
+      goes_past (slot_notified_alone a.moment.table.now a.moment.now a.moment.rows.now a.handle) refl a.whom.bits c.loop-place.left.bits c.remove.new.self.bits place a.slots.now slots so-far.0
+          first.few first.within c.remove.ensures.removed c.remove.ensures.others beyond,
+      so-far.1,
+    )
+
+pub returns-clause-notified : goal.returns-clause-notified
+returns-clause-notified c =
+    let a = c.args in
+    ends (slot_notified_alone a.moment.table.now a.moment.now a.moment.rows.now a.handle) refl a.whom.bits c.loop-place.left.bits a.slots.now c.loop-place.slots
+    c.requires.few c.loop-place.invariant.0 (c.in_default-first.ensures.none refl)

@@ -1,0 +1,12 @@
+use Rattle.gatt_slots.specs.Places.{CoversHeard}
+use Rattle.gatt_slots.specs.Slots.{slot_notified_alone}
+use Rattle.gatt_slots.proofs.OneByOne.{IsSoFar}
+use Rattle.gatt_slots.proofs.telling.notify_alone.Given as goal
+
+abbrev pub invariant-loop-place : goal.invariant-loop-place
+invariant-loop-place l =
+    IsSoFar (slot_notified_alone l.moment.table.now l.moment.now l.moment.rows.now l.handle) l.fn.whom.bits l.left.bits l.fn.slots l.slots
+    × CoversHeard l.slots l.heard
+
+abbrev pub decreases-loop-place : goal.decreases-loop-place
+decreases-loop-place l = l.left.bits
