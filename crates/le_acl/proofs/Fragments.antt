@@ -2,7 +2,7 @@
 use Rattle.std.proofs.Common.{◌≡◌, ℕ, zero, suc, ◌+◌, ◌-◌, ◌<◌, ◌≤◌, List, [], ◌∷◌, length, take, drop, map, refl, sym, ap, ◌∙◌, subst, arith}
 use Rattle.std.specs.Prelude.{Some, slice_get}
 use Rattle.std.specs.Option.{option_map}
-use Rattle.std.proofs.lemmas.List.{drop-drop, length-drop, drop_all}
+use Rattle.std.proofs.lemmas.List.{drop-drop, length-drop, drop_all, take_all}
 use Rattle.le_acl.specs.Fragment.{Fragment, Beginning, Continuation}
 use Rattle.le_acl.specs.Packets.{Pdu, pieces_within, pieces, frame_octets, fragments_of_pieces, fragments_of}
 use Rattle.le_acl.specs.Outgoing.{next_of, without_next, acl_octets}
@@ -138,3 +138,16 @@ not_all_gone size gone (first ∷ pdus) pdu is within =
     let same : first ≡ pdu = cc is in
     let P : Pdu → Type 0 = λ p. gone < length (frame_octets p) in
     subst P same (omega (arith, within.0))
+
+-- a frame that fits in one packet goes out whole
+pub whole_first : (size gone : ℕ) (pdu : Pdu) → gone ≡ 0 → length (frame_octets pdu) ≤ size
+    → Beginning (frame_octets pdu) ≡ fragment_at gone (take size (drop gone (frame_octets pdu)))
+whole_first size gone pdu none fits =
+    subst (λ (it : ℕ). Beginning (frame_octets pdu) ≡ fragment_at it (take size (drop it (frame_octets pdu)))) (sym none)
+    (ap Beginning (sym (take_all size (frame_octets pdu) fits)))
+
+pub passed_whole : (size gone count : ℕ) (pdus : List Pdu) → gone ≡ 0 → IsOfFirst count pdus → IsWithin size gone pdus → 0 < size → count ≤ size
+    → queue_of size gone (drop 1 pdus) ≡ without_next (queue_of size gone pdus)
+passed_whole size gone count pdus none first within some fits =
+    ap (λ (it : ℕ). queue_of size it (drop 1 pdus)) none
+    ∙ passed-last size gone count pdus first within some (omega (arith, fits))

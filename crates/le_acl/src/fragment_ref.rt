@@ -56,6 +56,15 @@ fn frame_header(channel: u16, length: u16) -> [u8; HEADER]
     [size_low, size_high, low, high]
 }
 
+/// The header of the frame of a payload.
+#[inline(always)]
+pub(crate) fn header_of(channel: u16, payload: &[u8]) -> [u8; HEADER]
+    requires { length payload.now ≤ MAX_PDU }
+    ensures { result ++ payload.now ≡ frame_octets (channel, payload.now) }
+{
+    frame_header(channel, payload.len() as u16)
+}
+
 /// As many octets from `start` on as there are, and at most `count`.
 #[inline(always)]
 fn part(octets: &[u8], start: usize, count: usize) -> &[u8]

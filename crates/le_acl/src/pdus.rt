@@ -101,9 +101,9 @@ impl Pdus {
         ensures { self.new.pdus ≡ self.old.pdus ++ (channel, front.now ++ rest.now) ∷ [] }
     {
         let place = (self.first + self.count) % MAX_PDUS;
-        overwrite(self.payloads.at_mut(place), front, rest, &[]);
         self.channels[place] = channel;
         self.count += 1;
+        overwrite(self.payloads.at_mut(place), front, rest, &[]);
     }
 
     /// The channel and the payload of the first PDU.

@@ -13,7 +13,7 @@ ghost use Rattle.le_h4.specs.declared.packet_buf.TheConstants.{MAX_PACKET_OUT};
 ghost use Rattle.octets.specs.declared.pdu.TheConstants.{MAX_PDU};
 
 use crate::boundary::{CONTINUATION, FIRST_NOT_FLUSHED};
-use crate::fragment_ref::FragmentRef;
+use crate::fragment_ref::{FragmentRef, header_of};
 use crate::frame::HEADER;
 use crate::pdus::{MAX_PDUS, Pdus};
 use le_h4::{PacketBuf, PacketOctets, acl_into, write_acl_parts};
@@ -131,8 +131,8 @@ impl Sender {
           room = None;
         } }
     {
-        self.pdus.queue(cid, first, rest);
         self.lent = false;
+        self.pdus.queue(cid, first, rest);
     }
 
     /// Writes the first packet not yet given in place of what `out` holds. There is none, and nothing
@@ -186,6 +186,14 @@ impl Sender {
             return false;
         };
         let frame_len = HEADER + payload.len();
+        if self.gone == 0 && frame_len <= self.acl_len {
+            // Most frames go out whole, in one packet.
+            let header = header_of(channel, payload);
+            out.acl(handle, FIRST_NOT_FLUSHED, &header, payload);
+            self.outstanding += 1;
+            pass_whole(&mut self.pdus, self.gone, self.acl_len, frame_len);
+            return true;
+        }
         match FragmentRef::at(channel, payload, self.gone, self.acl_len) {
             FragmentRef::Beginning { header, payload } => {
                 out.acl(handle, FIRST_NOT_FLUSHED, &header, payload);
@@ -219,6 +227,13 @@ impl Sender {
         }
         let (channel, payload) = self.pdus.front()?;
         let frame_len = HEADER + payload.len();
+        if self.gone == 0 && frame_len <= self.acl_len {
+            let header = header_of(channel, payload);
+            let count = acl_into(handle, FIRST_NOT_FLUSHED, &header, payload, out);
+            self.outstanding += 1;
+            pass_whole(&mut self.pdus, self.gone, self.acl_len, frame_len);
+            return Some(count);
+        }
         let count = match FragmentRef::at(channel, payload, self.gone, self.acl_len) {
             FragmentRef::Beginning { header, payload } => {
                 acl_into(handle, FIRST_NOT_FLUSHED, &header, payload, out)
@@ -299,4 +314,20 @@ fn pass_fragment(pdus: &mut Pdus, gone: &mut usize, acl_len: usize, frame_len: u
     } else {
         *gone = passed;
     }
+}
+
+/// Takes in that the frame of the first PDU was given in one packet, whole: the PDU is dropped.
+#[inline(always)]
+fn pass_whole(pdus: &mut Pdus, gone: usize, acl_len: usize, frame_len: usize)
+    requires first { IsOfFirst frame_len pdus.old.pdus }
+    requires gone { gone ≡ 0 }
+    requires whole { frame_len ≤ acl_len }
+    requires least { 0 < acl_len }
+    requires within { IsWithin acl_len gone pdus.old.pdus }
+    ensures queue { queue_of acl_len gone pdus.new.pdus
+        ≡ without_next (queue_of acl_len gone pdus.old.pdus) }
+    ensures within { IsWithin acl_len gone pdus.new.pdus }
+    ensures room { pdus.new.room ≡ pdus.old.room }
+{
+    pdus.pop();
 }

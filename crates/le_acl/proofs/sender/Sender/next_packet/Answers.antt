@@ -1,10 +1,11 @@
-use Rattle.std.proofs.Common.{◌≡◌, ◌<◌, length, ◌∙◌, subst, arith}
+use Rattle.std.proofs.Common.{ap, ◌≡◌, ◌<◌, ◌≤◌, length, ◌∙◌, subst, arith}
 use Rattle.std.specs.Prelude.{Some}
 use Rattle.std.specs.Option.{option_map}
+use Rattle.le_acl.specs.Fragment.{Beginning}
 use Rattle.le_acl.specs.Packets.{Pdu, frame_octets}
 use Rattle.le_acl.specs.Outgoing.{next_of, acl_octets}
 use Rattle.le_acl.specs.Sending.{Sending}
-use Rattle.le_acl.proofs.Fragments.{gives_first, not_all_gone}
+use Rattle.le_acl.proofs.Fragments.{gives_first, not_all_gone, whole_first}
 use Rattle.le_acl.proofs.sender.Sender.next_packet.Goals as goal
 use Rattle.le_acl.proofs.sender.Sender.next_packet.Goals.{in-Beginning, in-Continuation}
 
@@ -15,6 +16,17 @@ returns-clause-given c =
     let some : 0 < c.self.inside.acl_len = omega (arith, c.self.invariant.size_least) in
     let P : Sending → Type 0 = λ sending. option_map (acl_octets c.args.handle) (next_of sending.outgoing.queue) ≡ Some c.match-at.out in
     subst P c.self.view_is (elim c.match-at.branch [
-      | in-Beginning w ↦ gives_first _ _ _ pdu c.in-Some.ensures.front some left _ _ _ w.in-Beginning.ensures.fragment (w.out-is ∙ w.acl.ensures)
+      | in-Beginning w ↦ gives_first _ _ _ pdu c.in-Some.ensures.front some left _ _ _ w.in-Beginning.ensures.fragment (w.out-is ∙ w.acl-in-Beginning.ensures)
       | in-Continuation w ↦ gives_first _ _ _ pdu c.in-Some.ensures.front some left _ _ _ w.in-Continuation.ensures.fragment (w.out-is ∙ w.acl-in-Continuation.ensures)
     ])
+
+pub returns-then-frame_len-self-clause-given : goal.returns-then-frame_len-self-clause-given
+returns-then-frame_len-self-clause-given c =
+    let pdu : Pdu = (c.in-Some.channel, c.in-Some.payload.now) in
+    let left : c.self.inside.gone < length (frame_octets pdu) = not_all_gone _ _ _ pdu c.in-Some.ensures.front c.self.invariant.within in
+    let some : 0 < c.self.inside.acl_len = omega (arith, c.self.invariant.size_least) in
+    let none : c.self.inside.gone ≡ 0 = omega (arith, c.if-self-eq0.true) in
+    let fits : length (frame_octets pdu) ≤ c.self.inside.acl_len = omega (arith, c.if-frame_len-self.true) in
+    let P : Sending → Type 0 = λ sending. option_map (acl_octets c.args.handle) (next_of sending.outgoing.queue) ≡ Some c.acl.new.self in
+    subst P c.self.view_is (gives_first c.self.inside.acl_len c.self.inside.gone _ pdu c.in-Some.ensures.front some left c.args.handle _ _
+    (ap Beginning c.header_of-header.ensures ∙ whole_first c.self.inside.acl_len c.self.inside.gone pdu none fits) c.acl.ensures)
