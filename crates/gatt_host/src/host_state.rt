@@ -224,7 +224,7 @@ impl HostState {
             place,
             &mut self.table,
             &mut self.rows,
-            self.changer,
+            &self.changer,
             self.time,
             pdu,
             &mut self.written,

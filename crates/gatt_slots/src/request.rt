@@ -36,13 +36,14 @@ pub struct Brought {
 
 impl Slot {
     /// Serves a PDU of the Attribute Protocol, with the handles that it wrote in place of what `written`
-    /// holds. Where an answer is due and there is no room for it, the connection is ended.
+    /// holds. Where an answer is due and there is no room for it, the connection is ended. The changer is
+    /// lent, since only a confirmation asks for it.
     #[inline(always)]
     pub(crate) fn serve(
         &mut self,
         table: &mut Table,
         rows: &mut Rows,
-        changer: Option<u16>,
+        changer: &Option<u16>,
         now: u64,
         pdu: &[u8],
         written: &mut Touched,
@@ -58,7 +59,7 @@ impl Slot {
         ensures table { IfSome self.old (λ slot_state. table.new
             ≡ table_after table.old now (row_of rows.old slot_state.peer) pdu.now slot_state) }
         ensures bond { IfSome self.old
-            (λ slot_state. ChangesBond (bond_served table.old now changer
+            (λ slot_state. ChangesBond (bond_served table.old now changer.now
             (row_of rows.old slot_state.peer) pdu.now slot_state) slot_state.peer rows.old
             rows.new) }
         ensures written { IfSome self.old (λ slot_state. written.new.items
@@ -148,15 +149,15 @@ fn owe_unless_told(
     confirmed: bool,
     link: &Link,
     pending: &PendingOfTable,
-    changer: Option<u16>,
+    changer: &Option<u16>,
     peer: &Peer,
     rows: &mut Rows,
 )
     ensures { ChangesBond (with_owed_after (confirmed && (is_some link.now.key
-        && option_map_or (is_told pending.now) changer false))) peer.now rows.old rows.new }
+        && option_map_or (is_told pending.now) changer.now false))) peer.now rows.old rows.new }
 {
     if confirmed {
-        let knows_change = knows_change(link, pending, changer);
+        let knows_change = knows_change(link, pending, *changer);
         owe_unless(confirmed, knows_change, peer, rows);
     }
 }

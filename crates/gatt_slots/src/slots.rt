@@ -169,7 +169,7 @@ impl Slots {
         place: usize,
         table: &mut Table,
         rows: &mut Rows,
-        changer: Option<u16>,
+        changer: &Option<u16>,
         now: u64,
         pdu: &[u8],
         written: &mut Touched,
@@ -186,7 +186,7 @@ impl Slots {
         ensures table { IfSome (slot_state_at self.old place) (λ slot_state. table.new
             ≡ table_after table.old now (row_of rows.old slot_state.peer) pdu.now slot_state) }
         ensures bond { IfSome (slot_state_at self.old place)
-            (λ slot_state. ChangesBond (bond_served table.old now changer
+            (λ slot_state. ChangesBond (bond_served table.old now changer.now
             (row_of rows.old slot_state.peer) pdu.now slot_state) slot_state.peer rows.old
             rows.new) }
         ensures written { IfSome (slot_state_at self.old place) (λ slot_state. written.new.items

@@ -16,7 +16,7 @@ use Rattle.gatt_slots.proofs.slot.Slot.serve.Goals as goal
 pub answer_by_row-served-requires-clause-row : goal.answer_by_row-served-requires-clause-row
 answer_by_row-served-requires-clause-row c =
     let inside = c.self.inside in
-    row_of_table c.args.table.now c.args.now c.args.changer c.args.pdu.now c.args.rows.now c.args.rows.now c.args.rows.now
+    row_of_table c.args.table.now c.args.now c.args.changer.now c.args.pdu.now c.args.rows.now c.args.rows.now c.args.rows.now
     inside.handle inside.peer inside.key_known inside.until inside.row inside.link inside.conn inside.pending inside.sender inside.reply inside.reason inside.used
     c.is_some-has_key.result (c.is_some-has_key.ensures ∙ ap (λ (key : Option KeyFacts). is_some key) c.facts.ensures.key)
     (subst (λ (self : Option SlotState). IsSome self) (sym c.self.view_is) c.requires.there)
@@ -29,10 +29,10 @@ returns-clause-bond c =
     let old = c.args.rows.now in
     let new = c.owe_unless_told.new.rows in
     subst (λ (self : Option SlotState). IfSome self (λ slot_state.
-    ChangesBond (bond_served c.args.table.now c.args.now c.args.changer (row_of old slot_state.peer) c.args.pdu.now slot_state) slot_state.peer old new)) c.self.view_is
-    (bond_of_served c.args.table.now c.args.now c.args.changer c.args.pdu.now old c.answer_by_row-served.new.rows new
+    ChangesBond (bond_served c.args.table.now c.args.now c.args.changer.now (row_of old slot_state.peer) c.args.pdu.now slot_state) slot_state.peer old new)) c.self.view_is
+    (bond_of_served c.args.table.now c.args.now c.args.changer.now c.args.pdu.now old c.answer_by_row-served.new.rows new
     inside.handle inside.peer inside.key_known inside.until inside.row inside.link inside.conn inside.pending inside.sender inside.reply inside.reason inside.used
-    c.is_some-has_key.result (is_some inside.link.key && option_map_or (is_told inside.pending) c.args.changer false) c.stand.new.self c.answer_by_row-served.result.confirmed
+    c.is_some-has_key.result (is_some inside.link.key && option_map_or (is_told inside.pending) c.args.changer.now false) c.stand.new.self c.answer_by_row-served.result.confirmed
     (sym c.is_full.ensures.full ∙ c.if-is_full.false)
     (c.is_some-has_key.ensures ∙ ap (λ (key : Option KeyFacts). is_some key) c.facts.ensures.key)
     (c.stand.ensures ∙ ap (λ (standing : Standing). record inside.conn { standing = standing }) c.standing-standing.ensures)
@@ -42,7 +42,7 @@ pub returns-clause-after : goal.returns-clause-after
 returns-clause-after c =
     let inside = c.self.inside in
     let old = c.args.rows.now in
-    kept_after_serving c.args.table.now c.args.now c.args.changer c.args.pdu.now old old old
+    kept_after_serving c.args.table.now c.args.now c.args.changer.now c.args.pdu.now old old old
     inside.handle inside.peer inside.key_known inside.until inside.row inside.link inside.conn inside.pending inside.sender inside.reply inside.reason inside.used
     c.is_some-has_key.result c.answer_by_row-served.result.confirmed c.stand.new.self c.answer_by_row-served.new.own c.answer_by_row-served.new.conn
     c.take_confirmation.new.pending c.answer_by_row-served.new.sender

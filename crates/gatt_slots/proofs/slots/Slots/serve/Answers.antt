@@ -63,7 +63,7 @@ returns-clause-bond c =
     let place = c.args.place in
     let within : place < length slots = subst (λ (it : SlotStates). place < length it) (sym c.self.view_is) c.requires.place in
     subst (λ (it : Option SlotState). IfSome it (λ slot_state.
-    ChangesBond (bond_served c.args.table.now c.args.now c.args.changer (row_of c.args.rows.now slot_state.peer) c.args.pdu.now slot_state) slot_state.peer c.args.rows.now c.serve-brought.new.rows))
+    ChangesBond (bond_served c.args.table.now c.args.now c.args.changer.now (row_of c.args.rows.now slot_state.peer) c.args.pdu.now slot_state) slot_state.peer c.args.rows.now c.serve-brought.new.rows))
     (there_at slots c.args.self.now c.self.view_is place c.index_mut.result.now within c.index_mut.ensures.value) c.serve-brought.ensures.bond
 
 pub returns-clause-written : goal.returns-clause-written
