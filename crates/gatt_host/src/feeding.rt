@@ -105,12 +105,27 @@ fn feed_all<W: Sink, L: Listener>(
     write_out(host, out)?;
     let mut rest = octets;
     while !rest.is_empty() {
-        let used = take(host, rest)?;
+        let used = match take(host, rest) {
+            Ok(used) => used,
+            Err(_) => return outcome(host),
+        };
         rest = rest.split_at(used).1;
         tell(host, listener);
         write_out(host, out)?;
     }
     Ok(())
+}
+
+/// What the host has stopped for, if it has.
+#[cold]
+#[inline(never)]
+fn outcome(host: &Host) -> Result<(), HostFault>
+    ensures { result ≡ fault_outcome host.now.fault }
+{
+    match host.fault {
+        Some(fault) => Err(fault),
+        None => Ok(()),
+    }
 }
 
 /// Writes all that is to go to the controller.

@@ -18,10 +18,10 @@ returns-in_err-write_out-clause-feeds g c =
     c.write_out.new.host.fault (fault_answered c.write_out.new.host.fault c.in_err-write_out.field-0.0 c.in_err-write_out.ensures.fault ∙ ap (λ (why : HostFault). Some why) c.in_err-write_out.ensures.write)
     c.write_out.ensures.feeds
 
-pub returns-in_err-used-clause-feeds : goal.returns-in_err-used-clause-feeds
-returns-in_err-used-clause-feeds g c =
+pub returns-in-Err-clause-feeds : goal.returns-in-Err-clause-feeds
+returns-in-Err-clause-feeds g c =
     taken_stops c.args.octets.now c.loop-rest.rest.now c.args.host.now c.loop-rest.host c.take.new.host (g.W.Sink.contents c.args.out.now) (g.W.Sink.contents c.loop-rest.out)
-    c.take.new.host.fault c.in_err-used.field-0.0 c.loop-rest.invariant.takes c.in_err-used.ensures.refines c.in_err-used.ensures.fault c.in_err-used.ensures.not_own
+    c.take.new.host.fault c.in-Err.field-0 c.loop-rest.invariant.takes c.in-Err.ensures.refines c.in-Err.ensures.fault c.in-Err.ensures.not_own
 
 pub loop-rest-preserved : goal.loop-rest-preserved
 loop-rest-preserved g c =
@@ -29,7 +29,7 @@ loop-rest-preserved g c =
     let at : HostModel = c.loop-rest.host in
     let mid : HostModel = c.take.new.host in
     let new : HostModel = c.write_out-in-loop-rest.new.host in
-    let used = c.in_ok-used.used in
+    let used = c.in-Ok.used in
     let rest : Octets = c.loop-rest.rest.now in
     let before : Option Octets = g.W.Sink.contents c.args.out.now in
     let between : Option Octets = g.W.Sink.contents c.loop-rest.out in
@@ -38,14 +38,14 @@ loop-rest-preserved g c =
     record {
       takes = subst (λ (left : Octets). HasTaken c.args.octets.now left old new before after) (sym c.split_at.ensures.back)
           (taken_then c.args.octets.now (drop used rest) old mid new before between after
-          (taken_silently c.args.octets.now rest used old at mid before between c.loop-rest.invariant.takes c.in_ok-used.ensures.refines)
+          (taken_silently c.args.octets.now rest used old at mid before between c.loop-rest.invariant.takes c.in-Ok.ensures.refines)
           (going_takes [] mid new between after new.fault none c.write_out-in-loop-rest.ensures.feeds));
       none = none;
       drained = c.in_ok-write_out-2.ensures.out (refl {a = true});
       failures = counts_none _ _ _ c.loop-rest.invariant.failures (counts_where_going new.fault _ _ none c.write_out-in-loop-rest.ensures.failures);
       heard = subst (λ (left : Octets). HasHeard c.args.octets.now left old new before after (g.L.Listener.heard c.args.listener.now) (g.L.Listener.heard c.tell.new.listener)) (sym c.split_at.ensures.back)
           (heard_then c.args.octets.now rest used old at mid new before between after (g.L.Listener.heard c.args.listener.now) (g.L.Listener.heard c.loop-rest.listener)
-          (g.L.Listener.heard c.tell.new.listener) c.loop-rest.invariant.heard c.loop-rest.invariant.none c.in_ok-used.ensures.refines c.in_ok-used.ensures.told c.tell.ensures.hears
+          (g.L.Listener.heard c.tell.new.listener) c.loop-rest.invariant.heard c.loop-rest.invariant.none c.in-Ok.ensures.refines c.in-Ok.ensures.told c.tell.ensures.hears
           (going_takes [] mid new between after new.fault none c.write_out-in-loop-rest.ensures.feeds));
     }
 
@@ -54,19 +54,19 @@ returns-in_err-write_out-2-clause-feeds g c =
     let old : HostModel = c.args.host.now in
     let mid : HostModel = c.take.new.host in
     let new : HostModel = c.write_out-in-loop-rest.new.host in
-    let used = c.in_ok-used.used in
+    let used = c.in-Ok.used in
     let rest : Octets = c.loop-rest.rest.now in
     let before : Option Octets = g.W.Sink.contents c.args.out.now in
     let between : Option Octets = g.W.Sink.contents c.loop-rest.out in
     let after : Option Octets = g.W.Sink.contents c.write_out-in-loop-rest.new.out in
     taken_breaks c.args.octets.now (drop used rest) old mid new before between after new.fault
-    (taken_silently c.args.octets.now rest used old c.loop-rest.host mid before between c.loop-rest.invariant.takes c.in_ok-used.ensures.refines)
+    (taken_silently c.args.octets.now rest used old c.loop-rest.host mid before between c.loop-rest.invariant.takes c.in-Ok.ensures.refines)
     (fault_answered new.fault c.in_err-write_out-2.field-0.0 c.in_err-write_out-2.ensures.fault ∙ ap (λ (why : HostFault). Some why) c.in_err-write_out-2.ensures.write)
     c.write_out-in-loop-rest.ensures.feeds
 
-pub returns-in_err-used-clause-due : goal.returns-in_err-used-clause-due
-returns-in_err-used-clause-due g c =
-    due_where_held c.loop-rest.host c.take.new.host c.take.new.host.fault c.loop-rest.invariant.none c.loop-rest.invariant.drained c.in_err-used.ensures.unchanged
+pub returns-in-Err-clause-due : goal.returns-in-Err-clause-due
+returns-in-Err-clause-due g c =
+    due_where_held c.loop-rest.host c.take.new.host c.take.new.host.fault c.loop-rest.invariant.none c.loop-rest.invariant.drained c.in-Err.ensures.unchanged
 
 pub returns-clause-due : goal.returns-clause-due
 returns-clause-due g c = due_where_out c.loop-rest.host c.loop-rest.invariant.none c.loop-rest.invariant.drained
@@ -79,19 +79,19 @@ returns-in_err-write_out-clause-heard g c =
     (fault_answered c.write_out.new.host.fault c.in_err-write_out.field-0.0 c.in_err-write_out.ensures.fault ∙ ap (λ (why : HostFault). Some why) c.in_err-write_out.ensures.write)
     (leads_nowhere c.args.host.now c.args.host.now refl) (hears_nothing c.args.host.now known) c.write_out.ensures.feeds
 
-pub returns-in_err-used-clause-heard : goal.returns-in_err-used-clause-heard
-returns-in_err-used-clause-heard g c =
+pub returns-in-Err-clause-heard : goal.returns-in-Err-clause-heard
+returns-in-Err-clause-heard g c =
     heard_stops c.args.octets.now c.loop-rest.rest.now c.args.host.now c.loop-rest.host c.take.new.host (g.W.Sink.contents c.args.out.now) (g.W.Sink.contents c.loop-rest.out)
-    (g.L.Listener.heard c.args.listener.now) (g.L.Listener.heard c.loop-rest.listener) c.take.new.host.fault c.in_err-used.field-0.0 c.loop-rest.invariant.heard c.loop-rest.invariant.none
-    c.in_err-used.ensures.told c.in_err-used.ensures.fault c.in_err-used.ensures.fault c.in_err-used.ensures.not_own
+    (g.L.Listener.heard c.args.listener.now) (g.L.Listener.heard c.loop-rest.listener) c.take.new.host.fault c.in-Err.field-0 c.loop-rest.invariant.heard c.loop-rest.invariant.none
+    c.in-Err.ensures.told c.in-Err.ensures.fault c.in-Err.ensures.fault c.in-Err.ensures.not_own
 
 pub returns-in_err-write_out-2-clause-heard : goal.returns-in_err-write_out-2-clause-heard
 returns-in_err-write_out-2-clause-heard g c =
     let new : HostModel = c.write_out-in-loop-rest.new.host in
-    heard_breaks c.args.octets.now c.loop-rest.rest.now c.in_ok-used.used c.args.host.now c.loop-rest.host c.take.new.host new
+    heard_breaks c.args.octets.now c.loop-rest.rest.now c.in-Ok.used c.args.host.now c.loop-rest.host c.take.new.host new
     (g.W.Sink.contents c.args.out.now) (g.W.Sink.contents c.loop-rest.out) (g.W.Sink.contents c.write_out-in-loop-rest.new.out)
     (g.L.Listener.heard c.args.listener.now) (g.L.Listener.heard c.loop-rest.listener) (g.L.Listener.heard c.tell.new.listener)
-    c.loop-rest.invariant.heard c.loop-rest.invariant.none c.in_ok-used.ensures.refines c.in_ok-used.ensures.told c.tell.ensures.hears
+    c.loop-rest.invariant.heard c.loop-rest.invariant.none c.in-Ok.ensures.refines c.in-Ok.ensures.told c.tell.ensures.hears
     new.fault (fault_answered new.fault c.in_err-write_out-2.field-0.0 c.in_err-write_out-2.ensures.fault ∙ ap (λ (why : HostFault). Some why) c.in_err-write_out-2.ensures.write)
     c.write_out-in-loop-rest.ensures.feeds
 
