@@ -6,11 +6,18 @@ ghost use Rattle.att_numbers.specs.AttributeType.{is_of_16_bits, type_octets};
 use arrayvec::ArrayVec;
 use att_numbers::attribute_type::BASE_UUID;
 
+/// The lower and the upper 64 bits of the base UUID.
+const BASE_LOWER: u64 = (BASE_UUID % (1 << 64)) as u64;
+
+const BASE_UPPER: u64 = (BASE_UUID >> 64) as u64;
+
 /// Whether an attribute type is one of 16 bits, however it was written.
 pub fn is_of_16_bits(kind: u128) -> bool
     ensures { result ≡ is_of_16_bits kind }
 {
-    kind % (1 << 96) == BASE_UUID && kind >> 96 < 1 << 16
+    let upper = (kind >> 64) as u64;
+    let lower = (kind % (1 << 64)) as u64;
+    lower == BASE_LOWER && upper % (1 << 32) == BASE_UPPER && upper < 1 << 48
 }
 
 /// An attribute type as it stands in a value or a PDU, the lowest octet first: 2 octets for one of
