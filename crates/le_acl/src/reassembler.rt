@@ -4,7 +4,6 @@ ghost use Rattle.le_acl.specs.Reassembler.{GivesFrames, no_assembly, assembled_o
 
 use crate::frame::{HEADER, MAX_FRAME};
 use octets::MAX_PDU;
-use std::cmp::Ordering;
 use std::marker::Model;
 
 /// What a fragment leads to.
@@ -155,9 +154,12 @@ fn state_of(octets: &[u8]) -> State
         return State::Unfinished;
     };
     let size = usize::from(u16::from_le_bytes([*low, *high]));
-    match payload.len().cmp(&size) {
-        Ordering::Less => State::Unfinished,
-        Ordering::Equal => State::Whole,
-        Ordering::Greater => State::Idle,
+    // It is mostly whole, and the others are told apart then.
+    if payload.len() == size {
+        State::Whole
+    } else if payload.len() < size {
+        State::Unfinished
+    } else {
+        State::Idle
     }
 }
