@@ -95,7 +95,8 @@ impl Slots {
         match self.handles.find_noted(slots, handle) {
             Some(place) if slots[place].is_live() => Some(place),
             // Perhaps none is noted, and beside a connection that is ending another may have its handle.
-            _ => find_serving(slots, handle),
+            // It is told anew that one is found, so that none asks for it where one is noted.
+            _ => Some(find_serving(slots, handle)?),
         }
     }
 
