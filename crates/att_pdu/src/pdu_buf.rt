@@ -24,7 +24,8 @@ const ZEROS: [u8; MAX_PDU] = [0; MAX_PDU];
 #[derive(Drop)]
 pub struct PduBuf<'a> {
     octets: &'a mut PduOctets,
-    mtu: u16,
+    /// As long as an address, so that no octets between the two have to be blanked.
+    mtu: usize,
     pub ghost least: { MIN_MTU ≤ mtu },
     pub ghost most: { mtu ≤ MAX_MTU },
     pub ghost within: { array_vec_len octets.now ≤ mtu },
@@ -43,7 +44,10 @@ impl<'a> PduBuf<'a> {
         ensures in_octets { IsIn result octets.entry }
     {
         octets.clear();
-        PduBuf { octets, mtu }
+        PduBuf {
+            octets,
+            mtu: usize::from(mtu),
+        }
     }
 
     /// What `octets` hold, up to the ATT_MTU, for what replaces it.
@@ -55,7 +59,8 @@ impl<'a> PduBuf<'a> {
         ensures mtu { mtu_of result ≡ mtu }
         ensures in_octets { IsIn result octets.entry }
     {
-        octets.truncate(usize::from(mtu));
+        let mtu = usize::from(mtu);
+        octets.truncate(mtu);
         PduBuf { octets, mtu }
     }
 
@@ -66,7 +71,7 @@ impl<'a> PduBuf<'a> {
         ensures least { MIN_MTU ≤ result }
         ensures most { result ≤ MAX_MTU }
     {
-        self.mtu
+        self.mtu as u16
     }
 
     /// Replaces the content by the Error Response to a request: Core 5.0, Vol 3 Part F, 3.4.1.1.
@@ -168,7 +173,7 @@ impl<'a> PduBuf<'a> {
             ≡ opcode ∷ take (mtu_of self.old - 1) octets.now }
         ensures same_buffer { IsSameBuffer self.old self.new }
     {
-        let most = usize::from(self.mtu) - 1;
+        let most = self.mtu - 1;
         self.replace(&[opcode], &octets[..octets.len().min(most)]);
     }
 
@@ -205,7 +210,7 @@ impl<'a> PduBuf<'a> {
             octets.now }
         ensures same_buffer { IsSameBuffer self.old self.new }
     {
-        let room = usize::from(self.mtu) - self.octets.len();
+        let room = self.mtu - self.octets.len();
         self.append(&octets[..octets.len().min(room)]);
     }
 
@@ -274,7 +279,7 @@ impl<'a> PduBuf<'a> {
     fn has_room(&self, count: usize) -> bool
         ensures { IsTrue result ↔ (length (contents self.now) + count ≤ mtu_of self.now) }
     {
-        count <= usize::from(self.mtu) - self.octets.len()
+        count <= self.mtu - self.octets.len()
     }
 
     /// Appends octets for which there is room.
