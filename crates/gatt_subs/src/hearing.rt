@@ -4,7 +4,7 @@ ghost use Rattle.std.specs.Prelude.{◌≡◌, ◌<◌, ◌≤◌, true, false, 
 ghost use Rattle.std.specs.Bool.{OnTrue};
 ghost use Rattle.att_numbers.specs.Types.{Row};
 ghost use Rattle.att_policy.specs.declared.standing.Standing.{Standing};
-ghost use Rattle.att_policy.specs.Policy.{first_unmet_rule_of, may_hear_of};
+ghost use Rattle.att_policy.specs.Policy.{configuration_bits_of, first_unmet_rule_of, may_hear_of};
 ghost use Rattle.att_attributes.specs.Attributes.{is_value_at};
 ghost use Rattle.att_table.specs.Table.{value_at};
 ghost use Rattle.gatt_subs.specs.Hearing.{bits_for, is_indicated, is_indication, may_hear_at, wants_indications};
@@ -29,6 +29,8 @@ pub struct Raised<'a> {
     guard: &'a Guard,
     /// Reading it needs nothing, so that each connection may hear of it.
     unguarded: bool,
+    /// The bits that its properties allow in a configuration.
+    allowed: u8,
     octets: &'a [u8],
 }
 
@@ -40,7 +42,7 @@ impl<'a> Model for Raised<'a> {
     ghost view = { λ raised. record { table = raised.table.now; handle = raised.handle } };
 
     ghost invariant = { λ raised. IsLookedUp raised.table.now raised.handle raised.guard.now
-        raised.unguarded raised.octets.now };
+        raised.unguarded raised.allowed raised.octets.now };
 }
 
 impl<'a> Raised<'a> {
@@ -59,7 +61,11 @@ impl<'a> Raised<'a> {
             → may_hear_at table.now.attributes row standing handle ≡ false }
     {
         let attr = table.get(handle)?;
-        if attr.role != Role::Value || attr.guard.properties.configuration_bits() == 0 {
+        if attr.role != Role::Value {
+            return None;
+        }
+        let allowed = attr.guard.properties.configuration_bits();
+        if allowed == 0 {
             return None;
         }
         Some(Raised {
@@ -67,6 +73,7 @@ impl<'a> Raised<'a> {
             handle,
             guard: &attr.guard,
             unguarded: needs_nothing(&attr.guard.read),
+            allowed,
             octets: table.value(handle),
         })
     }
@@ -98,7 +105,7 @@ impl<'a> Raised<'a> {
             (λ telling. is_indication telling ≡ wants_indications row.now self.now.handle) }
     {
         let bits = bits_for(row, self.handle);
-        if !is_heard(self.guard, self.unguarded, bits, standing) {
+        if !is_heard(self.guard, self.unguarded, self.allowed, bits, standing) {
             return None;
         }
         if bits & INDICATION != 0 {
@@ -122,12 +129,14 @@ fn needs_nothing(need: &Need) -> bool
 /// judged where that is nothing.
 #[inline(always)]
 #[tactic(auto, using(crate::proofs::Unheard::heard_by_all))]
-fn is_heard(guard: &Guard, unguarded: bool, bits: u8, standing: &Standing) -> bool
-    requires { OnTrue unguarded (first_unmet_rule_of guard.now.read standing.now ≡ None) }
+fn is_heard(guard: &Guard, unguarded: bool, allowed: u8, bits: u8, standing: &Standing) -> bool
+    requires unguarded { OnTrue unguarded
+        (first_unmet_rule_of guard.now.read standing.now ≡ None) }
+    requires allowed { allowed ≡ configuration_bits_of guard.now.properties }
     ensures { result ≡ may_hear_of guard.now bits standing.entry.now }
 {
     if unguarded {
-        bits & guard.properties.configuration_bits() != 0
+        bits & allowed != 0
     } else {
         may_hear(guard, bits, standing)
     }
