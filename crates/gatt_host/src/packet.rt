@@ -26,7 +26,7 @@ use crate::last_event::LastEvent;
 use le_acl::boundary::{CONTINUATION, FIRST, FIRST_NOT_FLUSHED};
 use le_acl::{Piece, Reassembler, is_frame};
 use le_h4::PacketRef;
-use le_hci::event_code::NUMBER_OF_COMPLETED_PACKETS;
+use le_hci::event_code::{self, NUMBER_OF_COMPLETED_PACKETS};
 use le_hci::{BadEvent, Event, read_event};
 use le_l2cap::channel::{ATT, LE_SIGNALLING, SECURITY_MANAGER};
 use le_l2cap::read_frame;
@@ -50,9 +50,27 @@ impl HostState {
         }
     }
 
-    /// Takes in an event of a kind that is rare.
+    /// Takes in an event that follows no packet. Most of them are of a kind that tells a host nothing.
     #[inline(never)]
     fn take_other_event(&mut self, frames: &mut Frames, octets: &[u8]) -> Result<(), HostFault>
+        requires of_table { IsOfItsTable self.old }
+        ensures taken { IsOk result → TakesEvent (event_of octets.now) self.old self.new }
+        ensures frames { frames.new
+            ≡ frames_after_event self.old (event_of octets.now) frames.old }
+        ensures stops { IfErr result
+            (λ fault. event_stop (event_of octets.now) self.old ≡ Some fault) }
+        ensures unchanged { OnErr result (self.new ≡ self.old) }
+        ensures frames_unchanged { OnErr result (frames.new ≡ frames.old) }
+    {
+        if tells_nothing(octets) {
+            return self.take_reported(frames, &Event::Other);
+        }
+        self.take_rare_event(frames, octets)
+    }
+
+    /// Takes in an event of a kind that is rare.
+    #[inline(never)]
+    fn take_rare_event(&mut self, frames: &mut Frames, octets: &[u8]) -> Result<(), HostFault>
         requires of_table { IsOfItsTable self.old }
         ensures taken { IsOk result → TakesEvent (event_of octets.now) self.old self.new }
         ensures frames { frames.new
@@ -134,6 +152,27 @@ impl HostState {
             },
             Err(_) => self.end_event(LastEvent::Quiet),
         }
+    }
+}
+
+/// Whether octets are an event of a kind that tells a host nothing.
+#[inline(always)]
+fn tells_nothing(octets: &[u8]) -> bool
+    ensures { OnTrue result (event_of octets.now ≡ Ok (report_of Event.Other)) }
+{
+    let [code, length, parameters @ ..] = octets else {
+        return false;
+    };
+    match *code {
+        event_code::DISCONNECTION_COMPLETE
+        | event_code::ENCRYPTION_CHANGE
+        | event_code::COMMAND_COMPLETE
+        | event_code::COMMAND_STATUS
+        | event_code::HARDWARE_ERROR
+        | event_code::NUMBER_OF_COMPLETED_PACKETS
+        | event_code::ENCRYPTION_KEY_REFRESH_COMPLETE
+        | event_code::LE_META => false,
+        _ => parameters.len() == usize::from(*length),
     }
 }
 
