@@ -4,6 +4,7 @@ pub mod Calls
 pub mod Refusals
 pub mod Ready
 pub mod Out
+pub mod PacketsAlone
 pub mod Fewer
 pub mod Octets
 pub mod Taking

@@ -37,6 +37,11 @@ abbrev pub fault_outcome : Option HostFault → Result Unit HostFault
 fault_outcome None = Ok tt
 fault_outcome (Some fault) = Err fault
 
+-- and one that writes answers whether all is written
+abbrev pub write_outcome : Bool → Result Unit HostFault
+write_outcome true = Ok tt
+write_outcome false = Err stop.Write
+
 -- a fault of the run stands at the host too. The host may have one of its own, of its reader, its writer or its turns
 abbrev pub is_own_fault : HostFault → Bool
 is_own_fault stop.Read = true

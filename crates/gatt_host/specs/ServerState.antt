@@ -1,5 +1,5 @@
 -- What a host holds, and what each event makes of it before anything goes out.
-use Rattle.std.specs.Prelude.{◌≡◌, ℕ, ◌&&◌, if◌then◌else◌, List, [], ◌∷◌, take, map, length, Option, Some, None}
+use Rattle.std.specs.Prelude.{◌≡◌, ℕ, true, ◌&&◌, if◌then◌else◌, List, [], ◌∷◌, take, map, length, Option, Some, None}
 use Rattle.std.specs.Option.{option_map_or, option_to_list}
 use Rattle.att_numbers.specs.Types.{Handle, Mtu, Row}
 use Rattle.att_table.specs.Changer.{changer_of}
@@ -7,7 +7,7 @@ use Rattle.att_table.specs.Table.{Contents, with_value}
 use Rattle.gatt_host.specs.Answers.{answered_by}
 use Rattle.gatt_host.specs.declared.last_event.LastEvent.{LastEvent}
 use Rattle.gatt_host.specs.declared.last_event.LastEvent.TheVariants as last
-use Rattle.gatt_host.specs.GoingOut.{controller_then, next_out, slots_then}
+use Rattle.gatt_host.specs.GoingOut.{command_next, controller_then, next_out, slots_then}
 use Rattle.gatt_laws.specs.machine.Controller.{Controller, is_ready}
 use Rattle.gatt_laws.specs.machine.Event.{Connected, Disconnected}
 use Rattle.gatt_laws.specs.machine.SharedState.{quota_of, fragment_size_of}
@@ -201,3 +201,8 @@ after_out server = record server {
   controller = controller_then server.controller (open_slots server);
   slots = if is_ready server.controller then slots_then server.controller server.slots else server.slots;
 }
+
+-- no command is due, so that packets of connections alone go out
+pub record OwesPacketsAlone (server : ServerState) : Type 0 where
+  pub ready : is_ready server.controller ≡ true
+  pub commands : command_next server.controller server.slots ≡ None

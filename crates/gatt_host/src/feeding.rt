@@ -4,11 +4,11 @@ ghost use Rattle.std.specs.Prelude.{◌≡◌, [], true, None, Some, IsSome, IsO
 ghost use Rattle.std.specs.Result.{result_err};
 ghost use Rattle.gatt_host.specs.Feeding.{is_of_feeding, octet_items, is_write_fault, Feeds, WritesAllThatIsDue};
 ghost use Rattle.gatt_host.specs.GoingOut.{is_drained};
-ghost use Rattle.gatt_host.specs.ServerState.{open_slots};
+ghost use Rattle.gatt_host.specs.ServerState.{OwesPacketsAlone, open_slots};
 ghost use Rattle.gatt_host.specs.Meaning.{Frames};
 ghost use Rattle.gatt_host.specs.Listening.{Listens};
 ghost use Rattle.gatt_host.specs.Promises.{KeepsConnectionsApart, KeepsThePolicy};
-ghost use Rattle.gatt_host.specs.HostModel.{all_out, going, is_own_fault, fault_outcome, IsStateOfOne};
+ghost use Rattle.gatt_host.specs.HostModel.{all_out, going, is_own_fault, fault_outcome, write_outcome, IsStateOfOne};
 ghost use Rattle.le_h4.specs.Deframer.{Deframing};
 ghost use Rattle.octets.specs.Stream.{CountsIf};
 
@@ -165,12 +165,69 @@ fn write_owed<W: Sink>(
     ensures failures { CountsIf (is_write_fault (result_err result)) (W.failures out.old)
         (W.failures out.new) }
 {
+    if state.may_have_command() {
+        write_outcome(write_in_order(state, packet, out))
+    } else {
+        write_outcome(write_packets(state, packet, out))
+    }
+}
+
+/// Writes all that is to go to the controller, where a command may be among it. Says
+/// whether the sink took all.
+#[cold]
+#[inline(never)]
+fn write_in_order<W: Sink>(state: &mut HostState, packet: &mut PacketBuf, out: &mut W) -> bool
+    requires { IsStateOfOne state.old }
+    ensures feeds { (frames : Frames) (stream : Deframing)
+        → Feeds [] (going state.old frames stream)
+        (record (going state.new frames stream) { fault = result_err (write_outcome result) })
+        (W.contents out.old)
+        (W.contents out.new) (result_err (write_outcome result)) }
+    ensures out { IsOk (write_outcome result) → is_drained state.new.controller (open_slots state.new) ≡ true }
+    ensures failures { CountsIf (is_write_fault (result_err (write_outcome result))) (W.failures out.old)
+        (W.failures out.new) }
+{
     while state.next_out(packet) {
         if write_all(packet.as_slice(), out).is_err() {
-            return Err(HostFault::Write);
+            return false;
         }
     }
-    Ok(())
+    true
+}
+
+/// Writes all packets that connections may give, where no command is due: none comes of a packet.
+/// Says whether the sink took all.
+#[inline(always)]
+fn write_packets<W: Sink>(state: &mut HostState, packet: &mut PacketBuf, out: &mut W) -> bool
+    requires one { IsStateOfOne state.old }
+    requires packets { OwesPacketsAlone state.old }
+    ensures feeds { (frames : Frames) (stream : Deframing)
+        → Feeds [] (going state.old frames stream)
+        (record (going state.new frames stream) { fault = result_err (write_outcome result) })
+        (W.contents out.old)
+        (W.contents out.new) (result_err (write_outcome result)) }
+    ensures out { IsOk (write_outcome result) → is_drained state.new.controller (open_slots state.new) ≡ true }
+    ensures failures { CountsIf (is_write_fault (result_err (write_outcome result))) (W.failures out.old)
+        (W.failures out.new) }
+{
+    while state.next_packet(packet) {
+        if write_all(packet.as_slice(), out).is_err() {
+            return false;
+        }
+    }
+    true
+}
+
+/// What is answered where all is written, and where it is not.
+#[inline(always)]
+fn write_outcome(written: bool) -> Result<(), HostFault>
+    ensures { result ≡ write_outcome written }
+{
+    if written {
+        Ok(())
+    } else {
+        Err(HostFault::Write)
+    }
 }
 
 /// Stops for good: its reader or its writer fails, or its turns are over.

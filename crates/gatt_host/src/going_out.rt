@@ -121,7 +121,7 @@ fn write_command(command: &Command<'_>, out: &mut PacketBuf)
 
 /// Writes the packet of the first slot that may give one.
 #[inline(always)]
-fn packet_out(slots: &mut Slots, out: &mut PacketBuf) -> bool
+pub(crate) fn packet_out(slots: &mut Slots, out: &mut PacketBuf) -> bool
     ensures some { result ≡ is_some (first_slot_packet slots.old) }
     ensures octets { OnTrue result (first_slot_packet slots.old ≡ Some out.new) }
     ensures after { slots.new ≡ with_first gives (option_map slot_without_packet) slots.old }
@@ -352,7 +352,7 @@ fn none_waits(controller: &Controller, slots: &Slots) -> bool
 
 /// A command may be due: where it is not so, none is. It looks at no slot.
 #[inline(always)]
-fn may_have_command(controller: &Controller, slots: &Slots) -> bool
+pub(crate) fn may_have_command(controller: &Controller, slots: &Slots) -> bool
     ensures { OnFalse result (command_next controller.now slots.now ≡ None) }
 {
     if controller.has_init_command() || slots.may_have_command() {

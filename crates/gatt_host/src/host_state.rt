@@ -4,7 +4,7 @@ ghost use Rattle.std.specs.Option.{option_to_list};
 ghost use Rattle.att_attributes.specs.Attributes.{attribute_at, is_fixed_at};
 ghost use Rattle.att_table.specs.Table.{room_at};
 ghost use Rattle.gatt_host.specs.GoingOut.{is_drained};
-ghost use Rattle.gatt_host.specs.ServerState.{open_slots, next_packet_out, after_out, server_after_event, after_ask_key, after_authorize, server_after_packets_completed, after_disconnect, after_disconnection_complete, after_link, after_no_change, after_replacing, server_after_other_channel, server_after_tick, after_update, server_slot_at, with_last, ServesRequest};
+ghost use Rattle.gatt_host.specs.ServerState.{open_slots, next_packet_out, after_out, server_after_event, after_ask_key, after_authorize, server_after_packets_completed, after_disconnect, after_disconnection_complete, after_link, after_no_change, after_replacing, server_after_other_channel, server_after_tick, after_update, server_slot_at, with_last, OwesPacketsAlone, ServesRequest};
 ghost use Rattle.gatt_host.specs.Meaning.{IsOfItsTable};
 ghost use Rattle.gatt_laws.specs.machine.Packets.{entries_of_connections};
 ghost use Rattle.gatt_slots.specs.Slots.{all_heard, place_holding};
@@ -14,7 +14,10 @@ ghost use Rattle.le_security.specs.Link.{Encryption, Refresh};
 ghost use Rattle.le_h4.specs.declared.packet_buf.TheConstants.{MAX_PACKET_OUT};
 
 use crate::controller::Controller;
-use crate::going_out::{copy, init_out, is_drained, is_init_drained, may_owe, next_into, next_out};
+use crate::going_out::{
+    copy, init_out, is_drained, is_init_drained, may_have_command, may_owe, next_into, next_out,
+    packet_out,
+};
 use crate::last_event::LastEvent;
 use arrayvec::ArrayVec;
 use att_policy::KeyFacts;
@@ -346,6 +349,29 @@ impl HostState {
             return next_out(&mut self.controller, &mut self.slots, out);
         }
         init_out(&mut self.controller, out)
+    }
+
+    /// Whether a command may be due: where it is not so, nothing but packets of connections goes out.
+    #[inline(always)]
+    pub(crate) fn may_have_command(&self) -> bool
+        ensures { OnFalse result (OwesPacketsAlone self.now) }
+    {
+        !self.controller.is_ready() || may_have_command(&self.controller, &self.slots)
+    }
+
+    /// Puts the next packet of a connection in place of what `out` holds, where no command is due, and
+    /// takes in that it is out.
+    #[inline(always)]
+    pub(crate) fn next_packet(&mut self, out: &mut PacketBuf) -> bool
+        requires { OwesPacketsAlone self.old }
+        ensures some { result ≡ is_some (next_packet_out self.old) }
+        ensures octets { OnTrue result (next_packet_out self.old ≡ Some out.new) }
+        ensures after { self.new ≡ after_out self.old }
+        ensures packets { OwesPacketsAlone self.new }
+        ensures unchanged { OnFalse result (self.new ≡ self.old) }
+        ensures out_unchanged { OnFalse result (out.new ≡ out.old) }
+    {
+        packet_out(&mut self.slots, out)
     }
 
     /// Puts the next packet that is to go out at the front of `out`, a command by way of `packet`, and

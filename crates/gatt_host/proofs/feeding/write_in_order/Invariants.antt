@@ -1,5 +1,5 @@
 use Rattle.std.proofs.Common.{[]}
-use Rattle.gatt_host.proofs.feeding.write_owed.Given as goal
+use Rattle.gatt_host.proofs.feeding.write_in_order.Given as goal
 use Rattle.gatt_host.specs.Credits.{most_out}
 use Rattle.gatt_host.specs.Feeding.{TakesAll}
 use Rattle.gatt_host.specs.Meaning.{Frames}
