@@ -172,8 +172,8 @@ fn write_owed<W: Sink>(
     }
 }
 
-/// Writes all that is to go to the controller, where a command may be among it. Says
-/// whether the sink took all.
+/// Writes all that is to go to the controller, where a command may be among it. Says whether the sink
+/// took all.
 #[cold]
 #[inline(never)]
 fn write_in_order<W: Sink>(state: &mut HostState, packet: &mut PacketBuf, out: &mut W) -> bool
@@ -181,11 +181,11 @@ fn write_in_order<W: Sink>(state: &mut HostState, packet: &mut PacketBuf, out: &
     ensures feeds { (frames : Frames) (stream : Deframing)
         → Feeds [] (going state.old frames stream)
         (record (going state.new frames stream) { fault = result_err (write_outcome result) })
-        (W.contents out.old)
-        (W.contents out.new) (result_err (write_outcome result)) }
-    ensures out { IsOk (write_outcome result) → is_drained state.new.controller (open_slots state.new) ≡ true }
-    ensures failures { CountsIf (is_write_fault (result_err (write_outcome result))) (W.failures out.old)
-        (W.failures out.new) }
+        (W.contents out.old) (W.contents out.new) (result_err (write_outcome result)) }
+    ensures out { IsOk (write_outcome result)
+        → is_drained state.new.controller (open_slots state.new) ≡ true }
+    ensures failures { CountsIf (is_write_fault (result_err (write_outcome result)))
+        (W.failures out.old) (W.failures out.new) }
 {
     while state.next_out(packet) {
         if write_all(packet.as_slice(), out).is_err() {
@@ -204,11 +204,11 @@ fn write_packets<W: Sink>(state: &mut HostState, packet: &mut PacketBuf, out: &m
     ensures feeds { (frames : Frames) (stream : Deframing)
         → Feeds [] (going state.old frames stream)
         (record (going state.new frames stream) { fault = result_err (write_outcome result) })
-        (W.contents out.old)
-        (W.contents out.new) (result_err (write_outcome result)) }
-    ensures out { IsOk (write_outcome result) → is_drained state.new.controller (open_slots state.new) ≡ true }
-    ensures failures { CountsIf (is_write_fault (result_err (write_outcome result))) (W.failures out.old)
-        (W.failures out.new) }
+        (W.contents out.old) (W.contents out.new) (result_err (write_outcome result)) }
+    ensures out { IsOk (write_outcome result)
+        → is_drained state.new.controller (open_slots state.new) ≡ true }
+    ensures failures { CountsIf (is_write_fault (result_err (write_outcome result)))
+        (W.failures out.old) (W.failures out.new) }
 {
     while state.next_packet(packet) {
         if write_all(packet.as_slice(), out).is_err() {

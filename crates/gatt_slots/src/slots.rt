@@ -95,7 +95,7 @@ impl Slots {
         match self.handles.find_noted(slots, handle) {
             Some(place) if slots[place].is_live() => Some(place),
             // Perhaps none is noted, and beside a connection that is ending another may have its handle.
-            // It is told anew that one is found, so that none asks for it where one is noted.
+            // Its place is wrapped anew, so that where one is noted nobody asks again whether there is one.
             _ => Some(find_serving(slots, handle)?),
         }
     }
