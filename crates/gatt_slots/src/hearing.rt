@@ -150,32 +150,24 @@ impl Slot {
         let row = row_in_force(&self.link, &self.peer, &self.row, moment.rows);
         let standing = standing(&self.link, self.key_known, self.until, moment.now);
         let backlog = self.sender.backlog();
-        match self
+        let Some(telling) = self
             .pending
             .raise_alone(raised, row, &standing, backlog, moment.now)
-        {
-            None => false,
-            Some(Telling::Notification) => {
-                queue_value(
-                    HANDLE_VALUE_NOTIFICATION,
-                    raised.handle(),
-                    raised.octets(),
-                    self.conn.mtu(),
-                    &mut self.sender,
-                );
-                true
-            }
-            Some(Telling::Indication) => {
-                queue_value(
-                    HANDLE_VALUE_INDICATION,
-                    raised.handle(),
-                    raised.octets(),
-                    self.conn.mtu(),
-                    &mut self.sender,
-                );
-                true
-            }
-        }
+        else {
+            return false;
+        };
+        let opcode = match telling {
+            Telling::Notification => HANDLE_VALUE_NOTIFICATION,
+            Telling::Indication => HANDLE_VALUE_INDICATION,
+        };
+        queue_value(
+            opcode,
+            raised.handle(),
+            raised.octets(),
+            self.conn.mtu(),
+            &mut self.sender,
+        );
+        true
     }
 
     /// Sends the connection the indication that is due, if one is. `false` where nothing waits.

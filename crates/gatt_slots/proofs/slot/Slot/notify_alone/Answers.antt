@@ -19,24 +19,13 @@ raise_alone-requires c =
           (subst (λ (it : Option SlotState). SlotIsOfTable a.moment.table.now.attributes it) (sym c.self.view_is) c.requires.slot) c.row_in_force-row.ensures,
     )
 
-pub returns-in-Some-Notification-clause-told : goal.returns-in-Some-Notification-clause-told
-returns-in-Some-Notification-clause-told c =
+pub returns-clause-told : goal.returns-clause-told
+returns-clause-told c =
     let a = c.args in
     let inside = c.self.inside in
     waits_as_before inside.used inside.handle inside.peer inside.key_known inside.until inside.row inside.link inside.conn inside.pending c.raise_alone.new.self inside.sender
     c.queue_value.new.sender inside.reply inside.reason
     (ap (λ (it : Indications). it.waiting) c.raise_alone.ensures.pending
     ∙ told_stays inside.pending a.raised.now.table.attributes c.row_in_force-row.result.now c.standing-standing.result a.raised.now.handle c.backlog-backlog.result a.moment.now
-    c.in-Some-Notification.field-0 (sym c.raise_alone.ensures.told ∙ c.in-Some-Notification.is))
-    ∙ ap waits c.self.view_is
-
-pub returns-in-Some-Indication-clause-told : goal.returns-in-Some-Indication-clause-told
-returns-in-Some-Indication-clause-told c =
-    let a = c.args in
-    let inside = c.self.inside in
-    waits_as_before inside.used inside.handle inside.peer inside.key_known inside.until inside.row inside.link inside.conn inside.pending c.raise_alone.new.self inside.sender
-    c.queue_value-in-Some-Indication.new.sender inside.reply inside.reason
-    (ap (λ (it : Indications). it.waiting) c.raise_alone.ensures.pending
-    ∙ told_stays inside.pending a.raised.now.table.attributes c.row_in_force-row.result.now c.standing-standing.result a.raised.now.handle c.backlog-backlog.result a.moment.now
-    c.in-Some-Indication.field-0 (sym c.raise_alone.ensures.told ∙ c.in-Some-Indication.is))
+    c.in-Some.telling (sym c.raise_alone.ensures.told ∙ c.in-Some.is))
     ∙ ap waits c.self.view_is
