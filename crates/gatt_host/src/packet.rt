@@ -2,7 +2,7 @@
 
 ghost use Rattle.std.specs.Bool.{OnTrue};
 ghost use Rattle.std.specs.Prelude.{◌≡◌, ◌<◌, false, true, length, get_or, IsSome, IsOk, IfSome, IfErr, Ok, Some, OnErr};
-ghost use Rattle.std.specs.Result.{result_err};
+ghost use Rattle.std.specs.Result.{result_err, result_map_both};
 ghost use Rattle.std.specs.Option.{option_and_then, option_map_or};
 ghost use Rattle.gatt_laws.specs.machine.Packets.{fragment_event, frame_event, of_octets, of_frame};
 ghost use Rattle.gatt_host.specs.GoingOut.{is_drained};
@@ -17,7 +17,7 @@ ghost use Rattle.le_acl.specs.Fragment.{fragment_of, Beginning};
 ghost use Rattle.le_acl.specs.Frame.{is_frame};
 ghost use Rattle.le_acl.specs.Reassembler.{assembled_of, no_assembly};
 ghost use Rattle.le_hci.specs.Event.{event_of, report_of};
-ghost use Rattle.le_l2cap.specs.Frame.{frame_of};
+ghost use Rattle.le_l2cap.specs.Frame.{frame_contents, frame_of};
 
 use crate::frames::Frames;
 use crate::host_fault::HostFault;
@@ -29,7 +29,7 @@ use le_h4::PacketRef;
 use le_hci::event_code::{self, NUMBER_OF_COMPLETED_PACKETS};
 use le_hci::{BadEvent, Event, read_event};
 use le_l2cap::channel::{ATT, LE_SIGNALLING, SECURITY_MANAGER};
-use le_l2cap::read_frame;
+use le_l2cap::{Frame, Skip, read_frame};
 
 impl HostState {
     /// Takes in an event: its code and what follows.
@@ -140,7 +140,19 @@ impl HostState {
         ensures { IsAfter
             (frame_event place (of_frame (frame_of octets.now))) self.old self.new }
     {
-        match read_frame(octets) {
+        self.hear_frame(place, read_frame(octets));
+    }
+
+    /// Hears what was read of the octets of a frame, of the connection of a slot.
+    #[inline(always)]
+    fn hear_frame(&mut self, place: usize, read: Result<Frame<'_>, Skip>)
+        requires there { IsThere self.old.slots place }
+        requires of_table { IsOfItsTable self.old }
+        ensures { IsAfter (frame_event place
+            (of_frame (result_map_both frame_contents (λ skip. skip) read.entry))) self.old
+            self.new }
+    {
+        match read {
             Ok(frame) => match frame.cid {
                 ATT => self.ask(place, frame.payload),
                 LE_SIGNALLING | SECURITY_MANAGER => self.other_channel(
@@ -214,9 +226,11 @@ fn fragment(
     ensures left { frame.new ≡ fragment_left (fragment_of pb bc octets.now) frame.old }
 {
     if is_whole(pb, bc, octets) {
-        // Most frames lie whole in one packet, and are heard where they lie.
+        // Most frames lie whole in one packet, and are heard where they lie. They are read before what
+        // is held is dropped, so that their length is asked for once.
+        let read = read_frame(octets);
         frame.clear();
-        return state.frame(place, octets);
+        return state.hear_frame(place, read);
     }
     join_fragment(state, frame, place, pb, bc, octets);
 }
