@@ -272,3 +272,19 @@ gathers_first octets size begins =
     some_octets : (spelling : List ℕ) (size : ℕ) → (spelling ≡ [] → ⊥) → spelling ≡ take size octets → 0 < size
     some_octets spelling zero some is = absurd (some is)
     some_octets spelling (suc size) some is = omega arith
+
+-- and octets that end within their first packet are all held
+pub gathers_front : (octets : List ℕ) (missing : ℕ) → progress_of octets ≡ Lacks missing → GathersAll 0 [] octets (length octets) 0 octets
+gathers_front octets missing lacks =
+    let begins : first_of octets ≡ NoneYet = alone octets NoneYet (at_progress octets (Lacks missing) lacks).1 in
+    record {
+      none = ap packet_in begins;
+      divided = λ rest. refl;
+      unfinished = past_none octets ∙ division-part octets begins;
+      fits = record {
+        whole = λ packet rest is. absurd (let e : NoneYet ≡ FirstPacket packet rest = sym begins ∙ is in cc);
+        lost = λ indicator is. absurd (let e : NoneYet ≡ NoPacket indicator = sym begins ∙ is in cc);
+      };
+      passes = λ some. absurd (omega arith);
+      all = refl;
+    }

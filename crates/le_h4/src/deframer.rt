@@ -1,18 +1,19 @@
 ghost use Rattle.std.specs.Prelude.{◌≡◌, ℕ, ◌+◌, ◌-◌, ◌<◌, ◌≤◌, ◌↔◌, [], ◌++◌, length, take, drop, ◌∷◌, Some, None, IsTrue, IsSome, IsNone, IfOk, IfSome, OnOk, if◌then◌else◌};
+ghost use Rattle.std.specs.Bool.{OnTrue, OnFalse};
 ghost use Rattle.std.specs.Option.{option_map};
 ghost use Rattle.octets.specs.Number.{Octets};
 ghost use Rattle.le_h4.specs.Packet.{packet_of_ref, first_of, Spells};
 ghost use Rattle.le_h4.specs.Division.{unfinished, lost, before, kept_first};
 ghost use Rattle.le_h4.specs.Deframer.{deframing_at_start, lost_at, still, marks, EndsWith, MarksTheDivision};
 ghost use Rattle.le_h4.specs.Progress.{IsWithinFirst, packet_in};
-ghost use Rattle.le_h4.specs.Gathering.{Gathers};
+ghost use Rattle.le_h4.specs.Gathering.{Gathers, GathersAll};
 ghost use Rattle.le_h4.specs.Held.{deframing_of, unless_marked};
 ghost use Rattle.le_h4.specs.Whole.{lying_in, is_at_border};
 ghost use Rattle.le_h4.specs.declared.progress.TheConstants.{MAX_PACKET_IN};
 
 use crate::gathered::Gathered;
 use crate::packet::{PacketRef, WholePacket, first_packet, read_packet};
-use crate::progress::{Progress, progress_at, whole_packet};
+use crate::progress::{MAX_PACKET_IN, Progress, progress_at, whole_packet};
 use std::marker::Model;
 
 /// How far a piece of the stream was taken.
@@ -185,6 +186,25 @@ fn gather(gathered: &mut Gathered, skipping: &mut usize, octets: &[u8]) -> Resul
     })
 }
 
+/// Gathers the front of a packet, by one copy, where nothing was gathered before and the octets end
+/// within it.
+fn gather_front(gathered: &mut Gathered, skipping: usize, octets: &[u8]) -> bool
+    ensures gathers { OnTrue result (GathersAll skipping gathered.old octets.now
+        (length octets.now) skipping gathered.new) }
+    ensures unchanged { OnFalse result (gathered.new ≡ gathered.old) }
+{
+    if skipping > 0 || !gathered.is_empty() || octets.len() > MAX_PACKET_IN {
+        return false;
+    }
+    match progress_at(octets) {
+        Progress::Lacks(_) => {
+            gathered.append(octets);
+            true
+        }
+        _ => false,
+    }
+}
+
 /// Gathers octets to the end of a packet that is kept, or all of them: header and data each by what
 /// they lack.
 fn gather_by_parts(
@@ -198,6 +218,12 @@ fn gather_by_parts(
     ensures gathers { Gathers skipping.old gathered.old octets.now result skipping.new
         gathered.new }
 {
+    if gather_front(gathered, *skipping, octets) {
+        return Ok(Fed {
+            used: octets.len(),
+            packet: false,
+        });
+    }
     let mut rest = octets;
     'packets: loop {
         rest = skip(skipping, rest);
