@@ -3,7 +3,7 @@ ghost use Rattle.octets.specs.Number.{two_octets};
 ghost use Rattle.le_h4.specs.declared.packet_buf.TheConstants.{MAX_ACL_DATA_OUT};
 
 use crate::indicator;
-use crate::write::{HEADER, acl_into};
+use crate::write::{HEADER, acl_header};
 use arrayvec::ArrayVec;
 use octets::write_parts;
 use std::marker::Model;
@@ -59,10 +59,10 @@ impl PacketBuf {
         &self.octets[..self.len]
     }
 
-    /// Writes an ACL packet in place of the one before, by `acl_into`: a connection handle of 12 bits,
-    /// the packet boundary flag, and at most `MAX_ACL_DATA_OUT` octets of data, those of `header` and
-    /// then those of `octets`. So the header of a frame goes in front of its payload without a copy of
-    /// both. Its broadcast flag is 0. (Core 5.0, Vol 2 Part E, 5.4.2)
+    /// Writes an ACL packet in place of the one before: a connection handle of 12 bits, the packet
+    /// boundary flag, and at most `MAX_ACL_DATA_OUT` octets of data, those of `header` and then those of
+    /// `octets`. So the header of a frame goes in front of its payload without a copy of both. Its
+    /// broadcast flag is 0. (Core 5.0, Vol 2 Part E, 5.4.2)
     #[inline(always)]
     pub fn acl(&mut self, handle: u16, pb: u8, header: &[u8], octets: &[u8])
         requires handle { handle < 2 ^ 12 }
@@ -72,7 +72,8 @@ impl PacketBuf {
             (length (header.now ++ octets.now))
             ++ header.now ++ octets.now }
     {
-        self.len = acl_into(handle, pb, header, octets, &mut self.octets);
+        let length = header.len() + octets.len();
+        self.write(&acl_header(handle, pb, length as u16), header, octets);
     }
 
     /// Writes a command in place of the packet before: its indicator, and its octets from the opcode on,
@@ -91,7 +92,7 @@ impl PacketBuf {
         ensures { self.new ≡ first.now ++ second.now ++ third.now }
     {
         let len = first.len() + second.len() + third.len();
-        write_parts(&mut self.octets[..len], first, second, third);
         self.len = len;
+        write_parts(&mut self.octets[..len], first, second, third);
     }
 }
