@@ -2,7 +2,7 @@ ghost use Rattle.std.specs.Prelude.{◌≡◌, ◌+◌, ◌<◌, ◌≤◌, ◌�
 ghost use Rattle.std.specs.Borrow.{sem};
 ghost use Rattle.octets.specs.declared.pdu.TheConstants.{MAX_PDU};
 
-use octets::{PduOctets, overwrite};
+use octets::{PduOctets, overwrite, write_parts};
 use std::alloc::{AllocError, Global};
 use std::marker::Model;
 
@@ -103,7 +103,7 @@ impl Pdus {
         let place = (self.first + self.count) % MAX_PDUS;
         self.channels[place] = channel;
         self.count += 1;
-        overwrite(self.payloads.at_mut(place), front, rest, &[]);
+        replace(self.payloads.at_mut(place), front, rest);
     }
 
     /// The channel and the payload of the first PDU.
@@ -140,6 +140,29 @@ impl Pdus {
     {
         self.count = 0;
     }
+}
+
+/// Puts the octets of two places, one behind the other, in place of those of a payload. Where they are as
+/// many, its length stays.
+#[inline(always)]
+fn replace(payload: &mut PduOctets, front: &[u8], rest: &[u8])
+    requires { length front.now + length rest.now ≤ MAX_PDU }
+    ensures { payload.new.items ≡ front.now ++ rest.now }
+{
+    if payload.len() == front.len() + rest.len() {
+        write_parts(payload.as_mut_slice(), front, rest, &[]);
+    } else {
+        replace_others(payload, front, rest);
+    }
+}
+
+/// The same where they may be more or fewer.
+#[inline(never)]
+fn replace_others(payload: &mut PduOctets, front: &[u8], rest: &[u8])
+    requires { length front.now + length rest.now ≤ MAX_PDU }
+    ensures { payload.new.items ≡ front.now ++ rest.now }
+{
+    overwrite(payload, front, rest, &[]);
 }
 
 /// Payloads with nothing in them, for as many PDUs as may be.
