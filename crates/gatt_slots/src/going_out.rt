@@ -75,6 +75,14 @@ impl Slot {
         self.sender.may_give()
     }
 
+    /// A packet may be given if one is queued: where it is not so, none may.
+    #[inline(always)]
+    pub(crate) fn has_quota(&self) -> bool
+        ensures { OnFalse result (gives self.now ≡ false) }
+    {
+        self.sender.has_quota()
+    }
+
     /// Writes the next packet in place of what `out` holds. There is none, and nothing changes, where
     /// all is given that may be.
     #[inline(always)]

@@ -72,20 +72,26 @@ impl Marks {
         self.free = true;
     }
 
-    /// Takes in that a request was served at a slot, and whether its connection was ended.
+    /// Takes in that a request was served at a slot, whether its connection was ended, and whether a
+    /// packet may be given there.
     #[inline(always)]
-    pub(crate) fn serve(&mut self, place: usize, ended: bool)
+    pub(crate) fn serve(&mut self, place: usize, ended: bool, giving: bool)
         requires { place < MAX_SLOTS }
         ensures { (slots : SlotStates) (slot : Option SlotState) → place < length slots
             → IsMarked slots self.old
             → (ended ≡ false → WaitsForNothingNew (slot_state_at slots place) slot)
+            → (giving ≡ false → gives slot ≡ false)
             → IsMarked (set slots place slot) self.new }
     {
         if ended {
             self.change(place);
-        } else {
+            return;
+        }
+        // It may have configured something.
+        if giving {
             self.packets.add(place);
-            // It may have configured something.
+            self.listening.add(place);
+        } else {
             self.listening.add(place);
         }
     }

@@ -198,8 +198,10 @@ impl Slots {
         ensures confirmed { IfSome (slot_state_at self.old place)
             (λ slot_state. result.confirmed ≡ confirmed_of pdu.now slot_state) }
     {
-        let brought = self.slots[place].serve(table, rows, changer, now, pdu, written);
-        self.marks.serve(place, brought.ended);
+        let slot = &mut self.slots[place];
+        let brought = slot.serve(table, rows, changer, now, pdu, written);
+        let giving = slot.has_quota();
+        self.marks.serve(place, brought.ended, giving);
         brought
     }
 

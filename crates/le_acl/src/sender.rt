@@ -1,4 +1,4 @@
-ghost use Rattle.std.specs.Prelude.{◌≡◌, ◌+◌, ◌^◌, ◌<◌, ◌≤◌, ◌↔◌, [], ◌++◌, length, take, is_some, Some, None, IsSome, IsOk, IfOk, IfSome};
+ghost use Rattle.std.specs.Prelude.{◌≡◌, ◌+◌, ◌^◌, ◌<◌, ◌≤◌, ◌↔◌, [], ◌++◌, length, nat_lt, take, is_some, Some, None, IsSome, IsOk, IfOk, IfSome};
 ghost use Rattle.std.specs.Bool.{OnTrue, OnFalse};
 ghost use Rattle.std.specs.Borrow.{sem};
 ghost use Rattle.std.specs.Option.{option_map};
@@ -252,6 +252,14 @@ impl Sender {
         ensures { result ≡ may_give self.now.outgoing }
     {
         self.outstanding < self.share && self.backlog() > 0
+    }
+
+    /// Fewer packets are outstanding than may be.
+    #[inline(always)]
+    pub fn has_quota(&self) -> bool
+        ensures { result ≡ nat_lt self.now.outgoing.outstanding self.now.outgoing.share }
+    {
+        self.outstanding < self.share
     }
 
     /// Counts packets as completed, at most those that are outstanding.

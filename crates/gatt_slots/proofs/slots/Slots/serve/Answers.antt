@@ -1,5 +1,6 @@
 use Rattle.std.proofs.Common.{◌≡◌, ◌<◌, Option, length, subst, sym}
 use Rattle.std.specs.Prelude.{IfSome, IsSome}
+use Rattle.std.proofs.lemmas.Bool.{OnFalse_at}
 use Rattle.att_table.specs.ConfigRow.{IsRowOf}
 use Rattle.gatt_slots.proofs.AtPlace.{changed_at, served_goes_on, there_at}
 use Rattle.gatt_slots.proofs.Noted.{changed_noted, served_handle}
@@ -16,7 +17,7 @@ serve-brought-requires-clause-there c =
     let slots = c.self.inside.slots.items in
     let place = c.args.place in
     let within : place < length slots = subst (λ (it : SlotStates). place < length it) (sym c.self.view_is) c.requires.place in
-    subst (λ (it : Option SlotState). IsSome it) (sym (there_at slots c.args.self.now c.self.view_is place c.index_mut.result.now within c.index_mut.ensures.value)) c.requires.there
+    subst (λ (it : Option SlotState). IsSome it) (sym (there_at slots c.args.self.now c.self.view_is place c.index_mut-slot.result.now within c.index_mut-slot.ensures.value)) c.requires.there
 
 pub serve-brought-requires-clause-row : goal.serve-brought-requires-clause-row
 serve-brought-requires-clause-row c =
@@ -24,20 +25,21 @@ serve-brought-requires-clause-row c =
     let place = c.args.place in
     let within : place < length slots = subst (λ (it : SlotStates). place < length it) (sym c.self.view_is) c.requires.place in
     subst (λ (it : Option SlotState). IfSome it (λ slot_state. IsRowOf c.args.table.now.attributes (slot_row_in_force (row_of c.args.rows.now slot_state.peer) slot_state)))
-    (sym (there_at slots c.args.self.now c.self.view_is place c.index_mut.result.now within c.index_mut.ensures.value)) c.requires.row
+    (sym (there_at slots c.args.self.now c.self.view_is place c.index_mut-slot.result.now within c.index_mut-slot.ensures.value)) c.requires.row
 
 pub invariant_of-self : goal.invariant_of-self
 invariant_of-self c =
     let slots = c.self.inside.slots.items in
     let place = c.args.place in
-    let slot = c.index_mut.result.now in
+    let slot = c.index_mut-slot.result.now in
     let within : place < length slots = subst (λ (it : SlotStates). place < length it) (sym c.self.view_is) c.requires.place in (
       c.serve.ensures slots c.serve-brought.new.self within c.self.invariant.0 (λ none.
-          subst (λ (it : Option SlotState). WaitsForNothingNew it c.serve-brought.new.self) (there_at slots slots (λ i. slots) place slot within c.index_mut.ensures.value)
+          subst (λ (it : Option SlotState). WaitsForNothingNew it c.serve-brought.new.self) (there_at slots slots (λ i. slots) place slot within c.index_mut-slot.ensures.value)
           (subst (λ (it : Option SlotState). WaitsForNothingNew slot it) (sym c.serve-brought.ensures.after)
-          (served_goes_on c.args.table.now c.args.now c.args.rows.now c.args.pdu.now slot c.serve-brought.result.ended c.serve-brought.ensures.ended none))),
+          (served_goes_on c.args.table.now c.args.now c.args.rows.now c.args.pdu.now slot c.serve-brought.result.ended c.serve-brought.ensures.ended none)))
+          (λ none. OnFalse_at none c.has_quota-giving.ensures),
       λ other some. changed_noted slots c.self.inside.handles.noted place slot c.serve-brought.new.self
-          (λ (slot_state : SlotState). slot_after_request c.args.table.now c.args.now (row_of c.args.rows.now slot_state.peer) c.args.pdu.now slot_state) within c.index_mut.ensures.value
+          (λ (slot_state : SlotState). slot_after_request c.args.table.now c.args.now (row_of c.args.rows.now slot_state.peer) c.args.pdu.now slot_state) within c.index_mut-slot.ensures.value
           (λ slot_state. served_handle c.args.table.now c.args.now (row_of c.args.rows.now slot_state.peer) c.args.pdu.now slot_state) c.serve-brought.ensures.after (c.self.invariant.1 other some),
     )
 
@@ -46,7 +48,7 @@ returns-clause-after c =
     let slots = c.self.inside.slots.items in
     let place = c.args.place in
     let within : place < length slots = subst (λ (it : SlotStates). place < length it) (sym c.self.view_is) c.requires.place in
-    changed_at slots c.args.self.now c.self.view_is place c.index_mut.result.now within c.index_mut.ensures.value
+    changed_at slots c.args.self.now c.self.view_is place c.index_mut-slot.result.now within c.index_mut-slot.ensures.value
     (λ (slot_state : SlotState). slot_after_request c.args.table.now c.args.now (row_of c.args.rows.now slot_state.peer) c.args.pdu.now slot_state) c.serve-brought.new.self c.serve-brought.ensures.after
 
 pub returns-clause-table : goal.returns-clause-table
@@ -55,7 +57,7 @@ returns-clause-table c =
     let place = c.args.place in
     let within : place < length slots = subst (λ (it : SlotStates). place < length it) (sym c.self.view_is) c.requires.place in
     subst (λ (it : Option SlotState). IfSome it (λ slot_state. c.serve-brought.new.table ≡ table_after c.args.table.now c.args.now (row_of c.args.rows.now slot_state.peer) c.args.pdu.now slot_state))
-    (there_at slots c.args.self.now c.self.view_is place c.index_mut.result.now within c.index_mut.ensures.value) c.serve-brought.ensures.table
+    (there_at slots c.args.self.now c.self.view_is place c.index_mut-slot.result.now within c.index_mut-slot.ensures.value) c.serve-brought.ensures.table
 
 pub returns-clause-bond : goal.returns-clause-bond
 returns-clause-bond c =
@@ -64,7 +66,7 @@ returns-clause-bond c =
     let within : place < length slots = subst (λ (it : SlotStates). place < length it) (sym c.self.view_is) c.requires.place in
     subst (λ (it : Option SlotState). IfSome it (λ slot_state.
     ChangesBond (bond_served c.args.table.now c.args.now c.args.changer.now (row_of c.args.rows.now slot_state.peer) c.args.pdu.now slot_state) slot_state.peer c.args.rows.now c.serve-brought.new.rows))
-    (there_at slots c.args.self.now c.self.view_is place c.index_mut.result.now within c.index_mut.ensures.value) c.serve-brought.ensures.bond
+    (there_at slots c.args.self.now c.self.view_is place c.index_mut-slot.result.now within c.index_mut-slot.ensures.value) c.serve-brought.ensures.bond
 
 pub returns-clause-written : goal.returns-clause-written
 returns-clause-written c =
@@ -72,7 +74,7 @@ returns-clause-written c =
     let place = c.args.place in
     let within : place < length slots = subst (λ (it : SlotStates). place < length it) (sym c.self.view_is) c.requires.place in
     subst (λ (it : Option SlotState). IfSome it (λ slot_state. c.serve-brought.new.written.items ≡ handles_written_by c.args.table.now c.args.now (row_of c.args.rows.now slot_state.peer) c.args.pdu.now slot_state))
-    (there_at slots c.args.self.now c.self.view_is place c.index_mut.result.now within c.index_mut.ensures.value) c.serve-brought.ensures.written
+    (there_at slots c.args.self.now c.self.view_is place c.index_mut-slot.result.now within c.index_mut-slot.ensures.value) c.serve-brought.ensures.written
 
 pub returns-clause-ended : goal.returns-clause-ended
 returns-clause-ended c =
@@ -80,7 +82,7 @@ returns-clause-ended c =
     let place = c.args.place in
     let within : place < length slots = subst (λ (it : SlotStates). place < length it) (sym c.self.view_is) c.requires.place in
     subst (λ (it : Option SlotState). IfSome it (λ slot_state. c.serve-brought.result.ended ≡ overflows c.args.pdu.now slot_state))
-    (there_at slots c.args.self.now c.self.view_is place c.index_mut.result.now within c.index_mut.ensures.value) c.serve-brought.ensures.ended
+    (there_at slots c.args.self.now c.self.view_is place c.index_mut-slot.result.now within c.index_mut-slot.ensures.value) c.serve-brought.ensures.ended
 
 pub returns-clause-confirmed : goal.returns-clause-confirmed
 returns-clause-confirmed c =
@@ -88,4 +90,4 @@ returns-clause-confirmed c =
     let place = c.args.place in
     let within : place < length slots = subst (λ (it : SlotStates). place < length it) (sym c.self.view_is) c.requires.place in
     subst (λ (it : Option SlotState). IfSome it (λ slot_state. c.serve-brought.result.confirmed ≡ confirmed_of c.args.pdu.now slot_state))
-    (there_at slots c.args.self.now c.self.view_is place c.index_mut.result.now within c.index_mut.ensures.value) c.serve-brought.ensures.confirmed
+    (there_at slots c.args.self.now c.self.view_is place c.index_mut-slot.result.now within c.index_mut-slot.ensures.value) c.serve-brought.ensures.confirmed
