@@ -80,7 +80,14 @@ impl HostState {
         ensures unchanged { OnErr result (self.new ≡ self.old) }
         ensures frames_unchanged { OnErr result (frames.new ≡ frames.old) }
     {
-        self.take_event(frames, octets)
+        // Each arm is a copy for one kind, in which no other is asked for.
+        match octets.first() {
+            Some(&event_code::COMMAND_COMPLETE) => self.take_event(frames, octets),
+            Some(&event_code::LE_META) => self.take_event(frames, octets),
+            Some(&event_code::DISCONNECTION_COMPLETE) => self.take_event(frames, octets),
+            Some(&event_code::ENCRYPTION_CHANGE) => self.take_event(frames, octets),
+            _ => self.take_event(frames, octets),
+        }
     }
 
     /// Takes in an event of any kind.
