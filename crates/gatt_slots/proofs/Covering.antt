@@ -62,6 +62,17 @@ covered_with due old new slots place slot covers added others = λ other is. ⊎
     (λ apart. others other apart ∙ covers other (ap (is_slot_due due) (sym (at-other slots place other slot apart)) ∙ is))
     (cases_eq other place)
 
+-- a slot is changed whose place comes into the set if something is due there
+pub covered_if : (due : Due) (so : Bool) (old new : ℕ) (slots : SlotStates) (place : ℕ) (slot : Option SlotState) → Covers due old slots → (so ≡ true → bit_at new place ≡ 1)
+    → ((other : ℕ) → other ≢ place → bit_at new other ≡ bit_at old other) → (so ≡ false → is_slot_due due slot ≡ false) → Covers due new (set slots place slot)
+covered_if due true old new slots place slot covers added others idle = covered_with due old new slots place slot covers (added refl) others
+covered_if due false old new slots place slot covers added others idle = λ other is. ⊎_elim
+    (λ same. clash is (ap (is_slot_due due)
+    (ap (λ at. slot_state_at (set slots place slot) at) same
+    ∙ at-same slots place slot (omega (arith, there due (set slots place slot) other is, same, length-set slots place slot))) ∙ idle refl))
+    (λ apart. others other apart ∙ covers other (ap (is_slot_due due) (sym (at-other slots place other slot apart)) ∙ is))
+    (cases_eq other place)
+
 -- nothing comes to be due at a slot that is changed
 pub covered_still : (due : Due) (places : ℕ) (slots : SlotStates) (place : ℕ) (slot : Option SlotState) → Covers due places slots
     → (is_slot_due due slot ≡ true → is_slot_due due (slot_state_at slots place) ≡ true) → Covers due places (set slots place slot)
@@ -152,6 +163,18 @@ module _ (slots : SlotStates) (place : ℕ) (slot : Option SlotState) (old new :
         (covered_still Indication old.waiting.bits slots place slot marked.waiting goes.waiting);
     free = λ none. none_with (λ it. is_none it) slot slots place (marked.free (sym free ∙ none)) goes.free;
   }
+
+-- a connection has come to a slot, to which nothing is due
+pub marked_still : (slots : SlotStates) (place : ℕ) (slot : Option SlotState) (marks : Marks) → IsMarked slots marks → ((due : Due) → is_slot_due due slot ≡ false)
+    → is_none slot ≡ false → IsMarked (set slots place slot) marks
+marked_still slots place slot marks marked idle taken = record {
+  few = omega (arith, marked.few, length-set slots place slot);
+  commands = covered_still Command marks.commands.bits slots place slot marked.commands (λ is. clash is (idle Command));
+  packets = covered_still Packet marks.packets.bits slots place slot marked.packets (λ is. clash is (idle Packet));
+  listening = covered_still Value marks.listening.bits slots place slot marked.listening (λ is. clash is (idle Value));
+  waiting = covered_still Indication marks.waiting.bits slots place slot marked.waiting (λ is. clash is (idle Indication));
+  free = λ none. none_with (λ it. is_none it) slot slots place (marked.free none) (λ is. clash is taken);
+}
 
 -- none may be given at it any more
 pub marked_off : (slots : SlotStates) (place : ℕ) (slot : Option SlotState) (old new : Marks) → place < length slots → IsMarked slots old → gives slot ≡ false

@@ -38,8 +38,8 @@ impl Slots {
         ensures { self.new ≡ at_place place
             (λ slot. Some (new_slot_state handle peer key_known rx_mtu quota acl_len)) self.old }
     {
+        // Nothing is due to a connection that has just come, so that nothing is marked.
         self.slots[place].connect(handle, peer, key_known, rx_mtu, quota, acl_len);
-        self.marks.happen(place);
         self.handles.note_all(self.slots.as_slice());
     }
 
@@ -61,7 +61,7 @@ impl Slots {
             self.old }
     {
         self.slots[place].ask_key(keys, random_number, diversifier);
-        self.marks.happen(place);
+        self.marks.happen(place, true);
     }
 
     /// Encryption of the link of a connection was changed, or could not be: `true` where it has a key now
@@ -74,8 +74,10 @@ impl Slots {
             (λ slot_state. result ≡ gained_encryption slot_state.link.key
             (after_step slot_state.link (Encryption status enabled)).key) }
     {
-        let gained = self.slots[place].encrypt(status, enabled);
-        self.marks.happen(place);
+        let slot = &mut self.slots[place];
+        let gained = slot.encrypt(status, enabled);
+        let commanded = slot.has_command();
+        self.marks.happen(place, commanded);
         gained
     }
 
@@ -87,8 +89,10 @@ impl Slots {
             (λ slot_state. result ≡ gained_encryption slot_state.link.key
             (after_step slot_state.link (Refresh status)).key) }
     {
-        let gained = self.slots[place].refresh(status);
-        self.marks.happen(place);
+        let slot = &mut self.slots[place];
+        let gained = slot.refresh(status);
+        let commanded = slot.has_command();
+        self.marks.happen(place, commanded);
         gained
     }
 
@@ -102,8 +106,10 @@ impl Slots {
             (λ slot_state. result
             ≡ has_no_room (channel_answer channel payload.now) slot_state) }
     {
-        let ended = self.slots[place].other_channel(channel, payload);
-        self.marks.happen(place);
+        let slot = &mut self.slots[place];
+        let ended = slot.other_channel(channel, payload);
+        let commanded = slot.has_command();
+        self.marks.happen(place, commanded);
         ended
     }
 

@@ -1,7 +1,7 @@
 //! Where something may be due in the slots of a host, so that an event looks at no others.
 
 ghost use Rattle.std.specs.Prelude.{◌≡◌, ℕ, false, true, ◌<◌, ◌≤◌, length, set, replicate, Option, None};
-ghost use Rattle.gatt_slots.specs.Commands.{gives};
+ghost use Rattle.gatt_slots.specs.Commands.{gives, has_command};
 ghost use Rattle.gatt_slots.specs.SlotState.{SlotState};
 ghost use Rattle.gatt_slots.specs.Places.{may_listen, HasNoValueMore, WaitsForNothingNew, IsMarked};
 ghost use Rattle.gatt_slots.specs.Slots.{slot_state_at, SlotStates};
@@ -52,14 +52,16 @@ impl Marks {
         self.free = true;
     }
 
-    /// Takes in that something happened to the connection of a slot, by which no value comes to wait.
-    pub(crate) fn happen(&mut self, place: usize)
+    /// Takes in that something happened to the connection of a slot, by which no value comes to wait, and
+    /// whether a command is due for it.
+    pub(crate) fn happen(&mut self, place: usize, commanded: bool)
         requires { place < MAX_SLOTS }
         ensures { (slots : SlotStates) (slot : Option SlotState) → place < length slots
             → IsMarked slots self.old → HasNoValueMore (slot_state_at slots place) slot
+            → (commanded ≡ false → has_command slot ≡ false)
             → IsMarked (set slots place slot) self.new }
     {
-        self.commands.add(place);
+        self.commands.add_if(commanded, place);
         self.packets.add(place);
         self.listening.add(place);
     }

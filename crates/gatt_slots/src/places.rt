@@ -59,6 +59,19 @@ impl Places {
         self.bits |= 1 << place;
     }
 
+    /// Puts a place into the set, if something is due there.
+    #[inline(always)]
+    pub(crate) fn add_if(&mut self, due: bool, place: usize)
+        requires { place < MAX_SLOTS }
+        ensures added { due ≡ true → bit_at self.new.bits place ≡ 1 }
+        ensures others { (other : ℕ) → other ≢ place
+            → bit_at self.new.bits other ≡ bit_at self.old.bits other }
+    {
+        if due {
+            self.add(place);
+        }
+    }
+
     /// Takes a place out of the set.
     #[inline(always)]
     pub(crate) fn remove(&mut self, place: usize)

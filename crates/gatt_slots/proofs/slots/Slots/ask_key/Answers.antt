@@ -14,7 +14,7 @@ invariant_of-self c =
     let within : place < length slots = subst (λ (it : SlotStates). place < length it) (sym c.self.view_is) c.requires in
     let change : SlotState → SlotState = λ slot_state. after_key_asked (key_asked_for c.args.keys.now slot_state.peer c.args.random_number c.args.diversifier) slot_state in (
       c.happen.ensures slots c.ask_key.new.self within c.self.invariant.0
-          (happened_at slots place c.index_mut.result.now c.ask_key.new.self within c.index_mut.ensures.value change (λ slot_state is. is) c.ask_key.ensures),
+          (happened_at slots place c.index_mut.result.now c.ask_key.new.self within c.index_mut.ensures.value change (λ slot_state is. is) c.ask_key.ensures) (λ none. cc none),
       λ other some. changed_noted slots c.self.inside.handles.noted place c.index_mut.result.now c.ask_key.new.self change within c.index_mut.ensures.value
           (λ slot_state. refl) c.ask_key.ensures (c.self.invariant.1 other some),
     )

@@ -1,11 +1,21 @@
-use Rattle.std.proofs.Common.{◌≡◌, ◌<◌, Option, Some, length, refl, set, subst, sym, ap, ◌∙◌}
+use Rattle.std.proofs.Common.{◌≡◌, ℕ, ◌<◌, Bool, false, Option, Some, length, refl, set, subst, sym, ap, ◌∙◌}
 use Rattle.gatt_slots.proofs.AtPlace.{left_at, there_at}
-use Rattle.gatt_slots.specs.Places.{HasNoValueMore}
+use Rattle.gatt_slots.proofs.Covering.{marked_still}
+use Rattle.gatt_slots.specs.Places.{is_slot_due, IsMarked}
+use Rattle.gatt_slots.specs.declared.places.Due.{Due}
+use Rattle.gatt_slots.specs.declared.places.Due.TheVariants.{Command, Packet, Value, Indication}
+use Rattle.le_hci.specs.declared.peer.Peer.{Peer}
 use Rattle.gatt_slots.specs.SlotEffects.{new_slot_state}
 use Rattle.gatt_slots.specs.SlotState.{SlotState}
 use Rattle.gatt_slots.specs.Slots.{SlotStates, at_place, slot_state_at}
 use Rattle.gatt_slots.specs.Handles.{AreNoted}
 use Rattle.gatt_slots.proofs.slots.Slots.connect.Goals as goal
+
+idle : (handle : ℕ) (peer : Peer) (key_known : Bool) (rx_mtu quota size : ℕ) (due : Due) → is_slot_due due (Some (new_slot_state handle peer key_known rx_mtu quota size)) ≡ false
+idle handle peer key_known rx_mtu quota size Command = refl
+idle handle peer key_known rx_mtu quota size Packet = refl
+idle handle peer key_known rx_mtu quota size Value = refl
+idle handle peer key_known rx_mtu quota size Indication = refl
 
 pub invariant_of-self : goal.invariant_of-self
 invariant_of-self c =
@@ -13,8 +23,8 @@ invariant_of-self c =
     let place = c.args.place in
     let within : place < length slots = subst (λ (it : SlotStates). place < length it) (sym c.self.view_is) c.requires.place in
     let new : Option SlotState = Some (new_slot_state c.args.handle c.args.peer c.args.key_known c.args.rx_mtu c.args.quota c.args.acl_len) in (
-      c.happen.ensures slots c.connect.new.self within c.self.invariant.0
-          (subst (λ (it : Option SlotState). HasNoValueMore (slot_state_at slots place) it) (sym c.connect.ensures) (record { waiting = λ is. cc is; free = λ is. cc is })),
+      subst (λ (it : Option SlotState). IsMarked (set slots place it) c.self.inside.marks) (sym c.connect.ensures)
+          (marked_still slots place new c.self.inside.marks c.self.invariant.0 (idle c.args.handle c.args.peer c.args.key_known c.args.rx_mtu c.args.quota c.args.acl_len) refl),
       λ other some. subst (λ (it : SlotStates). AreNoted it c.note_all.new.self.noted) c.as_slice.ensures.value c.note_all.ensures,
     )
 
