@@ -50,7 +50,8 @@ impl HostState {
         }
     }
 
-    /// Takes in an event that follows no packet. Most of them are of a kind that tells a host nothing.
+    /// Takes in an event that tells of no completed packets. Most of them are of a kind that tells a host
+    /// nothing.
     #[inline(never)]
     fn take_other_event(&mut self, frames: &mut Frames, octets: &[u8]) -> Result<(), HostFault>
         requires of_table { IsOfItsTable self.old }
