@@ -3,15 +3,15 @@ use Rattle.std.proofs.Common.{◌≡◌, ℕ, zero, suc, ◌+◌, ◌<◌, ◌�
 use Rattle.std.proofs.lemmas.Bool.Decides.{nat_tests}
 use Rattle.std.specs.Prelude.{nat_lt}
 use Rattle.std.specs.List.{filter, prefix_len, insert}
-use Rattle.att_attributes.specs.TypeIndex.{put, by_type, is_before, place_from, comes_before, AllAfter, IsOrdered, AllAbove}
+use Rattle.att_attributes.specs.TypeIndex.{put, by_type, place_of, is_before, comes_before, AllAfter, IsOrdered, AreAbove, IsAscending, AllAbove}
 
 abbrev pub AllFail : (ℕ → Bool) → List ℕ → Type 0
 AllFail test [] = Unit
 AllFail test (x ∷ xs) = (test x ≡ false) × AllFail test xs
 
 -- the order on numbers
-before_later : (kx x ky y k h : ℕ) → is_before kx x k h ≡ false → is_before kx x ky y ≡ true → is_before ky y k h ≡ false
-before_later kx x ky y k h fails passes = grind (arith, nat_tests)
+type_later : (kx x ky y k : ℕ) → nat_lt kx k ≡ false → is_before kx x ky y ≡ true → nat_lt ky k ≡ false
+type_later kx x ky y k fails passes = grind (arith, nat_tests)
 
 before_more : (kx x ky y kz z : ℕ) → nat_lt kx kz ≡ false → z < y → is_before kx x ky y ≡ true → z < x → is_before kz z ky y ≡ true
 before_more kx x ky y kz z fails above passes first = grind (arith, nat_tests)
@@ -72,15 +72,11 @@ prefix_cons test x xs =
     let one : 1 + prefix_len test xs ≡ suc (prefix_len test xs) = omega arith in
     ap (λ n. cond (test x) n 0) one
 
-before_zero : (kx x kz : ℕ) → is_before kx x kz 0 ≡ nat_lt kx kz
-before_zero kx x kz = grind (arith, nat_tests)
-
-pub put_inserts : (kind : ℕ → ℕ) (h : ℕ) (xs : List ℕ) → insert xs (place_from kind xs (kind h) 0) h ≡ put kind h xs
+pub put_inserts : (kind : ℕ → ℕ) (h : ℕ) (xs : List ℕ) → insert xs (place_of kind xs (kind h)) h ≡ put kind h xs
 put_inserts kind h [] = refl
 put_inserts kind h (x ∷ xs) =
-    let count = place_from kind xs (kind h) 0 in
-    ap (λ n. insert (x ∷ xs) n h)
-    (prefix_cons (λ handle. is_before (kind handle) handle (kind h) 0) x xs ∙ ap (λ b. cond b (suc count) 0) (before_zero (kind x) x (kind h)))
+    let count = place_of kind xs (kind h) in
+    ap (λ n. insert (x ∷ xs) n h) (prefix_cons (λ handle. nat_lt (kind handle) (kind h)) x xs)
     ∙ elim (nat_lt (kind x) (kind h)) as (λ below. insert (x ∷ xs) (cond below (suc count) 0) h ≡ (if below then x ∷ put kind h xs else h ∷ x ∷ xs)) [
       | true ↦ ap (λ l. x ∷ l) (put_inserts kind h xs)
       | false ↦ refl
@@ -101,18 +97,26 @@ filter_by_kind kind k test (x ∷ xs) of_kind =
     ∙ ap (λ l. cond (test x) (x ∷ l) l) (filter_by_kind kind k test xs of_kind)
 
 -- where a search by halves may look
-later_fail : (kind : ℕ → ℕ) (x k h : ℕ) (xs : List ℕ) → is_before (kind x) x k h ≡ false → AllAfter kind x xs
-    → AllFail (λ y. is_before (kind y) y k h) xs
-later_fail kind x k h [] fails after = tt
-later_fail kind x k h (y ∷ ys) fails after = (before_later (kind x) x (kind y) y k h fails after.0, later_fail kind x k h ys fails after.1)
+later_fail : (kind : ℕ → ℕ) (x k : ℕ) (xs : List ℕ) → nat_lt (kind x) k ≡ false → AllAfter kind x xs → AllFail (λ y. nat_lt (kind y) k) xs
+later_fail kind x k [] fails after = tt
+later_fail kind x k (y ∷ ys) fails after = (type_later (kind x) x (kind y) y k fails after.0, later_fail kind x k ys fails after.1)
 
 abbrev pub IsClosed : (ℕ → Bool) → List ℕ → Type 0
 IsClosed test [] = Unit
 IsClosed test (x ∷ xs) = (test x ≡ false → AllFail test xs) × IsClosed test xs
 
-pub closed : (kind : ℕ → ℕ) (k h : ℕ) (xs : List ℕ) → IsOrdered kind xs → IsClosed (λ y. is_before (kind y) y k h) xs
-closed kind k h [] ordered = tt
-closed kind k h (x ∷ xs) ordered = (λ fails. later_fail kind x k h xs fails ordered.0, closed kind k h xs ordered.1)
+pub closed : (kind : ℕ → ℕ) (k : ℕ) (xs : List ℕ) → IsOrdered kind xs → IsClosed (λ y. nat_lt (kind y) k) xs
+closed kind k [] ordered = tt
+closed kind k (x ∷ xs) ordered = (λ fails. later_fail kind x k xs fails ordered.0, closed kind k xs ordered.1)
+
+-- the same among ascending handles
+above_fail : (x h : ℕ) (xs : List ℕ) → nat_lt x h ≡ false → AreAbove x xs → AllFail (λ y. nat_lt y h) xs
+above_fail x h [] fails above = tt
+above_fail x h (y ∷ ys) fails above = (grind (arith, nat_tests, above.0), above_fail x h ys fails above.1)
+
+pub closed_ascending : (h : ℕ) (xs : List ℕ) → IsAscending xs → IsClosed (λ y. nat_lt y h) xs
+closed_ascending h [] ascending = tt
+closed_ascending h (x ∷ xs) ascending = (λ fails. above_fail x h xs fails ascending.0, closed_ascending h xs ascending.1)
 
 fail_at : (test : ℕ → Bool) (xs : List ℕ) (i d : ℕ) → AllFail test xs → i < length xs → test (get_or xs i d) ≡ false
 fail_at test [] i d fail within = absurd (omega arith)

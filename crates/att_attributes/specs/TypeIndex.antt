@@ -1,7 +1,8 @@
 -- Handles in the order of their attribute types: this profile's own.
-use Rattle.std.specs.Prelude.{◌≡◌, ◌<◌, ◌≤◌, ℕ, zero, suc, ◌+◌, Bool, true, ◌==◌, ◌&&◌, ◌||◌, nat_lt, if◌then◌else◌, List, [], ◌∷◌}
+use Rattle.std.specs.Prelude.{◌≡◌, ◌<◌, ◌≤◌, ℕ, zero, suc, ◌+◌, Bool, true, ◌==◌, ◌&&◌, ◌||◌, nat_lt, nat_le, if◌then◌else◌, List, [], ◌∷◌, map, filter}
 use Rattle.std.specs.List.{prefix_len}
 use Rattle.att_numbers.specs.Types.{Handle, AttributeType}
+use Rattle.att_attributes.specs.declared.type_index.Run.{Run}
 
 -- the types of attributes by their handles
 abbrev pub Types : Type 0
@@ -17,19 +18,34 @@ abbrev pub by_type : Types → List Handle → List Handle
 by_type type_of [] = []
 by_type type_of (handle ∷ rest) = put type_of handle (by_type type_of rest)
 
--- whether an attribute of this type and handle stands before another type and handle: by type, and then by handle;
--- this and what follows is of the code alone
-abbrev pub is_before : AttributeType → Handle → AttributeType → Handle → Bool
-is_before own_type own_handle kind handle = nat_lt own_type kind || ((own_type == kind) && nat_lt own_handle handle)
+-- how many handles at the front of an index have a type below this one
+abbrev pub place_of : Types → List Handle → AttributeType → ℕ
+place_of type_of index kind = prefix_len (λ handle. nat_lt (type_of handle) kind) index
 
--- how many handles at the front of an index stand before a type and handle
-abbrev pub place_from : Types → List Handle → AttributeType → Handle → ℕ
-place_from type_of index kind from = prefix_len (λ handle. is_before (type_of handle) handle kind from) index
+-- where those of a type stand in an index: from where it would be put to where what is above it would be
+abbrev pub run_of : Types → List Handle → AttributeType → Run
+run_of type_of index kind = record { begin = place_of type_of index kind; end = place_of type_of index (kind + 1) }
+
+-- the same of the type of each handle
+abbrev pub runs_of : Types → List Handle → List Run
+runs_of type_of index = map (λ handle. run_of type_of index (type_of handle)) index
+
+-- how many handles at the front of some are below one; this and what follows is of the code alone
+abbrev pub place_from : List Handle → Handle → ℕ
+place_from handles from = prefix_len (λ handle. nat_lt handle from) handles
+
+-- those from the first to the last one
+abbrev pub handles_within : Handle → Handle → List Handle → List Handle
+handles_within first last handles = filter (λ handle. nat_le first handle && nat_le handle last) handles
 
 -- among how many handles so many comparisons find a place
 abbrev pub reach : ℕ → ℕ
 reach zero = 0
 reach (suc turns) = reach turns + reach turns + 1
+
+-- whether an attribute of this type and handle stands before another type and handle: by type, and then by handle
+abbrev pub is_before : AttributeType → Handle → AttributeType → Handle → Bool
+is_before own_type own_handle kind handle = nat_lt own_type kind || ((own_type == kind) && nat_lt own_handle handle)
 
 -- the same of two handles
 abbrev pub comes_before : Types → Handle → Handle → Bool
@@ -43,6 +59,15 @@ AllAfter type_of x (y ∷ ys) = (comes_before type_of x y ≡ true) × AllAfter 
 abbrev pub IsOrdered : Types → List Handle → Type 0
 IsOrdered type_of [] = Unit
 IsOrdered type_of (x ∷ xs) = AllAfter type_of x xs × IsOrdered type_of xs
+
+-- each of these is above a handle
+abbrev pub AreAbove : Handle → List Handle → Type 0
+AreAbove low [] = Unit
+AreAbove low (x ∷ xs) = (low < x) × AreAbove low xs
+
+abbrev pub IsAscending : List Handle → Type 0
+IsAscending [] = Unit
+IsAscending (x ∷ xs) = AreAbove x xs × IsAscending xs
 
 -- each of these is above a handle, and at most the last one
 abbrev pub AllAbove : Handle → Handle → List Handle → Type 0

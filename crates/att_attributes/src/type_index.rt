@@ -1,10 +1,11 @@
 //! The attributes of one type, found by halves among the handles of all in the order of their
-//! types: Core 5.0, Vol 3 Part F, 3.2.1.
+//! types: Core 5.0, Vol 3 Part F, 3.2.1. Beside each handle stands where its type begins and ends.
 
-ghost use Rattle.std.specs.Prelude.{◌≡◌, ℕ, ◌+◌, ◌-◌, ◌/◌, ◌%◌, ◌^◌, ◌<◌, ◌≤◌, min, length, IfOk};
+ghost use Rattle.std.specs.Prelude.{◌≡◌, ℕ, ◌+◌, ◌-◌, ◌/◌, ◌%◌, ◌^◌, ◌<◌, ◌≤◌, min, length, drop, take, slice_index_or, IfOk};
 ghost use Rattle.att_attributes.specs.Attributes.{type_at, IsNumbered};
-ghost use Rattle.att_attributes.specs.OfType.{handles_of_type, handles_by_type};
-ghost use Rattle.att_attributes.specs.TypeIndex.{is_before, place_from, reach, IsIndex};
+ghost use Rattle.att_attributes.specs.OfType.{handles_of_type, handles_by_type, runs_by_type};
+ghost use Rattle.att_attributes.specs.TypeIndex.{place_of, place_from, handles_within, reach, IsAscending, IsIndex};
+ghost use Rattle.att_numbers.specs.declared.limit.TheConstants.{MAX_ATTRIBUTES};
 
 use crate::attr::Attr;
 use std::alloc::{AllocError, Global};
@@ -49,6 +50,15 @@ impl Steps for Counted {
     }
 }
 
+/// Where the handles of one type stand in an index.
+#[derive(Clone, Copy)]
+pub struct Run {
+    /// The place of the first of them.
+    pub begin: u16,
+    /// The place behind the last of them.
+    pub end: u16,
+}
+
 /// The handles of attributes by their types, and those of one type ascending.
 pub fn by_type(alloc: Global, attributes: &[Attr]) -> Result<Vec<u16>, AllocError>
     requires { IsNumbered attributes.now }
@@ -57,86 +67,47 @@ pub fn by_type(alloc: Global, attributes: &[Attr]) -> Result<Vec<u16>, AllocErro
     let mut index = Vec::with_capacity(alloc, attributes.len())?;
     for place in (0..attributes.len()).rev() {
         let attr = attributes[place];
-        let first = first_from(
-            &index,
-            attributes,
-            attr.kind,
-            0,
-            0,
-            index.len(),
-            &mut Uncounted,
-        );
+        let first = place_of(&index, attributes, attr.kind);
         index.insert(first, attr.handle)?;
     }
     Ok(index)
 }
 
-/// The handles of a type, from `first` to `last`, in the index of these attributes.
-pub fn of_type<'a, S: Steps>(
-    index: &'a [u16],
+/// Where the type of each handle begins and ends in the index of these attributes.
+pub fn runs_by_type(
+    alloc: Global,
     attributes: &[Attr],
-    kind: u128,
-    first: u16,
-    last: u16,
-    steps: &mut S,
-) -> &'a [u16]
+    index: &[u16],
+) -> Result<Vec<Run>, AllocError>
     requires numbered { IsNumbered attributes.now }
     requires index { index.now ≡ handles_by_type attributes.now }
-    ensures handles { result.now ≡ handles_of_type attributes.now kind first last }
-    ensures steps { S.count steps.new ≤ S.count steps.old + 22 }
+    ensures { IfOk result (λ runs. runs.items ≡ runs_by_type attributes.now) }
 {
-    let begin = u32::from(first);
-    let past = u32::from(last) + 1;
+    let mut runs = Vec::with_capacity(alloc, index.len())?;
+    let mut run = Run { begin: 0, end: 0 };
+    for place in 0..index.len() {
+        if usize::from(run.end) == place {
+            run = Run {
+                begin: run.end,
+                end: end_from(index, attributes, run.end),
+            };
+        }
+        runs.push(run)?;
+    }
+    Ok(runs)
+}
+
+/// How many handles of the index have a type below this one.
+fn place_of(index: &[u16], attributes: &[Attr], kind: u128) -> usize
+    requires { IsIndex (type_at attributes.now) (length attributes.now) index.now }
+    ensures place { result ≡ place_of (type_at attributes.now) index.now kind }
+    ensures within { result ≤ length index.now }
+{
     let mut low = 0;
     let mut high = index.len();
     while low < high {
-        let middle = low + (high - low) / 2;
-        let own = index[middle];
-        steps.tick();
-        if is_before(attributes, own, kind, begin) {
-            low = middle + 1;
-        } else {
-            steps.tick();
-            if is_before(attributes, own, kind, past) {
-                // One of them: the first is it or stands before it, the last is it or behind it.
-                let start = first_from(index, attributes, kind, begin, low, middle, steps);
-                let end = first_from(index, attributes, kind, past, middle + 1, high, steps);
-                return &index[start..end];
-            }
-            high = middle;
-        }
-    }
-    &[]
-}
-
-/// How many handles of the index stand before a type and handle, where it is known to be from
-/// `least` to `most`.
-#[inline(always)]
-fn first_from<S: Steps>(
-    index: &[u16],
-    attributes: &[Attr],
-    kind: u128,
-    handle: u32,
-    least: usize,
-    most: usize,
-    steps: &mut S,
-) -> usize
-    requires least { least ≤ place_from (type_at attributes.now) index.now kind handle }
-    requires most { place_from (type_at attributes.now) index.now kind handle ≤ most }
-    requires inside { most ≤ length index.now }
-    requires index { IsIndex (type_at attributes.now) (length attributes.now) index.now }
-    ensures place { result ≡ place_from (type_at attributes.now) index.now kind handle }
-    ensures from { least ≤ result }
-    ensures within { result ≤ most }
-    ensures steps { (turns : ℕ) → most - least ≤ reach turns
-        → S.count steps.new ≤ S.count steps.old + turns }
-{
-    let mut low = least;
-    let mut high = most;
-    while low < high {
-        let middle = low + (high - low) / 2;
-        steps.tick();
-        if is_before(attributes, index[middle], kind, handle) {
+        let middle = (low + high) / 2;
+        if type_of(attributes, index[middle]) < kind {
             low = middle + 1;
         } else {
             high = middle;
@@ -145,18 +116,135 @@ fn first_from<S: Steps>(
     low
 }
 
-/// Whether an attribute stands before a type and handle. The upper 64 bits of its type mostly tell.
+/// Where the type of the handle at a place ends in the index.
+fn end_from(index: &[u16], attributes: &[Attr], place: u16) -> u16
+    requires inside { place < length index.now }
+    requires most { length index.now ≤ MAX_ATTRIBUTES }
+    requires index { IsIndex (type_at attributes.now) (length attributes.now) index.now }
+    ensures { result ≡ place_of (type_at attributes.now) index.now
+        (type_at attributes.now (slice_index_or index.now place 0) + 1) }
+{
+    let kind = type_of(attributes, index[usize::from(place)]);
+    let mut end = place + 1;
+    while usize::from(end) < index.len() && type_of(attributes, index[usize::from(end)]) <= kind {
+        end += 1;
+    }
+    end
+}
+
+/// The handles of a type, from `first` to `last`, in the index of these attributes and its runs.
+pub fn of_type<'a, S: Steps>(
+    index: &'a [u16],
+    runs: &[Run],
+    attributes: &[Attr],
+    kind: u128,
+    first: u16,
+    last: u16,
+    steps: &mut S,
+) -> &'a [u16]
+    requires numbered { IsNumbered attributes.now }
+    requires index { index.now ≡ handles_by_type attributes.now }
+    requires runs { runs.now ≡ runs_by_type attributes.now }
+    ensures handles { result.now ≡ handles_of_type attributes.now kind first last }
+    ensures steps { S.count steps.new ≤ S.count steps.old + 22 }
+{
+    let (upper, lower) = halves(kind);
+    let mut low = 0;
+    let mut high = index.len();
+    while low < high {
+        let middle = (low + high) / 2;
+        // One comparison of two types, of which the upper halves mostly tell.
+        let (own_upper, own_lower) = halves(type_of(attributes, index[middle]));
+        steps.tick();
+        if own_upper < upper {
+            low = usize::from(runs[middle].end);
+        } else if own_upper > upper {
+            high = usize::from(runs[middle].begin);
+        } else if own_lower < lower {
+            low = usize::from(runs[middle].end);
+        } else if own_lower > lower {
+            high = usize::from(runs[middle].begin);
+        } else {
+            return in_range(in_run(index, runs[middle]), first, last, steps);
+        }
+    }
+    &[]
+}
+
+/// The handles of a run.
 #[inline(always)]
-fn is_before(attributes: &[Attr], own: u16, kind: u128, handle: u32) -> bool
+fn in_run(index: &[u16], run: Run) -> &[u16]
+    requires begin { run.begin ≤ run.end }
+    requires end { run.end ≤ length index.now }
+    ensures { result.now ≡ drop run.begin (take run.end index.now) }
+{
+    &index[usize::from(run.begin)..usize::from(run.end)]
+}
+
+/// Those of ascending handles that are from `first` to `last`.
+#[inline(always)]
+fn in_range<'a, S: Steps>(handles: &'a [u16], first: u16, last: u16, steps: &mut S) -> &'a [u16]
+    requires some { 0 < length handles.now }
+    requires ascending { IsAscending handles.now }
+    ensures handles { result.now ≡ handles_within first last handles.now }
+    ensures steps { (turns : ℕ) → 0 < turns → length handles.now ≤ reach turns + 1
+        → S.count steps.new ≤ S.count steps.old + 1 + turns + turns }
+{
+    let highest = handles.len() - 1;
+    steps.tick();
+    if handles[highest] <= last {
+        // Mostly all of them are asked for.
+        steps.tick();
+        if first <= handles[0] {
+            return handles;
+        }
+        let start = first_from(handles, u32::from(first), 1, handles.len(), steps);
+        return &handles[start..];
+    }
+    let end = first_from(handles, u32::from(last) + 1, 0, highest, steps);
+    let start = first_from(handles, u32::from(first), 0, end, steps);
+    &handles[start..end]
+}
+
+/// How many of ascending handles are below one, or `most` if more are, where at least `least` are.
+#[inline(always)]
+fn first_from<S: Steps>(
+    handles: &[u16],
+    handle: u32,
+    least: usize,
+    most: usize,
+    steps: &mut S,
+) -> usize
+    requires ascending { IsAscending handles.now }
+    requires least { least ≤ place_from handles.now handle }
+    requires before { least ≤ most }
+    requires inside { most ≤ length handles.now }
+    ensures place { result ≡ min (place_from handles.now handle) most }
+    ensures steps { (turns : ℕ) → most - least ≤ reach turns
+        → S.count steps.new ≤ S.count steps.old + turns }
+{
+    let mut low = least;
+    let mut high = most;
+    while low < high {
+        let middle = (low + high) / 2;
+        steps.tick();
+        if u32::from(handles[middle]) < handle {
+            low = middle + 1;
+        } else {
+            high = middle;
+        }
+    }
+    low
+}
+
+/// The type of the attribute at a handle.
+#[inline(always)]
+fn type_of(attributes: &[Attr], own: u16) -> u128
     requires first { 0 < own }
     requires last { own ≤ length attributes.now }
-    ensures { result ≡ is_before (type_at attributes.now own) own kind handle }
+    ensures { result ≡ type_at attributes.now own }
 {
-    let (own_upper, own_lower) = halves(attributes[usize::from(own) - 1].kind);
-    let (upper, lower) = halves(kind);
-    own_upper < upper
-        || own_upper == upper
-            && (own_lower < lower || own_lower == lower && u32::from(own) < handle)
+    attributes[usize::from(own) - 1].kind
 }
 
 /// The upper and the lower 64 bits of a type.

@@ -11,6 +11,7 @@ use Rattle.octets.specs.Number.{Octets}
 use Rattle.att_numbers.specs.Types.{Handle}
 use Rattle.att_values.specs.Cell.{Cell, no_cell, cell_at, value_with_part}
 use Rattle.att_attributes.specs.declared.attr.Attr.{Attr}
+use Rattle.att_attributes.specs.declared.type_index.Run.{Run}
 use Rattle.att_attributes.specs.declared.attr.Role.{Role}
 use Rattle.att_attributes.specs.declared.attr.Role.TheVariants.{Declaration, Value, Configuration, Descriptor}
 use Rattle.att_attributes.specs.Attributes.{attribute_at, largest_at, is_configuration, is_configuration_at, is_fixed_at, is_value, is_value_at}
@@ -146,9 +147,9 @@ configuration-behind attributes cells handle kept is =
     let found = attribute_found attributes handle (λ (attr : Attr). is_configuration attr.role) is in
     value-at attributes (handle - 1) (stand-at Declaration attributes (handle - 1) found.0 kept.behind found.2 found.3)
 
-facts : (attributes : List Attr) (cells : List Cell) (ends types : List Handle) → IsWhole attributes cells ends types
+facts : (attributes : List Attr) (cells : List Cell) (ends types : List Handle) (runs : List Run) → IsWhole attributes cells ends types runs
     → IsTable (record { attributes = attributes; values = values_of cells })
-facts attributes cells ends types whole =
+facts attributes cells ends types runs whole =
     let kept = whole.kept in
     let sum = sum-largest attributes kept.largest in
     record {
@@ -164,9 +165,9 @@ facts attributes cells ends types whole =
       octets = omega (arith, sum, whole.counted, kept.numbered.most);
     }
 
-pub facts_of : (attributes : List Attr) (cells : List Cell) (ends types : List Handle) (table : Contents) → IsWhole attributes cells ends types
+pub facts_of : (attributes : List Attr) (cells : List Cell) (ends types : List Handle) (runs : List Run) (table : Contents) → IsWhole attributes cells ends types runs
     → (let view : Contents = record { attributes = attributes; values = values_of cells } in view) ≡ table → IsTable table
-facts_of attributes cells ends types table whole is = subst IsTable is (facts attributes cells ends types whole)
+facts_of attributes cells ends types runs table whole is = subst IsTable is (facts attributes cells ends types runs whole)
 
 -- what a fixed value needs of what is written
 fixed-here : (attributes : List Attr) (handle : Handle) (attr : Attr) → 0 < handle → slice_get attributes (handle - 1) ≡ Some attr → attr.fixed ≡ true → is_fixed_at attributes handle ≡ true

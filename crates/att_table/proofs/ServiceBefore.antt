@@ -12,6 +12,7 @@ use Rattle.att_policy.specs.declared.guard.TheConstants.Properties.{INDICATE}
 use Rattle.att_policy.specs.Policy.{has_property}
 use Rattle.att_values.specs.Cell.{Cell, IsUsed}
 use Rattle.att_attributes.specs.declared.attr.Attr.{Attr}
+use Rattle.att_attributes.specs.declared.type_index.Run.{Run}
 use Rattle.att_attributes.specs.Attributes.{attribute_at, is_fixed_at, is_value, largest_at, HaveHandlesFrom}
 use Rattle.att_table.specs.declared.changer.TheConstants.{CHANGER_LEN}
 use Rattle.att_table.specs.Changer.{changer_of, declares_generic_attribute, is_changer, last_service, IsOfAChanger}
@@ -123,9 +124,10 @@ changer_known table None facts found = tt
 changer_known table (Some attr) facts found = of_a_changer table attr facts found
 
 -- whatever is answered as the changer
-pub changer_found : (attributes : List Attr) (cells : List Cell) (ends types : List Handle) (table : Contents) (result : Option Handle) → IsWhole attributes cells ends types
+pub changer_found : (attributes : List Attr) (cells : List Cell) (ends types : List Handle) (runs : List Run) (table : Contents) (result : Option Handle)
+    → IsWhole attributes cells ends types runs
     → (let view : Contents = record { attributes = attributes; values = values_of cells } in view) ≡ table → result ≡ changer_of table
     → IfSome result (λ handle. IsOfAChanger table handle)
-changer_found attributes cells ends types table result whole is answered =
+changer_found attributes cells ends types runs table result whole is answered =
     subst (λ answer. IfSome answer (λ handle. IsOfAChanger table handle)) (sym answered)
-    (changer_known table (find (is_changer table) table.attributes) (facts_of attributes cells ends types table whole is) refl)
+    (changer_known table (find (is_changer table) table.attributes) (facts_of attributes cells ends types runs table whole is) refl)

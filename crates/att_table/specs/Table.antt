@@ -9,7 +9,8 @@ use Rattle.att_attributes.specs.declared.attr.Role.{Role}
 use Rattle.att_attributes.specs.declared.attr.Role.TheVariants.{Declaration, Value, Configuration, Descriptor}
 use Rattle.att_attributes.specs.Attributes.{configurations_of, is_configuration, is_fixed_at, is_value, largest_at, IsNumbered}
 use Rattle.att_attributes.specs.Group.{group_ends_of}
-use Rattle.att_attributes.specs.OfType.{handles_by_type}
+use Rattle.att_attributes.specs.declared.type_index.Run.{Run}
+use Rattle.att_attributes.specs.OfType.{handles_by_type, runs_by_type}
 use Rattle.att_numbers.specs.declared.limit.TheConstants.{MAX_CONFIGURATIONS, MAX_DECLARATION, MAX_VALUE, MAX_VALUES_OCTETS}
 
 -- the attributes in the order of their handles, and the value of each
@@ -87,10 +88,11 @@ pub record IsKept (attributes : List Attr) (cells : List Cell) : Type 0 where
   pub within : All (λ (cell : Cell). length cell.octets ≤ cell.room) cells
 
 -- no more of the attributes are configurations, and no more octets count, than a table may have, and the ends of the groups,
--- and the handles by type, are those of the attributes
-pub record IsWhole (attributes : List Attr) (cells : List Cell) (group_ends by_type : List Handle) : Type 0 where
+-- the handles by type and their runs are those of the attributes
+pub record IsWhole (attributes : List Attr) (cells : List Cell) (group_ends by_type : List Handle) (beside : List Run) : Type 0 where
   pub kept : IsKept attributes cells
   pub few : configurations_of attributes ≤ MAX_CONFIGURATIONS
   pub counted : value_octets attributes ≤ MAX_VALUES_OCTETS
   pub ends : group_ends ≡ group_ends_of attributes
   pub types : by_type ≡ handles_by_type attributes
+  pub runs : beside ≡ runs_by_type attributes

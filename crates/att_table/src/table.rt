@@ -4,7 +4,7 @@ ghost use Rattle.att_attributes.specs.declared.attr.Attr.{Attr};
 ghost use Rattle.att_values.specs.Cell.{value_with_part};
 ghost use Rattle.att_attributes.specs.Attributes.{attribute_at, attributes_in, configuration_bits_at, configurations_of, is_fixed_at, is_value_at};
 ghost use Rattle.att_attributes.specs.Group.{group_ends_of, group_end_at};
-ghost use Rattle.att_attributes.specs.OfType.{handles_of_type, handles_by_type};
+ghost use Rattle.att_attributes.specs.OfType.{handles_of_type, handles_by_type, runs_by_type};
 ghost use Rattle.att_table.specs.Changer.{changer_of, IsOfAChanger};
 ghost use Rattle.att_table.specs.ConfigRow.{is_supported, HasRowRoom};
 ghost use Rattle.att_table.specs.Facts.{IsTable};
@@ -13,7 +13,7 @@ ghost use Rattle.att_table.specs.Table.{Contents, value_octets, value_at, room_a
 ghost use Rattle.att_numbers.specs.declared.limit.TheConstants.{MAX_ATTRIBUTES, MAX_CONFIGURATIONS, MAX_TABLE_OCTETS, MAX_VALUES_OCTETS};
 
 use crate::{changer, find};
-use att_attributes::{Attr, Role, Steps};
+use att_attributes::{Attr, Role, Run, Steps};
 use att_values::FlatStore;
 use std::marker::Model;
 
@@ -24,6 +24,7 @@ pub struct Table {
     values: FlatStore,
     group_ends: Vec<u16>,
     by_type: Vec<u16>,
+    runs: Vec<Run>,
 }
 
 impl Model for Table {
@@ -33,23 +34,25 @@ impl Model for Table {
         record { attributes = table.attributes.items; values = values_of table.values } };
 
     ghost invariant = { λ table. IsWhole table.attributes.items table.values table.group_ends.items
-        table.by_type.items };
+        table.by_type.items table.runs.items };
 }
 
 impl Table {
-    /// A table of these attributes, with their values, the ends of their groups, and their handles
-    /// by type.
+    /// A table of these attributes, with their values, the ends of their groups, their handles by
+    /// type, and the runs of these.
     pub(crate) fn from_parts(
         attributes: Vec<Attr>,
         values: FlatStore,
         group_ends: Vec<u16>,
         by_type: Vec<u16>,
+        runs: Vec<Run>,
     ) -> Self
         requires kept { IsKept attributes.items values }
         requires few { configurations_of attributes.items ≤ MAX_CONFIGURATIONS }
         requires counted { value_octets attributes.items ≤ MAX_VALUES_OCTETS }
         requires ends { group_ends.items ≡ group_ends_of attributes.items }
         requires types { by_type.items ≡ handles_by_type attributes.items }
+        requires runs { runs.items ≡ runs_by_type attributes.items }
         ensures attributes { result.attributes ≡ attributes.items }
         ensures values { result.values ≡ values_of values }
     {
@@ -58,6 +61,7 @@ impl Table {
             values,
             group_ends,
             by_type,
+            runs,
         }
     }
 
@@ -139,7 +143,15 @@ impl Table {
         ensures handles { result.now ≡ handles_of_type self.now.attributes kind first last }
         ensures steps { S.count steps.new ≤ S.count steps.old + 22 }
     {
-        att_attributes::of_type(&self.by_type, &self.attributes, kind, first, last, steps)
+        att_attributes::of_type(
+            &self.by_type,
+            &self.runs,
+            &self.attributes,
+            kind,
+            first,
+            last,
+            steps,
+        )
     }
 
     /// How many octets the value of the attribute at a handle may have: a fixed value keeps its

@@ -86,6 +86,7 @@ impl TableBuilder {
     {
         let group_ends = att_attributes::group_ends(alloc, &self.attributes)?;
         let by_type = att_attributes::by_type(alloc, &self.attributes)?;
-        Ok(Table::from_parts(self.attributes, self.values, group_ends, by_type))
+        let runs = att_attributes::runs_by_type(alloc, &self.attributes, &by_type)?;
+        Ok(Table::from_parts(self.attributes, self.values, group_ends, by_type, runs))
     }
 }

@@ -1,8 +1,10 @@
-use Rattle.std.proofs.Common.{◌≡◌, ℕ, ◌+◌, ◌-◌, ◌/◌, ◌<◌, ◌≤◌, Bool, true, false, length, get_or, refl, sym, ap, ◌∙◌, arith}
+use Rattle.std.proofs.Common.{◌≡◌, ◌+◌, ◌-◌, ◌/◌, ◌<◌, length, get_or, refl, sym, ap, subst, ◌∙◌, arith}
 use Rattle.att_attributes.specs.Attributes.{type_at}
-use Rattle.att_attributes.specs.TypeIndex.{place_from, is_before}
-use Rattle.att_attributes.proofs.OfType.{above_at, both_sides, found_between, index_given, length_given, middle_within, narrow_low, narrow_high, none_between, paid_at_first, twice_low, twice_high}
-use Rattle.att_attributes.proofs.TypeOrder.{closed, place_at, place_below, place_within}
+use Rattle.att_attributes.specs.TypeIndex.{IsAscending, handles_within}
+use Rattle.att_attributes.proofs.OfType.{above_at, found, index_given, length_given, none_between, place_less, run_ascending}
+use Rattle.att_attributes.proofs.Runs.{beside, run_fits, run_long, run_taken}
+use Rattle.att_attributes.proofs.Search.{before_run, half_within, lower_less, lower_more, lower_same, paid_at_first, paid_in_run, past_run, same_upper, upper_less, upper_more}
+use Rattle.att_attributes.proofs.TypeOrder.{place_within}
 use Rattle.att_attributes.proofs.type_index.of_type.Goals as goal
 
 pub loop-low-init : goal.loop-low-init
@@ -11,105 +13,233 @@ loop-low-init g c = (
   paid_at_first (length c.args.index.now) _ (length_given _ _ c.requires.numbered c.requires.index),
 )
 
-pub is_before-requires-clause-first : goal.is_before-requires-clause-first
-is_before-requires-clause-first g c =
-    (above_at _ _ _ _ 0 (index_given _ _ c.requires.numbered c.requires.index).within (middle_within _ _ _ c.loop-low-test.true c.loop-low.invariant.0.inside)).0
+pub type_of-requires-clause-first : goal.type_of-requires-clause-first
+type_of-requires-clause-first g c =
+    (above_at _ _ _ _ 0 (index_given _ _ c.requires.numbered c.requires.index).within (half_within _ _ _ c.loop-low-test.true c.loop-low.invariant.0.inside)).0
 
-pub is_before-requires-clause-last : goal.is_before-requires-clause-last
-is_before-requires-clause-last g c =
-    (above_at _ _ _ _ 0 (index_given _ _ c.requires.numbered c.requires.index).within (middle_within _ _ _ c.loop-low-test.true c.loop-low.invariant.0.inside)).1
+pub type_of-requires-clause-last : goal.type_of-requires-clause-last
+type_of-requires-clause-last g c =
+    (above_at _ _ _ _ 0 (index_given _ _ c.requires.numbered c.requires.index).within (half_within _ _ _ c.loop-low-test.true c.loop-low.invariant.0.inside)).1
 
-pub loop-low-preserved-then-is_before : goal.loop-low-preserved-then-is_before
-loop-low-preserved-then-is_before g c =
+pub loop-low-smaller-then-own_upper-upper : goal.loop-low-smaller-then-own_upper-upper
+loop-low-smaller-then-own_upper-upper g c =
     let index = c.args.index.now in
-    let kind = type_at c.args.attributes.now in
-    let test : ℕ → Bool = λ x. is_before (kind x) x c.args.kind c.from-begin.result in
+    let attributes = c.args.attributes.now in
+    let kind = type_at attributes in
     let low = c.loop-low.low in
     let high = c.loop-low.high in
-    let middle = low + (high - low) / 2 in
-    let ordered = (index_given _ _ c.requires.numbered c.requires.index).ordered in
-    let within = middle_within _ _ _ c.loop-low-test.true c.loop-low.invariant.0.inside in
-    let before : test (get_or index middle 0) ≡ true = sym c.is_before.ensures ∙ c.if-is_before.true in
-    let below = place_below test index middle 0 (closed kind c.args.kind c.from-begin.result index ordered) within before in (
-      narrow_low _ _ low high _ middle c.loop-low.invariant.0 below,
-      twice_low low high middle _ _ _ _ c.loop-low.invariant.1 refl c.loop-low-test.true (omega (arith, c.tick.ensures.counts)),
-    )
+    let middle = (low + high) / 2 in
+    let own = kind (get_or index middle 0) in
+    let run = get_or c.args.runs.now middle (record { begin = 0; end = 0 }) in
+    let within : middle < length index = half_within low high _ c.loop-low-test.true c.loop-low.invariant.0.inside in
+    let stands = beside attributes index c.args.runs.now middle (record { begin = 0; end = 0 }) run.begin run.end c.requires.numbered c.requires.index c.requires.runs within refl refl in
+    omega (arith, c.from-low.ensures, stands.behind, c.loop-low-test.true)
 
-pub is_before-requires-else-is_before-clause-first : goal.is_before-requires-else-is_before-clause-first
-is_before-requires-else-is_before-clause-first g c =
-    (above_at _ _ _ _ 0 (index_given _ _ c.requires.numbered c.requires.index).within (middle_within _ _ _ c.loop-low-test.true c.loop-low.invariant.0.inside)).0
+pub loop-low-preserved-then-own_upper-upper : goal.loop-low-preserved-then-own_upper-upper
+loop-low-preserved-then-own_upper-upper g c =
+    let index = c.args.index.now in
+    let attributes = c.args.attributes.now in
+    let kind = type_at attributes in
+    let low = c.loop-low.low in
+    let high = c.loop-low.high in
+    let middle = (low + high) / 2 in
+    let own = kind (get_or index middle 0) in
+    let run = get_or c.args.runs.now middle (record { begin = 0; end = 0 }) in
+    let within : middle < length index = half_within low high _ c.loop-low-test.true c.loop-low.invariant.0.inside in
+    let stands = beside attributes index c.args.runs.now middle (record { begin = 0; end = 0 }) run.begin run.end c.requires.numbered c.requires.index c.requires.runs within refl refl in
+    let told : own < c.args.kind = upper_less c.type_of.result own c.args.kind c.halves-own_upper.result.0 c.halves-upper.result.0 c.type_of.ensures c.halves-own_upper.ensures.upper c.halves-upper.ensures.upper c.if-own_upper-upper.true in
+    let below = place_less kind index (own + 1) c.args.kind (omega (arith, told)) in
+    past_run _ _ low high _ _ _ _ middle c.from-low.result c.loop-low.invariant c.loop-low-test.true refl (omega (arith, c.from-low.ensures, stands.ends, below))
+    (omega (arith, c.from-low.ensures, stands.behind)) c.tick.ensures.counts
 
-pub is_before-requires-else-is_before-clause-last : goal.is_before-requires-else-is_before-clause-last
-is_before-requires-else-is_before-clause-last g c =
-    (above_at _ _ _ _ 0 (index_given _ _ c.requires.numbered c.requires.index).within (middle_within _ _ _ c.loop-low-test.true c.loop-low.invariant.0.inside)).1
+pub loop-low-smaller-then-own_upper-upper-2 : goal.loop-low-smaller-then-own_upper-upper-2
+loop-low-smaller-then-own_upper-upper-2 g c =
+    let index = c.args.index.now in
+    let attributes = c.args.attributes.now in
+    let kind = type_at attributes in
+    let low = c.loop-low.low in
+    let high = c.loop-low.high in
+    let middle = (low + high) / 2 in
+    let own = kind (get_or index middle 0) in
+    let run = get_or c.args.runs.now middle (record { begin = 0; end = 0 }) in
+    let within : middle < length index = half_within low high _ c.loop-low-test.true c.loop-low.invariant.0.inside in
+    let stands = beside attributes index c.args.runs.now middle (record { begin = 0; end = 0 }) run.begin run.end c.requires.numbered c.requires.index c.requires.runs within refl refl in
+    omega (arith, c.from-high.ensures, stands.ahead, c.loop-low-test.true)
+
+pub loop-low-preserved-then-own_upper-upper-2 : goal.loop-low-preserved-then-own_upper-upper-2
+loop-low-preserved-then-own_upper-upper-2 g c =
+    let index = c.args.index.now in
+    let attributes = c.args.attributes.now in
+    let kind = type_at attributes in
+    let low = c.loop-low.low in
+    let high = c.loop-low.high in
+    let middle = (low + high) / 2 in
+    let own = kind (get_or index middle 0) in
+    let run = get_or c.args.runs.now middle (record { begin = 0; end = 0 }) in
+    let within : middle < length index = half_within low high _ c.loop-low-test.true c.loop-low.invariant.0.inside in
+    let stands = beside attributes index c.args.runs.now middle (record { begin = 0; end = 0 }) run.begin run.end c.requires.numbered c.requires.index c.requires.runs within refl refl in
+    let told : c.args.kind < own = upper_more c.type_of.result own c.args.kind c.halves-own_upper.result.0 c.halves-upper.result.0 c.type_of.ensures c.halves-own_upper.ensures.upper c.halves-upper.ensures.upper c.if-own_upper-upper-2.true in
+    let above = place_less kind index (c.args.kind + 1) own (omega (arith, told)) in
+    before_run _ _ low high _ _ _ _ middle c.from-high.result c.loop-low.invariant c.loop-low-test.true refl (omega (arith, c.from-high.ensures, stands.begins, above))
+    (omega (arith, c.from-high.ensures, stands.ahead)) c.tick.ensures.counts
+
+pub loop-low-smaller-then-own_lower-lower : goal.loop-low-smaller-then-own_lower-lower
+loop-low-smaller-then-own_lower-lower g c =
+    let index = c.args.index.now in
+    let attributes = c.args.attributes.now in
+    let kind = type_at attributes in
+    let low = c.loop-low.low in
+    let high = c.loop-low.high in
+    let middle = (low + high) / 2 in
+    let own = kind (get_or index middle 0) in
+    let run = get_or c.args.runs.now middle (record { begin = 0; end = 0 }) in
+    let within : middle < length index = half_within low high _ c.loop-low-test.true c.loop-low.invariant.0.inside in
+    let stands = beside attributes index c.args.runs.now middle (record { begin = 0; end = 0 }) run.begin run.end c.requires.numbered c.requires.index c.requires.runs within refl refl in
+    omega (arith, c.from-low-then-own_lower-lower.ensures, stands.behind, c.loop-low-test.true)
+
+pub loop-low-preserved-then-own_lower-lower : goal.loop-low-preserved-then-own_lower-lower
+loop-low-preserved-then-own_lower-lower g c =
+    let index = c.args.index.now in
+    let attributes = c.args.attributes.now in
+    let kind = type_at attributes in
+    let low = c.loop-low.low in
+    let high = c.loop-low.high in
+    let middle = (low + high) / 2 in
+    let own = kind (get_or index middle 0) in
+    let run = get_or c.args.runs.now middle (record { begin = 0; end = 0 }) in
+    let within : middle < length index = half_within low high _ c.loop-low-test.true c.loop-low.invariant.0.inside in
+    let stands = beside attributes index c.args.runs.now middle (record { begin = 0; end = 0 }) run.begin run.end c.requires.numbered c.requires.index c.requires.runs within refl refl in
+    let halves = same_upper c.type_of.result own c.args.kind c.halves-own_upper.result.0 c.halves-upper.result.0 c.halves-own_upper.result.1 c.halves-upper.result.1
+    c.type_of.ensures c.halves-own_upper.ensures.upper c.halves-upper.ensures.upper c.if-own_upper-upper.false c.if-own_upper-upper-2.false
+    c.halves-own_upper.ensures.lower c.halves-upper.ensures.lower in
+    let told : own < c.args.kind = lower_less own c.args.kind c.halves-own_upper.result.1 c.halves-upper.result.1 halves c.if-own_lower-lower.true in
+    let below = place_less kind index (own + 1) c.args.kind (omega (arith, told)) in
+    past_run _ _ low high _ _ _ _ middle c.from-low-then-own_lower-lower.result c.loop-low.invariant c.loop-low-test.true refl (omega (arith, c.from-low-then-own_lower-lower.ensures, stands.ends, below))
+    (omega (arith, c.from-low-then-own_lower-lower.ensures, stands.behind)) c.tick.ensures.counts
+
+pub loop-low-smaller : goal.loop-low-smaller
+loop-low-smaller g c =
+    let index = c.args.index.now in
+    let attributes = c.args.attributes.now in
+    let kind = type_at attributes in
+    let low = c.loop-low.low in
+    let high = c.loop-low.high in
+    let middle = (low + high) / 2 in
+    let own = kind (get_or index middle 0) in
+    let run = get_or c.args.runs.now middle (record { begin = 0; end = 0 }) in
+    let within : middle < length index = half_within low high _ c.loop-low-test.true c.loop-low.invariant.0.inside in
+    let stands = beside attributes index c.args.runs.now middle (record { begin = 0; end = 0 }) run.begin run.end c.requires.numbered c.requires.index c.requires.runs within refl refl in
+    omega (arith, c.from-high-then-own_lower-lower-2.ensures, stands.ahead, c.loop-low-test.true)
 
 pub loop-low-preserved : goal.loop-low-preserved
 loop-low-preserved g c =
-    let kind = type_at c.args.attributes.now in
-    let test : ℕ → Bool = λ x. is_before (kind x) x c.args.kind (c.from-past.result + 1) in
+    let index = c.args.index.now in
+    let attributes = c.args.attributes.now in
+    let kind = type_at attributes in
     let low = c.loop-low.low in
     let high = c.loop-low.high in
-    let middle = low + (high - low) / 2 in
-    let within = middle_within _ _ _ c.loop-low-test.true c.loop-low.invariant.0.inside in
-    let not_before : test (get_or c.args.index.now middle 0) ≡ false = sym c.is_before-else-is_before.ensures ∙ c.if-is_before-2.false in
-    let above = place_at test c.args.index.now middle 0 within not_before in (
-      narrow_high _ _ low high _ middle c.loop-low.invariant.0 refl c.loop-low-test.true above,
-      twice_high low high middle _ _ _ _ c.loop-low.invariant.1 refl c.loop-low-test.true (omega (arith, c.tick.ensures.counts, c.tick-else-is_before.ensures.counts)),
-    )
+    let middle = (low + high) / 2 in
+    let own = kind (get_or index middle 0) in
+    let run = get_or c.args.runs.now middle (record { begin = 0; end = 0 }) in
+    let within : middle < length index = half_within low high _ c.loop-low-test.true c.loop-low.invariant.0.inside in
+    let stands = beside attributes index c.args.runs.now middle (record { begin = 0; end = 0 }) run.begin run.end c.requires.numbered c.requires.index c.requires.runs within refl refl in
+    let halves = same_upper c.type_of.result own c.args.kind c.halves-own_upper.result.0 c.halves-upper.result.0 c.halves-own_upper.result.1 c.halves-upper.result.1
+    c.type_of.ensures c.halves-own_upper.ensures.upper c.halves-upper.ensures.upper c.if-own_upper-upper.false c.if-own_upper-upper-2.false
+    c.halves-own_upper.ensures.lower c.halves-upper.ensures.lower in
+    let told : c.args.kind < own = lower_more own c.args.kind c.halves-own_upper.result.1 c.halves-upper.result.1 halves c.if-own_lower-lower-2.true in
+    let above = place_less kind index (c.args.kind + 1) own (omega (arith, told)) in
+    before_run _ _ low high _ _ _ _ middle c.from-high-then-own_lower-lower-2.result c.loop-low.invariant c.loop-low-test.true refl (omega (arith, c.from-high-then-own_lower-lower-2.ensures, stands.begins, above))
+    (omega (arith, c.from-high-then-own_lower-lower-2.ensures, stands.ahead)) c.tick.ensures.counts
 
-pub first_from-start-requires-clause-most : goal.first_from-start-requires-clause-most
-first_from-start-requires-clause-most g c =
+pub in_run-requires-clause-begin : goal.in_run-requires-clause-begin
+in_run-requires-clause-begin g c =
     let index = c.args.index.now in
-    let kind = type_at c.args.attributes.now in
-    let test : ℕ → Bool = λ x. is_before (kind x) x c.args.kind c.from-begin.result in
-    let within = middle_within _ _ _ c.loop-low-test.true c.loop-low.invariant.0.inside in
-    let low = c.loop-low.low in
-    let middle = low + (c.loop-low.high - low) / 2 in
-    let not_before : test (get_or index middle 0) ≡ false = sym c.is_before.ensures ∙ c.if-is_before.false in
-    place_at test index middle 0 within not_before
-
-pub first_from-start-requires-clause-index : goal.first_from-start-requires-clause-index
-first_from-start-requires-clause-index g c = index_given _ _ c.requires.numbered c.requires.index
-
-pub first_from-end-requires-clause-index : goal.first_from-end-requires-clause-index
-first_from-end-requires-clause-index g c = index_given _ _ c.requires.numbered c.requires.index
-
-pub first_from-end-requires-clause-least : goal.first_from-end-requires-clause-least
-first_from-end-requires-clause-least g c =
-    let index = c.args.index.now in
-    let kind = type_at c.args.attributes.now in
-    let past = c.from-past.result + 1 in
-    let test : ℕ → Bool = λ x. is_before (kind x) x c.args.kind past in
+    let attributes = c.args.attributes.now in
+    let kind = type_at attributes in
     let low = c.loop-low.low in
     let high = c.loop-low.high in
-    let middle = low + (high - low) / 2 in
-    let ordered = (index_given _ _ c.requires.numbered c.requires.index).ordered in
-    let within = middle_within _ _ _ c.loop-low-test.true c.loop-low.invariant.0.inside in
-    let before : test (get_or index middle 0) ≡ true = sym c.is_before-else-is_before.ensures ∙ c.if-is_before-2.true in
-    let below : middle < place_from kind index c.args.kind past = place_below test index middle 0 (closed kind c.args.kind past index ordered) within before in
-    omega (arith, below)
+    let middle = (low + high) / 2 in
+    let own = kind (get_or index middle 0) in
+    let run = get_or c.args.runs.now middle (record { begin = 0; end = 0 }) in
+    let within : middle < length index = half_within low high _ c.loop-low-test.true c.loop-low.invariant.0.inside in
+    let stands = beside attributes index c.args.runs.now middle (record { begin = 0; end = 0 }) run.begin run.end c.requires.numbered c.requires.index c.requires.runs within refl refl in
+    omega (arith, stands.ahead, stands.behind)
 
-pub returns-then-is_before-2-clause-handles : goal.returns-then-is_before-2-clause-handles
-returns-then-is_before-2-clause-handles g c =
+pub in_range-requires-clause-some : goal.in_range-requires-clause-some
+in_range-requires-clause-some g c =
     let index = c.args.index.now in
-    let place = place_from (type_at c.args.attributes.now) index c.args.kind in
-    let start = c.first_from-start.ensures.place ∙ ap place c.from-begin.ensures in
-    let end = c.first_from-end.ensures.place ∙ ap (λ n. place (n + 1)) c.from-past.ensures in
-    found_between c.args.attributes.now index c.args.kind c.args.first c.args.last c.first_from-start.result c.first_from-end.result c.requires.numbered c.requires.index start end
-    (omega (arith, c.first_from-start.ensures.within, c.first_from-end.ensures.from))
-
-pub returns-then-is_before-2-clause-steps : goal.returns-then-is_before-2-clause-steps
-returns-then-is_before-2-clause-steps g c =
+    let attributes = c.args.attributes.now in
+    let kind = type_at attributes in
     let low = c.loop-low.low in
     let high = c.loop-low.high in
-    both_sides low high (low + (high - low) / 2) _ 22 _ _ _ _ c.loop-low.invariant.1 refl c.loop-low-test.true
-    (omega (arith, c.tick.ensures.counts, c.tick-else-is_before.ensures.counts)) c.first_from-start.ensures.steps c.first_from-end.ensures.steps
+    let middle = (low + high) / 2 in
+    let own = kind (get_or index middle 0) in
+    let run = get_or c.args.runs.now middle (record { begin = 0; end = 0 }) in
+    let within : middle < length index = half_within low high _ c.loop-low-test.true c.loop-low.invariant.0.inside in
+    let stands = beside attributes index c.args.runs.now middle (record { begin = 0; end = 0 }) run.begin run.end c.requires.numbered c.requires.index c.requires.runs within refl refl in
+    omega (arith, ap length c.in_run.ensures, run_long kind index own middle run.begin run.end stands, stands.ahead, stands.behind)
+
+pub in_range-requires-clause-ascending : goal.in_range-requires-clause-ascending
+in_range-requires-clause-ascending g c =
+    let index = c.args.index.now in
+    let attributes = c.args.attributes.now in
+    let kind = type_at attributes in
+    let low = c.loop-low.low in
+    let high = c.loop-low.high in
+    let middle = (low + high) / 2 in
+    let own = kind (get_or index middle 0) in
+    let run = get_or c.args.runs.now middle (record { begin = 0; end = 0 }) in
+    let within : middle < length index = half_within low high _ c.loop-low-test.true c.loop-low.invariant.0.inside in
+    let stands = beside attributes index c.args.runs.now middle (record { begin = 0; end = 0 }) run.begin run.end c.requires.numbered c.requires.index c.requires.runs within refl refl in
+    let halves = same_upper c.type_of.result own c.args.kind c.halves-own_upper.result.0 c.halves-upper.result.0 c.halves-own_upper.result.1 c.halves-upper.result.1
+    c.type_of.ensures c.halves-own_upper.ensures.upper c.halves-upper.ensures.upper c.if-own_upper-upper.false c.if-own_upper-upper-2.false
+    c.halves-own_upper.ensures.lower c.halves-upper.ensures.lower in
+    let same : own ≡ c.args.kind = lower_same own c.args.kind c.halves-own_upper.result.1 c.halves-upper.result.1 halves c.if-own_lower-lower.false c.if-own_lower-lower-2.false in
+    subst IsAscending (sym (c.in_run.ensures ∙ run_taken kind index own c.args.kind middle run.begin run.end stands same))
+    (run_ascending kind index c.args.kind (index_given _ _ c.requires.numbered c.requires.index).ordered)
+
+pub returns-else-own_lower-lower-2-clause-handles : goal.returns-else-own_lower-lower-2-clause-handles
+returns-else-own_lower-lower-2-clause-handles g c =
+    let index = c.args.index.now in
+    let attributes = c.args.attributes.now in
+    let kind = type_at attributes in
+    let low = c.loop-low.low in
+    let high = c.loop-low.high in
+    let middle = (low + high) / 2 in
+    let own = kind (get_or index middle 0) in
+    let run = get_or c.args.runs.now middle (record { begin = 0; end = 0 }) in
+    let within : middle < length index = half_within low high _ c.loop-low-test.true c.loop-low.invariant.0.inside in
+    let stands = beside attributes index c.args.runs.now middle (record { begin = 0; end = 0 }) run.begin run.end c.requires.numbered c.requires.index c.requires.runs within refl refl in
+    let halves = same_upper c.type_of.result own c.args.kind c.halves-own_upper.result.0 c.halves-upper.result.0 c.halves-own_upper.result.1 c.halves-upper.result.1
+    c.type_of.ensures c.halves-own_upper.ensures.upper c.halves-upper.ensures.upper c.if-own_upper-upper.false c.if-own_upper-upper-2.false
+    c.halves-own_upper.ensures.lower c.halves-upper.ensures.lower in
+    let same : own ≡ c.args.kind = lower_same own c.args.kind c.halves-own_upper.result.1 c.halves-upper.result.1 halves c.if-own_lower-lower.false c.if-own_lower-lower-2.false in
+    c.in_range.ensures.handles
+    ∙ ap (handles_within c.args.first c.args.last) (c.in_run.ensures ∙ run_taken kind index own c.args.kind middle run.begin run.end stands same)
+    ∙ found attributes index c.args.kind c.args.first c.args.last c.requires.numbered c.requires.index
+
+pub returns-else-own_lower-lower-2-clause-steps : goal.returns-else-own_lower-lower-2-clause-steps
+returns-else-own_lower-lower-2-clause-steps g c =
+    let index = c.args.index.now in
+    let attributes = c.args.attributes.now in
+    let kind = type_at attributes in
+    let low = c.loop-low.low in
+    let high = c.loop-low.high in
+    let middle = (low + high) / 2 in
+    let own = kind (get_or index middle 0) in
+    let run = get_or c.args.runs.now middle (record { begin = 0; end = 0 }) in
+    let within : middle < length index = half_within low high _ c.loop-low-test.true c.loop-low.invariant.0.inside in
+    let stands = beside attributes index c.args.runs.now middle (record { begin = 0; end = 0 }) run.begin run.end c.requires.numbered c.requires.index c.requires.runs within refl refl in
+    let halves = same_upper c.type_of.result own c.args.kind c.halves-own_upper.result.0 c.halves-upper.result.0 c.halves-own_upper.result.1 c.halves-upper.result.1
+    c.type_of.ensures c.halves-own_upper.ensures.upper c.halves-upper.ensures.upper c.if-own_upper-upper.false c.if-own_upper-upper-2.false
+    c.halves-own_upper.ensures.lower c.halves-upper.ensures.lower in
+    let same : own ≡ c.args.kind = lower_same own c.args.kind c.halves-own_upper.result.1 c.halves-upper.result.1 halves c.if-own_lower-lower.false c.if-own_lower-lower-2.false in
+    let long = run_long kind index own middle run.begin run.end stands in
+    let fits = run_fits kind index own c.args.kind middle run.begin run.end low high _ stands same c.loop-low.invariant.0 in
+    paid_in_run (high - low) (length c.in_run.result.now) _ _ _ _ c.loop-low.invariant.1 (omega (arith, c.loop-low-test.true)) (omega (arith, ap length c.in_run.ensures, long, fits))
+    c.tick.ensures.counts c.in_range.ensures.steps
 
 pub returns-clause-handles : goal.returns-clause-handles
 returns-clause-handles g c =
-    let index = c.args.index.now in
-    let place = place_from (type_at c.args.attributes.now) index c.args.kind in
-    let start = ap place c.from-begin.ensures in
-    let end = ap (λ n. place (n + 1)) c.from-past.ensures in
-    let none : place (c.from-past.result + 1) ≤ place c.from-begin.result = omega (arith, c.loop-low.invariant.0.low_side, c.loop-low.invariant.0.high_side, c.loop-low-test.false) in
-    none_between c.args.attributes.now index c.args.kind c.args.first c.args.last c.requires.numbered c.requires.index (omega (arith, none, start, end))
+    none_between c.args.attributes.now c.args.index.now c.args.kind c.args.first c.args.last c.requires.numbered c.requires.index
+    (omega (arith, c.loop-low.invariant.0.low_side, c.loop-low.invariant.0.high_side, c.loop-low-test.false))

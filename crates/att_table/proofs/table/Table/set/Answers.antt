@@ -23,6 +23,7 @@ invariant_of-self c =
       counted = c.self.invariant.counted;
       ends = c.self.invariant.ends;
       types = c.self.invariant.types;
+      runs = c.self.invariant.runs;
     }
 
 pub returns-clause-values : goal.returns-clause-values
