@@ -1,14 +1,16 @@
 -- The slots of a ring that are in use, oldest first.
-use Rattle.std.proofs.Common.{◌≡◌, ℕ, ◌+◌, ◌-◌, ◌%◌, ◌<◌, ◌≤◌, ◌⊎◌, List, [], ◌∷◌, ◌++◌, length, get_or, take, drop, set, map, refl, sym, ap, ◌∙◌, ap₂, inl, inr, mod-eq_of_lt, arith, length-append, length-drop, length-set, length-take-le, get_or-drop, get_or-take}
+use Rattle.std.proofs.Common.{◌≡◌, ◌≢◌, ℕ, ◌+◌, ◌-◌, ◌%◌, ◌<◌, ◌≤◌, ◌⊎◌, List, [], ◌∷◌, ◌++◌, length, get_or, take, drop, set, map, refl, sym, ap, ◌∙◌, ap₂, inl, inr, mod-eq_of_lt, arith, length-append, length-drop, length-set, length-take-le, get_or-drop, get_or-take, subst}
 use native.Mathlib.Nat.{mod-eq-sub-mod, mod-add-mod}
 use Rattle.std.specs.Prelude.{Some, slice_get}
 use Rattle.std.specs.List.{zip}
-use Rattle.std.proofs.lemmas.List.{same_lists, drop_more, take_more, get_or_append_left, get_or-append_right, get_or-set_same, length-map, map-append}
+use Rattle.std.proofs.lemmas.List.{same_lists, drop_more, take_more, get_or_append_left, get_or-append_right, get_or-set_same, get_or-set_other, length-map, map-append}
 use Rattle.std.proofs.lemmas.Slice.Zip.{length-zip}
 use Rattle.std.proofs.lemmas.Bool.{cases_lt}
 use Rattle.std.proofs.lemmas.Grind.{common_steps}
 use Rattle.arrayvec.specs.ArrayVec.{ArrayVec}
-use Rattle.le_acl.specs.Pdus.{Queued, empty, payload_octets, window, queued_of, IsRing}
+use Rattle.le_acl.specs.Packets.{Pdu}
+use Rattle.le_acl.specs.declared.pdus.Header.{Header}
+use Rattle.le_acl.specs.Pdus.{Queued, empty, no_header, pdu_of, window, queued_of, HasAll, IsRing}
 
 -- an index below 2 N wraps once at most
 mod_wraps_once : (N j : ℕ) → j < N + N → ((j < N) × (j % N ≡ j)) ⊎ ((N ≤ j) × (j % N ≡ j - N))
@@ -80,74 +82,112 @@ zip-append [] (b ∷ ys) x y same = absurd (omega arith)
 zip-append (a ∷ xs) [] x y same = absurd (omega arith)
 zip-append {A} {B} (a ∷ xs) (b ∷ ys) x y same = ap (λ (pairs : List (A × B)). (a, b) ∷ pairs) (zip-append xs ys x y (omega arith))
 
-module _ (first count : ℕ) (channels : List ℕ) (payloads : List (ArrayVec ℕ)) (ring : IsRing first count channels payloads) where
-  length-channels : length (window first count channels) ≡ count
-  length-channels = length-window 16 first count channels ring.first_below ring.count_within ring.channels_length
+-- a slot in use is another than the one behind those in use
+slot-apart : (N k n i : ℕ) → k < N → n < N → i < n → (k + i) % N ≢ (k + n) % N
+slot-apart N k n i start has_room in_range same = grind (
+  arith,
+  mod_wraps_once N (k + i) (omega arith),
+  mod_wraps_once N (k + n) (omega arith),
+)
 
-  length-payloads : length (map payload_octets (window first count payloads)) ≡ count
-  length-payloads = length-map (window first count payloads) payload_octets ∙ length-window 16 first count payloads ring.first_below ring.count_within ring.payloads_length
+module _ (first count : ℕ) (headers : List Header) (payloads : List (ArrayVec ℕ)) (ring : IsRing first count headers payloads) where
+  length-headers : length (window first count headers) ≡ count
+  length-headers = length-window 16 first count headers ring.first_below ring.count_within ring.headers_length
 
-  pub count_is : length (queued_of first count channels payloads).pdus ≡ count
-  count_is = length-zip (window first count channels) (map payload_octets (window first count payloads)) ∙ omega (arith, length-channels, length-payloads)
+  length-payloads : length (window first count payloads) ≡ count
+  length-payloads = length-window 16 first count payloads ring.first_below ring.count_within ring.payloads_length
 
-  pub push_is : (channel : ℕ) → count < 16
-      → (queued_of first (count + 1) (set channels ((first + count) % 16) channel) payloads).pdus
-      ≡ (queued_of first count channels payloads).pdus ++ (channel, (queued_of first count channels payloads).room) ∷ []
-  push_is channel has_room =
+  pub count_is : length (queued_of first count headers payloads).pdus ≡ count
+  count_is =
+      length-map (zip (window first count headers) (window first count payloads)) pdu_of
+      ∙ length-zip (window first count headers) (window first count payloads) ∙ omega (arith, length-headers, length-payloads)
+
+  pub push_is : (header : Header) → count < 16
+      → (queued_of first (count + 1) (set headers ((first + count) % 16) header) payloads).pdus
+      ≡ (queued_of first count headers payloads).pdus ++ (header.channel, take header.len (queued_of first count headers payloads).room) ∷ []
+  push_is header has_room =
       let slot = (first + count) % 16 in
-      let written = set channels slot channel in
-      let below : slot < length channels = omega (arith, ring.channels_length) in
-      let more_channels : window first (count + 1) written ≡ window first count channels ++ channel ∷ [] =
-      window-longer 16 first count written ring.first_below ring.count_within (length-set channels slot channel ∙ ring.channels_length) 0 has_room
-      ∙ ap₂ (λ (xs : List ℕ) (x : ℕ). xs ++ x ∷ [])
-      (window-set 16 first count channels ring.first_below ring.count_within ring.channels_length channel has_room)
-      (get_or-set_same channels slot channel 0 below) in
-      let more_payloads : map payload_octets (window first (count + 1) payloads) ≡ map payload_octets (window first count payloads) ++ (get_or payloads slot empty).items ∷ [] =
-      ap (map payload_octets) (window-longer 16 first count payloads ring.first_below ring.count_within ring.payloads_length empty has_room)
-      ∙ map-append payload_octets (window first count payloads) (get_or payloads slot empty ∷ []) in
-      ap₂ (λ (xs : List ℕ) (ys : List (List ℕ)). zip xs ys) more_channels more_payloads
-      ∙ zip-append (window first count channels) (map payload_octets (window first count payloads)) channel (get_or payloads slot empty).items (length-channels ∙ sym length-payloads)
+      let written = set headers slot header in
+      let below : slot < length headers = omega (arith, ring.headers_length) in
+      let more_headers : window first (count + 1) written ≡ window first count headers ++ header ∷ [] =
+      window-longer 16 first count written ring.first_below ring.count_within (length-set headers slot header ∙ ring.headers_length) no_header has_room
+      ∙ ap₂ (λ (xs : List Header) (x : Header). xs ++ x ∷ [])
+      (window-set 16 first count headers ring.first_below ring.count_within ring.headers_length header has_room)
+      (get_or-set_same headers slot header no_header below) in
+      let more_payloads : window first (count + 1) payloads ≡ window first count payloads ++ get_or payloads slot empty ∷ [] =
+      window-longer 16 first count payloads ring.first_below ring.count_within ring.payloads_length empty has_room in
+      ap₂ (λ (xs : List Header) (ys : List (ArrayVec ℕ)). map pdu_of (zip xs ys)) more_headers more_payloads
+      ∙ ap (map pdu_of) (zip-append (window first count headers) (window first count payloads) header (get_or payloads slot empty) (length-headers ∙ sym length-payloads))
+      ∙ map-append pdu_of (zip (window first count headers) (window first count payloads)) ((header, get_or payloads slot empty) ∷ [])
 
-  pub pdus-parts : 0 < count → (queued_of first count channels payloads).pdus
-      ≡ (get_or channels first 0, (get_or payloads first empty).items) ∷ (queued_of ((first + 1) % 16) (count - 1) channels payloads).pdus
+  pub pdus-parts : 0 < count → (queued_of first count headers payloads).pdus
+      ≡ pdu_of (get_or headers first no_header, get_or payloads first empty) ∷ (queued_of ((first + 1) % 16) (count - 1) headers payloads).pdus
   pdus-parts some =
-      ap₂ (λ (xs : List ℕ) (ys : List (ArrayVec ℕ)). zip xs (map payload_octets ys))
-      (window-shorter 16 first count channels ring.first_below ring.count_within ring.channels_length 0 some)
+      ap₂ (λ (xs : List Header) (ys : List (ArrayVec ℕ)). map pdu_of (zip xs ys))
+      (window-shorter 16 first count headers ring.first_below ring.count_within ring.headers_length no_header some)
       (window-shorter 16 first count payloads ring.first_below ring.count_within ring.payloads_length empty some)
 
-  pub pop_is : 0 < count → (queued_of ((first + 1) % 16) (count - 1) channels payloads).pdus ≡ drop 1 (queued_of first count channels payloads).pdus
+  pub pop_is : 0 < count → (queued_of ((first + 1) % 16) (count - 1) headers payloads).pdus ≡ drop 1 (queued_of first count headers payloads).pdus
   pop_is some = ap (drop 1) (sym (pdus-parts some))
 
-  pub front_is : 0 < count → slice_get (queued_of first count channels payloads).pdus 0 ≡ Some (get_or channels first 0, (get_or payloads first empty).items)
-  front_is some = ap (λ (xs : List (ℕ × List ℕ)). slice_get xs 0) (pdus-parts some)
+  pub front_is : 0 < count → slice_get (queued_of first count headers payloads).pdus 0 ≡ Some (pdu_of (get_or headers first no_header, get_or payloads first empty))
+  front_is some = ap (λ (xs : List Pdu). slice_get xs 0) (pdus-parts some)
 
   pub room_is : (written : ArrayVec ℕ) → count < 16
-      → queued_of first count channels (set payloads ((first + count) % 16) written)
-      ≡ record { pdus = (queued_of first count channels payloads).pdus; room = written.items }
+      → queued_of first count headers (set payloads ((first + count) % 16) written)
+      ≡ record { pdus = (queued_of first count headers payloads).pdus; room = written.items }
   room_is written has_room =
       let slot = (first + count) % 16 in
       let below : slot < length payloads = omega (arith, ring.payloads_length) in
-      ap₂ (λ (ys : List (ArrayVec ℕ)) (room : List ℕ). let held : Queued = record { pdus = zip (window first count channels) (map payload_octets ys); room = room } in held)
+      ap₂ (λ (ys : List (ArrayVec ℕ)) (room : List ℕ). let held : Queued = record { pdus = map pdu_of (zip (window first count headers) ys); room = room } in held)
       (window-set 16 first count payloads ring.first_below ring.count_within ring.payloads_length written has_room)
-      (ap payload_octets (get_or-set_same payloads slot written empty below))
+      (ap (λ (payload : ArrayVec ℕ). payload.items) (get_or-set_same payloads slot written empty below))
 
-  pub ring-push : (channel : ℕ) → count < 16 → IsRing first (count + 1) (set channels ((first + count) % 16) channel) payloads
-  ring-push channel has_room = record {
-    first_below = ring.first_below;
-    count_within = omega arith;
-    channels_length = length-set channels ((first + count) % 16) channel ∙ ring.channels_length;
+  pub ring-push : (header : Header) → count < 16 → header.len ≤ length (queued_of first count headers payloads).room
+      → IsRing first (count + 1) (set headers ((first + count) % 16) header) payloads
+  ring-push header has_room there =
+      let slot = (first + count) % 16 in
+      let written = set headers slot header in
+      let below : slot < length headers = omega (arith, ring.headers_length) in
+      record {
+        first_below = ring.first_below;
+        count_within = omega arith;
+        headers_length = length-set headers slot header ∙ ring.headers_length;
+        payloads_length = ring.payloads_length;
+        all_there = λ i in_range. elim (cases_lt i count) [
+          | inl older ↦ subst (λ (found : Header). found.len ≤ length (get_or payloads ((first + i) % 16) empty).items)
+              (sym (get_or-set_other headers slot ((first + i) % 16) header no_header (slot-apart 16 first count i ring.first_below has_room older)))
+              (ring.all_there i older)
+          | inr newest ↦ subst (λ (place : ℕ). HasAll written payloads ((first + place) % 16)) (omega arith)
+              (subst (λ (found : Header). found.len ≤ length (get_or payloads slot empty).items) (sym (get_or-set_same headers slot header no_header below)) there)
+        ];
+      }
+
+  pub ring-written : (written : ArrayVec ℕ) → count < 16 → IsRing first count headers (set payloads ((first + count) % 16) written)
+  ring-written written has_room =
+      let slot = (first + count) % 16 in
+      record {
+        first_below = ring.first_below;
+        count_within = ring.count_within;
+        headers_length = ring.headers_length;
+        payloads_length = length-set payloads slot written ∙ ring.payloads_length;
+        all_there = λ i in_range. subst (λ (found : ArrayVec ℕ). (get_or headers ((first + i) % 16) no_header).len ≤ length found.items)
+            (sym (get_or-set_other payloads slot ((first + i) % 16) written empty (slot-apart 16 first count i ring.first_below has_room in_range)))
+            (ring.all_there i in_range);
+      }
+
+  pub ring-pop : 0 < count → IsRing ((first + 1) % 16) (count - 1) headers payloads
+  ring-pop some = record {
+    first_below = grind (arith, mod_wraps_once 16 (first + 1) (omega (arith, ring.first_below)));
+    count_within = omega (arith, ring.count_within);
+    headers_length = ring.headers_length;
     payloads_length = ring.payloads_length;
+    all_there = λ i in_range. subst (HasAll headers payloads)
+        (ap (λ (n : ℕ). n % 16) (omega arith) ∙ sym (mod-add-mod (first + 1) 16 i))
+        (ring.all_there (1 + i) (omega arith));
   }
 
-  pub ring-written : (written : ArrayVec ℕ) → IsRing first count channels (set payloads ((first + count) % 16) written)
-  ring-written written = record {
-    first_below = ring.first_below;
-    count_within = ring.count_within;
-    channels_length = ring.channels_length;
-    payloads_length = length-set payloads ((first + count) % 16) written ∙ ring.payloads_length;
-  }
-
-  pub room-pop : 0 < count → (queued_of ((first + 1) % 16) (count - 1) channels payloads).room ≡ (queued_of first count channels payloads).room
+  pub room-pop : 0 < count → (queued_of ((first + 1) % 16) (count - 1) headers payloads).room ≡ (queued_of first count headers payloads).room
   room-pop some =
       let back : first + 1 + (count - 1) ≡ first + count = omega arith in
       let slot : ((first + 1) % 16 + (count - 1)) % 16 ≡ (first + count) % 16 = mod-add-mod (first + 1) 16 (count - 1) ∙ ap (λ (n : ℕ). n % 16) back in

@@ -1,13 +1,22 @@
-ghost use Rattle.std.specs.Prelude.{◌≡◌, ◌+◌, ◌<◌, ◌≤◌, ◌↔◌, [], ◌∷◌, ◌++◌, drop, length, vec_len, slice_get, IfOk, IfSome, Some, IsNone};
+ghost use Rattle.std.specs.Prelude.{◌≡◌, ◌+◌, ◌<◌, ◌≤◌, ◌↔◌, [], ◌∷◌, ◌++◌, take, drop, length, vec_len, slice_get, IfOk, IfSome, Some, IsNone};
 ghost use Rattle.std.specs.Borrow.{sem};
+ghost use Rattle.arrayvec.specs.ArrayVec.{array_vec_len};
 ghost use Rattle.octets.specs.declared.pdu.TheConstants.{MAX_PDU};
 
-use octets::{PduOctets, overwrite, write_parts};
+use octets::{MAX_PDU, PduOctets, write_parts};
 use std::alloc::{AllocError, Global};
 use std::marker::Model;
 
 /// How many PDUs of one connection are queued at most.
 pub const MAX_PDUS: usize = 16;
+
+/// The header of a PDU's frame: Core 5.0, Vol 3 Part A, 3.1.
+#[derive(Clone, Copy)]
+struct Header {
+    channel: u16,
+    /// How many octets at the front of its payload are the PDU's.
+    len: u16,
+}
 
 /// The payloads of PDUs, each at its place.
 #[derive(Drop)]
@@ -31,7 +40,7 @@ impl Payloads {
 #[derive(Drop)]
 pub(crate) struct Pdus {
     payloads: Payloads,
-    channels: [u16; MAX_PDUS],
+    headers: [Header; MAX_PDUS],
     first: usize,
     count: usize,
 }
@@ -44,9 +53,9 @@ impl Model for Pdus {
 
     ghost use Rattle.le_acl.specs.Pdus.{queued_of, IsRing};
 
-    ghost view = { λ p. queued_of p.first p.count p.channels p.payloads.items.items };
+    ghost view = { λ p. queued_of p.first p.count p.headers p.payloads.items.items };
 
-    ghost invariant = { λ p. IsRing p.first p.count p.channels p.payloads.items.items };
+    ghost invariant = { λ p. IsRing p.first p.count p.headers p.payloads.items.items };
 }
 
 impl Pdus {
@@ -60,7 +69,7 @@ impl Pdus {
             payloads: Payloads {
                 items: empty_payloads(alloc)?,
             },
-            channels: [0; MAX_PDUS],
+            headers: [Header { channel: 0, len: 0 }; MAX_PDUS],
             first: 0,
             count: 0,
         })
@@ -89,7 +98,27 @@ impl Pdus {
         requires { length self.old.pdus < MAX_PDUS }
         ensures { self.new.pdus ≡ self.old.pdus ++ (channel, self.old.room) ∷ [] }
     {
-        self.channels[(self.first + self.count) % MAX_PDUS] = channel;
+        let place = (self.first + self.count) % MAX_PDUS;
+        self.headers[place] = Header {
+            channel,
+            len: self.payloads.items[place].len() as u16,
+        };
+        self.count += 1;
+    }
+
+    /// Queues the first octets, so many, of what stands in the room.
+    #[inline(always)]
+    pub(crate) fn push_front(&mut self, channel: u16, count: usize)
+        requires room { length self.old.pdus < MAX_PDUS }
+        requires within { count ≤ length self.old.room }
+        ensures { self.new.pdus ≡ self.old.pdus ++ (channel, take count self.old.room) ∷ [] }
+    {
+        let place = (self.first + self.count) % MAX_PDUS;
+        prove!(count <= self.payloads.items[place].len());
+        self.headers[place] = Header {
+            channel,
+            len: count as u16,
+        };
         self.count += 1;
     }
 
@@ -101,9 +130,14 @@ impl Pdus {
         ensures { self.new.pdus ≡ self.old.pdus ++ (channel, front.now ++ rest.now) ∷ [] }
     {
         let place = (self.first + self.count) % MAX_PDUS;
-        self.channels[place] = channel;
+        self.headers[place] = Header {
+            channel,
+            len: (front.len() + rest.len()) as u16,
+        };
         self.count += 1;
-        replace(self.payloads.at_mut(place), front, rest);
+        let payload = self.payloads.at_mut(place);
+        lengthen(payload);
+        write_front(payload.as_mut_slice(), front, rest);
     }
 
     /// The channel and the payload of the first PDU.
@@ -117,10 +151,9 @@ impl Pdus {
         if self.count == 0 {
             return None;
         }
-        Some((
-            self.channels[self.first],
-            self.payloads.items[self.first].as_slice(),
-        ))
+        let header = self.headers[self.first];
+        let payload = self.payloads.items[self.first].as_slice();
+        Some((header.channel, &payload[..usize::from(header.len)]))
     }
 
     /// Drops the first PDU.
@@ -142,27 +175,34 @@ impl Pdus {
     }
 }
 
-/// Puts the octets of two places, one behind the other, in place of those of a payload. Where they are as
-/// many, its length stays.
+/// Writes the octets of two places, one behind the other, over the first of as many or more.
 #[inline(always)]
-fn replace(payload: &mut PduOctets, front: &[u8], rest: &[u8])
-    requires { length front.now + length rest.now ≤ MAX_PDU }
-    ensures { payload.new.items ≡ front.now ++ rest.now }
+fn write_front(out: &mut [u8], front: &[u8], rest: &[u8])
+    requires { length front.now + length rest.now ≤ length out.old }
+    ensures written { take (length front.now + length rest.now) out.new ≡ front.now ++ rest.now }
+    ensures size { length out.new ≡ length out.old }
 {
-    if payload.len() == front.len() + rest.len() {
-        write_parts(payload.as_mut_slice(), front, rest, &[]);
-    } else {
-        replace_others(payload, front, rest);
+    let count = front.len() + rest.len();
+    write_parts(&mut out[..count], front, rest, &[]);
+}
+
+/// Gives a payload its full length. It mostly has it.
+#[inline(always)]
+pub(crate) fn lengthen(payload: &mut PduOctets)
+    ensures { array_vec_len payload.new ≡ MAX_PDU }
+{
+    if payload.len() < MAX_PDU {
+        fill(payload);
     }
 }
 
-/// The same where they may be more or fewer.
+/// Puts zeros in place of a payload, as many octets as it has room for.
+#[cold]
 #[inline(never)]
-fn replace_others(payload: &mut PduOctets, front: &[u8], rest: &[u8])
-    requires { length front.now + length rest.now ≤ MAX_PDU }
-    ensures { payload.new.items ≡ front.now ++ rest.now }
+fn fill(payload: &mut PduOctets)
+    ensures { array_vec_len payload.new ≡ MAX_PDU }
 {
-    overwrite(payload, front, rest, &[]);
+    *payload = PduOctets::from([0; MAX_PDU]);
 }
 
 /// Payloads with nothing in them, for as many PDUs as may be.

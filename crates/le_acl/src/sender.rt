@@ -8,6 +8,7 @@ ghost use Rattle.le_acl.specs.History.{FollowsHistory};
 ghost use Rattle.le_acl.specs.Sending.{idle, queue_of, IsWithin, IsOfFirst};
 ghost use Rattle.le_acl.specs.declared.frame.TheConstants.{MAX_FRAME};
 ghost use Rattle.le_acl.specs.declared.sender.TheConstants.{MIN_ACL_LEN, MAX_ACL_LEN};
+ghost use Rattle.arrayvec.specs.ArrayVec.{array_vec_len};
 ghost use Rattle.octets.specs.Number.{Octets};
 ghost use Rattle.le_h4.specs.declared.packet_buf.TheConstants.{MAX_PACKET_OUT};
 ghost use Rattle.octets.specs.declared.pdu.TheConstants.{MAX_PDU};
@@ -15,7 +16,7 @@ ghost use Rattle.octets.specs.declared.pdu.TheConstants.{MAX_PDU};
 use crate::boundary::{CONTINUATION, FIRST_NOT_FLUSHED};
 use crate::fragment_ref::{FragmentRef, header_of};
 use crate::frame::HEADER;
-use crate::pdus::{MAX_PDUS, Pdus};
+use crate::pdus::{MAX_PDUS, Pdus, lengthen};
 use le_h4::{PacketBuf, PacketOctets, acl_into, write_acl_parts};
 use octets::PduOctets;
 use std::alloc::{AllocError, Global};
@@ -92,14 +93,27 @@ impl Sender {
         ensures full { IsOk result ↔ (length self.old.outgoing.queue < MAX_PDUS) }
         ensures empty { IfOk result (λ room. room.now.items ≡ []) }
     {
-        let room = self.room_to_overwrite()?;
+        let room = self.lend()?;
         room.clear();
         Ok(room)
     }
 
-    /// Lends the buffer for the payload of the next PDU as it is, for what replaces its content.
+    /// Lends the buffer for the payload of the next PDU at its full length, for octets that are written
+    /// over its front.
     #[inline(always)]
     pub fn room_to_overwrite(&mut self) -> Result<&mut PduOctets, Full>
+        ensures* writes_back { sem 𝓛 (LendsRoom self.entry result) }
+        ensures full { IsOk result ↔ (length self.old.outgoing.queue < MAX_PDUS) }
+        ensures long { IfOk result (λ room. array_vec_len room.now ≡ MAX_PDU) }
+    {
+        let room = self.lend()?;
+        lengthen(room);
+        Ok(room)
+    }
+
+    /// Lends the buffer for the payload of the next PDU as it is.
+    #[inline(always)]
+    fn lend(&mut self) -> Result<&mut PduOctets, Full>
         ensures* writes_back { sem 𝓛 (LendsRoom self.entry result) }
         ensures full { IsOk result ↔ (length self.old.outgoing.queue < MAX_PDUS) }
     {
@@ -118,6 +132,21 @@ impl Sender {
             ≡ record { outgoing = with_pdu self.old.outgoing (cid, payload); room = None } }
     {
         self.pdus.push(cid);
+        self.lent = false;
+    }
+
+    /// Queues the first octets, so many, of what stands in the room, as a PDU on a channel.
+    pub fn push_front(&mut self, cid: u16, count: usize)
+        requires lent { IsSome self.old.room }
+        requires within { (room : Octets) → self.old.room ≡ Some room → count ≤ length room }
+        ensures { (room : Octets) → self.old.room ≡ Some room
+            → self.new
+            ≡ record {
+              outgoing = with_pdu self.old.outgoing (cid, take count room);
+              room = None;
+            } }
+    {
+        self.pdus.push_front(cid, count);
         self.lent = false;
     }
 
