@@ -1,5 +1,6 @@
 -- What of a row stays when a table is replaced is a row of the new table, with the bits that were there.
-use Rattle.std.proofs.Common.{◌≡◌, ℕ, Bool, true, false, ◌==◌, ◌&&◌, if◌then◌else◌, List, [], ◌∷◌, refl, subst, ◌∙◌, arith}
+use Rattle.std.proofs.Common.{◌≡◌, ℕ, zero, suc, ◌+◌, Bool, true, false, ◌==◌, ◌&&◌, if◌then◌else◌, List, [], ◌∷◌, ◌++◌, take, Some, refl, ap, sym, subst, ◌∙◌, arith}
+use Rattle.std.specs.Prelude.{slice_get}
 use Rattle.std.proofs.lemmas.Bool.Decides.{nat_tests}
 use Rattle.std.specs.List.{All, filter}
 use Rattle.std.proofs.lemmas.List.Elements.{All-nil, All-cons, All-filter}
@@ -38,6 +39,30 @@ row-filter attributes test (entry ∷ row) =
       | true ↦ λ passes. All-cons P entry kept (grind arith) rest
       | false ↦ λ fails. rest
     ] refl
+
+-- an entry that stays behind others stays at their end
+behind : (first entry : Handle × ℕ) (row : Row) (one more : Bool)
+    → (if one then first ∷ (if more then row ++ entry ∷ [] else row) else (if more then row ++ entry ∷ [] else row))
+    ≡ (if more then (if one then first ∷ row else row) ++ entry ∷ [] else (if one then first ∷ row else row))
+behind first entry row true true = refl
+behind first entry row true false = refl
+behind first entry row false true = refl
+behind first entry row false false = refl
+
+-- what stays of one entry more
+filter_next : (test : Handle × ℕ → Bool) (row : Row) (place : ℕ) (entry : Handle × ℕ) → slice_get row place ≡ Some entry
+    → filter test (take (suc place) row) ≡ (if test entry then filter test (take place row) ++ entry ∷ [] else filter test (take place row))
+filter_next test [] place entry at = cc at
+filter_next test (first ∷ row) zero entry at = let same : first ≡ entry = cc at in ap (λ (of : Handle × ℕ). if test of then of ∷ [] else []) same
+filter_next test (first ∷ row) (suc place) entry at =
+    ap (λ (rest : Row). if test first then first ∷ rest else rest) (filter_next test row place entry at) ∙ behind first entry (filter test (take place row)) (test first) (test entry)
+
+pub kept_next : (old new : List Attr) (row : Row) (place : ℕ) (entry : Handle × ℕ) → slice_get row place ≡ Some entry
+    → (if is_supported new entry && has_its_meaning old new entry.0 then kept_row old new (take place row) ++ entry ∷ [] else kept_row old new (take place row))
+    ≡ kept_row old new (take (place + 1) row)
+kept_next old new row place entry at =
+    let next : suc place ≡ place + 1 = omega arith in
+    sym (filter_next (λ (of : Handle × ℕ). is_supported new of && has_its_meaning old new of.0) row place entry at) ∙ ap (λ (k : ℕ). kept_row old new (take k row)) next
 
 pub entries_of_kept : (old new : List Attr) (row : Row) → All IsEntry row → All IsEntry (kept_row old new row)
 entries_of_kept old new row all = All-filter _ IsEntry row all

@@ -1,9 +1,11 @@
 pub mod Configurations
 pub mod Digits
+pub mod Entries
 pub mod Facts
 pub mod Faults
 pub mod Found
 pub mod Kept
+pub mod Lanes
 pub mod Parsed
 pub mod Rows
 pub mod SearchExamples

@@ -1,6 +1,7 @@
 -- What the bits of a row are, as a search finds them and as a write leaves them.
-use Rattle.std.proofs.Common.{◌≡◌, ◌≢◌, ℕ, zero, suc, ◌-◌, ◌<◌, ◌≤◌, true, false, ◌==◌, [], ◌∷◌, ◌++◌, get_or, set, Some, None, if◌then◌else◌, refl, ap, sym, ◌∙◌, arith}
+use Rattle.std.proofs.Common.{◌≡◌, ◌≢◌, ℕ, zero, suc, ◌-◌, ◌<◌, ◌≤◌, true, false, ◌==◌, [], ◌∷◌, ◌++◌, get_or, set, Some, None, if◌then◌else◌, refl, ap, sym, subst, ◌∙◌, arith}
 use Rattle.std.specs.List.{All, position}
+use Rattle.std.specs.Prelude.{slice_get}
 use Rattle.std.proofs.lemmas.Bool.Decides.{nat_tests}
 use Rattle.std.proofs.lemmas.Grind.{common_steps}
 use Rattle.std.proofs.lemmas.List.Elements.{All-nil, All-cons, All-head, All-tail}
@@ -45,6 +46,12 @@ append_missing (entry ∷ row) handle bits has = grind (arith, append_missing ro
 pub bits_at_le : (row : Row) (handle : ℕ) → All IsEntry row → bits_at row handle ≤ 3
 bits_at_le [] handle all = omega arith
 bits_at_le (entry ∷ row) handle all = grind (arith, All-head IsEntry entry row all, bits_at_le row handle (All-tail IsEntry entry row all))
+
+-- each entry is one
+pub is_entry_at : (row : Row) (place : ℕ) (entry : Handle × ℕ) → All IsEntry row → slice_get row place ≡ Some entry → IsEntry entry
+is_entry_at [] place entry all at = cc at
+is_entry_at (first ∷ row) zero entry all at = let same : first ≡ entry = cc at in subst IsEntry same (All-head IsEntry first row all)
+is_entry_at (first ∷ row) (suc place) entry all at = is_entry_at row place entry (All-tail IsEntry first row all) at
 
 -- the bits that were set are there
 pub bits_at_written : (row : Row) (handle bits : ℕ) → bits_at (with_bits row handle bits) handle ≡ bits

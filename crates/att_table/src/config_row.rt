@@ -1,11 +1,10 @@
-ghost use Rattle.std.specs.Prelude.{◌≡◌, ◌≢◌, ℕ, ◌-◌, ◌<◌, ◌≤◌, ◌==◌, true, All, List, [], length, position, IsTrue};
-ghost use Rattle.std.specs.Bool.{OnTrue, OnFalse};
+ghost use Rattle.std.specs.Prelude.{◌≡◌, ◌≢◌, ℕ, ◌+◌, ◌-◌, ◌<◌, ◌≤◌, ◌==◌, ◌&&◌, ◌++◌, ◌∷◌, if◌then◌else◌, true, All, List, [], length, slice_get, Some, IsTrue};
 ghost use Rattle.att_attributes.specs.declared.attr.Attr.{Attr};
 ghost use Rattle.att_attributes.specs.Attributes.{is_configuration_at, type_at};
-ghost use Rattle.att_table.specs.ConfigRow.{bits_at, with_bits, has_entry, has_its_meaning, has_room, kept_bits, kept_row, HasOneEntryEach, IsEntry, IsRowOf};
+ghost use Rattle.att_table.specs.ConfigRow.{bits_at, with_bits, has_its_meaning, has_room, is_supported, kept_bits, kept_row, HasOneEntryEach, IsEntry, IsRowOf};
 
+use crate::row_entries::RowEntries;
 use crate::table::Table;
-use arrayvec::ArrayVec;
 use att_attributes::Role;
 use att_numbers::limit::MAX_CONFIGURATIONS;
 use std::marker::Model;
@@ -14,7 +13,7 @@ use std::marker::Model;
 /// handle. (Core 5.0, Vol 3 Part G, 3.3.3.3)
 #[derive(Drop)]
 pub struct ConfigRow {
-    entries: ArrayVec<(u16, u8), MAX_CONFIGURATIONS>,
+    entries: RowEntries,
 }
 
 impl Model for ConfigRow {
@@ -24,10 +23,10 @@ impl Model for ConfigRow {
 
     ghost Value = { Row };
 
-    ghost view = { λ row. row.entries.items };
+    ghost view = { λ row. row.entries };
 
-    ghost invariant = { λ row. All IsEntry row.entries.items
-        × HasOneEntryEach row.entries.items };
+    ghost invariant = { λ row. All IsEntry row.entries
+        × HasOneEntryEach row.entries };
 }
 
 impl ConfigRow {
@@ -36,37 +35,58 @@ impl ConfigRow {
         ensures { result ≡ [] }
     {
         ConfigRow {
-            entries: ArrayVec::new(),
+            entries: RowEntries::new(),
         }
     }
 
     /// The bits at a handle: 0 where the row has no entry.
+    #[inline(always)]
     #[tactic(auto, using(crate::proofs::Rows::bits_at_le))]
     pub fn get(&self, handle: u16) -> u8
         ensures bits { result ≡ bits_at self.now handle }
         ensures known { result ≤ 3 }
     {
-        bits_in(&self.entries, handle)
+        self.entries.bits_at(handle)
     }
 
-    /// The entries, in the order in which their handles were set first.
-    pub fn entries(&self) -> &[(u16, u8)]
-        ensures entries { result.now ≡ self.now }
-        ensures most { length self.now ≤ MAX_CONFIGURATIONS }
-        ensures known { All IsEntry self.now }
+    /// How many entries there are.
+    #[inline(always)]
+    pub fn len(&self) -> usize
+        ensures value { result ≡ length self.now }
+        ensures most { result ≤ MAX_CONFIGURATIONS }
     {
-        &self.entries
+        self.entries.len()
+    }
+
+    /// Whether there is no entry.
+    #[inline(always)]
+    pub fn is_empty(&self) -> bool
+        ensures { result ≡ (length self.now == 0) }
+    {
+        self.entries.len() == 0
+    }
+
+    /// The entry at a place, a handle and its bits. Entries stand in the order in which their handles
+    /// were set first.
+    #[tactic(auto, using(crate::proofs::Rows::is_entry_at))]
+    pub fn entry(&self, place: usize) -> (u16, u8)
+        requires { place < length self.now }
+        ensures entry { slice_get self.now place ≡ Some result }
+        ensures known { IsEntry result }
+    {
+        self.entries.get(place)
     }
 
     /// Whether the bits at a handle can be set: its entry is there, or there is room for it.
     pub fn can_set(&self, handle: u16) -> bool
         ensures { result ≡ has_room self.now handle }
     {
-        contains_handle(&self.entries, handle) || !self.entries.is_full()
+        self.entries.contains(handle) || self.entries.len() < MAX_CONFIGURATIONS
     }
 
     /// Sets the bits at a handle. The row has an entry there, or room for one: it has for each
     /// configuration of a table if all its handles are those of configurations of that table.
+    #[inline(never)]
     #[tactic(auto, using(crate::proofs::Rows::writes, crate::proofs::Configurations::row_of))]
     pub fn set(&mut self, handle: u16, bits: u8)
         requires handle { 0 < handle }
@@ -96,12 +116,28 @@ impl ConfigRow {
 }
 
 // Drops the entries that do not stay when a table is replaced. It stands apart for its proof.
-fn retain_kept(entries: &mut ArrayVec<(u16, u8), MAX_CONFIGURATIONS>, old: &Table, new: &Table)
-    ensures { entries.new.items
-        ≡ kept_row old.now.attributes new.now.attributes entries.old.items }
+fn retain_kept(entries: &mut RowEntries, old: &Table, new: &Table)
+    ensures { entries.new ≡ kept_row old.now.attributes new.now.attributes entries.old }
 {
-    entries.retain(|&mut (handle, bits)| new.supports(handle, bits)
-        && has_its_meaning(old, new, handle));
+    let mut kept = RowEntries::new();
+    for place in 0..entries.len() {
+        let (handle, bits) = entries.get(place);
+        keep_entry(&mut kept, old, new, handle, bits);
+    }
+    *entries = kept;
+}
+
+// Appends an entry if it stays.
+fn keep_entry(kept: &mut RowEntries, old: &Table, new: &Table, handle: u16, bits: u8)
+    requires { length kept.old < MAX_CONFIGURATIONS }
+    ensures kept { kept.new ≡ (if is_supported new.now.attributes (handle, bits)
+        && has_its_meaning old.now.attributes new.now.attributes handle
+        then kept.old ++ (handle, bits) ∷ [] else kept.old) }
+    ensures most { length kept.new ≤ length kept.old + 1 }
+{
+    if new.supports(handle, bits) && has_its_meaning(old, new, handle) {
+        kept.push(handle, bits);
+    }
 }
 
 // Whether a configuration is one of a value of the same type in both tables.
@@ -132,53 +168,12 @@ fn configured_type(table: &Table, handle: u16) -> u128
 }
 
 // Writes the bits over those at a handle, or appends an entry where there is none.
-#[tactic(auto, using(std::proofs::lemmas::Grind::common_steps, crate::proofs::Rows::append_missing))]
-fn write(entries: &mut ArrayVec<(u16, u8), MAX_CONFIGURATIONS>, handle: u16, bits: u8)
-    requires { IsTrue (has_room entries.old.items handle) }
-    ensures { entries.new.items ≡ with_bits entries.old.items handle bits }
+#[tactic(auto, using(crate::proofs::Rows::append_missing))]
+fn write(entries: &mut RowEntries, handle: u16, bits: u8)
+    requires { IsTrue (has_room entries.old handle) }
+    ensures { entries.new ≡ with_bits entries.old handle bits }
 {
-    if !overwrite(entries, handle, bits) {
-        entries.push((handle, bits));
+    if !entries.overwrite(handle, bits) {
+        entries.push(handle, bits);
     }
-}
-
-// Writes the bits over those at a handle, or answers `false` where there is no entry.
-#[tactic(auto, using(crate::proofs::Rows::places))]
-fn overwrite(entries: &mut [(u16, u8)], handle: u16, bits: u8) -> bool
-    ensures found { result ≡ has_entry entries.old handle }
-    ensures written { OnTrue result (entries.new ≡ with_bits entries.old handle bits) }
-    ensures unchanged { OnFalse result (entries.new ≡ entries.old) }
-{
-    match place_of(entries, handle) {
-        Some(place) => {
-            entries[place] = (handle, bits);
-            true
-        }
-        None => false,
-    }
-}
-
-// Where the entry at a handle is.
-fn place_of(entries: &[(u16, u8)], handle: u16) -> Option<usize>
-    ensures { result ≡ position (λ entry. entry.0 == handle) entries.now }
-{
-    entries.iter().position(|entry| entry.0 == handle)
-}
-
-// The bits at a handle: 0 where there is no entry.
-#[tactic(auto, using(crate::proofs::Rows::places))]
-fn bits_in(entries: &[(u16, u8)], handle: u16) -> u8
-    ensures { result ≡ bits_at entries.now handle }
-{
-    match place_of(entries, handle) {
-        Some(place) => entries[place].1,
-        None => 0,
-    }
-}
-
-// Whether there is an entry at a handle. It stands apart for its proof.
-fn contains_handle(entries: &[(u16, u8)], handle: u16) -> bool
-    ensures { result ≡ has_entry entries.now handle }
-{
-    entries.iter().any(|entry| entry.0 == handle)
 }

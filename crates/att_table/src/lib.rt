@@ -6,6 +6,7 @@ mod config_row;
 pub mod examples;
 mod file;
 mod find;
+mod row_entries;
 mod table;
 mod table_builder;
 mod table_fault;

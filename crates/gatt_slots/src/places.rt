@@ -160,7 +160,7 @@ impl Slot {
     fn may_listen(&self) -> bool
         ensures { result ≡ may_listen self.now }
     {
-        self.used == Use::Live && (self.link.facts().is_some() || !self.row.entries().is_empty())
+        self.used == Use::Live && (self.link.facts().is_some() || !self.row.is_empty())
     }
 }
 

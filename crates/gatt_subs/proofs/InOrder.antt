@@ -1,10 +1,18 @@
 -- Lists that are kept in an order.
-use Rattle.std.proofs.Common.{◌≡◌, ℕ, suc, ◌+◌, ◌≤◌, Bool, true, false, not, nat_lt, if◌then◌else◌, List, [], ◌∷◌, length, Option, Some, None, refl, ap, ◌∙◌, arith}
+use Rattle.std.proofs.Common.{◌≡◌, ℕ, suc, ◌+◌, ◌≤◌, ◌==◌, Bool, true, false, not, nat_lt, if◌then◌else◌, List, [], ◌∷◌, length, drop, Option, Some, None, refl, ap, sym, ◌∙◌, arith}
 use Rattle.std.specs.List.{insert, position, position_or_len}
 use Rattle.std.specs.Option.{unwrap_or}
+use Rattle.std.specs.Prelude.{slice_get}
+use Rattle.std.proofs.lemmas.List.{at_drop_more}
+use Rattle.std.proofs.lemmas.Option.{slice_get_within, get_or_from_slice_get}
 use Rattle.std.proofs.lemmas.List.Sums.{prefix_len-le-length}
 use Rattle.std.proofs.lemmas.Bool.Decides.{nat_tests}
+use Rattle.att_numbers.specs.Types.{Handle, Row}
+use Rattle.le_hci.specs.declared.peer.Peer.{Peer}
+use Rattle.gatt_subs.specs.declared.row_entry.RowEntry.{RowEntry}
 use Rattle.gatt_subs.specs.InOrder.{in_order}
+use Rattle.gatt_subs.specs.RowEntry.{order_of}
+use Rattle.gatt_subs.specs.RowsText.{entries_with}
 
 -- the place that is found, or else the end
 place_or_end : {X : Type 0} (test : X → Bool) (xs : List X) → unwrap_or (position test xs) (length xs) ≡ position_or_len test xs
@@ -46,3 +54,11 @@ pub place_or_end_within : {X : Type 0} (test : X → Bool) (xs : List X) → unw
 place_or_end_within test xs = omega (arith, place_or_end test xs, prefix_len-le-length (λ x. not (test x)) xs)
 
 pub ruleset inserts = (place_or_end_within)
+
+-- a step of the loop over the entries of a row
+pub entries_next : (entries : List RowEntry) (peer : Peer) (row : Row) (place : ℕ) (entry : Handle × ℕ) → slice_get row place ≡ Some entry
+    → entries_with (if entry.1 == 0 then entries else in_order order_of (record { peer = peer; handle = entry.0; bits = entry.1 }) entries) peer (drop (place + 1) row)
+    ≡ entries_with entries peer (drop place row)
+entries_next entries peer row place entry at =
+    ap (λ (of : Handle × ℕ). entries_with entries peer (of ∷ drop (place + 1) row)) (sym (get_or_from_slice_get row place entry entry at))
+    ∙ sym (at_drop_more (λ (left : Row). entries_with entries peer left) row place entry (slice_get_within row place entry at))

@@ -6,7 +6,8 @@ use Rattle.std.proofs.lemmas.Bool.Decides.{nat_tests}
 use Rattle.std.proofs.lemmas.Grind.{common_steps}
 use Rattle.std.specs.Option.{option_map, option_map_or}
 use Rattle.std.proofs.lemmas.List.{at_drop_more, map_more}
-use Rattle.std.proofs.lemmas.Option.{slice_get-get_or}
+use Rattle.std.proofs.lemmas.Option.{slice_get-get_or, slice_get_within, get_or_from_slice_get}
+use Rattle.std.specs.Prelude.{slice_get}
 use Rattle.att_numbers.specs.Types.{Handle, Row}
 use Rattle.att_policy.specs.declared.guard.Properties.{Properties}
 use Rattle.att_policy.specs.declared.guard.TheConstants.Properties.{NOTIFY, INDICATE}
@@ -59,7 +60,7 @@ supported_bits attributes handle bits is =
 pub ruleset supports = (supported_configuration, supported_handle, supported_bits)
 
 -- a step of the loops that fit rows
-pub fits_more : (attributes : List Attr) (row entries : Row) (i : ℕ) (d : Handle × ℕ) → i < length entries
+fits_more : (attributes : List Attr) (row entries : Row) (i : ℕ) (d : Handle × ℕ) → i < length entries
     → with_entries (if is_supported attributes (get_or entries i d) then with_bits row (get_or entries i d).0 (get_or entries i d).1 else row) (filter (is_supported attributes) (drop (i + 1) entries))
     ≡ with_entries row (filter (is_supported attributes) (drop i entries))
 fits_more attributes row entries i d within =
@@ -70,6 +71,14 @@ fits_more attributes row entries i d within =
       | false ↦ refl
     ]
     ∙ sym (at_drop_more (λ (left : Row). with_entries row (filter (is_supported attributes) left)) entries i d within)
+
+pub fits_next : (attributes : List Attr) (row entries : Row) (place : ℕ) (entry : Handle × ℕ) → slice_get entries place ≡ Some entry
+    → with_entries (if is_supported attributes entry then with_bits row entry.0 entry.1 else row) (filter (is_supported attributes) (drop (place + 1) entries))
+    ≡ with_entries row (filter (is_supported attributes) (drop place entries))
+fits_next attributes row entries place entry at =
+    let rest = filter (is_supported attributes) (drop (place + 1) entries) in
+    ap (λ (of : Handle × ℕ). with_entries (if is_supported attributes of then with_bits row of.0 of.1 else row) rest) (sym (get_or_from_slice_get entries place entry entry at))
+    ∙ fits_more attributes row entries place entry (slice_get_within entries place entry at)
 
 -- the same of what was read: entries of other peers are passed over
 pub fits_entry : (attributes : List Attr) (row : Row) (entries : List RowEntry) (peer : Peer) (i : ℕ) (d : RowEntry) → i < length entries → same_peer (get_or entries i d).peer peer ≡ true

@@ -38,11 +38,12 @@ fn add_peer(peers: &mut Vec<Peer>, peer: Peer) -> Result<(), AllocError>
 }
 
 /// A row of those entries of another that a table supports.
-pub fn fit_row(entries: &[(u16, u8)], table: &Table) -> ConfigRow
-    ensures { result ≡ row_fitted table.now.attributes entries.now }
+pub fn fit_row(other: &ConfigRow, table: &Table) -> ConfigRow
+    ensures { result ≡ row_fitted table.now.attributes other.now }
 {
     let mut row = ConfigRow::new();
-    for &(handle, bits) in entries {
+    for place in 0..other.len() {
+        let (handle, bits) = other.entry(place);
         set_supported(&mut row, table, handle, bits);
     }
     row

@@ -144,7 +144,7 @@ impl Rows {
         ensures { result ≡ row_fitted table.now.attributes (row_read self.now peer.now) }
     {
         match place_of(&self.peers, peer) {
-            Some(place) => fit::fit_row(self.bonds[place].row.entries(), table),
+            Some(place) => fit::fit_row(&self.bonds[place].row, table),
             None => fit::fit_entries(self.unfitted.entries(), peer, table),
         }
     }

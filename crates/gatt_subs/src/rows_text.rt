@@ -1,6 +1,6 @@
 //! The text of rows.
 
-ghost use Rattle.std.specs.Prelude.{◌≡◌, ◌+◌, ◌≤◌, ◌<◌, ◌++◌, [], if◌then◌else◌, length, OnOk, OnErr};
+ghost use Rattle.std.specs.Prelude.{◌≡◌, ◌+◌, ◌≤◌, ◌<◌, ◌==◌, ◌++◌, [], if◌then◌else◌, length, OnOk, OnErr};
 ghost use Rattle.std.specs.Fmt.{decimal};
 ghost use Rattle.std.specs.Io.KnownBytes.{Appends};
 ghost use Rattle.std.specs.List.{flat_map};
@@ -122,19 +122,24 @@ fn entries_of(peer: &Peer, row: &ConfigRow) -> ArrayVec<RowEntry, MAX_CONFIGURAT
     ensures { result.items ≡ entries_of peer.now row.now }
 {
     let mut entries = ArrayVec::new();
-    for &(handle, bits) in row.entries() {
-        if bits != 0 {
-            insert_in_order(
-                &mut entries,
-                RowEntry {
-                    peer: *peer,
-                    handle,
-                    bits,
-                },
-            );
-        }
+    for place in 0..row.len() {
+        let (handle, bits) = row.entry(place);
+        let peer = *peer;
+        insert_configured(&mut entries, RowEntry { peer, handle, bits });
     }
     entries
+}
+
+/// Puts an entry in its place in the order of a rows file, if it has bits.
+fn insert_configured(entries: &mut ArrayVec<RowEntry, MAX_CONFIGURATIONS>, entry: RowEntry)
+    requires { array_vec_len entries.old < MAX_CONFIGURATIONS }
+    ensures items { entries.new.items ≡ (if entry.bits == 0 then entries.old.items
+        else in_order order_of entry entries.old.items) }
+    ensures len { array_vec_len entries.new ≤ array_vec_len entries.old + 1 }
+{
+    if entry.bits != 0 {
+        insert_in_order(entries, entry);
+    }
 }
 
 /// Puts an entry in its place in the order of a rows file.
