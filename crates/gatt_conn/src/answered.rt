@@ -249,6 +249,7 @@ fn exchange_mtu(conn: &mut Conn, client_rx_mtu: u16, out: &mut PduBuf<'_>) -> Se
 }
 
 /// Answers a request by an error.
+#[inline(never)]
 pub(crate) fn refuse(request_opcode: u8, handle: u16, code: u8, out: &mut PduBuf<'_>) -> Served
     ensures { ServesRequest (Some (ErrorResponse request_opcode handle code)) out.old out.new
         result }
