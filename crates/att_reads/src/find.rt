@@ -41,12 +41,12 @@ pub fn information(attributes: &[Attr], start: u16, out: &mut PduBuf<'_>)
         );
         return;
     };
-    let (format, size) = if is_of_16_bits(first.kind) {
-        (SHORT_TYPES, 4)
+    // Each is a copy for one size, in which the other is never asked for.
+    if is_of_16_bits(first.kind) {
+        list(attributes, SHORT_TYPES, 4, out);
     } else {
-        (LONG_TYPES, 18)
-    };
-    list(attributes, format, size, out);
+        list(attributes, LONG_TYPES, 18, out);
+    }
 }
 
 /// Lists these attributes, up to the first that has another size or does not fit.
