@@ -98,7 +98,7 @@ fn serve(
     ensures answered { IsAnswered pdu.now table.old table.new row.old row.new conn.old conn.new
         touched.new.items result.confirmed }
 {
-    touched.clear();
+    forget(touched);
     // Each arm is a copy for one form, the frequent ones, in which the others are never asked for.
     match pdu.first() {
         Some(&opcode::READ_REQUEST) => serve_form(table, row, conn, pdu, out, touched),
@@ -117,6 +117,16 @@ fn serve(
         Some(&opcode::HANDLE_VALUE_CONFIRMATION) => serve_form(table, row, conn, pdu, out, touched),
         _ => serve_form(table, row, conn, pdu, out, touched),
     }
+}
+
+/// Drops the handles that an earlier PDU wrote. There is one at most but where prepared writes were made,
+/// so that one is dropped first, which takes no loop.
+#[inline(always)]
+fn forget(touched: &mut Touched)
+    ensures { touched.new.items ≡ [] }
+{
+    touched.pop();
+    touched.clear();
 }
 
 /// Answers a PDU of any form, where `touched` holds nothing yet.
