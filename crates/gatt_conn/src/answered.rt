@@ -119,14 +119,18 @@ fn serve(
     }
 }
 
-/// Drops the handles that an earlier PDU wrote. There is one at most but where prepared writes were made,
-/// so that one is dropped first, which takes no loop.
+/// Drops the handles that an earlier PDU wrote: mostly one, if any, which takes no loop.
 #[inline(always)]
 fn forget(touched: &mut Touched)
     ensures { touched.new.items ≡ [] }
 {
-    touched.pop();
-    touched.clear();
+    match touched.len() {
+        0 => {}
+        1 => {
+            touched.pop();
+        }
+        _ => touched.clear(),
+    }
 }
 
 /// Answers a PDU of any form, where `touched` holds nothing yet.
