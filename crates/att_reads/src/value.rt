@@ -4,8 +4,8 @@
 ghost use Rattle.std.specs.Prelude.{◌≡◌, ◌-◌, [], ◌∷◌, map, take, drop};
 ghost use Rattle.std.specs.Int.{w16, from_le_bytes};
 ghost use Rattle.att_pdu.specs.PduBuf.{contents, mtu_of, IsSameBuffer};
-ghost use Rattle.att_numbers.specs.declared.opcode.TheConstants.{READ_BLOB_REQUEST};
-ghost use Rattle.att_pdu.specs.Response.{sent, ReadBlobResponse};
+ghost use Rattle.att_numbers.specs.declared.opcode.TheConstants.{READ_BLOB_REQUEST, READ_MULTIPLE_REQUEST};
+ghost use Rattle.att_pdu.specs.Response.{sent, ErrorResponse, ReadBlobResponse};
 ghost use Rattle.att_reads.specs.Answer.{value_answer, part_answer, multiple_answer};
 ghost use Rattle.att_reads.specs.Refusals.{unless_refused, offset_refusal};
 
@@ -75,9 +75,19 @@ pub fn read_multiple(reader: Reader<'_>, handles: &[[u8; 2]], out: &mut PduBuf<'
         match reader.read(handle) {
             Ok(value) => out.front(value),
             Err(code) => {
-                out.error(opcode::READ_MULTIPLE_REQUEST, handle, code);
+                refuse_multiple(handle, code, out);
                 return;
             }
         }
     }
+}
+
+/// Refuses a Read Multiple Request. It is not inlined, so that its loop has few values to keep.
+#[inline(never)]
+fn refuse_multiple(handle: u16, code: u8, out: &mut PduBuf<'_>)
+    ensures refused { contents out.new
+        ≡ sent (ErrorResponse READ_MULTIPLE_REQUEST handle code) }
+    ensures same_buffer { IsSameBuffer out.old out.new }
+{
+    out.error(opcode::READ_MULTIPLE_REQUEST, handle, code);
 }
