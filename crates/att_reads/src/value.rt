@@ -44,6 +44,7 @@ pub fn read_blob(reader: Reader<'_>, handle: u16, offset: u16, out: &mut PduBuf<
 }
 
 /// Answers with the part of a value from an offset on.
+#[inline(always)]
 fn part(value: &[u8], handle: u16, offset: u16, out: &mut PduBuf<'_>)
     ensures answer { contents out.new
         ≡ sent (unless_refused READ_BLOB_REQUEST (offset_refusal handle offset value.now ∷ [])
