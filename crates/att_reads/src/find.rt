@@ -4,9 +4,10 @@ ghost use Rattle.std.specs.Prelude.{◌≡◌, ◌-◌, ◌<◌, ◌≤◌, ◌+
 ghost use Rattle.std.specs.List.{list_any};
 ghost use Rattle.std.specs.Bool.{OnTrue};
 ghost use Rattle.att_numbers.specs.declared.opcode.TheConstants.{FIND_INFORMATION_REQUEST, FIND_INFORMATION_RESPONSE, FIND_BY_TYPE_VALUE_REQUEST};
+ghost use Rattle.att_numbers.specs.declared.error_code.TheConstants.{ATTRIBUTE_NOT_FOUND};
 ghost use Rattle.att_pdu.specs.PduBuf.{contents, mtu_of, IsSameBuffer, AppendsWhereFits};
 ghost use Rattle.att_pdu.specs.declared.pdu_buf.TheConstants.{MAX_MTU};
-ghost use Rattle.att_pdu.specs.Response.{element_octets, sent, FindInformationResponse, FindByTypeValueResponse};
+ghost use Rattle.att_pdu.specs.Response.{element_octets, sent, ErrorResponse, FindInformationResponse, FindByTypeValueResponse};
 ghost use Rattle.att_attributes.specs.Attributes.{attribute_at};
 ghost use Rattle.att_reads.specs.Answer.{is_match, with_groups, group_of, information_of, information_format};
 ghost use Rattle.att_reads.specs.Listing.{size_of_first, elements_within, with_listed, PutsNext};
@@ -128,12 +129,23 @@ pub fn by_type_value(
 {
     out.replace(&[opcode::FIND_BY_TYPE_VALUE_RESPONSE], &[]);
     if !append_matches(reader, handles, value, out) {
-        out.error(
-            opcode::FIND_BY_TYPE_VALUE_REQUEST,
-            start,
-            error_code::ATTRIBUTE_NOT_FOUND,
-        );
+        find_none(start, out);
     }
+}
+
+/// Answers that no attribute has the value. It is not inlined, so that the loop before it has few values
+/// to keep.
+#[inline(never)]
+fn find_none(start: u16, out: &mut PduBuf<'_>)
+    ensures error { contents out.new
+        ≡ sent (ErrorResponse FIND_BY_TYPE_VALUE_REQUEST start ATTRIBUTE_NOT_FOUND) }
+    ensures same_buffer { IsSameBuffer out.old out.new }
+{
+    out.error(
+        opcode::FIND_BY_TYPE_VALUE_REQUEST,
+        start,
+        error_code::ATTRIBUTE_NOT_FOUND,
+    );
 }
 
 /// Appends the groups of these attributes that have the value, as many as fit, and tells whether

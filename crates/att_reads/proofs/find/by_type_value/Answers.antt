@@ -15,7 +15,7 @@ returns-then-not-append_matches-clause-answer c =
     let reader = c.args.reader in
     let test = is_match reader.table.now reader.row.now reader.standing.now c.args.value.now in
     let none = filter_none test c.args.handles.now (sym c.append_matches.ensures.any ∙ c.if-not-append_matches.true) in
-    c.error.ensures.error
+    c.find_none.ensures.error
     ∙ sym (ap (λ found. sent (unless_refused FIND_BY_TYPE_VALUE_REQUEST (not_found c.args.start found ∷ [])
     (FindByTypeValueResponse (map (group_of reader.table.now) (take ((mtu_of c.args.out.now - 1) / 4) found))))) none)
 
