@@ -1,3 +1,4 @@
 pub mod Accepted
+pub mod Ends
 pub mod Handles
 pub mod LongUuid

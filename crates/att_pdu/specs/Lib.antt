@@ -1,3 +1,4 @@
+pub mod End
 pub mod Form
 pub mod Grammar
 pub mod PduBuf

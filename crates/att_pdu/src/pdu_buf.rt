@@ -1,12 +1,13 @@
-ghost use Rattle.std.specs.Prelude.{◌≡◌, ◌+◌, ◌-◌, ◌≤◌, ◌↔◌, [], ◌∷◌, ◌++◌, length, IsTrue, take, drop, replicate};
+ghost use Rattle.std.specs.Prelude.{◌≡◌, ◌+◌, ◌-◌, ◌≤◌, ◌↔◌, [], ◌∷◌, ◌++◌, length, IsTrue, take, drop};
 ghost use Rattle.std.specs.Bool.{OnTrue, OnFalse};
 ghost use Rattle.octets.specs.Number.{two_octets};
 ghost use Rattle.arrayvec.specs.ArrayVec.{array_vec_len};
+ghost use Rattle.att_pdu.specs.End.{length_in, needed};
 ghost use Rattle.att_pdu.specs.declared.pdu_buf.TheConstants.{MAX_MTU, MIN_MTU};
 
 use att_numbers::limit::MAX_VALUE;
 use att_numbers::opcode;
-use octets::{MAX_PDU, PduOctets, overwrite};
+use octets::{MAX_PDU, PduOctets, write_parts};
 
 /// The least ATT_MTU of an LE link, in octets: Core 5.0, Vol 3 Part G, 5.2.1.
 pub const MIN_MTU: u16 = 23;
@@ -19,20 +20,31 @@ const _: () = prove!(1 + 2 + 2 + MAX_VALUE == MAX_PDU);
 /// What makes a PDU longer.
 const ZEROS: [u8; MAX_PDU] = [0; MAX_PDU];
 
+/// Where a PDU ends in its buffer.
+#[derive(Clone, Copy)]
+pub(crate) enum End {
+    /// Where the buffer ends.
+    OfBuffer,
+    /// Before this octet of a buffer that keeps its length, so that none of its octets is cleared.
+    Before(usize),
+}
+
 /// A PDU that is being put together in a buffer of its caller's, and never outgrows an ATT_MTU of
 /// `MIN_MTU` to `MAX_MTU` octets.
 #[derive(Drop)]
 pub struct PduBuf<'a> {
     octets: &'a mut PduOctets,
+    end: End,
     /// As long as an address, so that no octets between the two have to be blanked.
     mtu: usize,
     pub ghost least: { MIN_MTU ≤ mtu },
     pub ghost most: { mtu ≤ MAX_MTU },
-    pub ghost within: { array_vec_len octets.now ≤ mtu },
+    pub ghost within: { length_in end (array_vec_len octets.now) ≤ mtu },
+    pub ghost room: { needed end mtu ≤ array_vec_len octets.now },
 }
 
 impl<'a> PduBuf<'a> {
-    ghost use Rattle.att_pdu.specs.PduBuf.{contents, mtu_of, IsIn, IsSameBuffer, AppendsWhereFits};
+    ghost use Rattle.att_pdu.specs.PduBuf.{contents, mtu_of, IsIn, IsOver, StandsOver, IsSameBuffer, AppendsWhereFits};
     ghost use Rattle.att_pdu.specs.Response.{OfAttribute, OfGroup, element_octets, ErrorResponse, sent};
 
     /// An empty PDU in `octets`, whose content is dropped.
@@ -46,13 +58,14 @@ impl<'a> PduBuf<'a> {
         octets.clear();
         PduBuf {
             octets,
+            end: End::OfBuffer,
             mtu: usize::from(mtu),
         }
     }
 
-    /// What `octets` hold, up to the ATT_MTU, for what replaces it.
+    /// The PDU that `octets` hold, cut to the ATT_MTU, for what replaces it.
     #[inline(always)]
-    pub fn over(octets: &'a mut PduOctets, mtu: u16) -> PduBuf<'a>
+    pub fn of(octets: &'a mut PduOctets, mtu: u16) -> PduBuf<'a>
         requires least { MIN_MTU ≤ mtu }
         requires most { mtu ≤ MAX_MTU }
         ensures content { contents result ≡ take mtu octets.old.items }
@@ -61,7 +74,41 @@ impl<'a> PduBuf<'a> {
     {
         let mtu = usize::from(mtu);
         octets.truncate(mtu);
-        PduBuf { octets, mtu }
+        PduBuf {
+            octets,
+            end: End::OfBuffer,
+            mtu,
+        }
+    }
+
+    /// An empty PDU at the front of `octets`, which are as many as the ATT_MTU at least, and stay as many.
+    #[inline(always)]
+    pub fn over(octets: &'a mut PduOctets, mtu: u16) -> PduBuf<'a>
+        requires least { MIN_MTU ≤ mtu }
+        requires most { mtu ≤ MAX_MTU }
+        requires room { mtu ≤ array_vec_len octets.old }
+        ensures empty { contents result ≡ [] }
+        ensures mtu { mtu_of result ≡ mtu }
+        ensures over_octets { IsOver result octets.entry }
+    {
+        PduBuf {
+            octets,
+            end: End::Before(0),
+            mtu: usize::from(mtu),
+        }
+    }
+
+    /// How many octets a PDU has that stands over a buffer.
+    #[inline(always)]
+    pub fn len_over(&self) -> usize
+        requires { StandsOver self.now }
+        ensures count { result ≡ length (contents self.now) }
+        ensures within { result ≤ mtu_of self.now }
+    {
+        match self.end {
+            End::OfBuffer => unreachable!(),
+            End::Before(place) => place,
+        }
     }
 
     /// The ATT_MTU that the PDU keeps within, in octets.
@@ -94,25 +141,37 @@ impl<'a> PduBuf<'a> {
         ensures replaced { contents self.new ≡ first.now ++ rest.now }
         ensures same_buffer { IsSameBuffer self.old self.new }
     {
-        overwrite(self.octets, first, rest, &[]);
+        match self.end {
+            End::OfBuffer => replace_all(self.octets, first, rest),
+            End::Before(_) => {
+                self.end = End::Before(first.len() + rest.len());
+                write_front(self.octets.as_mut_slice(), first, rest);
+            }
+        }
     }
 
-    /// Gives the content a length, by as few octets as it takes: it ends early, or zeros come behind it.
+    /// Gives the content a length: it ends early, or octets come behind it that are to be written over.
     #[inline(always)]
     pub fn resize(&mut self, size: usize)
         requires { size ≤ mtu_of self.old }
-        ensures resized { contents self.new ≡ take size (contents self.old)
-            ++ replicate (size - length (contents self.old)) 0 }
+        ensures front { take (length (contents self.old)) (contents self.new)
+            ≡ take size (contents self.old) }
         ensures size { length (contents self.new) ≡ size }
         ensures same_buffer { IsSameBuffer self.old self.new }
     {
-        if self.octets.len() != size {
-            set_length(self.octets, size);
+        match &mut self.end {
+            End::OfBuffer => {
+                if self.octets.len() != size {
+                    set_length(self.octets, size);
+                }
+            }
+            End::Before(place) => *place = size,
         }
     }
 
     /// Puts octets over those of the content from `place` on.
     #[inline(always)]
+    #[tactic(auto, using(crate::proofs::Ends::written))]
     pub fn put(&mut self, place: usize, octets: &[u8])
         requires { place + length octets.now ≤ length (contents self.old) }
         ensures put { contents self.new ≡ take place (contents self.old) ++ octets.now
@@ -122,8 +181,7 @@ impl<'a> PduBuf<'a> {
         ensures size { length (contents self.new) ≡ length (contents self.old) }
         ensures same_buffer { IsSameBuffer self.old self.new }
     {
-        let end = place + octets.len();
-        self.octets.as_mut_slice()[place..end].copy_from_slice(octets);
+        write(self.octets.as_mut_slice(), place, octets);
     }
 
     /// Puts octets of two places, a few and a value behind them, over those of the content from `place`
@@ -153,7 +211,7 @@ impl<'a> PduBuf<'a> {
         ensures size { length (contents self.new) ≡ length (contents self.old) }
         ensures same_buffer { IsSameBuffer self.old self.new }
     {
-        write_pair(self.octets.as_mut_slice(), place, handle, octets);
+        self.put_both(place, &handle.to_le_bytes(), octets);
     }
 
     /// Ends the content before its octet `place`, where it is longer.
@@ -162,7 +220,9 @@ impl<'a> PduBuf<'a> {
         ensures ended { contents self.new ≡ take place (contents self.old) }
         ensures same_buffer { IsSameBuffer self.old self.new }
     {
-        self.octets.truncate(place);
+        if place < self.len() {
+            self.resize(place);
+        }
     }
 
     /// Replaces the content by an opcode and as much of a value, from its front, as fits: a value that
@@ -183,9 +243,7 @@ impl<'a> PduBuf<'a> {
         ensures cleared { contents self.new ≡ [] }
         ensures same_buffer { IsSameBuffer self.old self.new }
     {
-        if !self.octets.is_empty() {
-            drop_all(self.octets);
-        }
+        self.truncate(0);
     }
 
     /// Appends octets, an opcode and the octets of a format too, or answers `false` with nothing
@@ -210,7 +268,7 @@ impl<'a> PduBuf<'a> {
             octets.now }
         ensures same_buffer { IsSameBuffer self.old self.new }
     {
-        let room = self.mtu - self.octets.len();
+        let room = self.mtu - self.len();
         self.append(&octets[..octets.len().min(room)]);
     }
 
@@ -275,11 +333,23 @@ impl<'a> PduBuf<'a> {
         self.group(handle, offset, octets)
     }
 
+    /// How many octets the PDU has.
+    #[inline(always)]
+    fn len(&self) -> usize
+        ensures count { result ≡ length (contents self.now) }
+        ensures within { result ≤ mtu_of self.now }
+    {
+        match self.end {
+            End::OfBuffer => self.octets.len(),
+            End::Before(place) => place,
+        }
+    }
+
     /// Whether this many octets more are within the ATT_MTU.
     fn has_room(&self, count: usize) -> bool
         ensures { IsTrue result ↔ (length (contents self.now) + count ≤ mtu_of self.now) }
     {
-        count <= self.mtu - self.octets.len()
+        count <= self.mtu - self.len()
     }
 
     /// Appends octets for which there is room.
@@ -289,17 +359,51 @@ impl<'a> PduBuf<'a> {
         ensures appended { contents self.new ≡ contents self.old ++ octets.now }
         ensures same_buffer { IsSameBuffer self.old self.new }
     {
-        extend(self.octets, octets);
+        match self.end {
+            End::OfBuffer => extend(self.octets, octets),
+            End::Before(place) => {
+                let end = place + octets.len();
+                write(self.octets.as_mut_slice(), place, octets);
+                self.end = End::Before(end);
+            }
+        }
     }
 }
 
-/// Gives octets a length: they end early, or zeros come behind them. It is not inlined, since a list
-/// is mostly as long as the one before it.
+/// Puts octets of two places in place of all that a buffer holds.
+#[inline(always)]
+fn replace_all(buffer: &mut PduOctets, first: &[u8], rest: &[u8])
+    requires { length first.now + length rest.now ≤ MAX_PDU }
+    ensures { buffer.new.items ≡ first.now ++ rest.now }
+{
+    if buffer.is_empty() {
+        // No zeros make it longer first.
+        extend(buffer, first);
+        extend(buffer, rest);
+    } else {
+        overwrite(buffer, first, rest);
+    }
+}
+
+/// Puts octets of two places in place of what a buffer holds, which mostly has as many.
+#[inline(always)]
+fn overwrite(buffer: &mut PduOctets, first: &[u8], rest: &[u8])
+    requires { length first.now + length rest.now ≤ MAX_PDU }
+    ensures { buffer.new.items ≡ first.now ++ rest.now }
+{
+    let size = first.len() + rest.len();
+    if buffer.len() != size {
+        set_length(buffer, size);
+    }
+    write_parts(buffer.as_mut_slice(), first, rest, &[]);
+}
+
+/// Gives octets a length: they end early, or zeros come behind them.
 #[inline(never)]
 fn set_length(octets: &mut PduOctets, size: usize)
     requires { size ≤ MAX_PDU }
-    ensures { octets.new.items
-        ≡ take size octets.old.items ++ replicate (size - array_vec_len octets.old) 0 }
+    ensures front { take (array_vec_len octets.old) octets.new.items ≡ take size octets.old.items }
+    ensures size { array_vec_len octets.new ≡ size }
 {
     let before = octets.len();
     if size <= before {
@@ -318,6 +422,27 @@ fn extend(octets: &mut PduOctets, more: &[u8])
     octets.try_extend_from_slice(more).unwrap();
 }
 
+/// Writes octets of two places, one behind the other, over the first of others.
+#[inline(always)]
+fn write_front(octets: &mut [u8], first: &[u8], rest: &[u8])
+    requires { length first.now + length rest.now ≤ length octets.old }
+    ensures { octets.new ≡ first.now ++ rest.now
+        ++ drop (length first.now + length rest.now) octets.old }
+{
+    let count = first.len() + rest.len();
+    write_parts(&mut octets[..count], first, rest, &[]);
+}
+
+/// Writes octets over others from a place on.
+#[inline(always)]
+fn write(octets: &mut [u8], place: usize, more: &[u8])
+    requires { place + length more.now ≤ length octets.old }
+    ensures { octets.new ≡ take place octets.old ++ more.now
+        ++ drop (place + length more.now) octets.old }
+{
+    octets[place..place + more.len()].copy_from_slice(more);
+}
+
 /// Writes octets of two places, a few and a value behind them, over others from a place on.
 #[inline(always)]
 fn write_both(octets: &mut [u8], place: usize, first: &[u8], value: &[u8])
@@ -330,19 +455,6 @@ fn write_both(octets: &mut [u8], place: usize, first: &[u8], value: &[u8])
     copy(&mut octets[middle..middle + value.len()], value);
 }
 
-/// Writes a handle and octets over others from a place on.
-#[inline(always)]
-fn write_pair(octets: &mut [u8], place: usize, handle: u16, rest: &[u8])
-    requires { place + 2 + length rest.now ≤ length octets.old }
-    ensures { octets.new ≡ take place octets.old ++ two_octets handle ++ rest.now
-        ++ drop (place + 2 + length rest.now) octets.old }
-{
-    let [low, high] = handle.to_le_bytes();
-    octets[place] = low;
-    octets[place + 1] = high;
-    copy(&mut octets[place + 2..place + 2 + rest.len()], rest);
-}
-
 /// Copies octets. It is not inlined, so that the loop of a list has few values to keep.
 #[inline(never)]
 fn copy(to: &mut [u8], from: &[u8])
@@ -350,13 +462,4 @@ fn copy(to: &mut [u8], from: &[u8])
     ensures { to.new ≡ from.now }
 {
     to.copy_from_slice(from);
-}
-
-/// Drops octets. It is not inlined, so that a PDU that is empty already pays for a test alone.
-#[cold]
-#[inline(never)]
-fn drop_all(octets: &mut PduOctets)
-    ensures { octets.new.items ≡ [] }
-{
-    octets.clear();
 }

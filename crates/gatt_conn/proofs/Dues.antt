@@ -1,5 +1,5 @@
 -- An answer is given exactly where one is due.
-use Rattle.std.proofs.Common.{◌≡◌, Bool, true, false, if◌then◌else◌, [], Option, Some, None, refl, sym, ap, ◌∙◌}
+use Rattle.std.proofs.Common.{◌≡◌, ℕ, Bool, true, false, if◌then◌else◌, [], take, Option, Some, None, refl, sym, ap, ◌∙◌}
 use Rattle.std.specs.Prelude.{is_some, Ok, Err}
 use Rattle.std.specs.Option.{option_map}
 use Rattle.att_numbers.specs.Types.{Row}
@@ -47,6 +47,14 @@ sent_where_due (Some answer) true before octets is put = ap Some (sym put)
 sent_where_due (Some answer) false before octets is put = cc is
 sent_where_due None true before octets is put = cc is
 sent_where_due None false before octets is put = refl
+
+pub placed_where_due : (answer : Option Response) (due : Bool) (before octets : Octets) (len : ℕ) → is_some answer ≡ due
+    → take len octets ≡ with_answer_put answer before
+    → option_map sent answer ≡ option_map (λ (of : ℕ). take of octets) (if due then Some len else None)
+placed_where_due (Some answer) true before octets len is put = ap Some (sym put)
+placed_where_due (Some answer) false before octets len is put = cc is
+placed_where_due None true before octets len is put = cc is
+placed_where_due None false before octets len is put = refl
 
 pub put_where_there : (answer : Option Response) (before octets : Octets) → is_some answer ≡ true → octets ≡ with_answer_put answer before → octets ≡ sent_if_any answer
 put_where_there (Some answer) before octets is put = put

@@ -1,4 +1,4 @@
-ghost use Rattle.std.specs.Prelude.{◌≡◌, ◌≤◌, true, false, [], length, is_some, Some, None, if◌then◌else◌};
+ghost use Rattle.std.specs.Prelude.{◌≡◌, ◌≤◌, true, false, [], length, take, is_some, Some, None, if◌then◌else◌, IfSome};
 ghost use Rattle.std.specs.Option.{option_map};
 ghost use Rattle.att_pdu.specs.Grammar.{request_of, is_due};
 ghost use Rattle.att_pdu.specs.PduBuf.{contents, mtu_of, IsSameBuffer};
@@ -7,6 +7,7 @@ ghost use Rattle.att_table.specs.ConfigRow.{IsRowOf};
 ghost use Rattle.gatt_conn.specs.Answer.{answer_to};
 ghost use Rattle.gatt_conn.specs.Connection.{after_exchange};
 ghost use Rattle.gatt_conn.specs.Served.{ServesPdu, ServesRequest, IsAnswered};
+ghost use Rattle.octets.specs.declared.pdu.TheConstants.{MAX_PDU};
 
 use crate::conn::Conn;
 use crate::writing::{cancel, command, execute, prepare, write};
@@ -37,11 +38,20 @@ pub struct Served {
     pub confirmed: bool,
 }
 
+/// The same, where the answer stands at the front of octets that keep their number.
+#[derive(Clone, Copy)]
+pub struct Placed {
+    /// How many octets the answer has, if there is one.
+    pub len: Option<usize>,
+    /// The PDU confirms an indication.
+    pub confirmed: bool,
+}
+
 /// Serves one Attribute PDU of one connection: puts the answer in place of what `out` holds, which is
 /// empty where none is due, and makes the change that it asks for, where the policy permits it. `out`
 /// keeps within the connection's ATT_MTU, and `row` is what its client has configured, of this table.
 /// This is `answer_into` for an answer whose room the caller has made, with a list of its own for the
-/// handles: both are one call of `serve`.
+/// handles: all are one call of `serve`.
 #[tactic(auto, using(crate::proofs::Dues::answered_where_due, crate::proofs::Dues::put_where_there, crate::proofs::Dues::nothing_where_none), unfolding(att_pdu::specs::Form::form_of))]
 pub fn answer(
     table: &mut Table,
@@ -204,7 +214,7 @@ fn serve_form(
 /// handles that were written in place of what `touched` holds: each once, in the order of their first
 /// writes. Where no answer is due `octets` hold no answer, but perhaps what they held before.
 #[inline(always)]
-#[tactic(auto, using(crate::proofs::Dues::answered_where_due, crate::proofs::Dues::sent_where_due))]
+#[tactic(auto, using(crate::proofs::Dues::answered_where_due, crate::proofs::Dues::sent_where_due, att_pdu::proofs::Ends::whole))]
 pub fn answer_into(
     table: &mut Table,
     row: &mut ConfigRow,
@@ -224,8 +234,45 @@ pub fn answer_into(
         touched.new.items result.confirmed }
 {
     // Each answer replaces what is there.
-    let mut out = PduBuf::over(octets, conn.mtu());
+    let mut out = PduBuf::of(octets, conn.mtu());
     serve(table, row, conn, pdu, &mut out, touched)
+}
+
+/// Serves one Attribute PDU, with the answer at the front of `octets`, where one is due, and the handles
+/// that were written in place of what `touched` holds: each once, in the order of their first writes.
+/// `octets` have their full length, and keep it.
+#[inline(always)]
+#[tactic(auto, using(crate::proofs::Dues::answered_where_due, crate::proofs::Dues::placed_where_due))]
+pub fn answer_over(
+    table: &mut Table,
+    row: &mut ConfigRow,
+    conn: &mut Conn,
+    pdu: &[u8],
+    octets: &mut PduOctets,
+    touched: &mut Touched,
+) -> Placed
+    requires room { length octets.old.items ≡ MAX_PDU }
+    requires row { IsRowOf table.old.attributes row.old }
+
+    ensures answer { option_map sent
+        (answer_to table.old row.old conn.old (request_of pdu.now conn.old.mtu))
+        ≡ option_map (λ len. take len octets.new.items) result.len }
+    ensures due { is_some result.len ≡ is_due (request_of pdu.now conn.old.mtu) }
+    ensures fits { IfSome result.len (λ len. len ≤ conn.old.mtu) }
+    ensures within { IfSome result.len (λ len. len ≤ length octets.new.items) }
+    ensures answered { IsAnswered pdu.now table.old table.new row.old row.new conn.old conn.new
+        touched.new.items result.confirmed }
+{
+    let mut out = PduBuf::over(octets, conn.mtu());
+    let served = serve(table, row, conn, pdu, &mut out, touched);
+    Placed {
+        len: if served.due {
+            Some(out.len_over())
+        } else {
+            None
+        },
+        confirmed: served.confirmed,
+    }
 }
 
 /// Answers nothing.

@@ -5,6 +5,6 @@ mod answered;
 mod conn;
 mod writing;
 
-pub use answered::{Answered, Served, answer, answer_into};
+pub use answered::{Answered, Placed, Served, answer, answer_into, answer_over};
 pub use att_writes::Touched;
 pub use conn::{Conn, RX_MTU};

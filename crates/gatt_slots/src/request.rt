@@ -15,9 +15,9 @@ ghost use Rattle.gatt_subs.specs.Rows.{row_of, ChangesBond};
 use crate::hearing::standing;
 use crate::slot::Slot;
 use arrayvec::ArrayVec;
-use att_pdu::answer_due;
+use att_pdu::{PduBuf, answer_due};
 use att_table::{ConfigRow, Table};
-use gatt_conn::{Conn, Served, Touched, answer_into};
+use gatt_conn::{Conn, Touched, answer_over};
 use gatt_subs::{PendingOfTable, Rows};
 use le_acl::{MAX_PDUS, Sender};
 use le_hci::Peer;
@@ -81,7 +81,7 @@ impl Slot {
         let has_key = self.link.facts().is_some();
         let standing = standing(&self.link, self.key_known, self.until, now);
         self.conn.stand(standing);
-        let served = answer_by_row(
+        let confirmed = answer_by_row(
             table,
             rows,
             &self.peer,
@@ -93,7 +93,7 @@ impl Slot {
             written,
         );
         owe_unless_told(
-            served.confirmed,
+            confirmed,
             &self.link,
             &self.pending,
             changer,
@@ -101,7 +101,7 @@ impl Slot {
             rows,
         );
         Brought {
-            confirmed: take_confirmation(served.confirmed, &mut self.pending),
+            confirmed: take_confirmation(confirmed, &mut self.pending),
             ended: false,
         }
     }
@@ -173,7 +173,7 @@ fn owe_unless(confirmed: bool, knows_change: bool, peer: &Peer, rows: &mut Rows)
 }
 
 /// Serves a PDU by the row in force: that of the peer's bond where the link has a key, else the
-/// connection's own.
+/// connection's own. Whether the PDU confirms an indication.
 #[inline(always)]
 #[tactic(auto, using(crate::proofs::Bonds::row_put))]
 fn answer_by_row(
@@ -186,7 +186,7 @@ fn answer_by_row(
     pdu: &[u8],
     sender: &mut Sender,
     written: &mut Touched,
-) -> Served
+) -> bool
     requires row { IsRowOf table.old.attributes
         (row_by_key has_key (row_of rows.old peer.now) own.old) }
     requires room { is_due (request_of pdu.now conn.old.mtu) ≡ true
@@ -195,7 +195,7 @@ fn answer_by_row(
         (row_by_key has_key (row_of rows.old peer.now) own.old)
         (row_by_key has_key (row_of rows.new peer.now) own.new)
         table.old table.new rows.old rows.new own.old own.new conn.old conn.new
-        sender.old.outgoing sender.new.outgoing written.new.items result.confirmed }
+        sender.old.outgoing sender.new.outgoing written.new.items result }
 {
     if has_key {
         if let Some(row) = rows.of(peer) {
@@ -205,7 +205,8 @@ fn answer_by_row(
     answer(table, own, conn, pdu, sender, written)
 }
 
-/// Serves a PDU, and queues its answer. There is room for one that is due.
+/// Serves a PDU, and queues its answer. There is room for one that is due. Whether the PDU confirms an
+/// indication.
 #[inline(always)]
 #[tactic(auto, using(gatt_conn::proofs::Dues::none_where_not_due))]
 fn answer(
@@ -215,23 +216,23 @@ fn answer(
     pdu: &[u8],
     sender: &mut Sender,
     written: &mut Touched,
-) -> Served
+) -> bool
     requires row { IsRowOf table.old.attributes row.old }
     requires room { is_due (request_of pdu.now conn.old.mtu) ≡ true
         → length sender.old.outgoing.queue < MAX_PDUS }
     ensures queued { sender.new.outgoing ≡ with_response sender.old.outgoing
         (answer_to table.old row.old conn.old (request_of pdu.now conn.old.mtu)) }
     ensures answered { IsAnswered pdu.now table.old table.new row.old row.new conn.old conn.new
-        written.new.items result.confirmed }
+        written.new.items result }
 {
     let Ok(room) = sender.room_to_overwrite() else {
         return answer_nothing(table, row, conn, pdu, written);
     };
-    let served = answer_into(table, row, conn, pdu, room, written);
-    if served.due {
-        sender.push(ATT);
+    let placed = answer_over(table, row, conn, pdu, room, written);
+    if let Some(len) = placed.len {
+        sender.push_front(ATT, len);
     }
-    served
+    placed.confirmed
 }
 
 /// Serves a PDU to which no answer is due. It is not inlined, so that only what comes here pays for
@@ -244,12 +245,15 @@ fn answer_nothing(
     conn: &mut Conn,
     pdu: &[u8],
     written: &mut Touched,
-) -> Served
+) -> bool
     requires row { IsRowOf table.old.attributes row.old }
     requires none_due { is_due (request_of pdu.now conn.old.mtu) ≡ false }
     ensures answered { IsAnswered pdu.now table.old table.new row.old row.new conn.old conn.new
-        written.new.items result.confirmed }
+        written.new.items result }
 {
     let mut unsent = ArrayVec::new();
-    answer_into(table, row, conn, pdu, &mut unsent, written)
+    let mut out = PduBuf::new(&mut unsent, conn.mtu());
+    let answered = gatt_conn::answer(table, row, conn, pdu, &mut out);
+    *written = answered.touched;
+    answered.confirmed
 }

@@ -27,6 +27,7 @@ loop-handle-preserved c =
           rw (w.out-is, w.found-is) (record {
             same = record {
               place = w.append_group.ensures.same_buffer.place ∙ c.loop-handle.invariant.same.place;
+              end = w.append_group.ensures.same_buffer.end ∙ c.loop-handle.invariant.same.end;
               mtu = w.append_group.ensures.same_buffer.mtu ∙ c.loop-handle.invariant.same.mtu;
             };
             any =

@@ -26,6 +26,7 @@ pub loop-attr-preserved : goal.loop-attr-preserved
 loop-attr-preserved c = record {
   same = record {
     place = c.put_next.ensures.same_buffer.place ∙ c.loop-attr.invariant.same.place;
+    end = c.put_next.ensures.same_buffer.end ∙ c.loop-attr.invariant.same.end;
     mtu = c.put_next.ensures.same_buffer.mtu ∙ c.loop-attr.invariant.same.mtu;
   };
   room = subst (λ held. c.loop-attr.place + c.args.size + c.args.size * length (drop (c.loop-attr.attr-index + 1) c.args.attributes.now) ≡ held) (sym c.put_next.ensures.held) (room_next c.args.attributes.now c.loop-attr.attr-index c.loop-attr.place c.args.size (length (contents c.loop-attr.out)) c.loop-attr-test.true c.loop-attr.invariant.room);

@@ -43,6 +43,7 @@ loop-handle-preserved c =
     record {
       same = record {
         place = c.put_next.ensures.same_buffer.place ∙ c.loop-handle.invariant.same.place;
+        end = c.put_next.ensures.same_buffer.end ∙ c.loop-handle.invariant.same.end;
         mtu = c.put_next.ensures.same_buffer.mtu ∙ c.loop-handle.invariant.same.mtu;
       };
       room = subst (λ held. place + c.args.size + c.args.size * length (drop (c.loop-handle.handle-index + 1) c.args.handles.now) ≡ held) (sym c.put_next.ensures.held) (room_next c.args.handles.now c.loop-handle.handle-index place c.args.size (length (contents c.loop-handle.out)) c.loop-handle-test.true c.loop-handle.invariant.room);

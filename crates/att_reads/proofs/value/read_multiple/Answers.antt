@@ -43,6 +43,7 @@ loop-octets-preserved c =
     record {
       same = record {
         place = c.front.ensures.same_buffer.place ∙ c.loop-octets.invariant.same.place;
+        end = c.front.ensures.same_buffer.end ∙ c.loop-octets.invariant.same.end;
         mtu = c.front.ensures.same_buffer.mtu ∙ c.loop-octets.invariant.same.mtu;
       };
       answer =

@@ -13,8 +13,8 @@ use Rattle.gatt_subs.specs.Indications.{is_told}
 use Rattle.gatt_subs.specs.Rows.{row_of, ChangesBond}
 use Rattle.gatt_slots.proofs.slot.Slot.serve.Goals as goal
 
-pub answer_by_row-served-requires-clause-row : goal.answer_by_row-served-requires-clause-row
-answer_by_row-served-requires-clause-row c =
+pub answer_by_row-confirmed-requires-clause-row : goal.answer_by_row-confirmed-requires-clause-row
+answer_by_row-confirmed-requires-clause-row c =
     let inside = c.self.inside in
     row_of_table c.args.table.now c.args.now c.args.changer.now c.args.pdu.now c.args.rows.now c.args.rows.now c.args.rows.now
     inside.handle inside.peer inside.key_known inside.until inside.row inside.link inside.conn inside.pending inside.sender inside.reply inside.reason inside.used
@@ -30,13 +30,13 @@ returns-clause-bond c =
     let new = c.owe_unless_told.new.rows in
     subst (λ (self : Option SlotState). IfSome self (λ slot_state.
     ChangesBond (bond_served c.args.table.now c.args.now c.args.changer.now (row_of old slot_state.peer) c.args.pdu.now slot_state) slot_state.peer old new)) c.self.view_is
-    (bond_of_served c.args.table.now c.args.now c.args.changer.now c.args.pdu.now old c.answer_by_row-served.new.rows new
+    (bond_of_served c.args.table.now c.args.now c.args.changer.now c.args.pdu.now old c.answer_by_row-confirmed.new.rows new
     inside.handle inside.peer inside.key_known inside.until inside.row inside.link inside.conn inside.pending inside.sender inside.reply inside.reason inside.used
-    c.is_some-has_key.result (is_some inside.link.key && option_map_or (is_told inside.pending) c.args.changer.now false) c.stand.new.self c.answer_by_row-served.result.confirmed
+    c.is_some-has_key.result (is_some inside.link.key && option_map_or (is_told inside.pending) c.args.changer.now false) c.stand.new.self c.answer_by_row-confirmed.result
     (sym c.is_full.ensures.full ∙ c.if-is_full.false)
     (c.is_some-has_key.ensures ∙ ap (λ (key : Option KeyFacts). is_some key) c.facts.ensures.key)
     (c.stand.ensures ∙ ap (λ (standing : Standing). record inside.conn { standing = standing }) c.standing-standing.ensures)
-    c.answer_by_row-served.ensures.answered.confirmed refl c.answer_by_row-served.ensures.bond c.owe_unless_told.ensures)
+    c.answer_by_row-confirmed.ensures.answered.confirmed refl c.answer_by_row-confirmed.ensures.bond c.owe_unless_told.ensures)
 
 pub returns-clause-after : goal.returns-clause-after
 returns-clause-after c =
@@ -44,13 +44,13 @@ returns-clause-after c =
     let old = c.args.rows.now in
     kept_after_serving c.args.table.now c.args.now c.args.changer.now c.args.pdu.now old old old
     inside.handle inside.peer inside.key_known inside.until inside.row inside.link inside.conn inside.pending inside.sender inside.reply inside.reason inside.used
-    c.is_some-has_key.result c.answer_by_row-served.result.confirmed c.stand.new.self c.answer_by_row-served.new.own c.answer_by_row-served.new.conn
-    c.take_confirmation.new.pending c.answer_by_row-served.new.sender
+    c.is_some-has_key.result c.answer_by_row-confirmed.result c.stand.new.self c.answer_by_row-confirmed.new.own c.answer_by_row-confirmed.new.conn
+    c.take_confirmation.new.pending c.answer_by_row-confirmed.new.sender
     (sym c.is_full.ensures.full ∙ c.if-is_full.false)
     (c.is_some-has_key.ensures ∙ ap (λ (key : Option KeyFacts). is_some key) c.facts.ensures.key)
     (c.stand.ensures ∙ ap (λ (standing : Standing). record inside.conn { standing = standing }) c.standing-standing.ensures)
-    c.answer_by_row-served.ensures.answered.confirmed c.answer_by_row-served.ensures.own c.answer_by_row-served.ensures.answered.conn c.take_confirmation.ensures.pending
-    c.answer_by_row-served.ensures.queued
+    c.answer_by_row-confirmed.ensures.answered.confirmed c.answer_by_row-confirmed.ensures.own c.answer_by_row-confirmed.ensures.answered.conn c.take_confirmation.ensures.pending
+    c.answer_by_row-confirmed.ensures.queued
     ∙ ap (λ (self : Option SlotState). option_map (λ slot_state. slot_after_request c.args.table.now c.args.now (row_of old slot_state.peer) c.args.pdu.now slot_state) self) c.self.view_is
 
 pub returns-then-is_full-clause-confirmed : goal.returns-then-is_full-clause-confirmed
