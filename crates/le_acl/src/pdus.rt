@@ -18,6 +18,16 @@ struct Header {
     len: u16,
 }
 
+/// A PDU where it stands.
+#[derive(Clone, Copy)]
+pub(crate) struct PduRef<'a> {
+    pub(crate) channel: u16,
+    /// All octets of its buffer.
+    pub(crate) octets: &'a [u8],
+    /// How many of them, at their front, are its payload.
+    pub(crate) len: usize,
+}
+
 /// The payloads of PDUs, each at its place.
 #[derive(Drop)]
 struct Payloads {
@@ -140,6 +150,26 @@ impl Pdus {
         write_front(payload.as_mut_slice(), front, rest);
     }
 
+    /// The first PDU where it stands.
+    #[inline(always)]
+    pub(crate) fn first(&self) -> Option<PduRef<'_>>
+        ensures none { IsNone result ↔ (self.now.pdus ≡ []) }
+        ensures first { IfSome result (λ pdu. slice_get self.now.pdus 0
+            ≡ Some (pdu.channel, take pdu.len pdu.octets.now)) }
+        ensures within { IfSome result (λ pdu. pdu.len ≤ length pdu.octets.now) }
+        ensures fits { IfSome result (λ pdu. length pdu.octets.now ≤ MAX_PDU) }
+    {
+        if self.count == 0 {
+            return None;
+        }
+        let header = self.headers[self.first];
+        Some(PduRef {
+            channel: header.channel,
+            octets: self.payloads.items[self.first].as_slice(),
+            len: usize::from(header.len),
+        })
+    }
+
     /// The channel and the payload of the first PDU.
     #[inline(always)]
     pub(crate) fn front(&self) -> Option<(u16, &[u8])>
@@ -148,12 +178,8 @@ impl Pdus {
             (λ pdu. slice_get self.now.pdus 0 ≡ Some (pdu.0, pdu.1.now)) }
         ensures fits { IfSome result (λ pdu. length pdu.1.now ≤ MAX_PDU) }
     {
-        if self.count == 0 {
-            return None;
-        }
-        let header = self.headers[self.first];
-        let payload = self.payloads.items[self.first].as_slice();
-        Some((header.channel, &payload[..usize::from(header.len)]))
+        let pdu = self.first()?;
+        Some((pdu.channel, &pdu.octets[..pdu.len]))
     }
 
     /// Drops the first PDU.

@@ -211,19 +211,20 @@ impl Sender {
         if self.outstanding >= self.share {
             return false;
         }
-        let Some((channel, payload)) = self.pdus.front() else {
+        let Some(pdu) = self.pdus.first() else {
             return false;
         };
-        let frame_len = HEADER + payload.len();
+        let frame_len = HEADER + pdu.len;
+        let payload = &pdu.octets[..pdu.len];
         if self.gone == 0 && frame_len <= self.acl_len {
             // Most frames go out whole, in one packet.
-            let header = header_of(channel, payload);
-            out.acl(handle, FIRST_NOT_FLUSHED, &header, payload);
+            let header = header_of(pdu.channel, payload);
+            out.acl_front(handle, FIRST_NOT_FLUSHED, &header, pdu.octets, pdu.len);
             self.outstanding += 1;
             pass_whole(&mut self.pdus, self.gone, self.acl_len, frame_len);
             return true;
         }
-        match FragmentRef::at(channel, payload, self.gone, self.acl_len) {
+        match FragmentRef::at(pdu.channel, payload, self.gone, self.acl_len) {
             FragmentRef::Beginning { header, payload } => {
                 out.acl(handle, FIRST_NOT_FLUSHED, &header, payload);
             }

@@ -1,4 +1,5 @@
 pub mod Beginning
+pub mod Blocks
 pub mod Dividing
 pub mod Feeding
 pub mod Firsts

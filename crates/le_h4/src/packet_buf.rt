@@ -1,4 +1,4 @@
-ghost use Rattle.std.specs.Prelude.{◌≡◌, ◌+◌, ◌*◌, ◌^◌, ◌<◌, ◌≤◌, [], ◌∷◌, ◌++◌, length};
+ghost use Rattle.std.specs.Prelude.{◌≡◌, ◌+◌, ◌*◌, ◌^◌, ◌<◌, ◌≤◌, [], ◌∷◌, ◌++◌, length, take, drop};
 ghost use Rattle.octets.specs.Number.{two_octets};
 ghost use Rattle.le_h4.specs.declared.packet_buf.TheConstants.{MAX_ACL_DATA_OUT};
 
@@ -14,6 +14,9 @@ pub const MAX_ACL_DATA_OUT: usize = 255;
 /// The most octets of a packet to the controller: those of an ACL packet. A command with its indicator
 /// is shorter.
 pub const MAX_PACKET_OUT: usize = HEADER + MAX_ACL_DATA_OUT;
+
+/// How many octets are copied as a block, whose size the compiler knows: most packets have no more.
+const BLOCK: usize = 32;
 
 /// The octets of a packet to the controller.
 pub type PacketOctets = ArrayVec<u8, MAX_PACKET_OUT>;
@@ -76,6 +79,29 @@ impl PacketBuf {
         self.write(&acl_header(handle, pb, length as u16), header, octets);
     }
 
+    /// Writes an ACL packet in place of the one before, as `acl` does: its data are the octets of `header`
+    /// and then the first of `octets`, so many.
+    #[inline(always)]
+    pub fn acl_front(&mut self, handle: u16, pb: u8, header: &[u8], octets: &[u8], count: usize)
+        requires handle { handle < 2 ^ 12 }
+        requires pb { pb ≤ 3 }
+        requires within { count ≤ length octets.now }
+        requires octets { length header.now + count ≤ MAX_ACL_DATA_OUT }
+        ensures { self.new ≡ 0x02 ∷ two_octets (handle + 2 ^ 12 * pb) ++ two_octets
+            (length (header.now ++ take count octets.now))
+            ++ header.now ++ take count octets.now }
+    {
+        let length = header.len() + count;
+        let place = HEADER + header.len();
+        self.len = HEADER + length;
+        write_front(
+            &mut self.octets,
+            &acl_header(handle, pb, length as u16),
+            header,
+        );
+        copy_behind(&mut self.octets, place, octets, count);
+    }
+
     /// Writes a command in place of the packet before: its indicator, and its octets from the opcode on,
     /// fewer than `MAX_PACKET_OUT`. (Core 5.0, Vol 2 Part E, 5.4.1)
     pub fn command(&mut self, octets: &[u8])
@@ -94,5 +120,43 @@ impl PacketBuf {
         let len = first.len() + second.len() + third.len();
         self.len = len;
         write_parts(&mut self.octets[..len], first, second, third);
+    }
+}
+
+/// Writes octets of two places, one behind the other, over the first of others.
+#[inline(always)]
+fn write_front(out: &mut [u8], first: &[u8], second: &[u8])
+    requires { length first.now + length second.now ≤ length out.old }
+    ensures { out.new ≡ first.now ++ second.now
+        ++ drop (length first.now + length second.now) out.old }
+{
+    let count = first.len() + second.len();
+    write_parts(&mut out[..count], first, second, &[]);
+}
+
+/// Copies the first of some octets, so many, over others from a place on.
+#[inline(always)]
+fn copy_behind(out: &mut [u8], place: usize, octets: &[u8], count: usize)
+    requires within { count ≤ length octets.now }
+    requires room { place + count ≤ length out.old }
+    ensures front { take (place + count) out.new ≡ take place out.old ++ take count octets.now }
+    ensures size { length out.new ≡ length out.old }
+{
+    copy_front(&mut out[place..], octets, count);
+}
+
+/// Copies the first of some octets, so many, over the first of others. Few are copied as a block, with
+/// what stands behind them.
+#[inline(always)]
+fn copy_front(out: &mut [u8], octets: &[u8], count: usize)
+    requires within { count ≤ length octets.now }
+    requires room { count ≤ length out.old }
+    ensures front { take count out.new ≡ take count octets.now }
+    ensures size { length out.new ≡ length out.old }
+{
+    if count <= BLOCK && BLOCK <= octets.len() && BLOCK <= out.len() {
+        out[..BLOCK].copy_from_slice(&octets[..BLOCK]);
+    } else {
+        out[..count].copy_from_slice(&octets[..count]);
     }
 }
