@@ -154,9 +154,13 @@ fn copy_front(out: &mut [u8], octets: &[u8], count: usize)
     ensures front { take count out.new ≡ take count octets.now }
     ensures size { length out.new ≡ length out.old }
 {
-    if count <= BLOCK && BLOCK <= octets.len() && BLOCK <= out.len() {
-        out[..BLOCK].copy_from_slice(&octets[..BLOCK]);
-    } else {
-        out[..count].copy_from_slice(&octets[..count]);
+    if count <= BLOCK {
+        if let Some(block) = octets.first_chunk::<BLOCK>() {
+            if let Some(room) = out.first_chunk_mut::<BLOCK>() {
+                *room = *block;
+                return;
+            }
+        }
     }
+    out[..count].copy_from_slice(&octets[..count]);
 }
