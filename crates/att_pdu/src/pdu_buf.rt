@@ -7,7 +7,7 @@ ghost use Rattle.att_pdu.specs.declared.pdu_buf.TheConstants.{MAX_MTU, MIN_MTU};
 
 use att_numbers::limit::MAX_VALUE;
 use att_numbers::opcode;
-use octets::{MAX_PDU, PduOctets, write_parts};
+use octets::{MAX_PDU, PduOctets, write_front, write_parts};
 
 /// The least ATT_MTU of an LE link, in octets: Core 5.0, Vol 3 Part G, 5.2.1.
 pub const MIN_MTU: u16 = 23;
@@ -420,17 +420,6 @@ fn extend(octets: &mut PduOctets, more: &[u8])
     ensures { octets.new.items ≡ octets.old.items ++ more.now }
 {
     octets.try_extend_from_slice(more).unwrap();
-}
-
-/// Writes octets of two places, one behind the other, over the first of others.
-#[inline(always)]
-fn write_front(octets: &mut [u8], first: &[u8], rest: &[u8])
-    requires { length first.now + length rest.now ≤ length octets.old }
-    ensures { octets.new ≡ first.now ++ rest.now
-        ++ drop (length first.now + length rest.now) octets.old }
-{
-    let count = first.len() + rest.len();
-    write_parts(&mut octets[..count], first, rest, &[]);
 }
 
 /// Writes octets over others from a place on.

@@ -3,7 +3,7 @@ ghost use Rattle.std.specs.Borrow.{sem};
 ghost use Rattle.arrayvec.specs.ArrayVec.{array_vec_len};
 ghost use Rattle.octets.specs.declared.pdu.TheConstants.{MAX_PDU};
 
-use octets::{MAX_PDU, PduOctets, write_parts};
+use octets::{MAX_PDU, PduOctets, write_front};
 use std::alloc::{AllocError, Global};
 use std::marker::Model;
 
@@ -199,17 +199,6 @@ impl Pdus {
     {
         self.count = 0;
     }
-}
-
-/// Writes the octets of two places, one behind the other, over the first of as many or more.
-#[inline(always)]
-fn write_front(out: &mut [u8], front: &[u8], rest: &[u8])
-    requires { length front.now + length rest.now ≤ length out.old }
-    ensures written { take (length front.now + length rest.now) out.new ≡ front.now ++ rest.now }
-    ensures size { length out.new ≡ length out.old }
-{
-    let count = front.len() + rest.len();
-    write_parts(&mut out[..count], front, rest, &[]);
 }
 
 /// Gives a payload its full length. It mostly has it.

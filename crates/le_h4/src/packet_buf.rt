@@ -1,11 +1,11 @@
-ghost use Rattle.std.specs.Prelude.{◌≡◌, ◌+◌, ◌*◌, ◌^◌, ◌<◌, ◌≤◌, [], ◌∷◌, ◌++◌, length, take, drop};
+ghost use Rattle.std.specs.Prelude.{◌≡◌, ◌+◌, ◌*◌, ◌^◌, ◌<◌, ◌≤◌, [], ◌∷◌, ◌++◌, length, take};
 ghost use Rattle.octets.specs.Number.{two_octets};
 ghost use Rattle.le_h4.specs.declared.packet_buf.TheConstants.{MAX_ACL_DATA_OUT};
 
 use crate::indicator;
 use crate::write::{HEADER, acl_header};
 use arrayvec::ArrayVec;
-use octets::write_parts;
+use octets::{write_front, write_parts};
 use std::marker::Model;
 
 /// The most octets of data of an ACL packet to the controller: this profile's own.
@@ -121,17 +121,6 @@ impl PacketBuf {
         self.len = len;
         write_parts(&mut self.octets[..len], first, second, third);
     }
-}
-
-/// Writes octets of two places, one behind the other, over the first of others.
-#[inline(always)]
-fn write_front(out: &mut [u8], first: &[u8], second: &[u8])
-    requires { length first.now + length second.now ≤ length out.old }
-    ensures { out.new ≡ first.now ++ second.now
-        ++ drop (length first.now + length second.now) out.old }
-{
-    let count = first.len() + second.len();
-    write_parts(&mut out[..count], first, second, &[]);
 }
 
 /// Copies the first of some octets, so many, over others from a place on.

@@ -1,6 +1,6 @@
 //! Buffers that are filled again and again, each time in place of what they held.
 
-ghost use Rattle.std.specs.Prelude.{◌≡◌, ◌+◌, ◌≤◌, ◌++◌, length};
+ghost use Rattle.std.specs.Prelude.{◌≡◌, ◌+◌, ◌≤◌, ◌++◌, length, take, drop};
 ghost use Rattle.arrayvec.specs.ArrayVec.{array_vec_len};
 
 use crate::pdu::MAX_PDU;
@@ -55,4 +55,18 @@ pub fn write_parts(out: &mut [u8], first: &[u8], second: &[u8], third: &[u8])
     out[..start].copy_from_slice(first);
     out[start..middle].copy_from_slice(second);
     out[middle..].copy_from_slice(third);
+}
+
+/// Writes octets of two places, one behind the other, over the first of as many or more.
+#[inline(always)]
+pub fn write_front(out: &mut [u8], first: &[u8], second: &[u8])
+    requires { length first.now + length second.now ≤ length out.old }
+    ensures written { out.new ≡ first.now ++ second.now
+        ++ drop (length first.now + length second.now) out.old }
+    ensures front { take (length first.now + length second.now) out.new
+        ≡ first.now ++ second.now }
+    ensures size { length out.new ≡ length out.old }
+{
+    let count = first.len() + second.len();
+    write_parts(&mut out[..count], first, second, &[]);
 }

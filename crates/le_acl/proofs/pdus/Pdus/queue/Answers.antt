@@ -32,4 +32,4 @@ returns c =
     push_is _ _ _ _ (ring-written _ _ _ _ c.self.invariant written has_room) header has_room
     ∙ ap (λ (q : Queued). q.pdus ++ (c.args.channel, take count q.room) ∷ []) (room_is _ _ _ _ c.self.invariant written has_room)
     ∙ ap₂ (λ (pdus : List Pdu) (octets : Octets). pdus ++ (c.args.channel, octets) ∷ []) (ap (λ (q : Queued). q.pdus) c.self.view_is)
-    (ap (take count) all ∙ c.write_front.ensures.written)
+    (ap (take count) all ∙ c.write_front.ensures.front)
