@@ -4,6 +4,7 @@ pub mod Confirming
 mod Served
 pub mod EachSlot
 pub mod states
+pub mod FirstPlace
 pub mod Found
 mod SlotBits
 pub mod Covering

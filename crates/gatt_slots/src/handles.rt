@@ -9,6 +9,7 @@ ghost use Rattle.gatt_slots.specs.Slots.{place_holding, IsThere, SlotStates};
 use crate::each::find_holding;
 use crate::slot::{Slot, Use};
 use gatt_laws::MAX_SLOTS;
+use std::simd::prelude::*;
 
 /// Stands where a slot is free: it is no handle.
 const FREE: u32 = 0x1_0000;
@@ -93,10 +94,16 @@ impl Slot {
     }
 }
 
-/// The first place of a number. It stands apart for its proof.
+/// The first place of a number. All are compared at once, since no processor foresees whose packet is next.
 #[inline(always)]
-fn first_place(numbers: &[u32], number: u32) -> Option<usize>
+fn first_place(numbers: &[u32; MAX_SLOTS], number: u32) -> Option<usize>
     ensures { result ≡ position (λ it. it == number) numbers.now }
 {
-    numbers.iter().position(|it| *it == number)
+    let same = u32x8::from_slice(numbers).simd_eq(u32x8::splat(number));
+    let mask = same.to_bitmask();
+    if mask == 0 {
+        None
+    } else {
+        Some(mask.trailing_zeros() as usize)
+    }
 }
