@@ -2,6 +2,7 @@
 //! outgrow the ATT_MTU.
 #![tactic(auto)]
 
+mod buffer;
 mod form;
 mod grammar;
 mod pdu_buf;

@@ -5,9 +5,10 @@ ghost use Rattle.arrayvec.specs.ArrayVec.{array_vec_len};
 ghost use Rattle.att_pdu.specs.End.{length_in, needed};
 ghost use Rattle.att_pdu.specs.declared.pdu_buf.TheConstants.{MAX_MTU, MIN_MTU};
 
+use crate::buffer::{extend, replace_all, resize, write, write_both};
 use att_numbers::limit::MAX_VALUE;
 use att_numbers::opcode;
-use octets::{MAX_PDU, PduOctets, write_front, write_parts};
+use octets::{MAX_PDU, PduOctets, write_front};
 
 /// The least ATT_MTU of an LE link, in octets: Core 5.0, Vol 3 Part G, 5.2.1.
 pub const MIN_MTU: u16 = 23;
@@ -16,9 +17,6 @@ pub const MAX_MTU: u16 = MAX_PDU as u16;
 
 // The largest value stands in one PDU behind an opcode, a handle and an offset.
 const _: () = prove!(1 + 2 + 2 + MAX_VALUE == MAX_PDU);
-
-/// What makes a PDU longer.
-const ZEROS: [u8; MAX_PDU] = [0; MAX_PDU];
 
 /// Where a PDU ends in its buffer.
 #[derive(Clone, Copy)]
@@ -160,11 +158,7 @@ impl<'a> PduBuf<'a> {
         ensures same_buffer { IsSameBuffer self.old self.new }
     {
         match &mut self.end {
-            End::OfBuffer => {
-                if self.octets.len() != size {
-                    set_length(self.octets, size);
-                }
-            }
+            End::OfBuffer => resize(self.octets, size),
             End::Before(place) => *place = size,
         }
     }
@@ -368,87 +362,4 @@ impl<'a> PduBuf<'a> {
             }
         }
     }
-}
-
-/// Puts octets of two places in place of all that a buffer holds.
-#[inline(always)]
-fn replace_all(buffer: &mut PduOctets, first: &[u8], rest: &[u8])
-    requires { length first.now + length rest.now ≤ MAX_PDU }
-    ensures { buffer.new.items ≡ first.now ++ rest.now }
-{
-    if buffer.is_empty() {
-        // No zeros make it longer first.
-        extend(buffer, first);
-        extend(buffer, rest);
-    } else {
-        overwrite(buffer, first, rest);
-    }
-}
-
-/// Puts octets of two places in place of what a buffer holds, which mostly has as many.
-#[inline(always)]
-fn overwrite(buffer: &mut PduOctets, first: &[u8], rest: &[u8])
-    requires { length first.now + length rest.now ≤ MAX_PDU }
-    ensures { buffer.new.items ≡ first.now ++ rest.now }
-{
-    let size = first.len() + rest.len();
-    if buffer.len() != size {
-        set_length(buffer, size);
-    }
-    write_parts(buffer.as_mut_slice(), first, rest, &[]);
-}
-
-/// Gives octets a length: they end early, or zeros come behind them.
-#[inline(never)]
-fn set_length(octets: &mut PduOctets, size: usize)
-    requires { size ≤ MAX_PDU }
-    ensures front { take (array_vec_len octets.old) octets.new.items ≡ take size octets.old.items }
-    ensures size { array_vec_len octets.new ≡ size }
-{
-    let before = octets.len();
-    if size <= before {
-        octets.truncate(size);
-    } else {
-        extend(octets, &ZEROS[..size - before]);
-    }
-}
-
-/// Appends octets for which there is room, so the `unwrap` is proved and tests nothing.
-#[inline(always)]
-fn extend(octets: &mut PduOctets, more: &[u8])
-    requires { array_vec_len octets.old + length more.now ≤ MAX_PDU }
-    ensures { octets.new.items ≡ octets.old.items ++ more.now }
-{
-    octets.try_extend_from_slice(more).unwrap();
-}
-
-/// Writes octets over others from a place on.
-#[inline(always)]
-fn write(octets: &mut [u8], place: usize, more: &[u8])
-    requires { place + length more.now ≤ length octets.old }
-    ensures { octets.new ≡ take place octets.old ++ more.now
-        ++ drop (place + length more.now) octets.old }
-{
-    octets[place..place + more.len()].copy_from_slice(more);
-}
-
-/// Writes octets of two places, a few and a value behind them, over others from a place on.
-#[inline(always)]
-fn write_both(octets: &mut [u8], place: usize, first: &[u8], value: &[u8])
-    requires { place + length first.now + length value.now ≤ length octets.old }
-    ensures { octets.new ≡ take place octets.old ++ first.now ++ value.now
-        ++ drop (place + length first.now + length value.now) octets.old }
-{
-    let middle = place + first.len();
-    octets[place..middle].copy_from_slice(first);
-    copy(&mut octets[middle..middle + value.len()], value);
-}
-
-/// Copies octets. It is not inlined, so that the loop of a list has few values to keep.
-#[inline(never)]
-fn copy(to: &mut [u8], from: &[u8])
-    requires { length to.old ≡ length from.now }
-    ensures { to.new ≡ from.now }
-{
-    to.copy_from_slice(from);
 }

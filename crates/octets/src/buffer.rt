@@ -27,19 +27,21 @@ pub fn overwrite<const N: usize>(
     write_parts(buffer.as_mut_slice(), first, second, third);
 }
 
-/// Gives a buffer a length, by as few octets as it takes.
+/// Gives a buffer a length, by as few octets as it takes: it ends early, or zeros come behind what it
+/// holds.
 #[inline(always)]
-fn set_length<const N: usize>(buffer: &mut ArrayVec<u8, N>, length: usize)
+pub fn set_length<const N: usize>(buffer: &mut ArrayVec<u8, N>, size: usize)
     requires largest { N ≤ MAX_PDU }
-    requires fits { length ≤ N }
-    ensures { array_vec_len buffer.new ≡ length }
+    requires fits { size ≤ N }
+    ensures front { take (array_vec_len buffer.old) buffer.new.items ≡ take size buffer.old.items }
+    ensures size { array_vec_len buffer.new ≡ size }
 {
     let before = buffer.len();
-    if length < before {
-        buffer.truncate(length);
-    } else if before < length {
+    if size < before {
+        buffer.truncate(size);
+    } else if before < size {
         buffer
-            .try_extend_from_slice(&ZEROS[..length - before])
+            .try_extend_from_slice(&ZEROS[..size - before])
             .unwrap();
     }
 }
