@@ -38,7 +38,8 @@ pub struct Served {
     pub confirmed: bool,
 }
 
-/// The same, where the answer stands at the front of octets that keep their number.
+/// What became of a PDU whose answer, where there is one, stands at the front of octets that keep their
+/// number.
 #[derive(Clone, Copy)]
 pub struct Placed {
     /// How many octets the answer has, if there is one.
