@@ -1,8 +1,6 @@
 -- How groups are listed one after another.
 use Rattle.std.proofs.Common.{◌≡◌, ◌<◌, ◌≤◌, ℕ, ◌+◌, ◌-◌, ◌/◌, List, [], ◌∷◌, ◌++◌, length, take, map, zero, suc, refl, sym, ap, ◌∙◌, arith, append_assoc, length-append}
 use Rattle.std.specs.List.{flat_map}
-use Rattle.std.proofs.Math.Nat.{div-eq_of_lt}
-use Rattle.std.proofs.lemmas.List.{append-nil}
 use Rattle.att_numbers.specs.Types.{Handle, Mtu}
 use Rattle.att_numbers.specs.declared.opcode.TheConstants.{FIND_BY_TYPE_VALUE_REQUEST, FIND_BY_TYPE_VALUE_RESPONSE}
 use Rattle.att_pdu.specs.Response.{element_octets, FindByTypeValueResponse, sent}
@@ -23,10 +21,6 @@ group_octets table handle = element_octets (group_of table handle)
 abbrev all_octets : Contents → List Handle → Octets
 all_octets table handles = flat_map (group_octets table) handles
 
-pub groups_end : (table : Contents) (mtu : Mtu) (octets : Octets) → with_groups table mtu octets [] ≡ octets
-groups_end table mtu octets =
-    ap (λ handles. octets ++ all_octets table handles) (take-none ((mtu - length octets) / 4)) ∙ append-nil octets
-
 pub groups_next : (table : Contents) (mtu : Mtu) (old new : Octets) (handle : Handle) (rest : List Handle) → length old + 4 ≤ mtu → new ≡ old ++ element_octets (group_of table handle)
     → with_groups table mtu new rest ≡ with_groups table mtu old (handle ∷ rest)
 groups_next table mtu old new handle rest fits appended =
@@ -39,12 +33,6 @@ groups_next table mtu old new handle rest fits appended =
     ∙ append_assoc old (group_octets table handle) _
     ∙ ap (λ less. old ++ (group_octets table handle ++ all_octets table (take (less / 4) rest))) left
     ∙ ap (λ count. old ++ all_octets table (take count (handle ∷ rest))) (sym (rooms room 4 above enough))
-
-pub groups_full : (table : Contents) (mtu : Mtu) (old new : Octets) (handles : List Handle) → mtu < length old + 4 → new ≡ old
-    → new ≡ with_groups table mtu old handles
-groups_full table mtu old new handles full unchanged =
-    let short : mtu - length old < 4 = omega (arith, full) in
-    unchanged ∙ sym (ap (λ count. old ++ all_octets table (take count handles)) (div-eq_of_lt short) ∙ append-nil old)
 
 -- the elements of a response have these octets
 octets_of_groups : (table : Contents) (handles : List Handle) → all_octets table handles ≡ flat_map element_octets (map (group_of table) handles)

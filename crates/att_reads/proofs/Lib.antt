@@ -5,4 +5,3 @@ pub mod Information
 pub mod Listed
 pub mod Lists
 pub mod Multiple
-pub mod Within

@@ -1,6 +1,5 @@
 -- How the values of several handles are joined, one after another.
 use Rattle.std.proofs.Common.{◌≡◌, ℕ, ◌+◌, ◌-◌, List, [], ◌∷◌, ◌++◌, length, take, map, Option, Some, None, refl, sym, ap, ◌∙◌, arith, append_assoc, length-append, length-take, zero, suc}
-use Rattle.std.proofs.lemmas.List.{append-nil}
 use Rattle.std.specs.Prelude.{min}
 use Rattle.std.specs.List.{flat_map}
 use Rattle.att_numbers.specs.Types.{Handle, Code, Mtu, Row}
@@ -92,9 +91,3 @@ pub refused : (table : Contents) (row : Row) (standing : Standing) (mtu : Mtu) (
 refused table row standing mtu so_far handle left code is =
     let found : read_refusal table.attributes standing handle ≡ Some (record { handle = handle; code = code }) = rw is refl in
     sym (ap (λ first. octets_unless (first ∷ refusals_of table standing left) (filled mtu so_far (values_of table row (handle ∷ left)))) found)
-
--- with no handle left the answer stands
-pub ended : (table : Contents) (row : Row) (standing : Standing) (mtu : Mtu) (so_far : Octets)
-    → finished table row standing mtu so_far [] ≡ so_far
-ended table row standing mtu so_far =
-    ap (λ octets. so_far ++ octets) (take-nothing (mtu - length so_far)) ∙ append-nil so_far

@@ -1,5 +1,5 @@
 -- What the bits of a row are, as a search finds them and as a write leaves them.
-use Rattle.std.proofs.Common.{◌≡◌, ◌≢◌, ℕ, zero, suc, ◌-◌, ◌<◌, ◌≤◌, true, false, ◌==◌, [], ◌∷◌, ◌++◌, get_or, set, Some, None, if◌then◌else◌, refl, ap, sym, subst, ◌∙◌, arith}
+use Rattle.std.proofs.Common.{◌≡◌, ◌≢◌, ℕ, zero, suc, ◌-◌, ◌<◌, ◌≤◌, true, false, ◌==◌, [], ◌∷◌, ◌++◌, get_or, set, Some, None, if◌then◌else◌, refl, subst, arith}
 use Rattle.std.specs.List.{All, position}
 use Rattle.std.specs.Prelude.{slice_get}
 use Rattle.std.proofs.lemmas.Bool.Decides.{nat_tests}
@@ -33,9 +33,6 @@ pub set_found : (row : Row) (handle bits place : ℕ) → position (λ entry. en
 set_found [] handle bits place found = grind arith
 set_found (entry ∷ row) handle bits zero found = grind (arith, common_steps)
 set_found (entry ∷ row) handle bits (suc place) found = grind (arith, common_steps, set_found row handle bits place)
-
--- what the place of an entry, or that there is none, says
-pub ruleset places = (bits_at_found, bits_at_missing, has_found, has_missing, set_found)
 
 -- so is to append an entry where the row has none at the handle
 pub append_missing : (row : Row) (handle bits : ℕ) → has_entry row handle ≡ false → row ++ (handle, bits) ∷ [] ≡ with_bits row handle bits
@@ -75,46 +72,3 @@ All-with_bits (entry ∷ row) handle bits used known all =
 
 -- what a write leaves
 pub ruleset writes = (bits_at_written, bits_at_other, All-with_bits, one_entry_each)
-
--- of bits that are set twice the last ones stay
-pub with_bits_twice : (row : Row) (handle : Handle) (bits later : ℕ) → with_bits (with_bits row handle bits) handle later ≡ with_bits row handle later
-with_bits_twice [] handle bits later = grind (arith, nat_tests)
-with_bits_twice (entry ∷ row) handle bits later = grind (arith, nat_tests, with_bits_twice row handle bits later)
-
--- to set what stands changes nothing
-pub with_bits_that_stand : (row : Row) (handle : Handle) → has_entry row handle ≡ true → with_bits row handle (bits_at row handle) ≡ row
-with_bits_that_stand [] handle has = cc has
-with_bits_that_stand (entry ∷ row) handle has =
-    elim (entry.0 == handle) as (λ same. (entry.0 == handle) ≡ same
-    → (if same then (handle, if same then entry.1 else bits_at row handle) ∷ row else entry ∷ with_bits row handle (if same then entry.1 else bits_at row handle)) ≡ entry ∷ row) [
-      | true ↦ λ is. let own : handle ≡ entry.0 = grind (arith, nat_tests) in ap (λ (h : Handle). (h, entry.1) ∷ row) own
-      | false ↦ λ other. ap (λ (rest : Row). entry ∷ rest) (with_bits_that_stand row handle (grind (arith, nat_tests)))
-    ] refl
-
-pub bits_that_stand : (row : Row) (handle other : Handle) → bits_at (with_bits row handle (bits_at row handle)) other ≡ bits_at row other
-bits_that_stand row handle other =
-    elim (other == handle) as (λ same. (other == handle) ≡ same → bits_at (with_bits row handle (bits_at row handle)) other ≡ bits_at row other) [
-      | true ↦ λ is. let own : other ≡ handle = grind (arith, nat_tests) in rw own (bits_at_written row handle (bits_at row handle))
-      | false ↦ λ differs. bits_at_other row handle (bits_at row handle) other (λ own. grind (arith, nat_tests))
-    ] refl
-
--- bits at two handles may be set in either order
-pub bits_commute : (row : Row) (one other at : Handle) (bits more : ℕ) → one ≢ other
-    → bits_at (with_bits (with_bits row one bits) other more) at ≡ bits_at (with_bits (with_bits row other more) one bits) at
-bits_commute row one other at bits more differ =
-    elim (at == one) as (λ same. (at == one) ≡ same → bits_at (with_bits (with_bits row one bits) other more) at ≡ bits_at (with_bits (with_bits row other more) one bits) at) [
-      | true ↦ λ is.
-          let own : at ≡ one = grind (arith, nat_tests) in
-          rw own (bits_at_other (with_bits row one bits) other more one differ ∙ bits_at_written row one bits ∙ sym (bits_at_written (with_bits row other more) one bits))
-      | false ↦ λ differs.
-          let apart : at ≢ one = λ own. grind (arith, nat_tests) in
-          elim (at == other) as (λ same. (at == other) ≡ same → bits_at (with_bits (with_bits row one bits) other more) at ≡ bits_at (with_bits (with_bits row other more) one bits) at) [
-            | true ↦ λ is.
-                let own : at ≡ other = grind (arith, nat_tests) in
-                rw own (bits_at_written (with_bits row one bits) other more ∙ sym (bits_at_other (with_bits row other more) one bits other (λ same. differ (sym same)) ∙ bits_at_written row other more))
-            | false ↦ λ beside.
-                let away : at ≢ other = λ own. grind (arith, nat_tests) in
-                bits_at_other (with_bits row one bits) other more at away ∙ bits_at_other row one bits at apart
-                ∙ sym (bits_at_other (with_bits row other more) one bits at apart ∙ bits_at_other row other more at away)
-          ] refl
-    ] refl

@@ -1,15 +1,15 @@
 -- Packets are recorded one after another.
-use Rattle.std.proofs.Common.{◌≡◌, ℕ, List, [], ◌∷◌, ◌++◌, take, drop, Option, refl, sym, ap, subst, ◌∙◌, append_assoc}
-use Rattle.std.proofs.KnownBytes.{Appends-nil, Appends-trans}
+use Rattle.std.proofs.Common.{◌≡◌, ℕ, List, [], ◌∷◌, ◌++◌, Option, sym, ap, subst, ◌∙◌, append_assoc}
+use Rattle.std.proofs.KnownBytes.{Appends-trans}
 use Rattle.std.proofs.lemmas.Grind.{flat_map-append}
-use Rattle.std.proofs.lemmas.List.{append-nil, take-append-drop}
+use Rattle.std.proofs.lemmas.List.{append-nil}
 use Rattle.std.proofs.lemmas.List.Elements.{All-nil, All-cons, All-append}
 use Rattle.std.specs.Io.KnownBytes.{Appends}
 use Rattle.std.specs.List.{All}
 use Rattle.octets.specs.Number.{Octets}
 use Rattle.octets.specs.Stream.{WritesFront}
-use Rattle.btsnoop.specs.Capture.{CapturesAll, CapturesFront, CapturesUpTo}
-use Rattle.btsnoop.specs.Packet.{IsPacket, IsUnfinished, IsLostPacket, joined_packets}
+use Rattle.btsnoop.specs.Capture.{CapturesFront, CapturesUpTo}
+use Rattle.btsnoop.specs.Packet.{IsPacket, IsLostPacket, joined_packets}
 use Rattle.btsnoop.specs.Record.{record_of, records_of}
 use Rattle.btsnoop.specs.declared.record.Direction.{Direction}
 
@@ -40,22 +40,6 @@ module _ (direction : Direction) (time : ℕ) where
       flat_map-append (record_of direction time) packets (packet ∷ [])
       ∙ ap (λ (octets : Octets). records_of direction time packets ++ octets) (append-nil (record_of direction time packet))
 
-  pub so_far-start : (first octets : Octets) (held : Option Octets) → SoFar direction time first octets first octets held held
-  so_far-start first octets held = record { packets = []; whole = All-nil IsPacket; parts = refl; recorded = Appends-nil held }
-
-  pub so_far-filled : (first octets begun rest : Octets) (held holds : Option Octets) (count : ℕ)
-      → SoFar direction time first octets begun rest held holds
-      → SoFar direction time first octets (begun ++ take count rest) (drop count rest) held holds
-  so_far-filled first octets begun rest held holds count so_far = record {
-    packets = so_far.packets;
-    whole = so_far.whole;
-    parts =
-        so_far.parts
-        ∙ ap (λ (rest : Octets). joined_packets so_far.packets ++ (begun ++ rest)) (sym (take-append-drop count rest))
-        ∙ ap (λ (octets : Octets). joined_packets so_far.packets ++ octets) (sym (append_assoc begun (take count rest) (drop count rest)));
-    recorded = so_far.recorded;
-  }
-
   pub so_far-recorded : (first octets packet rest : Octets) (held mid holds : Option Octets)
       → SoFar direction time first octets packet rest held mid → IsPacket packet → Appends mid holds (record_of direction time packet)
       → SoFar direction time first octets [] rest held holds
@@ -66,17 +50,6 @@ module _ (direction : Direction) (time : ℕ) where
     recorded =
         subst (Appends held holds) (sym (records-more so_far.packets packet))
         (Appends-trans held mid holds (records_of direction time so_far.packets) (record_of direction time packet) so_far.recorded appended);
-  }
-
-  pub captures_all : (first octets begins : Octets) (held holds : Option Octets)
-      → SoFar direction time first octets begins [] held holds → IsUnfinished begins
-      → CapturesAll direction time first octets begins held holds
-  captures_all first octets begins held holds so_far unfinished = record {
-    packets = so_far.packets;
-    whole = so_far.whole;
-    parts = so_far.parts ∙ ap (λ (octets : Octets). joined_packets so_far.packets ++ octets) (append-nil begins);
-    unfinished = unfinished;
-    recorded = so_far.recorded;
   }
 
   pub captures_front : (first octets packet rest : Octets) (held mid holds : Option Octets)

@@ -1,17 +1,15 @@
 -- Notices are noted one after the other.
-use Rattle.std.proofs.Common.{◌≡◌, true, false, List, [], ◌∷◌, ◌++◌, map, refl, sym, ap, ◌∙◌, append_assoc}
+use Rattle.std.proofs.Common.{◌≡◌, false, List, [], ◌∷◌, ◌++◌, map, refl, sym, ap, ◌∙◌, append_assoc}
 use Rattle.std.specs.List.{flat_map}
 use Rattle.std.proofs.lemmas.List.{append-nil}
 use Rattle.att_table.specs.Table.{Contents}
 use Rattle.gatt_app.specs.declared.notice.Notice.{Notice}
 use Rattle.gatt_host.specs.Notices.{HasTheValue, notice_of}
-use Rattle.gatt_host.specs.Telling.{notices_told}
-use Rattle.gatt_host.specs.HostModel.{HostModel}
 use Rattle.gatt_laws.specs.machine.Notice as law
 use Rattle.octets.specs.Number.{Octets}
 use Rattle.gatt_commands.specs.declared.notes.Notes.{Notes}
 use Rattle.notice_lines.specs.NoticeText.{notice_line}
-use Rattle.gatt_commands.specs.Notices.{HaveTheirValues, NotesWhatIsTold, NotesLines, NotesOne}
+use Rattle.gatt_commands.specs.Notices.{HaveTheirValues, NotesOne}
 
 values-append : (table : Contents) (first : List Notice) (notice : Notice) → HaveTheirValues table first → HasTheValue table notice
     → HaveTheirValues table (first ++ notice ∷ [])
@@ -40,12 +38,6 @@ pub record HasNoted (notices rest : List law.Notice) (table : Contents) (old now
   pub shows : now.shows ≡ old.shows
   pub some : now.is_refused ≡ false → NotesSome notices rest table old now
 
-pub noted_none : (notices : List law.Notice) (table : Contents) (old : Notes) → HasNoted notices notices table old old
-noted_none notices table old = record {
-  shows = refl;
-  some = λ kept. record { kept = kept; told = []; parts = refl; values = tt; lines = sym (append-nil old.text.items) };
-}
-
 noted-then : (notices rest left : List law.Notice) (notice : Notice) (table : Contents) (old now new : Notes) → NotesSome notices rest table old now
     → rest ≡ notice_of notice ∷ left → HasTheValue table notice → new.text.items ≡ now.text.items ++ notice_line notice → NotesSome notices left table old new
 noted-then notices rest left notice table old now new so_far is has line = record {
@@ -67,23 +59,4 @@ pub noted_one : (notices rest left : List law.Notice) (notice : Notice) (table :
 noted_one notices rest left notice table old now new so_far is has one = record {
   shows = one.shows ∙ so_far.shows;
   some = λ kept. noted-then notices rest left notice table old now new (so_far.some (one.kept kept)) is has (one.line kept);
-}
-
-noted-lines : (notices rest : List law.Notice) (table : Contents) (old now : Notes) → NotesSome notices rest table old now → rest ≡ []
-    → NotesLines notices table old now
-noted-lines notices rest table old now so_far none = record {
-  kept = so_far.kept;
-  told = so_far.told;
-  all = sym (so_far.parts ∙ ap (λ (rest : List law.Notice). map notice_of so_far.told ++ rest) none ∙ append-nil (map notice_of so_far.told));
-  values = so_far.values;
-  lines = so_far.lines;
-}
-
--- all of what a host tells, where it is shown
-pub noted_all : (host : HostModel) (rest : List law.Notice) (old now : Notes) → old.shows ≡ true → HasNoted (notices_told host) rest host.server.table old now
-    → rest ≡ [] → NotesWhatIsTold host old now
-noted_all host rest old now shown so_far none = record {
-  shows = so_far.shows;
-  deaf = λ deaf. cc (shown, deaf);
-  lines = λ _ kept. noted-lines (notices_told host) rest host.server.table old now (so_far.some kept) none;
 }

@@ -1,5 +1,5 @@
 -- What may end a part of a run may end the command.
-use Rattle.std.proofs.Common.{◌≡◌, Bool, List, ℕ, sym, subst, ◌∙◌}
+use Rattle.std.proofs.Common.{◌≡◌, Bool, List, ℕ, sym, subst}
 use Rattle.std.specs.Prelude.{Result, Ok, Err, IfErr, IsErrAnd}
 use Rattle.gatt_files.specs.declared.fault.ShellFault.{ShellFault}
 use Rattle.gatt_files.specs.declared.fault.ShellFault.TheVariants.{Table, Keys, Rows, Next, Script, Host, Controller, TooLong, NotHex, Unreadable, Unwritten, Listen, Memory}
@@ -46,12 +46,6 @@ pub judged_at_all : (has_next : Bool) (text : List ℕ) (outer : Result Unit She
 judged_at_all has_next text (Ok done) fault was refusal = absurd was
 judged_at_all has_next text (Err passed_on) fault was refusal =
     subst IsScriptRunFault (sym was) (judged has_next text fault refusal)
-
--- refused memory that is passed on
-pub memory_at_all : (outer : Result Unit ShellFault) (fault : ShellFault)
-    → IsErrAnd outer (λ passed_on. passed_on ≡ fault) → fault ≡ Memory → IfErr outer IsScriptRunFault
-memory_at_all (Ok done) fault was is = absurd was
-memory_at_all (Err passed_on) fault was is = subst IsScriptRunFault (sym (was ∙ is)) tt
 
 begun : (fault : ShellFault) → IsScriptRunFault fault → IsRunCommandFault fault
 begun (Script line) is = is

@@ -1,5 +1,5 @@
 -- The order in which the files of a run are judged.
-use Rattle.std.proofs.Common.{◌≡◌, ◌<◌, ℕ, Bool, List, Option, Some, None, ap, subst, ◌∙◌, arith}
+use Rattle.std.proofs.Common.{◌≡◌, ◌<◌, ℕ, Bool, List, Option, Some, None, subst, ◌∙◌, arith}
 use Rattle.std.specs.Prelude.{IfSome, IsOk, IsErrAnd, Result, Ok, Err}
 use Rattle.att_table.specs.Table.{Contents}
 use Rattle.gatt_subs.specs.Rows.{Subscriptions}
@@ -10,7 +10,6 @@ use Rattle.scripts.specs.Script.{Acts}
 use Rattle.gatt_files.specs.declared.fault.ShellFault.{ShellFault}
 use Rattle.gatt_files.specs.declared.fault.ShellFault.TheVariants.{Table, Keys, Rows, Next, Script, Host, Controller, TooLong, NotHex, Unreadable, Unwritten, Listen, Memory}
 use Rattle.script_lines.specs.declared.script_text.Shows.{Shows}
-use Rattle.script_lines.specs.Echo.{lines_shown}
 use Rattle.gatt_commands.specs.Runs.{RunsFile}
 use Rattle.gatt_files.specs.Saving.{Save}
 use Rattle.gatt_files.specs.ScriptFile.{script_in, IsScriptRefusal}
@@ -23,12 +22,6 @@ pub judged_all : (known : Option (List ℕ)) (items text : List ℕ) (judged giv
 judged_all None items text judged given wanted all same has is = tt
 judged_all (Some input) items text judged given wanted all same has is =
     subst (λ (octets : List ℕ). script_in given octets ≡ wanted) (same ∙ all) (subst (λ (next : Bool). script_in next text ≡ wanted) has is)
-
--- what is shown is of all of the input
-pub shown_all : (known : Option (List ℕ)) (items text : List ℕ) (shows : Bool) (lines : List (List ℕ)) → IfSome known (λ input. items ≡ input) → text ≡ items
-    → lines ≡ lines_shown shows text → IfSome known (λ octets. lines ≡ lines_shown shows octets)
-shown_all None items text shows lines all same is = tt
-shown_all (Some input) items text shows lines all same is = is ∙ ap (lines_shown shows) (same ∙ all)
 
 -- so is all that is so of it
 pub known_all : (known : Option (List ℕ)) (items text : List ℕ) (P : List ℕ → Type 0) → IfSome known (λ input. items ≡ input) → text ≡ items

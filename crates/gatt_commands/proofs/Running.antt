@@ -97,9 +97,6 @@ pub record HasRun (shown left : Shown) (names : List Octets) (acts rest : List A
   pub ends : (fault : ShellFault) (new : Stage) (last : Option Octets) → EndsAmong fault left names rest now new holds last
       → EndsAmong fault shown names acts old new held last
 
-pub run_none : (shown : Shown) (names : List Octets) (acts : List Act) (old : Stage) (held : Option Octets) → HasRun shown shown names acts acts old old held held
-run_none shown names acts old held = record { all = λ new last runs. runs; ends = λ fault new last ends. ends }
-
 module _ (shown left : Shown) (names : List Octets) (acts : List Act) (index : ℕ) (act : Act) (below : index < length acts) (same : act ≡ get_or acts index act)
     (old now : Stage) (held between : Option Octets) (so_far : HasRun shown left names acts (drop index acts) old now held between) where
   next-line : act ∷ drop (index + 1) acts ≡ drop index acts

@@ -1,8 +1,6 @@
 -- Octets that are read in turn.
-use Rattle.std.proofs.Common.{◌≡◌, List, ℕ, [], ◌++◌, Option, Some, None, refl, sym, ap, ◌∙◌, append_assoc}
-use Rattle.std.specs.Prelude.{IfSome}
-use Rattle.std.specs.Io.KnownBytes.{Keeps, Consumes, IsAtEnd}
-use Rattle.std.proofs.lemmas.List.{append-nil}
+use Rattle.std.proofs.Common.{List, ℕ, [], ◌++◌, Option, Some, None, refl, sym, ap, ◌∙◌, append_assoc}
+use Rattle.std.specs.Io.KnownBytes.{Keeps, Consumes}
 
 -- what is read twice is read at once
 pub consumes-append : (before mid left : Option (List ℕ)) (xs ys : List ℕ) → Consumes before mid xs → Consumes mid left ys → Consumes before left (xs ++ ys)
@@ -20,9 +18,3 @@ consumes-kept (Some h) (Some m) (Some n) xs a b = a ∙ ap (λ (more : List ℕ)
 pub consumes-nothing : (before : Option (List ℕ)) → Consumes before before []
 consumes-nothing None = tt
 consumes-nothing (Some h) = refl
-
--- what was read from the start to the end is all there was
-pub consumes-all : (before left : Option (List ℕ)) (xs : List ℕ) → Consumes before left xs → IsAtEnd left → IfSome before (λ input. xs ≡ input)
-consumes-all None left xs a end = tt
-consumes-all (Some h) None xs a end = absurd a
-consumes-all (Some h) (Some m) xs a end = sym (a ∙ ap (λ (more : List ℕ). xs ++ more) end ∙ append-nil xs)

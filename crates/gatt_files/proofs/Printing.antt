@@ -2,12 +2,12 @@
 use Rattle.std.proofs.Common.{◌≡◌, ℕ, Bool, true, false, if◌then◌else◌, ◌∷◌, [], ◌++◌, take, drop, Option, Some, None, refl, sym, ap, subst, ◌∙◌, append_assoc}
 use Rattle.std.specs.Io.KnownBytes.{Appends, Keeps}
 use Rattle.std.specs.Option.{option_map}
-use Rattle.std.proofs.lemmas.List.{append-nil, take-append-drop}
+use Rattle.std.proofs.lemmas.List.{take-append-drop}
 use Rattle.hex.specs.Hex.{encode_lower}
 use Rattle.att_pdu.specs.Response.{Response, sent}
 use Rattle.octets.specs.Stream.{WritesFront}
 use Rattle.gatt_files.specs.Att.{printed_answer}
-use Rattle.gatt_files.proofs.Appending.{appends-append, appends-nothing, appends-kept}
+use Rattle.gatt_files.proofs.Appending.{appends-append, appends-kept}
 use Rattle.octets.specs.Number.{Octets}
 
 pub answered_line : (answer : Option Response) (octets : Octets) → option_map sent answer ≡ Some octets → printed_answer answer ≡ encode_lower octets ++ 10 ∷ []
@@ -40,9 +40,6 @@ pub record HasPrinted (text rest : Octets) (held holds : Option Octets) : Type 0
   pub appended : Appends held holds printed
   pub parts : text ≡ printed ++ rest
 
-pub printed_none : (text : Octets) (held : Option Octets) → HasPrinted text text held held
-printed_none text held = record { printed = []; appended = appends-nothing held; parts = refl }
-
 pub printed_more : (text rest : Octets) (count : ℕ) (held mid holds : Option Octets)
     → HasPrinted text rest held mid → Appends mid holds (take count rest) → HasPrinted text (drop count rest) held holds
 printed_more text rest count held mid holds so_far appended = record {
@@ -59,10 +56,3 @@ printed_kept text rest held mid holds so_far kept = record {
   appended = appends-kept held mid holds so_far.printed so_far.appended kept;
   parts = so_far.parts;
 }
-
-pub printed_all : (text rest : Octets) (held holds : Option Octets) → HasPrinted text rest held holds → rest ≡ [] → Appends held holds text
-printed_all text rest held holds so_far none =
-    subst (Appends held holds) (sym (so_far.parts ∙ ap (λ octets. so_far.printed ++ octets) none ∙ append-nil so_far.printed)) so_far.appended
-
-pub printed_front : (text rest : Octets) (held holds : Option Octets) → HasPrinted text rest held holds → WritesFront text held holds
-printed_front text rest held holds so_far = record { written = so_far.printed; appended = so_far.appended; left = rest; parts = so_far.parts }

@@ -2,5 +2,4 @@ pub mod Owing
 pub mod Firsts
 pub mod Nexts
 pub mod Untold
-pub mod Answering
 pub mod Lacking

@@ -75,10 +75,6 @@ module _ (table : Contents) (row : Row) (standing : Standing) (mtu : Mtu) where
   all-read [] none = tt
   all-read (handle ∷ handles) none = (may-read table.attributes standing handle none.0, all-read handles none.1)
 
-  -- of a list only those are sent that may be read
-  candidate : Listing → Handle → Candidate
-  candidate listing handle = candidate_of listing table row standing mtu handle
-
   listed-handle : (listing : Listing) (handle : Handle) → element_handle (candidate_of listing table row standing mtu handle).element ≡ handle
   listed-handle Values handle = refl
   listed-handle Groups handle = refl

@@ -30,11 +30,6 @@ pub record IsNamedAs (old new : ConnectionState) : Type 0 where
 pub itself : (connection : ConnectionState) → IsNamedAs connection connection
 itself connection = record { handle = refl; peer = refl }
 
-either-named : (connection one other : ConnectionState) (test : Bool) → IsNamedAs connection one → IsNamedAs connection other
-    → IsNamedAs connection (if test then one else other)
-either-named connection one other true first second = first
-either-named connection one other false first second = second
-
 either-turn : (connection : ConnectionState) (one other : Effect) (test : Bool) → IsNamedAs connection one.connection
     → IsNamedAs connection other.connection → IsNamedAs connection (if test then one else other).connection
 either-turn connection one other true first second = first

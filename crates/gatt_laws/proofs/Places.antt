@@ -51,9 +51,6 @@ module _ (peer : Peer) where
   come-place : (handle : ℕ) (other : Peer) → other ≡ peer → HasPlace peer (fresh_connection handle other)
   come-place handle other same = record { of = λ there. same; absent = λ lacks. cc lacks }
 
-there-place : (old new : ConnectionState) → is_there old.mark ≡ true → is_there new.mark ≡ true → new.peer ≡ old.peer → StaysWith old new
-there-place old new was is same = record { there = is ∙ sym was; peer = same }
-
 live-there : (mark : Mark) → is_live mark ≡ true → is_there mark ≡ true
 live-there Absent is = cc is
 live-there Live is = refl

@@ -1,5 +1,5 @@
 -- States that are alike stay so at each event.
-use Rattle.std.proofs.Common.{◌≡◌, ◌+◌, Bool, true, false, List, [], ◌∷◌, ◌++◌, length, None, refl, sym, ap, subst, ◌∙◌}
+use Rattle.std.proofs.Common.{◌≡◌, ◌+◌, Bool, true, false, List, [], length, None, refl, sym, ap, subst, ◌∙◌}
 use Rattle.std.specs.Prelude.{nat_lt, if◌then◌else◌}
 use Rattle.att_numbers.specs.Types.{Handle, Values}
 use Rattle.att_writes.specs.SameBut.{SameBut}
@@ -11,7 +11,7 @@ use Rattle.gatt_laws.specs.machine.Event.{Ordinal, Event, Of, Completed, Credit,
 use Rattle.gatt_laws.specs.machine.ConnectionState.{ConnectionState, is_there}
 use Rattle.gatt_laws.specs.machine.SharedState.{ServiceChangedPending}
 use Rattle.gatt_laws.specs.machine.State.{State, Change, change_of, finished, connections_finished, before_commands, packets_given, step}
-use Rattle.gatt_laws.specs.laws.TwoWorlds.{Matched, Spared, Agrees, KeepsAlike, packets_given_at, GivesTheSame, NothingCrossesInARun}
+use Rattle.gatt_laws.specs.laws.TwoWorlds.{Matched, Spared, Agrees, KeepsAlike, packets_given_at, GivesTheSame}
 use Rattle.gatt_laws.specs.laws.Given.{packets_at}
 use Rattle.le_hci.specs.declared.peer.Peer.{Peer}
 use Rattle.le_security.specs.Entry.{same_peer}
@@ -169,14 +169,3 @@ given_alike peer hidden one other event its alike agrees ordinal =
     both_choices (λ (a b : List Octets). a ≡ b) (is_of peer (one.connections ordinal)) (is_of peer (other.connections ordinal)) (packets_at ordinal one event) []
     (packets_at ordinal other its) [] (λ i. is_of peer (parts i)) (λ mine. gives_the_same peer hidden one other event its alike agrees ordinal (λ there. mine))
     (λ is. refl)
-
-pub nothing_crosses_in_a_run : NothingCrossesInARun
-nothing_crosses_in_a_run peer hidden one other [] [] alike agree ordinal = refl
-nothing_crosses_in_a_run peer hidden one other (event ∷ events) [] alike agree ordinal = absurd agree
-nothing_crosses_in_a_run peer hidden one other [] (its ∷ others) alike agree ordinal = absurd agree
-nothing_crosses_in_a_run peer hidden one other (event ∷ events) (its ∷ others) alike agree ordinal =
-    let first = given_alike peer hidden one other event its alike agree.0 ordinal in
-    let later =
-    nothing_crosses_in_a_run peer (agree.0).following (step one event) (step other its) events others
-    (keeps_alike peer hidden one other event its alike agree.0) agree.1 ordinal in
-    λ i. first i ++ later i

@@ -107,9 +107,6 @@ module _ (table : Contents) (row : Row) (standing : Standing) where
 -- What happens to one connection.
 
 module _ (shared : SharedState) (bond : Row) (owed : Bool) (connection : ConnectionState) where
-  abbrev its_turn : Own → Effect
-  its_turn own = effect_of shared bond owed connection own
-
   -- a PDU that is served may write
   record Writes (pdu : Octets) (attribute : Handle) : Type 0 where
     serves : is_live connection.mark ≡ true

@@ -26,10 +26,6 @@ or-true : (one : Bool) → (one || true) ≡ true
 or-true true = refl
 or-true false = refl
 
-either : (first other waits : Bool) → (other || waits) ≡ true → ((first || other) || waits) ≡ true
-either true other waits is = refl
-either false other waits is = is
-
 -- one that is indicated is one that waits
 indicated-next : (is_due : Handle → Bool) (next : Handle) (rest : List Handle) (due : Bool)
     → IfSome (first_handle (from_due is_due rest)) (λ handle. is_waiting rest handle ≡ true)

@@ -6,7 +6,7 @@ use Rattle.std.specs.Int.{bit_at}
 use Rattle.std.specs.List.{list_any, position}
 use Rattle.std.specs.Option.{option_map, option_map_or}
 use Rattle.std.proofs.lemmas.Bool.{cases_eq, cases_lt, OnFalse_from, OnTrue_at}
-use Rattle.std.proofs.lemmas.Bool.Decides.{eqb_tells, nat_tests}
+use Rattle.std.proofs.lemmas.Bool.Decides.{nat_tests}
 use Rattle.std.proofs.lemmas.List.{get_or-set_same, get_or-set_other, length-map, length-set}
 use Rattle.std.proofs.lemmas.Nat.Bits.{bit_at-zero}
 use Rattle.std.proofs.lemmas.Option.{slice_get-get_or}
@@ -23,7 +23,7 @@ use Rattle.gatt_slots.specs.Hearing.{hearer_facts_of, delivery_in_turn, delivery
 use Rattle.gatt_slots.specs.SlotEffects.{after_table, after_time}
 use Rattle.gatt_slots.specs.SlotState.{SlotState}
 use Rattle.gatt_slots.specs.Places.{is_slot_due, is_some_handle, may_listen, waits, Covers, WaitsForNothingNew, IsMarked}
-use Rattle.gatt_slots.specs.Slots.{SlotStates, all_heard, handles_for, slot_heard, heard_from, is_in, is_own_place, slot_state_at}
+use Rattle.gatt_slots.specs.Slots.{SlotStates, all_heard, handles_for, slot_heard, heard_from, is_in, slot_state_at}
 use Rattle.gatt_subs.specs.Rows.{Subscriptions, row_of}
 use Rattle.gatt_slots.specs.declared.marks.Marks.{Marks}
 use Rattle.gatt_slots.specs.declared.places.Due.{Due}
@@ -89,17 +89,6 @@ pub covered_without : (due : Due) (old new : ℕ) (slots : SlotStates) (place : 
 covered_without due old new slots place few covers idle others = λ other is. ⊎_elim
     (λ same. clash is (ap (λ at. is_slot_due due (slot_state_at slots at)) same ∙ idle))
     (λ apart. others other (omega (arith, there due slots other is)) apart ∙ covers other is)
-    (cases_eq other place)
-
--- it is changed, so that nothing is due there, and leaves the set
-pub covered_settled : (due : Due) (old new : ℕ) (slots : SlotStates) (place : ℕ) (slot : Option SlotState) → length slots ≤ MAX_SLOTS → Covers due old slots → is_slot_due due slot ≡ false
-    → ((other : ℕ) → other < MAX_SLOTS → other ≢ place → bit_at new other ≡ bit_at old other) → Covers due new (set slots place slot)
-covered_settled due old new slots place slot few covers idle others = λ other is. ⊎_elim
-    (λ same. clash is (ap (is_slot_due due)
-    (ap (λ at. slot_state_at (set slots place slot) at) same
-    ∙ at-same slots place slot (omega (arith, there due (set slots place slot) other is, same, length-set slots place slot))) ∙ idle))
-    (λ apart. others other (omega (arith, few, there due (set slots place slot) other is, length-set slots place slot)) apart
-    ∙ covers other (ap (is_slot_due due) (sym (at-other slots place other slot apart)) ∙ is))
     (cases_eq other place)
 
 -- the first place at which something is due
@@ -345,16 +334,6 @@ none_covered due places slots covers empty = none_due due slots (λ place. idle 
 outside : {X : Type 0} (bits place : ℕ) → bits ≡ 0 → bit_at bits place ≡ 1 → X
 outside bits place none within =
     let e : ◌≡◌ {A = ℕ} 1 0 = sym within ∙ ap (λ (it : ℕ). bit_at it place) none ∙ bit_at-zero place in absurd (omega (arith, e))
-
-pub only_own : (bits others own place : ℕ) → others ≡ 0 → ((other : ℕ) → other < MAX_SLOTS → other ≢ own → bit_at others other ≡ bit_at bits other)
-    → place < MAX_SLOTS → bit_at bits place ≡ 1 → (own == place) ≡ true
-only_own bits others own place none same few within = ⊎_elim
-    (λ is. ⊎_elim (λ it. it.0) (λ it. absurd (it.1 (sym is))) (eqb_tells own place))
-    (λ apart. outside others place none (same place few apart ∙ within))
-    (cases_eq place own)
-
-pub none_own : (bits : ℕ) (own : Option ℕ) → bits ≡ 0 → (place : ℕ) → bit_at bits place ≡ 1 → is_own_place own place ≡ true
-none_own bits own none place within = outside bits place none within
 
 -- nothing is due at a place that is not in the set
 pub idle_outside : (due : Due) (places : ℕ) (slots : SlotStates) (place : ℕ) → Covers due places slots → bit_at places place ≡ 0 → is_slot_due due (slot_state_at slots place) ≡ false

@@ -2,7 +2,6 @@ pub mod Quiet
 pub mod Bonds
 pub mod Confirming
 mod Served
-pub mod EachSlot
 pub mod states
 pub mod FirstPlace
 pub mod Found

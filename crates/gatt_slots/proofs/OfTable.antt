@@ -316,12 +316,6 @@ replaced_of_table old table announced changer rows kept owed slots new same beco
 
 -- Values that are notified.
 
--- where there is one, all is of the table
-pub of_table_where : (handles : List Handle) (place : ℕ) (attributes : List Attr) (rows : Subscriptions) (slots : SlotStates) → place < length handles
-    → AreOfTableIfAny handles attributes rows slots → AreOfTable attributes rows slots
-of_table_where [] place attributes rows slots within of = absurd (omega (arith, within))
-of_table_where (handle ∷ handles) place attributes rows slots within of = of
-
 pub of_table_if_any : (handles : List Handle) (attributes : List Attr) (rows : Subscriptions) (slots : SlotStates) → AreOfTable attributes rows slots
     → AreOfTableIfAny handles attributes rows slots
 of_table_if_any [] attributes rows slots of = tt

@@ -1,4 +1,3 @@
-pub mod Ends
 pub mod Events
 pub mod Found
 pub mod Heard

@@ -125,9 +125,6 @@ joined_seen (octet ∷ next ∷ octets) small =
     All-append (λ octet. 33 ≤ octet) (encode_lower (octet ∷ [])) (58 ∷ joined_by_colons (next ∷ octets)) (octet_seen octet (All-head IsOctet octet (next ∷ octets) small))
     (All-cons (λ octet. 33 ≤ octet) 58 (joined_by_colons (next ∷ octets)) (omega arith) (joined_seen (next ∷ octets) (All-tail IsOctet octet (next ∷ octets) small)))
 
-index_small : (address : Octets) (i : ℕ) → All IsOctet address → slice_index address i < 256
-index_small address i small = are_bytes address small i
-
 pub address_seen : (address : Octets) → All IsOctet address → IsWord (address_text address)
 unfolding address_text
 address_seen address small =

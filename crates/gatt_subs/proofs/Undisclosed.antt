@@ -9,8 +9,8 @@ use Rattle.att_pdu.specs.Response.Response.{HandleValueNotification, HandleValue
 use Rattle.att_attributes.specs.declared.attr.Attr.{Attr}
 use Rattle.gatt_subs.specs.declared.pending.TheConstants.{MAX_BACKLOG}
 use Rattle.gatt_subs.specs.Hearing.{may_hear_at, wants_indications}
-use Rattle.gatt_subs.specs.Indications.{Indications, hears, is_notified, indicated_handle, with_handle}
-use Rattle.gatt_subs.specs.Told.{Hearer, notification_of, indication_of, is_heard, HearsNothing, AgreeWhereHeard, TellsOnlyWhatIsHeard}
+use Rattle.gatt_subs.specs.Indications.{hears, is_notified, indicated_handle}
+use Rattle.gatt_subs.specs.Told.{Hearer, notification_of, indication_of, AgreeWhereHeard, TellsOnlyWhatIsHeard}
 use Rattle.gatt_subs.proofs.Heard.{both, releases_only_what_is_heard}
 
 -- what is notified may be heard
@@ -50,25 +50,4 @@ tells_only_what_is_heard attributes hearer one other agree =
       raised = λ handle. raised_same attributes hearer one other handle (hearer.live && is_notified hearer.pending attributes hearer.row hearer.standing handle hearer.backlog) agree refl;
       released = released_same hearer.live (option_map (λ handle. indication_of one handle hearer.mtu) found) (option_map (λ handle. indication_of other handle hearer.mtu) found)
           (indicated_same attributes hearer one other found agree refl);
-    }
-
--- a connection that does not hear of a value: it is not live, timed out, or may not hear of it
-unchanged_if : (live heard wanted : Bool) (some none : Indications) → live && heard ≡ false → (if live then (if heard && wanted then some else none) else none) ≡ none
-unchanged_if true true wanted some none deaf = cc deaf
-unchanged_if true false wanted some none deaf = refl
-unchanged_if false heard wanted some none deaf = refl
-
-silent_if : (live heard unwanted has_room : Bool) (told : Option Response) → live && heard ≡ false → (if live && (heard && unwanted && has_room) then told else None) ≡ None
-silent_if true true unwanted has_room told deaf = cc deaf
-silent_if true false unwanted has_room told deaf = refl
-silent_if false heard unwanted has_room told deaf = refl
-
-pub hears_nothing : (attributes : List Attr) (hearer : Hearer) (handle : Handle) → is_heard attributes hearer handle ≡ false → HearsNothing attributes hearer handle
-hears_nothing attributes hearer handle deaf =
-    let heard = hears hearer.pending attributes hearer.row hearer.standing handle in
-    let wanted = wants_indications hearer.row handle in
-    let pending = hearer.pending in
-    record {
-      unchanged = unchanged_if hearer.live heard wanted (record pending { waiting = with_handle pending.waiting handle }) pending deaf;
-      silent = λ values. silent_if hearer.live heard (not wanted) (nat_lt hearer.backlog MAX_BACKLOG) (Some (notification_of values handle hearer.mtu)) deaf;
     }

@@ -1,6 +1,5 @@
 -- What a sink takes in turn.
-use Rattle.std.proofs.Common.{◌≡◌, ℕ, ◌+◌, ◌≤◌, true, false, if◌then◌else◌, List, [], ◌∷◌, ◌++◌, ◌<◌, length, get_or, drop, Option, refl, sym, ap, subst, ◌∙◌, arith, append_assoc}
-use Rattle.std.proofs.Math.ListN.{drop_of_length-le}
+use Rattle.std.proofs.Common.{◌≡◌, ℕ, ◌+◌, true, false, if◌then◌else◌, List, [], ◌∷◌, ◌++◌, ◌<◌, length, get_or, drop, Option, refl, sym, ap, subst, ◌∙◌, append_assoc}
 use Rattle.std.specs.Prelude.{Result, Ok, Err, IsOk, OnOk, OnErr}
 use Rattle.std.specs.List.{flat_map}
 use Rattle.std.specs.Io.KnownBytes.{Appends}
@@ -102,15 +101,6 @@ owed_break_off peers bonds i d e held mid holds within within' so_far front =
     breaks_off (flat_map owed_line (owed_peers peers bonds)) (if (get_or bonds i e).owed then owed_line (get_or peers i d) else []) (flat_map owed_line (owed_peers (drop (i + 1) peers) (drop (i + 1) bonds))) held mid holds
     (subst (λ (rest : Octets). HasWritten (flat_map owed_line (owed_peers peers bonds)) rest held mid) (owed_from peers bonds i d e within within') so_far)
     front
-
--- nothing is left behind the last bond
-pub bonds_end : (peers : List Peer) (bonds : List Bond) (i : ℕ) → length bonds ≤ i → length bonds ≡ length peers → flat_map entry_line (bond_entries (drop i peers) (drop i bonds)) ≡ []
-bonds_end peers bonds i end same =
-    ap (λ (left : List Peer). flat_map entry_line (bond_entries left (drop i bonds))) (drop_of_length-le peers (omega arith))
-
-pub owed_end : (peers : List Peer) (bonds : List Bond) (i : ℕ) → length bonds ≤ i → length bonds ≡ length peers → flat_map owed_line (owed_peers (drop i peers) (drop i bonds)) ≡ []
-owed_end peers bonds i end same =
-    ap (λ (left : List Peer). flat_map owed_line (owed_peers left (drop i bonds))) (drop_of_length-le peers (omega arith))
 
 -- the text in its parts
 pub text_of_parts : (rows : Subscriptions) → text_in_parts rows.peers rows.bonds rows.unfitted ≡ rows_text rows

@@ -31,10 +31,6 @@ pub record Hearer : Type 0 where
   pub backlog : Backlog
   pub pending : Indications
 
--- whether it hears of the value at a handle
-abbrev pub is_heard : List Attr → Hearer → Handle → Bool
-is_heard attributes hearer handle = hearer.live && hears hearer.pending attributes hearer.row hearer.standing handle
-
 -- what it is told where the value at a handle is notified, and its indications then
 abbrev pub notify_tells : List Attr → Values → Hearer → Handle → Option Response
 notify_tells attributes values hearer handle =
@@ -55,11 +51,6 @@ indicate_tells attributes values hearer =
 abbrev pub pending_after_indicate : List Attr → Hearer → Milliseconds → Indications
 pending_after_indicate attributes hearer now =
     if hearer.live then after_indicate hearer.pending attributes hearer.row hearer.standing hearer.backlog now else hearer.pending
-
--- where it may not hear of a value it is told nothing of it, and nothing waits more than before
-pub record HearsNothing (attributes : List Attr) (hearer : Hearer) (handle : Handle) : Type 0 where
-  pub unchanged : pending_after_notify attributes hearer handle ≡ hearer.pending
-  pub silent : (values : Values) → notify_tells attributes values hearer handle ≡ None
 
 -- values that are the same wherever it may hear of them
 abbrev pub AgreeWhereHeard : List Attr → Hearer → Values → Values → Type 0

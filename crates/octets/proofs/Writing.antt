@@ -1,15 +1,10 @@
 -- What a sink takes in turn, and what is counted.
 use Rattle.std.proofs.Common.{◌≡◌, ℕ, ◌+◌, arith, [], ◌++◌, take, drop, Option, Some, None, refl, sym, ap, subst, ◌∙◌, append_assoc}
 use Rattle.std.proofs.KnownBytes.{Appends-nil, Appends-trans}
-use Rattle.std.proofs.lemmas.List.{append-nil, take-append-drop}
-use Rattle.std.specs.Io.KnownBytes.{Appends, Keeps}
+use Rattle.std.proofs.lemmas.List.{take-append-drop}
+use Rattle.std.specs.Io.KnownBytes.{Appends}
 use Rattle.octets.specs.Number.{Octets}
 use Rattle.octets.specs.Stream.{CountsMany, CountsNone, CountsOne, WritesFront}
-
-kept-appends : (mid holds : Option Octets) → Keeps mid holds → Appends mid holds []
-kept-appends None holds kept = tt
-kept-appends (Some m) None kept = absurd kept
-kept-appends (Some m) (Some n) kept = kept ∙ sym (append-nil m)
 
 -- of a text all but the rest is written
 pub record HasWritten (text rest : Octets) (held holds : Option Octets) : Type 0 where
@@ -35,10 +30,6 @@ written_count text rest count held mid holds so_far appended =
     written_more text (take count rest) (drop count rest) held mid holds
     (subst (λ (rest : Octets). HasWritten text rest held mid) (sym (take-append-drop count rest)) so_far) appended
 
-pub written_all : (text rest : Octets) (held holds : Option Octets) → HasWritten text rest held holds → rest ≡ [] → Appends held holds text
-written_all text rest held holds so_far none =
-    subst (Appends held holds) (sym (so_far.parts ∙ ap (λ octets. so_far.written ++ octets) none ∙ append-nil so_far.written)) so_far.appended
-
 -- a piece breaks off
 pub breaks_off : (text piece rest : Octets) (held mid holds : Option Octets)
     → HasWritten text (piece ++ rest) held mid → WritesFront piece mid holds → WritesFront text held holds
@@ -52,10 +43,6 @@ breaks_off text piece rest held mid holds so_far front = record {
       ∙ ap (λ (octets : Octets). so_far.written ++ octets) (append_assoc front.written front.left rest)
       ∙ sym (append_assoc so_far.written front.written (front.left ++ rest));
 }
-
-pub breaks_kept : (text rest : Octets) (held mid holds : Option Octets) → HasWritten text rest held mid → Keeps mid holds → WritesFront text held holds
-breaks_kept text rest held mid holds so_far kept =
-    breaks_off text [] rest held mid holds so_far (record { written = []; appended = kept-appends mid holds kept; left = []; parts = refl })
 
 -- what is counted one after the other
 pub counts_none : (before mid now : Option ℕ) → CountsNone before mid → CountsNone mid now → CountsNone before now

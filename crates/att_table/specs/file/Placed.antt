@@ -12,10 +12,6 @@ use Rattle.att_table.specs.file.Limits.{is_within_limits}
 use Rattle.att_table.specs.file.Needs.{no_need}
 use Rattle.att_table.specs.Table.{Contents}
 
-pub record Placed : Type 0 where
-  pub attr : Attr
-  pub value : Octets
-
 -- the handle of the next attribute
 abbrev pub next_handle : Contents → Handle
 next_handle table = length table.attributes + 1

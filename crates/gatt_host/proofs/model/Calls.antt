@@ -3,12 +3,12 @@ use Rattle.std.proofs.Common.{◌≡◌, Bool, true, false, List, Option, None, 
 use Rattle.std.specs.Prelude.{IsOk, IsOkAnd, IfOk, IfErr, OnErr, OnOk, if◌then◌else◌}
 use Rattle.att_table.specs.Changer.{changer_of}
 use Rattle.att_table.specs.Table.{Contents}
-use Rattle.gatt_host.proofs.asking.Calls.{call_is_refused, call_led, call_refusal_same, table_is_refused, table_led, table_refusal_same}
+use Rattle.gatt_host.proofs.asking.Calls.{call_is_refused, call_led, call_refusal_same, table_is_refused, table_led}
 use Rattle.gatt_host.proofs.meaning.Drained.{all_sent, drained_in}
 use Rattle.gatt_host.proofs.model.Silence.{stands_in_silence}
 use Rattle.gatt_host.proofs.model.Items.{drained_where, no_fault, takes_item}
 use Rattle.gatt_host.specs.Calls.{refused_of}
-use Rattle.gatt_host.specs.Asked.{call_happening, refusal_in_result, replacement_happening, replacing_refusal_of}
+use Rattle.gatt_host.specs.Asked.{call_happening, refusal_in_result, replacement_happening}
 use Rattle.gatt_app.specs.declared.app.AppFault.{AppFault}
 use Rattle.gatt_host.specs.declared.host_fault.HostFault.{HostFault}
 use Rattle.gatt_host.specs.declared.last_event.LastEvent.TheVariants as last
@@ -20,7 +20,7 @@ use Rattle.gatt_host.specs.Telling.{noticed_in}
 use Rattle.gatt_host.specs.HostModel.{HoldsStream, SameFault, RefinesRun, Takes, HostModel, all_out}
 use Rattle.gatt_laws.specs.machine.Calls.{Call, NoServiceChanged, Refused, call_event, replacement_event, same_changer}
 use Rattle.gatt_laws.specs.machine.Event.{Event, Happening, Replaced}
-use Rattle.gatt_laws.specs.machine.Input.{ACall, ATable, Run, after_event, after_result, call_refusal, refusal_in, replacement_refusal}
+use Rattle.gatt_laws.specs.machine.Input.{ACall, ATable, Run, after_event, after_result, call_refusal, refusal_in}
 use Rattle.gatt_laws.specs.machine.Packets.{Fault}
 use Rattle.gatt_slots.specs.Slots.{Place}
 use Rattle.le_h4.specs.Deframer.{Deframing}
@@ -143,23 +143,6 @@ module _ {A : Type 0} (table : Contents) (old new : HostModel) (none : old.fault
       takes_item (ATable table) old new none (λ run sent no_why is.
       stands-then old new keeps run sent (replacement_event run.intake.state table) is
       (table-stands result after accepts refused same run sent is.refines))
-
-table-reason : {A : Type 0} (old : ServerState) (table : Contents) (result : Result A (AppFault × Contents)) → (IsOk result → same_changer old.changer (changer_of table) ≡ true)
-    → IfErr result (λ fault. replacement_happening old table ≡ Err (refused_of fault.0)) → replacing_refusal_of result ≡ refusal_in None (replacement_happening old table)
-table-reason old table (Ok given) accepts refused =
-    none-refused (replacement_happening old table) (λ happening. Unit)
-    (if-same (same_changer old.changer (changer_of table)) table (λ happening. Unit) (accepts refl) tt)
-table-reason old table (Err fault) accepts refused = ap (λ (outcome : Result (Happening Place) Refused). refusal_in None outcome) (sym refused)
-
-pub table_refused : {A : Type 0} (table : Contents) (old : HostModel) (result : Result A (AppFault × Contents)) → old.fault ≡ None → all_out old ≡ true
-    → (IsOk result → same_changer old.server.changer (changer_of table) ≡ true)
-    → IfErr result (λ fault. replacement_happening old.server table ≡ Err (refused_of fault.0))
-    → (run : Run) (sent : List Octets) → RefinesRun run sent old → replacing_refusal_of result ≡ replacement_refusal run.intake table
-table_refused table old result none out accepts refused run sent is =
-    let in_run : IsDrainedIn run old.server old.frames = drained_in run sent old.server old.frames is.refines (drained_where old none out) in
-    table-reason old.server table result accepts refused
-    ∙ sym (table_refusal_same run old.server old.frames in_run table)
-    ∙ sym (ap (λ (why : Option Fault). refusal_in why (replacement_event run.intake.state table)) (no_fault run sent old none is))
 
 -- what is held once a table has replaced another
 pub replaced_after : (table : Contents) (old new : ServerState) (result : Result Contents (AppFault × Contents))

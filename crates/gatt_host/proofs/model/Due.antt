@@ -35,10 +35,6 @@ due_where_held old new fault none out same =
 pub due_where_out : (host : HostModel) → host.fault ≡ None → all_out host ≡ true → WritesAllThatIsDue host.fault host
 due_where_out host none out = due_where_held host host host.fault none out (λ i. host.server)
 
--- where the writer has failed nothing is said
-pub due_where_broken : (fault : Option HostFault) (host : HostModel) → fault ≡ Some stop.Write → WritesAllThatIsDue fault host
-due_where_broken fault host is = subst (λ (fault : Option HostFault). WritesAllThatIsDue fault host) (sym is) tt
-
 -- by what is held
 pub due_where_drained : (host : HostModel) (fault : Option HostFault) → is_drained host.server.controller (open_slots host.server) ≡ true
     → WritesAllThatIsDue fault host

@@ -16,7 +16,7 @@ use Rattle.gatt_laws.proofs.Streams.{stays_stopped}
 use Rattle.gatt_laws.specs.machine.Input.{AnOctet, Run, Item, after_items, run_at_start, run}
 use Rattle.gatt_laws.specs.machine.Packets.{Fault}
 use Rattle.octets.specs.Number.{Octets}
-use Rattle.octets.specs.Stream.{CountsFailure, CountsIf, CountsNone, CountsOne, WritesFront}
+use Rattle.octets.specs.Stream.{CountsFailure, CountsIf, CountsNone, WritesFront}
 
 pub joined_append : (packets others : List Octets) → joined (packets ++ others) ≡ joined packets ++ joined others
 joined_append packets others = flat_map-append (λ (packet : Octets). packet) packets others
@@ -222,12 +222,6 @@ taken_then octets rest old mid new before between after has takes = record {
       (takes_then (octet_items has.taken) [] old mid new before between after has.takes takes);
 }
 
-pub taken_all : (octets rest : Octets) (old new : HostModel) (before after : Option Octets) → HasTaken octets rest old new before after → rest ≡ []
-    → TakesAll (octet_items octets) old new before after
-taken_all octets rest old new before after has none =
-    subst (λ (all : Octets). TakesAll (octet_items all) old new before after)
-    (sym (has.parts ∙ ap (λ (left : Octets). has.taken ++ left) none ∙ append-nil has.taken)) has.takes
-
 -- the host stops at a packet
 pub taken_stops : (octets rest : Octets) (old at new : HostModel) (before after : Option Octets) (found : Option HostFault) (fault : HostFault) → HasTaken octets rest old at before after
     → Refines (octet_items rest) [] at new → found ≡ Some fault → is_own_fault fault ≡ false → Feeds (octet_items octets) old new before after found
@@ -257,10 +251,6 @@ on_err_at (Err e) P fails so = so
 pub on_ok_at : {T E : Type 0} (result : Result T E) (P : Type 0) → is_err result ≡ false → OnOk result P → P
 on_ok_at (Ok x) P works so = so
 on_ok_at (Err e) P works so = absurd (clash (sym works))
-
-pub counts_one_at : {T E : Type 0} (result : Result T E) (before after : Option ℕ) → is_err result ≡ true → CountsFailure before after result → CountsOne before after
-counts_one_at (Ok x) before after fails counts = absurd (clash fails)
-counts_one_at (Err e) before after fails counts = counts
 
 pub counts_none_at : {T E : Type 0} (result : Result T E) (before after : Option ℕ) → is_err result ≡ false → CountsFailure before after result → CountsNone before after
 counts_none_at (Ok x) before after works counts = counts

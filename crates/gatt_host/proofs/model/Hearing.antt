@@ -37,9 +37,6 @@ pub record HasToldSome (notices rest : List Notice) (before after : Option (List
   pub parts : notices ≡ told ++ rest
   pub hears : Hears told before after
 
-pub told_none : (notices : List Notice) (known : Option (List Notice)) → HasToldSome notices notices known known
-told_none notices known = record { told = []; parts = refl; hears = hears_none known }
-
 pub told_one : (notices rest : List Notice) (notice : Notice) (left : List Notice) (before heard after : Option (List Notice))
     → HasToldSome notices rest before heard → rest ≡ notice ∷ left → Hears (notice ∷ []) heard after → HasToldSome notices left before after
 told_one notices rest notice left before heard after so_far is hears = record {
@@ -47,11 +44,6 @@ told_one notices rest notice left before heard after so_far is hears = record {
   parts = so_far.parts ∙ ap (λ (rest : List Notice). so_far.told ++ rest) is ∙ sym (append_assoc so_far.told (notice ∷ []) left);
   hears = hears_then so_far.told (notice ∷ []) before heard after so_far.hears hears;
 }
-
-pub told_all : (notices rest : List Notice) (before after : Option (List Notice)) → HasToldSome notices rest before after → rest ≡ [] → Hears notices before after
-told_all notices rest before after so_far nothing =
-    subst (λ (notices : List Notice). Hears notices before after)
-    (sym (so_far.parts ∙ ap (λ (rest : List Notice). so_far.told ++ rest) nothing ∙ append-nil so_far.told)) so_far.hears
 
 -- what is told of items, and of more
 notices-append : (items more : List Item) (run : Run)

@@ -35,9 +35,6 @@ drained_then server by none =
 pub is_going : (host : HostModel) → host.fault ≡ None → going host.server host.frames host.stream ≡ host
 is_going host none = λ i. record host { fault = sym none i }
 
-pub held_by : (host : HostModel) → host.fault ≡ None → IsReached host → IsStateOfOne host.server
-held_by host none reached = (host.frames, host.stream, subst IsReached (sym (is_going host none)) reached)
-
 pub feeds_from : (old new : HostModel) (before after : Option Octets) (fault : Option HostFault) → old.fault ≡ None → new.fault ≡ fault
     → Feeds [] (going old.server old.frames old.stream) (record (going new.server old.frames old.stream) { fault = fault }) before after fault
     → new.frames ≡ old.frames → new.stream ≡ old.stream → Feeds [] old new before after new.fault

@@ -1,10 +1,5 @@
 -- An element of one list behind another.
-use Rattle.std.proofs.Common.{◌≡◌, ℕ, zero, suc, ◌-◌, ◌≤◌, List, [], ◌∷◌, ◌++◌, length, slice_get, None, ap, ◌∙◌, arith}
-
-pub past_none : {A : Type 0} (xs : List A) (at : ℕ) → slice_get xs at ≡ None → length xs ≤ at
-past_none [] at none = omega arith
-past_none (x ∷ xs) zero none = cc none
-past_none (x ∷ xs) (suc at) none = let later = past_none xs at none in omega (arith, later)
+use Rattle.std.proofs.Common.{◌≡◌, ℕ, zero, suc, ◌-◌, ◌≤◌, List, [], ◌∷◌, ◌++◌, length, slice_get, ap, ◌∙◌, arith}
 
 pub behind : {A : Type 0} (xs ys : List A) (at : ℕ) → length xs ≤ at → slice_get (xs ++ ys) at ≡ slice_get ys (at - length xs)
 behind [] ys at past = ap (λ (k : ℕ). slice_get ys k) (omega arith)

@@ -1,6 +1,6 @@
 -- Nothing crosses from one connection to those of another peer: two runs that differ in what the connections of a peer may
 -- not know are the same to them.
-use Rattle.std.specs.Prelude.{◌≡◌, Bool, true, false, ◌&&◌, is_some, if◌then◌else◌, List, [], ◌∷◌, ◌++◌}
+use Rattle.std.specs.Prelude.{◌≡◌, Bool, true, false, ◌&&◌, is_some, if◌then◌else◌, List, [], ◌++◌}
 use Rattle.att_numbers.specs.Types.{Handle}
 use Rattle.att_pdu.specs.Grammar.{request_of, is_due}
 use Rattle.att_table.specs.Changer.{changer_of}
@@ -83,18 +83,3 @@ packets_given_at peer ordinal state event = if is_of peer (state.connections ord
 
 abbrev pub packets_given_in : Peer → Ordinal → State → List Event → List Octets
 packets_given_in peer ordinal = packets_in (packets_given_at peer ordinal)
-
--- two runs agree at each of their events; what is hidden stays so until the table is replaced
-abbrev pub EventsAgree : Peer → (Handle → Bool) → State → State → List Event → List Event → Type 0
-EventsAgree peer hidden one other [] [] = Unit
-EventsAgree peer hidden one other (event ∷ events) [] = ⊥
-EventsAgree peer hidden one other [] (its ∷ others) = ⊥
-EventsAgree peer hidden one other (event ∷ events) (its ∷ others) =
-    (agrees : Agrees peer hidden one other event its)
-    × EventsAgree peer agrees.following (step one event) (step other its) events others
-
--- so the connections of the peer are given the same packets in both
-abbrev pub NothingCrossesInARun : Type 0
-NothingCrossesInARun = (peer : Peer) (hidden : Handle → Bool) (one other : State) (events others : List Event) → Alike peer hidden one other →
-    EventsAgree peer hidden one other events others → (ordinal : Ordinal) →
-    packets_given_in peer ordinal one events ≡ packets_given_in peer ordinal other others

@@ -1,43 +1,25 @@
 -- A connection that comes, and what events for all leave, by what a slot keeps and by what the state machine knows.
-use Rattle.std.proofs.Common.{◌≡◌, ℕ, ◌+◌, ◌-◌, Bool, true, false, [], ◌∷◌, Option, Some, None, refl, ap, ◌∙◌, arith}
+use Rattle.std.proofs.Common.{◌≡◌, ℕ, ◌+◌, ◌-◌, Bool, true, false, [], ◌∷◌, Some, None, refl, ap, ◌∙◌, arith}
 use Rattle.std.specs.Prelude.{min, is_some, if◌then◌else◌}
 use Rattle.std.specs.Option.{option_map}
-use Rattle.att_numbers.specs.Types.{Handle, Row}
+use Rattle.att_numbers.specs.Types.{Row}
 use Rattle.att_table.specs.ConfigRow.{kept_row}
 use Rattle.att_table.specs.Table.{Contents}
 use Rattle.gatt_conn.specs.Transcript.{Dropped, first_exchange}
-use Rattle.gatt_laws.specs.machine.Event.{Connected, Disconnected}
-use Rattle.gatt_laws.specs.machine.ConnectionState.{ConnectionState, is_live, is_there, fresh_connection}
+use Rattle.gatt_laws.specs.machine.ConnectionState.{ConnectionState, is_live, is_there}
 use Rattle.gatt_laws.specs.machine.SharedState.{SharedState, quota_of, fragment_size_of}
 use Rattle.gatt_laws.specs.machine.State.{with_packets_completed, connection_after_replacement}
-use Rattle.gatt_laws.specs.machine.Effect.{effect_of, effect_on_connection}
 use Rattle.gatt_slots.proofs.states.Effects.{dropped_same, mtu_by}
 use Rattle.gatt_slots.specs.SlotState.{SlotState, slot_state_of, slot_state_if_there}
-use Rattle.gatt_slots.specs.SlotEffects.{new_slot_state, slot_after_packets_completed, after_table, after_time}
-use Rattle.gatt_subs.specs.Indications.{after_replacement, after_tick}
+use Rattle.gatt_slots.specs.SlotEffects.{slot_after_packets_completed, after_table}
+use Rattle.gatt_subs.specs.Indications.{after_replacement}
 use Rattle.le_acl.specs.Outgoing.{Outgoing, outgoing_after, with_completed, without_pdus}
-use Rattle.le_hci.specs.declared.peer.Peer.{Peer}
-use Rattle.le_security.specs.Keys.{is_known}
 
 -- what a change leaves of who is there, and of who is not
 mapped : (there : Bool) (old new : SlotState) (change : SlotState → SlotState) → new ≡ change old
     → (if there then Some new else None) ≡ option_map change (if there then Some old else None)
 mapped true old new change same = ap (λ (slot_state : SlotState). Some slot_state) same
 mapped false old new change same = refl
-
--- a connection comes where none is
-pub come_kept : (shared : SharedState) (handle : ℕ) (peer : Peer)
-    → slot_state_if_there shared (fresh_connection handle peer) 0
-    ≡ Some (new_slot_state handle peer (is_known shared.keys peer) shared.rx_mtu (quota_of shared.slots shared.buffers) (fragment_size_of shared.buffers))
-come_kept shared handle peer = refl
-
-pub comes : (shared : SharedState) (bond : Row) (owed : Bool) (connection : ConnectionState) (handle : ℕ) (peer : Peer) → is_there connection.mark ≡ false
-    → effect_of shared bond owed connection (Connected handle peer) ≡ effect_on_connection shared bond owed (fresh_connection handle peer)
-comes shared bond owed connection handle peer is = ap (λ (there : Bool). effect_on_connection shared bond owed (if there then connection else fresh_connection handle peer)) is
-
--- and nothing is kept of one that is gone
-pub gone_kept : (shared : SharedState) (bond : Row) (owed : Bool) (connection : ConnectionState) (handed : ℕ) → slot_state_if_there shared (effect_of shared bond owed connection Disconnected).connection handed ≡ None
-gone_kept shared bond owed connection handed = refl
 
 -- packets are completed
 completed-outgoing : (live : Bool) (outgoing : Outgoing) (given done count : ℕ) → outgoing.outstanding ≡ given - done
@@ -60,14 +42,6 @@ completed_kept shared connection count =
     let outgoing : Outgoing = outgoing_after (quota_of shared.slots shared.buffers) (fragment_size_of shared.buffers) connection.pdus connection.given connection.done in
     mapped (is_there connection.mark) slot_state (slot_state_of shared (with_packets_completed connection count) connection.given) (slot_after_packets_completed count)
     (ap (λ (new : Outgoing). record slot_state { outgoing = new }) (completed-outgoing (is_live connection.mark) outgoing connection.given connection.done count refl))
-
--- time goes by
-pub time_kept : (shared : SharedState) (connection : ConnectionState) (now handed : ℕ)
-    → slot_state_if_there (record shared { time = now }) (record connection { pending = after_tick connection.pending now }) handed
-    ≡ option_map (after_time now) (slot_state_if_there shared connection handed)
-time_kept shared connection now handed =
-    mapped (is_there connection.mark) (slot_state_of shared connection handed) (slot_state_of (record shared { time = now }) (record connection { pending = after_tick connection.pending now }) handed)
-    (after_time now) refl
 
 -- the table is replaced, and no other thing that a slot keeps of a room
 abbrev dropped_if : Bool → ConnectionState → ConnectionState
@@ -99,8 +73,3 @@ replaced_kept shared connection old new handed =
     ap (λ (there : Bool). if there then Some then-kept else None) (dropped-there (is_live connection.mark) connection)
     ∙ mapped (is_there connection.mark) (slot_state_of shared connection handed) then-kept (after_table old.attributes new.attributes)
     (replaced-of shared connection row handed (is_live connection.mark) refl)
-
--- a slot does not look at the table of a room, nor at its time
-pub room_kept : (shared : SharedState) (table : Contents) (changer : Option Handle) (now : ℕ) (connection : ConnectionState) (handed : ℕ)
-    → slot_state_if_there (record shared { table = table; changer = changer; time = now }) connection handed ≡ slot_state_if_there shared connection handed
-room_kept shared table changer now connection handed = refl

@@ -3,18 +3,14 @@ use Rattle.std.proofs.Common.{◌≡◌, ℕ, zero, suc, ◌+◌, Bool, true, fa
 use Rattle.std.specs.Prelude.{is_none, is_some, not, if◌then◌else◌, nat_lt, ◌==◌, ◌||◌, slice_get}
 use Rattle.std.specs.List.{position, position_or_len}
 use Rattle.std.specs.Option.{option_map, option_map_or}
-use Rattle.std.proofs.lemmas.Bool.{cases_eq, cases_lt, lt-ltb, le-ltb, eq-eqb, ne_eqb}
+use Rattle.std.proofs.lemmas.Bool.{cases_lt, lt-ltb, le-ltb, eq-eqb, ne_eqb}
 use Rattle.std.proofs.lemmas.Option.{slice_get-map}
-use Rattle.att_numbers.specs.Types.{Handle}
-use Rattle.att_table.specs.Table.{Contents}
 use Rattle.gatt_laws.specs.machine.Context.{ordinal_where}
 use Rattle.gatt_laws.specs.machine.Controller.{Slots, has_free, with_taken, with_freed}
 use Rattle.gatt_laws.specs.machine.Event.{Ordinal}
 use Rattle.gatt_laws.specs.laws.Settled.{is_slot_of, has_slot, HaveOneSlotEach}
-use Rattle.gatt_laws.specs.machine.State.{all_to_notify, at_ordinal}
 use Rattle.gatt_slots.specs.SlotState.{SlotState}
-use Rattle.gatt_slots.specs.Slots.{SlotStates, all_heard, handles_for, slot_heard, heard_from, place_free}
-use Rattle.gatt_subs.specs.Rows.{Subscriptions}
+use Rattle.gatt_slots.specs.Slots.{SlotStates, place_free}
 
 -- the first place at which a test passes
 next-place : (most place : ℕ) → (if nat_lt (1 + place) (suc most) then Some (1 + place) else None) ≡ option_map suc (if nat_lt place most then Some place else None)
@@ -164,83 +160,7 @@ module _ (keep : Option Ordinal → Option SlotState) where
         ∷ one_freed next slots at ordinal each.2 has (λ other has_other. same other (or-true (first == other) (has_slot other slots) has_other)) i)
         ∙ ap (λ (own : Bool). after (if own then None else Some first) ∷ map after (with_freed ordinal slots)) (sym differs)
 
--- a connection has one place
-next-same : (at place : ℕ) → (suc at == suc place) ≡ (at == place)
-next-same at place = elim (cases_eq at place) [
-  | inl same ↦ eq-eqb (suc at) (suc place) (omega (arith, same)) ∙ sym (eq-eqb at place same)
-  | inr differs ↦ ne_eqb (suc at) (suc place) (λ same. differs (omega (arith, same))) ∙ sym (ne_eqb at place differs)
-]
-
-pub one_place : (next : Ordinal) (slots : Slots) (at place : ℕ) (ordinal other : Ordinal) → HaveOneSlotEach next slots → slice_get slots at ≡ Some (Some ordinal)
-    → slice_get slots place ≡ Some (Some other) → (at == place) ≡ (other == ordinal)
-one_place next [] at place ordinal other each own has = cc own
-one_place next (None ∷ slots) zero place ordinal other each own has = cc own
-one_place next (None ∷ slots) (suc at) zero ordinal other each own has = cc has
-one_place next (None ∷ slots) (suc at) (suc place) ordinal other each own has =
-    next-same at place ∙ one_place next slots at place ordinal other each own has
-one_place next (Some first ∷ slots) zero zero ordinal other each own has = let same : other ≡ ordinal = cc (own, has) in sym (eq-eqb other ordinal same)
-one_place next (Some first ∷ slots) zero (suc place) ordinal other each own has =
-    let is : first ≡ ordinal = cc own in
-    ne_eqb 0 (suc place) (λ none. absurd (omega (arith, none))) ∙ sym (ne_eqb other ordinal (λ same. cc (sym (placed slots place other has) ∙ ap (λ (one : Ordinal). has_slot one slots) (same ∙ sym is), each.1)))
-one_place next (Some first ∷ slots) (suc at) zero ordinal other each own has =
-    let is : first ≡ other = cc has in
-    ne_eqb (suc at) 0 (λ none. absurd (omega (arith, none))) ∙ sym (ne_eqb other ordinal (λ same. cc (sym (placed slots at ordinal own) ∙ ap (λ (one : Ordinal). has_slot one slots) (sym same ∙ sym is), each.1)))
-one_place next (Some first ∷ slots) (suc at) (suc place) ordinal other each own has =
-    next-same at place ∙ one_place next slots at place ordinal other each.2 own has
-
 module _ (keep after : Option Ordinal → Option SlotState) where
-  -- all slots change
-  pub all_changed : (change : Option SlotState → Option SlotState) (slots : Slots) → change (keep None) ≡ after None
-      → ((ordinal : Ordinal) → has_slot ordinal slots ≡ true → change (keep (Some ordinal)) ≡ after (Some ordinal))
-      → map change (map keep slots) ≡ map after slots
-  all_changed change [] none same = refl
-  all_changed change (None ∷ slots) none same = λ i. none i ∷ all_changed change slots none (λ ordinal has. same ordinal has) i
-  all_changed change (Some ordinal ∷ slots) none same =
-      λ i. same ordinal (own-slot ordinal (has_slot ordinal slots)) i
-      ∷ all_changed change slots none (λ other has. same other (or-true (ordinal == other) (has_slot other slots) has)) i
-
-  -- each by its place
-  each-heard : (hear : ℕ → Option SlotState → Option SlotState) (start : ℕ) (slots : Slots) → ((place : ℕ) → hear place (keep None) ≡ after None)
-      → ((at : ℕ) (ordinal : Ordinal) → slice_get slots at ≡ Some (Some ordinal) → hear (start + at) (keep (Some ordinal)) ≡ after (Some ordinal))
-      → heard_from start hear (map keep slots) ≡ map after slots
-  each-heard hear start [] none same = refl
-  each-heard hear start (None ∷ slots) none same =
-      λ i. none start i ∷ each-heard hear (start + 1) slots none (λ at ordinal has.
-      let next : start + 1 + at ≡ start + suc at = omega arith in
-      ap (λ (place : ℕ). hear place (keep (Some ordinal))) next ∙ same (suc at) ordinal has) i
-  each-heard hear start (Some first ∷ slots) none same =
-      let here : start ≡ start + 0 = omega arith in
-      λ i. (ap (λ (place : ℕ). hear place (keep (Some first))) here ∙ same 0 first refl) i
-      ∷ each-heard hear (start + 1) slots none (λ at ordinal has.
-      let next : start + 1 + at ≡ start + suc at = omega arith in
-      ap (λ (place : ℕ). hear place (keep (Some ordinal))) next ∙ same (suc at) ordinal has) i
-
-  module _ (table : Contents) (now : ℕ) (rows : Subscriptions) (here handles : List Handle) (free : keep None ≡ None) (free_after : after None ≡ None) where
-    none-heard : (heard : List Handle) → slot_heard table now rows heard (keep None) ≡ after None
-    none-heard heard = ap (λ (slot : Option SlotState). slot_heard table now rows heard slot) free ∙ sym free_after
-
-    -- at the end of an event all hear of the same values
-    pub all_hear : (slots : Slots)
-        → ((ordinal : Ordinal) → has_slot ordinal slots ≡ true → slot_heard table now rows handles (keep (Some ordinal)) ≡ after (Some ordinal))
-        → all_heard table now rows None here handles (map keep slots) ≡ map after slots
-    all_hear slots same =
-        each-heard (λ place slot. slot_heard table now rows (handles_for None here handles place) slot) 0 slots (λ place. none-heard handles)
-        (λ at ordinal has. same ordinal (placed slots at ordinal has))
-
-    -- or all but one, that hears of others
-    pub others_hear : (next : Ordinal) (slots : Slots) (at : ℕ) (ordinal : Ordinal) → HaveOneSlotEach next slots → slice_get slots at ≡ Some (Some ordinal)
-        → ((other : Ordinal) → has_slot other slots ≡ true
-        → slot_heard table now rows (at_ordinal ordinal here (all_to_notify handles) other) (keep (Some other)) ≡ after (Some other))
-        → all_heard table now rows (Some at) here handles (map keep slots) ≡ map after slots
-    others_hear next slots at ordinal each own same =
-        each-heard (λ place slot. slot_heard table now rows (handles_for (Some at) here handles place) slot) 0 slots
-        (λ place. none-heard (handles_for (Some at) here handles place))
-        (λ place other has.
-        let where_is : 0 + place ≡ place = omega arith in
-        ap (λ (p : ℕ). slot_heard table now rows (if at == p then here else handles) (keep (Some other))) where_is
-        ∙ ap (λ (is : Bool). slot_heard table now rows (if is then here else handles) (keep (Some other))) (one_place next slots at place ordinal other each own has)
-        ∙ same other (placed slots place other has))
-
   -- what stands in a slot changes
   pub changed_at : (change : Option SlotState → Option SlotState) (next : Ordinal) (slots : Slots) (at : ℕ) (ordinal : Ordinal) → keep None ≡ after None → HaveOneSlotEach next slots
       → slice_get slots at ≡ Some (Some ordinal) → change (keep (Some ordinal)) ≡ after (Some ordinal)

@@ -10,8 +10,7 @@ use Rattle.gatt_conn.specs.Transcript.{first_exchange}
 use Rattle.gatt_slots.specs.Hearing.{slot_row_in_force}
 use Rattle.gatt_slots.specs.SlotState.{SlotState, slot_state_of, slot_state_if_there, outgoing_of, slot_standing, slot_bearer, slot_backlog}
 use Rattle.le_acl.specs.Outgoing.{Outgoing, outgoing_after, without_pdus}
-use Rattle.le_security.proofs.Links.{asked_after, key_of_steps}
-use Rattle.le_security.specs.Link.{last_asked}
+use Rattle.le_security.proofs.Links.{key_of_steps}
 
 -- who serves is there
 pub live_there : (mark : Mark) → is_live mark ≡ true → is_there mark ≡ true
@@ -29,9 +28,6 @@ module _ (shared : SharedState) (connection : ConnectionState) (handed : ℕ) wh
   -- its link
   pub link_key : (slot_state_of shared connection handed).link.key ≡ key_of connection
   link_key = key_of_steps connection.steps
-
-  pub link_asked : (slot_state_of shared connection handed).link.asked ≡ last_asked connection.steps
-  link_asked = asked_after connection.steps
 
   -- what the policy sees of it, and the server
   pub standing_kept : slot_standing shared.time (slot_state_of shared connection handed) ≡ standing_of shared connection

@@ -1,7 +1,6 @@
 use Rattle.std.proofs.Common.{◌++◌, ap, sym, ◌∙◌, append-nil}
 use Rattle.std.specs.List.{flat_map}
 use Rattle.gatt_slots.specs.Connections.{connections_in}
-use Rattle.device_host.proofs.Connections.{one_more}
 use Rattle.device_host.proofs.telling.add_connections.Goals as goal
 use Rattle.device_lines.specs.Told.{connection_lines}
 
