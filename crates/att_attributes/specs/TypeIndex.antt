@@ -30,7 +30,7 @@ run_of type_of index kind = record { begin = place_of type_of index kind; end = 
 abbrev pub runs_of : Types → List Handle → List Run
 runs_of type_of index = map (λ handle. run_of type_of index (type_of handle)) index
 
--- how many handles at the front of some are below one; this and what follows is of the code alone
+-- how many handles at the front of some are below `from`; this and what follows is of the code alone
 abbrev pub place_from : List Handle → Handle → ℕ
 place_from handles from = prefix_len (λ handle. nat_lt handle from) handles
 

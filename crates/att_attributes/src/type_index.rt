@@ -206,7 +206,7 @@ fn in_range<'a, S: Steps>(handles: &'a [u16], first: u16, last: u16, steps: &mut
     &handles[start..end]
 }
 
-/// How many of ascending handles are below one, or `most` if more are, where at least `least` are.
+/// How many of ascending handles are below `handle`, or `most` if more are, where at least `least` are.
 #[inline(always)]
 fn first_from<S: Steps>(
     handles: &[u16],

@@ -33,7 +33,7 @@ pub(crate) enum End {
 pub struct PduBuf<'a> {
     octets: &'a mut PduOctets,
     end: End,
-    /// As long as an address, so that no octets between the two have to be blanked.
+    /// The ATT_MTU, in octets.
     mtu: usize,
     pub ghost least: { MIN_MTU ≤ mtu },
     pub ghost most: { mtu ≤ MAX_MTU },

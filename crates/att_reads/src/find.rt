@@ -19,9 +19,11 @@ use att_numbers::{error_code, opcode};
 use att_pdu::PduBuf;
 use att_table::{Attr, Table, is_of_16_bits};
 
-/// The formats of the answer to a Find Information Request: Core 5.0, Vol 3 Part F, 3.4.3.2.
+/// The format of the answer to a Find Information Request that lists types of 16 bits: Core 5.0, Vol 3
+/// Part F, 3.4.3.2.
 const SHORT_TYPES: u8 = 1;
 
+/// The format of the one that lists types of 128 bits: Core 5.0, Vol 3 Part F, 3.4.3.2.
 const LONG_TYPES: u8 = 2;
 
 /// Answers a Find Information Request of these attributes, which begin at `start`. It needs no

@@ -80,7 +80,7 @@ impl Listing {
     }
 }
 
-/// How many elements of a size a room has, of so many that there are.
+/// How many of `count` elements of `size` octets fit into `room` octets.
 pub(crate) fn fitting(count: usize, size: u16, room: u16) -> usize
     requires { 0 < size }
     ensures count { result ≡ min count (room / size) }

@@ -115,7 +115,7 @@ impl ConfigRow {
     }
 }
 
-// Drops the entries that do not stay when a table is replaced. It stands apart for its proof.
+/// Drops the entries that do not stay when a table is replaced. It stands apart for its proof.
 fn retain_kept(entries: &mut RowEntries, old: &Table, new: &Table)
     ensures { entries.new ≡ kept_row old.now.attributes new.now.attributes entries.old }
 {
@@ -127,7 +127,7 @@ fn retain_kept(entries: &mut RowEntries, old: &Table, new: &Table)
     *entries = kept;
 }
 
-// Appends an entry if it stays.
+/// Appends an entry if it stays.
 fn keep_entry(kept: &mut RowEntries, old: &Table, new: &Table, handle: u16, bits: u8)
     requires { length kept.old < MAX_CONFIGURATIONS }
     ensures kept { kept.new ≡ (if is_supported new.now.attributes (handle, bits)
@@ -140,14 +140,14 @@ fn keep_entry(kept: &mut RowEntries, old: &Table, new: &Table, handle: u16, bits
     }
 }
 
-// Whether a configuration is one of a value of the same type in both tables.
+/// Whether a configuration is one of a value of the same type in both tables.
 fn has_its_meaning(old: &Table, new: &Table, handle: u16) -> bool
     ensures { result ≡ has_its_meaning old.now.attributes new.now.attributes handle }
 {
     is_configuration(old, handle) && configured_type(old, handle) == configured_type(new, handle)
 }
 
-// Whether the attribute at a handle is a configuration.
+/// Whether the attribute at a handle is a configuration.
 fn is_configuration(table: &Table, handle: u16) -> bool
     ensures { result ≡ is_configuration_at table.now.attributes handle }
 {
@@ -157,7 +157,7 @@ fn is_configuration(table: &Table, handle: u16) -> bool
     }
 }
 
-// The type of the value that the configuration at a handle is of.
+/// The type of the value that the configuration at a handle is of.
 fn configured_type(table: &Table, handle: u16) -> u128
     ensures { result ≡ type_at table.now.attributes (handle - 1) }
 {
@@ -167,7 +167,7 @@ fn configured_type(table: &Table, handle: u16) -> u128
     }
 }
 
-// Writes the bits over those at a handle, or appends an entry where there is none.
+/// Writes the bits over those at a handle, or appends an entry where there is none.
 #[tactic(auto, using(crate::proofs::Rows::append_missing))]
 fn write(entries: &mut RowEntries, handle: u16, bits: u8)
     requires { IsTrue (has_room entries.old handle) }

@@ -77,7 +77,7 @@ impl RowEntries {
         }
     }
 
-    // Where the entry at a handle is.
+    /// Where the entry at a handle is.
     fn place_of(&self, handle: u16) -> Option<usize>
         ensures { result ≡ position (λ entry. entry.0 == handle) self.now }
     {
@@ -122,7 +122,7 @@ impl RowEntries {
     }
 }
 
-// A handle and the bits at it. It stands apart for its proof.
+/// A handle and the bits at it. It stands apart for its proof.
 #[inline(always)]
 fn entry_at(
     handles: &[u16; MAX_CONFIGURATIONS],
@@ -135,8 +135,8 @@ fn entry_at(
     (handles[place], bits[place])
 }
 
-// Where a handle is first among others, of which those from `len` on need not be looked at. Most
-// rows have one entry or two, so that these are compared one by one.
+/// Where a handle is first among others, of which those from `len` on need not be looked at. Most rows
+/// have one entry or two, so that these are compared one by one.
 #[inline(always)]
 fn place_among(handles: &[u16; MAX_CONFIGURATIONS], len: usize, handle: u16) -> Option<usize>
     requires { len ≤ MAX_CONFIGURATIONS }
@@ -158,7 +158,8 @@ fn place_among(handles: &[u16; MAX_CONFIGURATIONS], len: usize, handle: u16) -> 
     }
 }
 
-// The same, where there are more.
+/// Where a handle is first among others, compared `LANES` at once, of which those from `len` on need not
+/// be looked at.
 #[inline(always)]
 fn place_in_lanes(handles: &[u16; MAX_CONFIGURATIONS], len: usize, handle: u16) -> Option<usize>
     requires { len ≤ MAX_CONFIGURATIONS }
@@ -177,8 +178,8 @@ fn place_in_lanes(handles: &[u16; MAX_CONFIGURATIONS], len: usize, handle: u16) 
     None
 }
 
-// How many of the handles that are compared at once come before this one: all of them where it is
-// none of them.
+/// How many of the handles that are compared at once come before this one: all of them where it is none
+/// of them.
 #[inline(always)]
 fn lanes_before(handles: &[u16], at: usize, handle: u16) -> usize
     requires { at + LANES ≤ length handles.now }

@@ -145,7 +145,7 @@ impl ValueStore for FlatStore {
     }
 }
 
-// The octets of the value at a place. It stands apart for its proof.
+/// The octets of the value at a place. It stands apart for its proof.
 fn octets_at(octets: &[u8], place: Place) -> &[u8]
     requires { place.start + place.len ≤ length octets.now }
     ensures { result.now ≡ (cell_in octets.now place).octets }
@@ -153,7 +153,7 @@ fn octets_at(octets: &[u8], place: Place) -> &[u8]
     &octets[place.start..place.start + usize::from(place.len)]
 }
 
-// Copies a part over the octets from a place on.
+/// Copies a part over the octets from a place on.
 fn write_part(octets: &mut [u8], start: usize, part: &[u8])
     requires { start + length part.now ≤ length octets.old }
     ensures { octets.new
@@ -162,7 +162,7 @@ fn write_part(octets: &mut [u8], start: usize, part: &[u8])
     octets[start..start + part.len()].copy_from_slice(part);
 }
 
-// Ends a value before its octet `end`, or, where it is longer and `keep` is set, where it ended.
+/// Ends a value before its octet `end`, or, where it is longer and `keep` is set, where it ended.
 fn set_end(place: &mut Place, end: usize, keep: bool)
     requires { end ≤ MAX_VALUE }
     ensures { place.new ≡ record place.old { len = if keep then max place.old.len end else end } }
@@ -171,7 +171,7 @@ fn set_end(place: &mut Place, end: usize, keep: bool)
     place.len = if keep { place.len.max(end) } else { end };
 }
 
-// Appends octets, and as many zeros as there is room for.
+/// Appends octets, and as many zeros as there is room for.
 fn append(all: &mut Vec<u8>, octets: &[u8], room: usize) -> Result<(), AllocError>
     requires { length octets.now ≤ room }
     ensures ok { OnOk result

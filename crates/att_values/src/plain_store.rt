@@ -59,14 +59,14 @@ impl PlainStore {
         Ok(())
     }
 
-    // How many values there are.
+    /// How many values there are.
     fn len(&self) -> usize
         ensures { result ≡ length self.now }
     {
         self.slots.len()
     }
 
-    // The room of the value at a handle, in octets.
+    /// The room of the value at a handle, in octets.
     fn room_at(&self, handle: u16) -> usize
         requires { IsUsed self.now handle }
         ensures { result ≡ (cell_at self.now handle).room }
@@ -74,7 +74,7 @@ impl PlainStore {
         usize::from(self.slots[usize::from(handle) - 1].room)
     }
 
-    // The value at a handle.
+    /// The value at a handle.
     fn value_at(&self, handle: u16) -> &[u8]
         requires { IsUsed self.now handle }
         ensures value { result.now ≡ (cell_at self.now handle).octets }
@@ -83,8 +83,8 @@ impl PlainStore {
         self.slots[usize::from(handle) - 1].octets.as_slice()
     }
 
-    // Writes a part of the value at a handle, from an offset on. The value keeps the octets after
-    // the part where `keep` is set, and else ends with the part.
+    /// Writes a part of the value at a handle, from an offset on. The value keeps the octets after
+    /// the part where `keep` is set, and else ends with the part.
     fn patch_at(&mut self, handle: u16, offset: usize, part: &[u8], keep: bool)
         requires exists { IsUsed self.old handle }
         requires offset { offset ≤ length (cell_at self.old handle).octets }
@@ -128,7 +128,7 @@ impl ValueStore for PlainStore {
     }
 }
 
-// A copy of a value, in a buffer.
+/// A copy of a value, in a buffer.
 fn copy(value: &[u8]) -> ArrayVec<u8, MAX_VALUE>
     requires { length value.now ≤ MAX_VALUE }
     ensures { result.items ≡ value.now }
@@ -138,7 +138,7 @@ fn copy(value: &[u8]) -> ArrayVec<u8, MAX_VALUE>
     buffer
 }
 
-// Writes a part of a value in its buffer.
+/// Writes a part of a value in its buffer.
 fn write_part(value: &mut ArrayVec<u8, MAX_VALUE>, offset: usize, part: &[u8], keep: bool)
     requires offset { offset ≤ array_vec_len value.old }
     requires fits { offset + length part.now ≤ MAX_VALUE }

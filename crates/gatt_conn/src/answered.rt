@@ -51,8 +51,6 @@ pub struct Placed {
 /// Serves one Attribute PDU of one connection: puts the answer in place of what `out` holds, which is
 /// empty where none is due, and makes the change that it asks for, where the policy permits it. `out`
 /// keeps within the connection's ATT_MTU, and `row` is what its client has configured, of this table.
-/// This is `answer_into` for an answer whose room the caller has made, with a list of its own for the
-/// handles: all are one call of `serve`.
 #[tactic(auto, using(crate::proofs::Dues::answered_where_due, crate::proofs::Dues::put_where_there, crate::proofs::Dues::nothing_where_none), unfolding(att_pdu::specs::Form::form_of))]
 pub fn answer(
     table: &mut Table,

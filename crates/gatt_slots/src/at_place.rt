@@ -81,7 +81,8 @@ impl Slots {
         gained
     }
 
-    /// The key of the link of a connection was refreshed, or could not be.
+    /// The key of the link of a connection was refreshed, or could not be: `true` where it has a key now
+    /// and had none. Where it lost its key the connection is ended.
     pub fn refresh(&mut self, place: usize, status: u8) -> bool
         requires { place < length self.old }
         ensures after { self.new ≡ slots_at place (after_link_step (Refresh status)) self.old }

@@ -46,12 +46,14 @@ pub(crate) fn find_free(slots: &[Slot]) -> Option<usize>
 }
 
 impl Slot {
+    /// Whether its connection has this handle and serves.
     fn is_serving(&self, handle: u16) -> bool
         ensures { result ≡ is_serving handle self.now }
     {
         self.handle == handle && self.is_live()
     }
 
+    /// Whether its connection has this handle, also where it is ending.
     fn is_holding(&self, handle: u16) -> bool
         ensures { result ≡ is_holding handle self.now }
     {

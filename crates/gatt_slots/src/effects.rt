@@ -120,7 +120,8 @@ impl Slot {
         self.judge_link(had_key)
     }
 
-    /// The key of the link was refreshed, or could not be.
+    /// The key of the link was refreshed, or could not be: `true` where it has a key now and had none.
+    /// Where it lost its key the connection is ended.
     pub(crate) fn refresh(&mut self, status: u8) -> bool
         ensures after { self.new ≡ option_map (after_link_step (Refresh status)) self.old }
         ensures gained { IfSome self.old (λ slot_state. result

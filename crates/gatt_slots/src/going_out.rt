@@ -51,14 +51,14 @@ impl Slot {
         }
     }
 
-    /// No connection has the slot.
+    /// Whether no connection has the slot.
     pub(crate) fn is_free(&self) -> bool
         ensures { result ≡ is_none self.now }
     {
         self.used == Use::Free
     }
 
-    /// A packet may be given.
+    /// Whether a packet may be given.
     #[inline(always)]
     pub(crate) fn gives(&self) -> bool
         ensures { result ≡ gives self.now }
@@ -66,8 +66,8 @@ impl Slot {
         self.used != Use::Free && self.sender.may_give()
     }
 
-    /// A packet may perhaps be given: where it is not so, none may. It is not asked whether there is a
-    /// connection.
+    /// Whether a packet may perhaps be given: where it is not so, none may. It is not asked whether
+    /// there is a connection.
     #[inline(always)]
     pub(crate) fn may_give(&self) -> bool
         ensures { OnFalse result (gives self.now ≡ false) }
@@ -75,7 +75,7 @@ impl Slot {
         self.sender.may_give()
     }
 
-    /// A packet may be given if one is queued: where it is not so, none may.
+    /// Whether a packet may be given if one is queued: where it is not so, none may.
     #[inline(always)]
     pub(crate) fn has_quota(&self) -> bool
         ensures { OnFalse result (gives self.now ≡ false) }
@@ -118,7 +118,7 @@ impl Slot {
 }
 
 impl Slots {
-    /// A slot is free.
+    /// Whether a slot is free.
     #[inline(always)]
     pub fn has_room(&mut self) -> bool
         ensures room { result ≡ list_any (λ slot. is_none slot) self.old }
@@ -130,7 +130,7 @@ impl Slots {
         self.marks.free
     }
 
-    /// A slot may be free: where it is not so, none is.
+    /// Whether a slot may be free: where it is not so, none is.
     #[inline(always)]
     pub fn may_have_room(&self) -> bool
         ensures { OnFalse result (list_any (λ slot. is_none slot) self.now ≡ false) }
@@ -138,7 +138,7 @@ impl Slots {
         self.marks.free
     }
 
-    /// A command may be due for the connection of a slot: where it is not so, none is.
+    /// Whether a command may be due for the connection of a slot: where it is not so, none is.
     #[inline(always)]
     pub fn may_have_command(&self) -> bool
         ensures { OnFalse result (list_any has_command self.now ≡ false) }
@@ -146,7 +146,7 @@ impl Slots {
         !self.marks.commands.is_empty()
     }
 
-    /// A slot may give a packet: where it is not so, none does.
+    /// Whether a slot may give a packet: where it is not so, none does.
     #[inline(always)]
     pub fn may_give(&self) -> bool
         ensures { OnFalse result (list_any gives self.now ≡ false) }
@@ -222,21 +222,21 @@ impl Slots {
         given
     }
 
-    /// A command is due for the connection of a slot.
+    /// Whether a command is due for the connection of a slot.
     pub fn has_command(&self) -> bool
         ensures { result ≡ list_any has_command self.now }
     {
         self.slots.iter().any(|slot| slot.has_command())
     }
 
-    /// A slot may give a packet.
+    /// Whether a slot may give a packet.
     pub fn gives(&self) -> bool
         ensures { result ≡ list_any gives self.now }
     {
         self.slots.iter().any(|slot| slot.gives())
     }
 
-    /// A slot is free.
+    /// Whether a slot is free.
     pub fn is_free(&self) -> bool
         ensures { result ≡ list_any (λ slot. is_none slot) self.now }
     {
@@ -244,7 +244,7 @@ impl Slots {
     }
 }
 
-/// A slot is free.
+/// Whether a slot is free.
 fn any_free(slots: &[Slot]) -> bool
     ensures { result ≡ list_any (λ slot. is_none slot) slots.now }
 {

@@ -31,7 +31,7 @@ impl Handles {
         }
     }
 
-    /// Notes them again, where none is noted.
+    /// Notes the handle of each slot, where none is noted.
     pub(crate) fn note_again(&mut self, slots: &[Slot])
         requires few { length slots.now ≤ MAX_SLOTS }
         requires noted { AreNotedIfAny slots.now self.old.noted }

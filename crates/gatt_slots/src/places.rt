@@ -40,7 +40,7 @@ impl Places {
     /// No place.
     pub(crate) const NONE: Places = Places { bits: 0 };
 
-    /// No place is in the set.
+    /// Whether no place is in the set.
     #[inline(always)]
     pub(crate) fn is_empty(self) -> bool
         ensures { OnTrue result (self.bits ≡ 0) }
@@ -118,7 +118,7 @@ impl Places {
         others
     }
 
-    /// No place is in the set but that of the slot `own`.
+    /// Whether no place is in the set but that of the slot `own`.
     #[inline(always)]
     pub(crate) fn is_empty_but(self, own: Option<usize>) -> bool
         ensures { OnTrue result

@@ -36,7 +36,7 @@ use gatt_subs::Rows;
 use std::alloc::{AllocError, Global};
 use std::marker::Model;
 
-/// The slots of a host, in their order: at most 8.
+/// The slots of a host, in their order: at most `MAX_SLOTS`.
 #[derive(Drop)]
 pub struct Slots {
     pub(crate) slots: Vec<Slot>,
@@ -58,7 +58,7 @@ impl Model for Slots {
 }
 
 impl Slots {
-    /// Slots that are free, each with room for all that it may come to keep.
+    /// `count` free slots, each with room for all that it may come to keep.
     pub fn new(alloc: Global, count: usize) -> Result<Slots, AllocError>
         requires { count ≤ MAX_SLOTS }
         ensures { IfOk result (λ slots. slots ≡ replicate count None) }
@@ -78,7 +78,7 @@ impl Slots {
         self.slots.len()
     }
 
-    /// Keeps the first ones, at most as many.
+    /// Keeps the first `count` slots, or all where there are fewer.
     pub fn truncate(&mut self, count: usize)
         ensures { self.new ≡ take count self.old }
     {
@@ -375,7 +375,7 @@ impl Slots {
     }
 }
 
-/// Free slots, as many.
+/// `count` free slots.
 fn free_slots(alloc: Global, count: usize) -> Result<Vec<Slot>, AllocError>
     ensures { IfOk result (λ slots. slots.items ≡ replicate count None) }
 {

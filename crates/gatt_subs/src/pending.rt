@@ -46,7 +46,8 @@ pub struct PendingOf<const ROOM: usize> {
 /// What one connection is still to be told of any values: there are no more handles than attributes.
 pub type Pending = PendingOf<MAX_ATTRIBUTES>;
 
-/// The same of values that have a configuration in one table: there are no more than configurations.
+/// What one connection is still to be told of values that have a configuration in one table: there are
+/// no more than configurations.
 pub type PendingOfTable = PendingOf<MAX_CONFIGURATIONS>;
 
 impl<const ROOM: usize> Model for PendingOf<ROOM> {
@@ -82,7 +83,8 @@ impl<const ROOM: usize> PendingOf<ROOM> {
         }
     }
 
-    /// Raises a value that was looked up. There is room for it, if it is to wait.
+    /// Takes in that a value, which was looked up, was written: `true` where a notification of it is
+    /// due. With the indication bit it waits instead, once and at the end; there is room for it.
     #[inline(always)]
     pub fn raise_value(
         &mut self,
@@ -115,10 +117,10 @@ impl<const ROOM: usize> PendingOf<ROOM> {
         }
     }
 
-    /// Raises a value that was looked up, the only one that an event wrote, and says how it is told at
-    /// once, if it is. Where it is to be indicated, and something waits before it or is unconfirmed, it
-    /// waits as in `raise_value`, and else `release` would give it. There is room for it, if it is to
-    /// wait.
+    /// Takes in that a value, which was looked up and is the only one of an event, was written, and says
+    /// how it is told at once, if it is. One that is to be indicated waits, once and at the end, where
+    /// something waits before it or is unconfirmed, or `MAX_BACKLOG` PDUs or more are queued; else it is
+    /// unconfirmed from then on. There is room for it, if it is to wait.
     #[inline(always)]
     pub fn raise_alone(
         &mut self,
@@ -272,10 +274,9 @@ impl<const ROOM: usize> PendingOf<ROOM> {
 }
 
 impl PendingOf<MAX_ATTRIBUTES> {
-    /// Tells the connection that a value was written: `true` where a notification of it is due. With
-    /// the indication bit the value waits instead, once and at the end. `row` is what the client has
-    /// configured, and `backlog` how many PDUs are queued for the connection. This is `raise_value` of
-    /// the value at the handle, where there is one.
+    /// Tells the connection that a value was written: `true` where a notification of it is due. With the
+    /// indication bit the value waits instead, once and at the end. `row` is what the client has
+    /// configured, and `backlog` how many PDUs are queued for the connection.
     #[tactic(auto, using(crate::proofs::Places::room_for_any))]
     pub fn raise(
         &mut self,

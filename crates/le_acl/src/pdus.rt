@@ -37,6 +37,7 @@ struct Payloads {
 impl Payloads {
     ghost use Rattle.le_acl.specs.PayloadLends.{LendsPayload};
 
+    /// Lends the payload at a place.
     #[inline(always)]
     fn at_mut(&mut self, index: usize) -> &mut PduOctets
         requires { index < vec_len self.old.items }
@@ -46,7 +47,8 @@ impl Payloads {
     }
 }
 
-/// PDUs in the order in which they were queued, and room for one more. None is moved.
+/// At most `MAX_PDUS` PDUs in the order in which they were queued, and, where there are fewer, room for
+/// the next. None is moved.
 #[derive(Drop)]
 pub(crate) struct Pdus {
     payloads: Payloads,
@@ -116,7 +118,7 @@ impl Pdus {
         self.count += 1;
     }
 
-    /// Queues the first octets, so many, of what stands in the room.
+    /// Queues the first `count` octets of what stands in the room.
     #[inline(always)]
     pub(crate) fn push_front(&mut self, channel: u16, count: usize)
         requires room { length self.old.pdus < MAX_PDUS }

@@ -104,6 +104,7 @@ impl Reassembler {
         self.state = State::Idle;
     }
 
+    /// What the newest fragment led to.
     fn piece(&self) -> Piece
         ensures { (result ≡ Piece.Frame) ↔ IsSome self.now.frame }
     {

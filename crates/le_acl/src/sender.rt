@@ -135,7 +135,7 @@ impl Sender {
         self.lent = false;
     }
 
-    /// Queues the first octets, so many, of what stands in the room, as a PDU on a channel.
+    /// Queues the first `count` octets of what stands in the room, as a PDU on a channel.
     pub fn push_front(&mut self, cid: u16, count: usize)
         requires lent { IsSome self.old.room }
         requires within { (room : Octets) → self.old.room ≡ Some room → count ≤ length room }
@@ -196,7 +196,8 @@ impl Sender {
         true
     }
 
-    /// Writes the next packet into a buffer that is not cleared.
+    /// Writes the first packet not yet given in place of what `out` holds. There is none, and nothing
+    /// changes, where no PDU is queued or as many packets are outstanding as may be.
     #[inline(always)]
     pub fn next_packet(&mut self, handle: u16, out: &mut PacketBuf) -> bool
         requires { handle < 2 ^ 12 }
@@ -277,14 +278,14 @@ impl Sender {
         Some(count)
     }
 
-    /// A packet may be given now.
+    /// Whether a packet may be given now.
     pub fn may_give(&self) -> bool
         ensures { result ≡ may_give self.now.outgoing }
     {
         self.outstanding < self.share && self.backlog() > 0
     }
 
-    /// Fewer packets are outstanding than may be.
+    /// Whether fewer packets are outstanding than may be.
     #[inline(always)]
     pub fn has_quota(&self) -> bool
         ensures { result ≡ nat_lt self.now.outgoing.outstanding self.now.outgoing.share }
@@ -331,7 +332,7 @@ impl Sender {
     }
 }
 
-/// Takes in that a packet of the first PDU was given, whose frame has so many octets. The PDU is
+/// Takes in that a packet of the first PDU was given, whose frame has `frame_len` octets. The PDU is
 /// dropped with its last packet.
 #[inline(always)]
 fn pass_fragment(pdus: &mut Pdus, gone: &mut usize, acl_len: usize, frame_len: usize)

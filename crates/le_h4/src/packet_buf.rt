@@ -79,8 +79,9 @@ impl PacketBuf {
         self.write(&acl_header(handle, pb, length as u16), header, octets);
     }
 
-    /// Writes an ACL packet in place of the one before, as `acl` does: its data are the octets of `header`
-    /// and then the first of `octets`, so many.
+    /// Writes an ACL packet in place of the one before: a connection handle of 12 bits, the packet
+    /// boundary flag, and at most `MAX_ACL_DATA_OUT` octets of data, those of `header` and then the
+    /// first `count` of `octets`. Its broadcast flag is 0. (Core 5.0, Vol 2 Part E, 5.4.2)
     #[inline(always)]
     pub fn acl_front(&mut self, handle: u16, pb: u8, header: &[u8], octets: &[u8], count: usize)
         requires handle { handle < 2 ^ 12 }
@@ -123,7 +124,7 @@ impl PacketBuf {
     }
 }
 
-/// Copies the first of some octets, so many, over others from a place on.
+/// Copies the first `count` of some octets over others from a place on.
 #[inline(always)]
 fn copy_behind(out: &mut [u8], place: usize, octets: &[u8], count: usize)
     requires within { count ≤ length octets.now }
@@ -134,7 +135,7 @@ fn copy_behind(out: &mut [u8], place: usize, octets: &[u8], count: usize)
     copy_front(&mut out[place..], octets, count);
 }
 
-/// Copies the first of some octets, so many, over the first of others. Few are copied as a block, with
+/// Copies the first `count` of some octets over the first of others. Few are copied as a block, with
 /// what stands behind them.
 #[inline(always)]
 fn copy_front(out: &mut [u8], octets: &[u8], count: usize)

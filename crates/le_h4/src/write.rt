@@ -23,8 +23,9 @@ pub fn write_acl(handle: u16, pb: u8, octets: &[u8], out: &mut PacketOctets)
     write_acl_parts(handle, pb, &[], octets, out);
 }
 
-/// Writes an ACL packet in place of what `out` holds, as `write_acl`: its data are the octets of
-/// `header` and then those of `octets`.
+/// Writes an ACL packet in place of what `out` holds: a connection handle of 12 bits, the packet
+/// boundary flag, and at most `MAX_ACL_DATA_OUT` octets of data, those of `header` and then those of
+/// `octets`. Its broadcast flag is 0. (Core 5.0, Vol 2 Part E, 5.4.2)
 #[inline(always)]
 pub fn write_acl_parts(handle: u16, pb: u8, header: &[u8], octets: &[u8], out: &mut PacketOctets)
     requires handle { handle < 2 ^ 12 }
@@ -66,7 +67,7 @@ pub fn acl_into(handle: u16, pb: u8, header: &[u8], octets: &[u8], out: &mut [u8
     end
 }
 
-/// What stands in front of so many octets of ACL data: the indicator, the connection handle with the
+/// What stands in front of `length` octets of ACL data: the indicator, the connection handle with the
 /// packet boundary flag, and their length.
 #[inline(always)]
 pub(crate) fn acl_header(handle: u16, pb: u8, length: u16) -> [u8; HEADER]
