@@ -79,7 +79,7 @@ impl Controller {
         }
     }
 
-    /// The controller is initialised.
+    /// Whether the controller is initialised.
     #[inline(always)]
     pub fn is_ready(&self) -> bool
         ensures { result ≡ laws.is_ready self.now }
@@ -102,7 +102,7 @@ impl Controller {
         self.refused = false;
     }
 
-    /// The command with this opcode is awaited.
+    /// Whether the command with this opcode is awaited.
     pub(crate) fn awaits(&self, opcode: u16) -> bool
         ensures { result ≡ is_awaited self.now opcode }
     {
@@ -231,7 +231,7 @@ fn buffers_in(init: &Init) -> Option<Buffers>
     }
 }
 
-/// Enabling is refused by any status but 0.
+/// Whether enabling is refused by a status: by any but 0.
 fn is_refusal(opcode: u16, status: Option<u8>) -> bool
     ensures { result ≡ is_refusal opcode status }
 {

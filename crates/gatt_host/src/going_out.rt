@@ -22,7 +22,7 @@ use le_h4::PacketBuf;
 use le_hci::{Command, opcode};
 
 impl Controller {
-    /// It takes a command now.
+    /// Whether it takes a command now.
     #[inline(always)]
     fn takes(&self) -> bool
         ensures { result ≡ nat_lt 0 self.now.credit }
@@ -82,7 +82,7 @@ impl Controller {
         self.sent(opcode);
     }
 
-    /// The command of initialisation is due.
+    /// Whether the command of initialisation is due.
     #[inline(always)]
     fn has_init_command(&self) -> bool
         ensures { result ≡ is_some (init_command self.now) }
@@ -90,7 +90,7 @@ impl Controller {
         !self.awaiting && !self.is_ready()
     }
 
-    /// It is to be told to advertise: a slot is free, it does not, and it has not refused to.
+    /// Whether it is to be told to advertise: a slot is free, it does not, and it has not refused to.
     fn is_to_advertise(&self, free: bool) -> bool
         ensures { result ≡ (free && not self.now.advertising && not self.now.refused) }
     {
@@ -310,7 +310,7 @@ pub(crate) fn copy(octets: &[u8], out: &mut [u8]) -> usize
     octets.len()
 }
 
-/// A command is due, and the controller takes one.
+/// Whether a command is due, and the controller takes one.
 fn has_command(controller: &Controller, slots: &Slots) -> bool
     ensures { result ≡ is_some (command_next controller.now slots.now) }
 {
@@ -326,7 +326,7 @@ fn has_command(controller: &Controller, slots: &Slots) -> bool
     controller.is_to_advertise(slots.is_free())
 }
 
-/// Nothing is to go out.
+/// Whether nothing is to go out.
 pub fn is_drained(controller: &Controller, slots: &Slots) -> bool
     ensures drained { result ≡ is_drained controller.now slots.now }
     // Then nothing is owed, and else something is.
@@ -339,8 +339,8 @@ pub fn is_drained(controller: &Controller, slots: &Slots) -> bool
     none_waits(controller, slots)
 }
 
-/// No command is due that the controller takes, and no slot may give a packet. It stands apart for its
-/// proof.
+/// Whether no command is due that the controller takes, and no slot may give a packet. It stands apart
+/// for its proof.
 fn none_waits(controller: &Controller, slots: &Slots) -> bool
     ensures { result ≡ is_drained controller.now slots.now }
 {
@@ -350,7 +350,7 @@ fn none_waits(controller: &Controller, slots: &Slots) -> bool
     !slots.gives()
 }
 
-/// A command may be due: where it is not so, none is. It looks at no slot.
+/// Whether a command may be due: where it is not so, none is. It looks at no slot.
 #[inline(always)]
 pub(crate) fn may_have_command(controller: &Controller, slots: &Slots) -> bool
     ensures { OnFalse result (command_next controller.now slots.now ≡ None) }
@@ -361,7 +361,7 @@ pub(crate) fn may_have_command(controller: &Controller, slots: &Slots) -> bool
     controller.is_to_advertise(slots.may_have_room())
 }
 
-/// Something may be to go out: where it is not so, nothing is. It looks at no slot.
+/// Whether something may be to go out: where it is not so, nothing is. It looks at no slot.
 #[inline(always)]
 pub(crate) fn may_owe(controller: &Controller, slots: &Slots) -> bool
     ensures { OnFalse result (is_drained controller.now slots.now ≡ true) }
@@ -387,7 +387,7 @@ pub(crate) fn init_out(controller: &mut Controller, out: &mut PacketBuf) -> bool
     controller.init_command_out(out)
 }
 
-/// Nothing is to go out before the controller is initialised.
+/// Whether nothing is to go out before the controller is initialised.
 pub(crate) fn is_init_drained(controller: &Controller) -> bool
     ensures { result ≡ is_drained controller.now [] }
 {

@@ -387,7 +387,7 @@ fn is_long(packet: &PacketRef<'_>) -> bool
     }
 }
 
-/// Nothing is to go to the controller, or a fault stands. It stands apart for its proof.
+/// Whether nothing is to go to the controller, or a fault stands. It stands apart for its proof.
 fn is_out(state: &HostState, fault: Option<HostFault>) -> bool
     ensures { result ≡ (is_some fault || is_drained state.now.controller (open_slots state.now)) }
 {

@@ -235,8 +235,8 @@ fn answer(
     placed.confirmed
 }
 
-/// Serves a PDU to which no answer is due. It is not inlined, so that only what comes here pays for
-/// the buffer.
+/// Serves a PDU to which no answer is due. Whether the PDU confirms an indication. It is not inlined, so
+/// that only what comes here pays for the buffer.
 #[cold]
 #[inline(never)]
 fn answer_nothing(
