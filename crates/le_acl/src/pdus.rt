@@ -79,7 +79,7 @@ impl Pdus {
     {
         Ok(Pdus {
             payloads: Payloads {
-                items: empty_payloads(alloc)?,
+                items: full_payloads(alloc)?,
             },
             headers: [Header { channel: 0, len: 0 }; MAX_PDUS],
             first: 0,
@@ -222,11 +222,11 @@ fn fill(payload: &mut PduOctets)
     *payload = PduOctets::from([0; MAX_PDU]);
 }
 
-/// Payloads with nothing in them, for as many PDUs as may be.
-fn empty_payloads(alloc: Global) -> Result<Vec<PduOctets>, AllocError>
+/// Payloads at their full length, for as many PDUs as may be.
+fn full_payloads(alloc: Global) -> Result<Vec<PduOctets>, AllocError>
     ensures { IfOk result (λ payloads. vec_len payloads ≡ MAX_PDUS) }
 {
     let mut payloads = Vec::new(alloc);
-    payloads.resize_with(MAX_PDUS, || PduOctets::new())?;
+    payloads.resize_with(MAX_PDUS, || PduOctets::from([0; MAX_PDU]))?;
     Ok(payloads)
 }
