@@ -144,7 +144,7 @@ fn take_confirmation(confirmed: bool, pending: &mut PendingOfTable) -> Option<u1
 /// Takes in that a peer is owed nothing more, once it has confirmed that it knows of the change. Whether
 /// a confirmation would tell so is asked only where there is one.
 #[inline(always)]
-#[tactic(auto, using(crate::proofs::Bonds::unconfirmed_owed))]
+#[tactic(auto, using(crate::proofs::Bonds::confirmed_owed, crate::proofs::Bonds::unconfirmed_owed))]
 fn owe_unless_told(
     confirmed: bool,
     link: &Link,
@@ -156,18 +156,7 @@ fn owe_unless_told(
     ensures { ChangesBond (with_owed_after (confirmed && (is_some link.now.key
         && option_map_or (is_told pending.now) changer.now false))) peer.now rows.old rows.new }
 {
-    if confirmed {
-        let knows_change = knows_change(link, pending, *changer);
-        owe_unless(confirmed, knows_change, peer, rows);
-    }
-}
-
-/// Takes in that a peer is owed nothing more, once it has confirmed that it knows of the change.
-#[tactic(auto, using(crate::proofs::Bonds::confirmed_owed, crate::proofs::Bonds::unconfirmed_owed))]
-fn owe_unless(confirmed: bool, knows_change: bool, peer: &Peer, rows: &mut Rows)
-    ensures { ChangesBond (with_owed_after (confirmed && knows_change)) peer.now rows.old rows.new }
-{
-    if confirmed && knows_change {
+    if confirmed && knows_change(link, pending, *changer) {
         rows.owe(peer, false);
     }
 }
