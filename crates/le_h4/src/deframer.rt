@@ -13,7 +13,7 @@ ghost use Rattle.le_h4.specs.declared.progress.TheConstants.{MAX_PACKET_IN};
 
 use crate::gathered::Gathered;
 use crate::packet::{PacketRef, WholePacket, first_packet, read_packet};
-use crate::progress::{MAX_PACKET_IN, Progress, progress_at, whole_packet};
+use crate::progress::{MAX_PACKET_IN, Progress, progress_at, whole_size};
 use std::marker::Model;
 
 /// How far a piece of the stream was taken.
@@ -176,7 +176,7 @@ fn gather(gathered: &mut Gathered, skipping: &mut usize, octets: &[u8]) -> Resul
     if !gathered.is_empty() || *skipping > 0 {
         return gather_by_parts(gathered, skipping, octets);
     }
-    let Some(size) = whole_packet(octets) else {
+    let Some(size) = whole_size(octets) else {
         return gather_by_parts(gathered, skipping, octets);
     };
     fill(gathered, size, octets);

@@ -54,7 +54,7 @@ pub(crate) fn progress_at(octets: &[u8]) -> Progress
 /// How many octets the packet has that these begin with, where all of them are there and it is kept.
 #[tactic(auto, using(crate::proofs::Beginning::begins))]
 #[inline(always)]
-pub(crate) fn whole_packet(octets: &[u8]) -> Option<usize>
+pub(crate) fn whole_size(octets: &[u8]) -> Option<usize>
     ensures { IfSome result (λ size. BeginsWith octets.now size) }
 {
     let size = stated_size(octets)?;
