@@ -323,7 +323,7 @@ fn has_command(controller: &Controller, slots: &Slots) -> bool
     if slots.has_command() {
         return true;
     }
-    controller.is_to_advertise(slots.is_free())
+    controller.is_to_advertise(slots.has_free())
 }
 
 /// Whether nothing is to go out.

@@ -237,7 +237,7 @@ impl Slots {
     }
 
     /// Whether a slot is free.
-    pub fn is_free(&self) -> bool
+    pub fn has_free(&self) -> bool
         ensures { result ≡ list_any (λ slot. is_none slot) self.now }
     {
         any_free(self.slots.as_slice())
