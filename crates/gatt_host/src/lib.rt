@@ -22,6 +22,7 @@ mod notices;
 mod open;
 mod packet;
 mod reported;
+mod sending;
 mod serving;
 mod taking;
 
