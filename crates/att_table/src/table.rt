@@ -84,7 +84,8 @@ impl Table {
         ensures most { IfSome result (λ attr. handle ≤ MAX_ATTRIBUTES) }
         ensures row { HasRowRoom self.now.attributes handle }
     {
-        self.attributes.get(usize::from(handle.checked_sub(1)?))
+        // No attribute stands before the first: the place of handle 0 is behind the last.
+        self.attributes.get(usize::from(handle).wrapping_sub(1))
     }
 
     /// The attributes whose handles are from `first` to `last`.
