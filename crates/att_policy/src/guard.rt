@@ -99,7 +99,8 @@ impl Need {
     pub fn needs_encryption(&self) -> bool
         ensures { result ≡ needs_encryption_of self.now }
     {
-        self.encrypted || self.authenticated || self.key_size.is_some() || self.secure
+        // All four are looked at, so that they take one decision.
+        self.encrypted | self.authenticated | self.key_size.is_some() | self.secure
     }
 
     /// Whether the link's key must be authenticated.

@@ -31,12 +31,12 @@ impl Access {
     }
 
     /// What this access to the guarded attribute needs.
-    fn need(self, guard: &Guard) -> Need
-        ensures { result ≡ need_of self guard.now }
+    fn need(self, guard: &Guard) -> &Need
+        ensures { result.now ≡ need_of self guard.now }
     {
         match self {
-            Access::Read => guard.read,
-            Access::Write | Access::Command => guard.write,
+            Access::Read => &guard.read,
+            Access::Write | Access::Command => &guard.write,
         }
     }
 
@@ -112,7 +112,20 @@ fn first_broken_rule(access: Access, guard: Option<&Guard>, standing: &Standing)
     if !guard.properties.contains(access.property()) {
         return Some(Rule::Property);
     }
-    first_unmet_rule(&access.need(guard), standing)
+    let need = access.need(guard);
+    if need.needs_encryption() || need.authorized {
+        return first_unmet_rule_apart(need, standing);
+    }
+    None
+}
+
+/// The first rule on what is needed that a connection fails. It is not inlined where attributes are
+/// read and written, most of which need nothing.
+#[inline(never)]
+fn first_unmet_rule_apart(need: &Need, standing: &Standing) -> Option<Rule>
+    ensures { result ≡ first_unmet_rule_of need.now standing.entry.now }
+{
+    first_unmet_rule(need, standing)
 }
 
 /// The first rule on what is needed that a connection fails.
