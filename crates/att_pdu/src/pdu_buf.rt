@@ -18,6 +18,9 @@ pub const MAX_MTU: u16 = MAX_PDU as u16;
 // The largest value stands in one PDU behind an opcode, a handle and an offset.
 const _: () = prove!(1 + 2 + 2 + MAX_VALUE == MAX_PDU);
 
+/// How many octets an Error Response has: Core 5.0, Vol 3 Part F, 3.4.1.1.
+const ERROR_SIZE: usize = 5;
+
 /// Where a PDU ends in its buffer.
 #[derive(Clone, Copy)]
 pub(crate) enum End {
@@ -124,11 +127,36 @@ impl<'a> PduBuf<'a> {
         ensures error { contents self.new ≡ sent (ErrorResponse request_opcode handle code) }
         ensures same_buffer { IsSameBuffer self.old self.new }
     {
+        let keeps_length = match self.end {
+            End::OfBuffer => matches!(self.octets.len(), 0 | ERROR_SIZE),
+            End::Before(_) => true,
+        };
+        if keeps_length {
+            self.put_error(request_opcode, handle, code);
+        } else {
+            self.put_error_anew(request_opcode, handle, code);
+        }
+    }
+
+    /// Puts an Error Response into a buffer that has to get its length first. It is not inlined, so
+    /// that no registers are saved for it where an error takes the place of none or of another.
+    #[inline(never)]
+    fn put_error_anew(&mut self, request_opcode: u8, handle: u16, code: u8)
+        ensures error { contents self.new ≡ sent (ErrorResponse request_opcode handle code) }
+        ensures same_buffer { IsSameBuffer self.old self.new }
+    {
+        self.put_error(request_opcode, handle, code);
+    }
+
+    /// Puts an Error Response in place of the content.
+    #[inline(always)]
+    fn put_error(&mut self, request_opcode: u8, handle: u16, code: u8)
+        ensures error { contents self.new ≡ sent (ErrorResponse request_opcode handle code) }
+        ensures same_buffer { IsSameBuffer self.old self.new }
+    {
         let [low, high] = handle.to_le_bytes();
-        self.replace(
-            &[opcode::ERROR_RESPONSE, request_opcode, low, high, code],
-            &[],
-        );
+        let error: [u8; ERROR_SIZE] = [opcode::ERROR_RESPONSE, request_opcode, low, high, code];
+        self.replace(&error, &[]);
     }
 
     /// Replaces the content by octets of two places, one behind the other: an opcode with what is fixed
