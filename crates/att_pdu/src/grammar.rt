@@ -1,4 +1,4 @@
-ghost use Rattle.std.specs.Prelude.{◌≡◌, ◌≤◌, length, IfOk};
+ghost use Rattle.std.specs.Prelude.{◌≡◌, ◌+◌, ◌≤◌, ◌∷◌, length, IfOk};
 ghost use Rattle.std.specs.Result.{result_map_both};
 ghost use Rattle.att_pdu.specs.Request.{Asked, asked, spelled, HasOctetFields};
 ghost use Rattle.att_pdu.specs.Grammar.{request_of, fault_of, is_due};
@@ -36,19 +36,31 @@ pub fn read_request(pdu: &[u8], mtu: u16) -> Result<Request<'_>, PduFault>
     let [opcode, parameters @ ..] = pdu else {
         return Err(PduFault::Ignored);
     };
-    if pdu.len() > usize::from(mtu) {
-        return Err(fault(*opcode));
+    read_parameters(*opcode, parameters, mtu)
+}
+
+/// Reads the request that the PDU of an opcode and these parameters spells: `read_request` of a PDU
+/// whose opcode is known.
+#[inline(always)]
+pub fn read_parameters(opcode: u8, parameters: &[u8], mtu: u16) -> Result<Request<'_>, PduFault>
+    ensures exact { result_map_both asked (λ fault. fault) result
+        ≡ request_of (opcode ∷ parameters.now) mtu }
+    ensures spelled { IfOk result (λ request. spelled (asked request) ≡ opcode ∷ parameters.now) }
+    ensures within_mtu { IfOk result (λ _. 1 + length parameters.now ≤ mtu) }
+{
+    if 1 + parameters.len() > usize::from(mtu) {
+        return Err(fault_of(opcode));
     }
-    match form::request(*opcode, parameters) {
+    match form::request(opcode, parameters) {
         Some(request) => Ok(request),
-        None => Err(fault(*opcode)),
+        None => Err(fault_of(opcode)),
     }
 }
 
 /// What is wrong with a PDU that begins with this opcode and asks for nothing.
 #[tactic(auto, unfolding(crate::specs::Grammar::fault_of))]
-fn fault(opcode: u8) -> PduFault
-    ensures { result ≡ fault_of opcode }
+pub fn fault_of(opcode: u8) -> PduFault
+    ensures fault { result ≡ fault_of opcode }
 {
     match opcode {
         opcode::EXCHANGE_MTU_REQUEST

@@ -9,7 +9,7 @@ mod pdu_buf;
 mod request;
 mod uuid;
 
-pub use grammar::{PduFault, answer_due, read_request};
+pub use grammar::{PduFault, answer_due, fault_of, read_parameters, read_request};
 pub use pdu_buf::{MAX_MTU, MIN_MTU, PduBuf};
 pub use request::{ExecuteFlags, Request};
 pub use uuid::Uuid;

@@ -1,4 +1,4 @@
-ghost use Rattle.std.specs.Prelude.{◌≡◌, ◌≤◌, true, false, [], length, take, is_some, Some, None, if◌then◌else◌, IfSome};
+ghost use Rattle.std.specs.Prelude.{◌≡◌, ◌≤◌, true, false, [], ◌∷◌, length, take, drop, is_some, Some, None, if◌then◌else◌, IfSome};
 ghost use Rattle.std.specs.Option.{option_map};
 ghost use Rattle.att_pdu.specs.Grammar.{request_of, is_due};
 ghost use Rattle.att_pdu.specs.PduBuf.{contents, mtu_of, IsSameBuffer};
@@ -12,7 +12,7 @@ ghost use Rattle.octets.specs.declared.pdu.TheConstants.{MAX_PDU};
 use crate::conn::Conn;
 use crate::writing::{cancel, command, execute, prepare, write};
 use att_numbers::{error_code, opcode};
-use att_pdu::{ExecuteFlags, PduBuf, PduFault, Request, read_request};
+use att_pdu::{ExecuteFlags, PduBuf, PduFault, Request, fault_of, read_parameters};
 use att_reads::answer_read;
 use att_table::{ConfigRow, Table};
 use att_writes::Touched;
@@ -89,8 +89,9 @@ pub fn answer(
 }
 
 /// Answers a PDU in place of what `out` holds, which stays where no answer is due, and puts the handles
-/// that were written in place of what `touched` holds.
-fn serve(
+/// that were written in place of what `touched` holds: mostly one, if any, which takes no loop.
+#[inline(never)]
+fn serve_anew(
     table: &mut Table,
     row: &mut ConfigRow,
     conn: &mut Conn,
@@ -107,45 +108,45 @@ fn serve(
     ensures answered { IsAnswered pdu.now table.old table.new row.old row.new conn.old conn.new
         touched.new.items result.confirmed }
 {
-    forget(touched);
-    // Each arm is a copy for one form, the frequent ones, in which the others are never asked for.
-    match pdu.first() {
-        Some(&opcode::READ_REQUEST) => serve_form(table, row, conn, pdu, out, touched),
-        Some(&opcode::READ_BLOB_REQUEST) => serve_form(table, row, conn, pdu, out, touched),
-        Some(&opcode::READ_BY_TYPE_REQUEST) => serve_form(table, row, conn, pdu, out, touched),
-        Some(&opcode::READ_BY_GROUP_TYPE_REQUEST) => serve_form(
-            table, row, conn, pdu, out, touched,
-        ),
-        Some(&opcode::FIND_INFORMATION_REQUEST) => serve_form(table, row, conn, pdu, out, touched),
-        Some(&opcode::FIND_BY_TYPE_VALUE_REQUEST) => serve_form(
-            table, row, conn, pdu, out, touched,
-        ),
-        Some(&opcode::WRITE_REQUEST) => serve_form(table, row, conn, pdu, out, touched),
-        Some(&opcode::WRITE_COMMAND) => serve_form(table, row, conn, pdu, out, touched),
-        Some(&opcode::PREPARE_WRITE_REQUEST) => serve_form(table, row, conn, pdu, out, touched),
-        Some(&opcode::HANDLE_VALUE_CONFIRMATION) => serve_form(table, row, conn, pdu, out, touched),
-        _ => serve_form(table, row, conn, pdu, out, touched),
-    }
-}
-
-/// Drops the handles that an earlier PDU wrote: mostly one, if any, which takes no loop.
-#[inline(always)]
-fn forget(touched: &mut Touched)
-    ensures { touched.new.items ≡ [] }
-{
     match touched.len() {
         0 => {}
         1 => {
             touched.pop();
         }
-        _ => touched.clear(),
+        _ => return serve_afresh(table, row, conn, pdu, out, touched),
     }
+    serve(table, row, conn, pdu, out, touched)
 }
 
-/// Answers a PDU of any form, where `touched` holds nothing yet.
+/// Answers a PDU where an earlier one wrote more than one handle. It is not inlined, so that no
+/// registers are saved for it where there is none such.
+#[inline(never)]
+fn serve_afresh(
+    table: &mut Table,
+    row: &mut ConfigRow,
+    conn: &mut Conn,
+    pdu: &[u8],
+    out: &mut PduBuf<'_>,
+    touched: &mut Touched,
+) -> Served
+    requires bound { mtu_of out.old ≡ conn.old.mtu }
+    requires row { IsRowOf table.old.attributes row.old }
+
+    ensures served { ServesPdu
+        (answer_to table.old row.old conn.old (request_of pdu.now conn.old.mtu)) out.old out.new
+        result }
+    ensures answered { IsAnswered pdu.now table.old table.new row.old row.new conn.old conn.new
+        touched.new.items result.confirmed }
+{
+    touched.clear();
+    serve(table, row, conn, pdu, out, touched)
+}
+
+/// Answers a PDU in place of what `out` holds, which stays where no answer is due, where `touched`
+/// holds nothing yet.
 #[inline(always)]
 #[tactic(auto, unfolding(att_pdu::specs::Form::form_of))]
-fn serve_form(
+fn serve(
     table: &mut Table,
     row: &mut ConfigRow,
     conn: &mut Conn,
@@ -163,7 +164,106 @@ fn serve_form(
     ensures answered { IsAnswered pdu.now table.old table.new row.old row.new conn.old conn.new
         touched.new.items result.confirmed }
 {
-    match read_request(pdu, conn.mtu()) {
+    let [opcode, ..] = pdu else {
+        return without_answer(false);
+    };
+    match *opcode {
+        opcode::READ_REQUEST => serve_opcode::<{ opcode::READ_REQUEST }>(
+            table, row, conn, pdu, out, touched,
+        ),
+        opcode::READ_BLOB_REQUEST => serve_opcode::<{ opcode::READ_BLOB_REQUEST }>(
+            table, row, conn, pdu, out, touched,
+        ),
+        opcode::READ_MULTIPLE_REQUEST => serve_opcode::<{ opcode::READ_MULTIPLE_REQUEST }>(
+            table, row, conn, pdu, out, touched,
+        ),
+        opcode::READ_BY_TYPE_REQUEST => serve_opcode::<{ opcode::READ_BY_TYPE_REQUEST }>(
+            table, row, conn, pdu, out, touched,
+        ),
+        opcode::READ_BY_GROUP_TYPE_REQUEST => serve_opcode::<
+            { opcode::READ_BY_GROUP_TYPE_REQUEST },
+        >(table, row, conn, pdu, out, touched),
+        opcode::FIND_INFORMATION_REQUEST => serve_opcode::<{ opcode::FIND_INFORMATION_REQUEST }>(
+            table, row, conn, pdu, out, touched,
+        ),
+        opcode::FIND_BY_TYPE_VALUE_REQUEST => serve_opcode::<
+            { opcode::FIND_BY_TYPE_VALUE_REQUEST },
+        >(table, row, conn, pdu, out, touched),
+        opcode::EXCHANGE_MTU_REQUEST => serve_opcode::<{ opcode::EXCHANGE_MTU_REQUEST }>(
+            table, row, conn, pdu, out, touched,
+        ),
+        opcode::WRITE_REQUEST => serve_opcode::<{ opcode::WRITE_REQUEST }>(
+            table, row, conn, pdu, out, touched,
+        ),
+        opcode::WRITE_COMMAND => serve_opcode::<{ opcode::WRITE_COMMAND }>(
+            table, row, conn, pdu, out, touched,
+        ),
+        opcode::PREPARE_WRITE_REQUEST => serve_opcode::<{ opcode::PREPARE_WRITE_REQUEST }>(
+            table, row, conn, pdu, out, touched,
+        ),
+        opcode::EXECUTE_WRITE_REQUEST => serve_opcode::<{ opcode::EXECUTE_WRITE_REQUEST }>(
+            table, row, conn, pdu, out, touched,
+        ),
+        opcode::HANDLE_VALUE_CONFIRMATION => serve_opcode::<{ opcode::HANDLE_VALUE_CONFIRMATION }>(
+            table, row, conn, pdu, out, touched,
+        ),
+        other => match fault_of(other) {
+            PduFault::Ignored => without_answer(false),
+            PduFault::Invalid(opcode) => refuse(opcode, 0, error_code::INVALID_PDU, out),
+            PduFault::Unsupported(opcode) => {
+                refuse(opcode, 0, error_code::REQUEST_NOT_SUPPORTED, out)
+            }
+        },
+    }
+}
+
+/// Answers a PDU of one opcode: a copy of the code for each, in which the others are never asked for,
+/// and which saves no more registers than it needs.
+#[inline(never)]
+fn serve_opcode<const OPCODE: u8>(
+    table: &mut Table,
+    row: &mut ConfigRow,
+    conn: &mut Conn,
+    pdu: &[u8],
+    out: &mut PduBuf<'_>,
+    touched: &mut Touched,
+) -> Served
+    requires opcode { pdu.now ≡ OPCODE ∷ drop 1 pdu.now }
+    requires bound { mtu_of out.old ≡ conn.old.mtu }
+    requires untouched { touched.old.items ≡ [] }
+    requires row { IsRowOf table.old.attributes row.old }
+
+    ensures served { ServesPdu
+        (answer_to table.old row.old conn.old (request_of pdu.now conn.old.mtu)) out.old out.new
+        result }
+    ensures answered { IsAnswered pdu.now table.old table.new row.old row.new conn.old conn.new
+        touched.new.items result.confirmed }
+{
+    serve_form(table, row, conn, OPCODE, &pdu[1..], out, touched)
+}
+
+/// Answers the PDU of an opcode and these parameters, where `touched` holds nothing yet.
+#[inline(always)]
+#[tactic(auto, unfolding(att_pdu::specs::Form::form_of))]
+fn serve_form(
+    table: &mut Table,
+    row: &mut ConfigRow,
+    conn: &mut Conn,
+    opcode: u8,
+    parameters: &[u8],
+    out: &mut PduBuf<'_>,
+    touched: &mut Touched,
+) -> Served
+    requires bound { mtu_of out.old ≡ conn.old.mtu }
+    requires untouched { touched.old.items ≡ [] }
+    requires row { IsRowOf table.old.attributes row.old }
+
+    ensures served { ServesPdu (answer_to table.old row.old conn.old
+        (request_of (opcode ∷ parameters.now) conn.old.mtu)) out.old out.new result }
+    ensures answered { IsAnswered (opcode ∷ parameters.now) table.old table.new row.old row.new
+        conn.old conn.new touched.new.items result.confirmed }
+{
+    match read_parameters(opcode, parameters, conn.mtu()) {
         Ok(Request::ExchangeMtu { client_rx_mtu }) => exchange_mtu(conn, client_rx_mtu, out),
         Ok(Request::Write { handle, value }) => write(
             table, row, conn, handle, value, out, touched,
@@ -234,7 +334,7 @@ pub fn answer_into(
 {
     // Each answer replaces what is there.
     let mut out = PduBuf::of(octets, conn.mtu());
-    serve(table, row, conn, pdu, &mut out, touched)
+    serve_anew(table, row, conn, pdu, &mut out, touched)
 }
 
 /// Serves one Attribute PDU, with the answer at the front of `octets`, where one is due, and the handles
@@ -263,7 +363,7 @@ pub fn answer_over(
         touched.new.items result.confirmed }
 {
     let mut out = PduBuf::over(octets, conn.mtu());
-    let served = serve(table, row, conn, pdu, &mut out, touched);
+    let served = serve_anew(table, row, conn, pdu, &mut out, touched);
     Placed {
         len: if served.due {
             Some(out.len_over())
