@@ -79,7 +79,7 @@ pub fn answer(
         confirmed: false,
         touched: Touched::new(),
     };
-    let served = serve(table, row, conn, pdu, out, &mut answered.touched);
+    let served = serve_apart(table, row, conn, pdu, out, &mut answered.touched);
     if !served.due {
         out.clear();
     }
@@ -88,10 +88,33 @@ pub fn answer(
     answered
 }
 
-/// Answers a PDU in place of what `out` holds, which stays where no answer is due, and puts the handles
-/// that were written in place of what `touched` holds: mostly one, if any, which takes no loop.
+/// Answers a PDU as `serve` does. It is not inlined, so that its caller saves no registers for it.
 #[inline(never)]
-fn serve_anew(
+fn serve_apart(
+    table: &mut Table,
+    row: &mut ConfigRow,
+    conn: &mut Conn,
+    pdu: &[u8],
+    out: &mut PduBuf<'_>,
+    touched: &mut Touched,
+) -> Served
+    requires bound { mtu_of out.old ≡ conn.old.mtu }
+    requires untouched { touched.old.items ≡ [] }
+    requires row { IsRowOf table.old.attributes row.old }
+
+    ensures served { ServesPdu
+        (answer_to table.old row.old conn.old (request_of pdu.now conn.old.mtu)) out.old out.new
+        result }
+    ensures answered { IsAnswered pdu.now table.old table.new row.old row.new conn.old conn.new
+        touched.new.items result.confirmed }
+{
+    serve(table, row, conn, pdu, out, touched)
+}
+
+/// Drops the handles that an earlier PDU wrote, mostly one, if any, which takes no loop, and answers a
+/// PDU as `serve` does.
+#[inline(never)]
+fn forget_and_serve(
     table: &mut Table,
     row: &mut ConfigRow,
     conn: &mut Conn,
@@ -113,15 +136,15 @@ fn serve_anew(
         1 => {
             touched.pop();
         }
-        _ => return serve_afresh(table, row, conn, pdu, out, touched),
+        _ => return clear_and_serve(table, row, conn, pdu, out, touched),
     }
     serve(table, row, conn, pdu, out, touched)
 }
 
-/// Answers a PDU where an earlier one wrote more than one handle. It is not inlined, so that no
-/// registers are saved for it where there is none such.
+/// Drops the handles where an earlier PDU wrote more than one, and answers a PDU. It is not inlined,
+/// so that no registers are saved for it where that is not so.
 #[inline(never)]
-fn serve_afresh(
+fn clear_and_serve(
     table: &mut Table,
     row: &mut ConfigRow,
     conn: &mut Conn,
@@ -334,7 +357,7 @@ pub fn answer_into(
 {
     // Each answer replaces what is there.
     let mut out = PduBuf::of(octets, conn.mtu());
-    serve_anew(table, row, conn, pdu, &mut out, touched)
+    forget_and_serve(table, row, conn, pdu, &mut out, touched)
 }
 
 /// Serves one Attribute PDU, with the answer at the front of `octets`, where one is due, and the handles
@@ -363,7 +386,7 @@ pub fn answer_over(
         touched.new.items result.confirmed }
 {
     let mut out = PduBuf::over(octets, conn.mtu());
-    let served = serve_anew(table, row, conn, pdu, &mut out, touched);
+    let served = forget_and_serve(table, row, conn, pdu, &mut out, touched);
     Placed {
         len: if served.due {
             Some(out.len_over())
