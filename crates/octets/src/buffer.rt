@@ -27,8 +27,8 @@ pub fn overwrite<const N: usize>(
     write_parts(buffer.as_mut_slice(), first, second, third);
 }
 
-/// Gives a buffer a length, by as few octets as it takes: it ends early, or zeros come behind what it
-/// holds.
+/// Gives a buffer a length, by as few octets as it takes: it ends early, or octets come behind what it
+/// holds that are to be written over.
 #[inline(always)]
 pub fn set_length<const N: usize>(buffer: &mut ArrayVec<u8, N>, size: usize)
     requires largest { N ≤ MAX_PDU }
