@@ -101,6 +101,8 @@ pub fn may_hear(guard: &Guard, bits: u8, standing: &Standing) -> bool
         && first_unmet_rule(&guard.read, standing).is_none()
 }
 
+/// The first rule that an access to an attribute breaks: that it exists, that its properties permit the
+/// access, and then what its guard needs.
 #[inline(always)]
 fn first_broken_rule(access: Access, guard: Option<&Guard>, standing: &Standing) -> Option<Rule>
     ensures { result ≡ first_broken_rule_of access (option_copied guard.entry)

@@ -90,7 +90,9 @@ impl<C: Sink> Capture<C> {
         }
     }
 
-    /// Records octets that have come from the controller, as `went` does those that go to it.
+    /// Takes in octets that have come from the controller, which may begin and end anywhere in its
+    /// packets, and records each packet that they end, at a time in microseconds since the start of
+    /// 1970. After a fault nothing changes.
     pub fn came(&mut self, octets: &[u8], time: u64)
         ensures captured { capture_fault self.old ≡ None
             → Captures Direction.Received time (received_of self.old) octets.now

@@ -95,7 +95,7 @@ fn add_with_slot(
     log.extend_from_slice(b"\n")
 }
 
-/// Adds that a connection has written so many octets at a handle.
+/// Adds that a connection has written `count` octets to the attribute at a handle.
 fn add_written(
     log: &mut Vec<u8>,
     handle: u16,

@@ -105,6 +105,7 @@ impl<'a> Settings<'a> {
     }
 }
 
+/// The words that name files.
 fn file_words<'a>(words: &HostWords<'a>) -> FileWords<'a> {
     FileWords {
         table: words.table,
@@ -115,6 +116,7 @@ fn file_words<'a>(words: &HostWords<'a>) -> FileWords<'a> {
     }
 }
 
+/// How the controller is reached, or what is wrong with the words.
 fn read_reached<'a>(
     listen: Option<&str>,
     connect: Option<&str>,
@@ -134,6 +136,7 @@ fn read_reached<'a>(
     }
 }
 
+/// Where an application is heard, or what is wrong with the words.
 fn read_door<'a>(path: Option<&'a str>, port: Option<&str>) -> Result<Door<'a>, &'static str> {
     match (path, port) {
         (None, None) => Ok(Door::None),
@@ -154,6 +157,7 @@ fn read_socket_address(word: &str, wrong: &'static str) -> Result<SocketAddr, &'
     }
 }
 
+/// How many slots there are, or what is wrong with the word.
 fn read_slots(word: Option<&str>) -> Result<usize, &'static str> {
     let Some(word) = word else {
         return Ok(SLOTS);
@@ -164,6 +168,7 @@ fn read_slots(word: Option<&str>) -> Result<usize, &'static str> {
     }
 }
 
+/// After how many milliseconds an idle connection ends, or what is wrong with the word.
 fn read_idle(word: Option<&str>) -> Result<Option<u64>, &'static str> {
     let Some(word) = word else {
         return Ok(None);
@@ -174,6 +179,7 @@ fn read_idle(word: Option<&str>) -> Result<Option<u64>, &'static str> {
     }
 }
 
+/// What is advertised, or what is wrong with the words.
 fn read_advertising(services: &[&str], name: &str) -> Result<Data, &'static str> {
     match advertising::data(services, name) {
         Some(data) => Ok(data),

@@ -30,6 +30,7 @@ pub(crate) struct Session {
 impl Session {
     ghost use Rattle.gatt_files.specs.Session.{server_of, IsStartFault, AnswersLine, Passes, StopsAt, Ends, BreaksOffPrinting, EndsBroken, BreaksLine, IsLineFault};
 
+    /// A session of the door's table, before its first line.
     pub(crate) fn new(alloc: Global) -> Result<Session, ShellFault>
         ensures server { IfOk result (λ session. server_of session ≡ door_server) }
         ensures line { IfOk result (λ session. session.line.items ≡ []) }
@@ -62,6 +63,7 @@ impl Session {
         Ok(())
     }
 
+    /// Takes in an octet of the input, and answers the line that it ends.
     fn take_octet<W: Write>(&mut self, octet: u8, writer: &mut W) -> Result<(), ShellFault>
         requires { self.old.number + 1 < 2 ^ 64 }
         ensures passes { OnOk result

@@ -34,6 +34,7 @@ impl HostState {
         done
     }
 
+    /// Does what the application asks for, or refuses it and changes nothing.
     fn call(&mut self, call: App<'_>) -> Result<(), AppFault>
         requires of_table { IsOfItsTable self.old }
         ensures after { IsOk result
@@ -51,6 +52,7 @@ impl HostState {
         }
     }
 
+    /// Gives the value at a handle new octets, or refuses them.
     #[tactic(auto, using(crate::proofs::packets::Lengths::fits_there, crate::proofs::packets::Lengths::exact_there, crate::proofs::packets::Lengths::none_past))]
     fn update_value(&mut self, handle: u16, value: &[u8]) -> Result<(), AppFault>
         requires of_table { IsOfItsTable self.old }
@@ -77,6 +79,7 @@ impl HostState {
         Ok(())
     }
 
+    /// Authorizes the connection with this handle until a time, in milliseconds, or refuses.
     fn authorize_connection(&mut self, handle: u16, until: u64) -> Result<(), AppFault>
         ensures after { IsOk result
             → IsOkAnd (call_happening self.old (AuthorizeCall handle until))
@@ -92,6 +95,7 @@ impl HostState {
         Ok(())
     }
 
+    /// Ends the connection with this handle, or refuses.
     fn end_connection(&mut self, handle: u16) -> Result<(), AppFault>
         ensures after { IsOk result
             → IsOkAnd (call_happening self.old (DisconnectCall handle))
@@ -109,6 +113,7 @@ impl HostState {
         }
     }
 
+    /// Takes in the time, in milliseconds, unless it went back.
     fn tick_on(&mut self, time: u64) -> Result<(), AppFault>
         ensures after { IsOk result
             → IsOkAnd (call_happening self.old (TickCall time))

@@ -215,6 +215,7 @@ const NO_STATE: Init = Init::Ready {
     packets: 1,
 };
 
+/// The buffers that the controller has told of in a state, if it has.
 fn buffers_in(init: &Init) -> Option<Buffers>
     ensures { result ≡ told_in init.now }
 {
@@ -238,6 +239,7 @@ fn is_refusal(opcode: u16, status: Option<u8>) -> bool
     opcode == opcode::LE_SET_ADVERTISE_ENABLE && status.is_some_and(|status| status != 0)
 }
 
+/// The fault of a host whose initialisation failed: a completion that is too short is a bad event.
 fn host_fault(fault: InitFault) -> HostFault
     ensures { result ≡ told_fault (init_fault fault) }
 {

@@ -45,7 +45,8 @@ impl Controller {
         self.credit -= 1;
     }
 
-    /// Writes the command of initialisation, once its turn has come, and takes in that it is sent.
+    /// Writes the command of initialisation and takes in that it is sent: `false`, with nothing changed,
+    /// where its turn has not come.
     #[inline(always)]
     fn init_command_out(&mut self, out: &mut PacketBuf) -> bool
         requires { nat_lt 0 self.old.credit ≡ true }
@@ -119,7 +120,7 @@ fn write_command(command: &Command<'_>, out: &mut PacketBuf)
     out.command(packet.as_slice());
 }
 
-/// Writes the packet of the first slot that may give one.
+/// Writes the packet of the first slot that may give one: `false`, with nothing changed, where none may.
 #[inline(always)]
 pub(crate) fn packet_out(slots: &mut Slots, out: &mut PacketBuf) -> bool
     ensures some { result ≡ is_some (first_slot_packet slots.old) }
@@ -174,7 +175,8 @@ fn command_at_out(slots: &mut Slots, place: usize, out: &mut PacketBuf) -> u16
     command.opcode()
 }
 
-/// Writes the next command that is due, where the controller takes one, and takes in that it is sent.
+/// Writes the next command that is due and takes in that it is sent: `false`, with nothing changed, where
+/// none is due or the controller takes none.
 #[inline(always)]
 fn command_out(controller: &mut Controller, slots: &mut Slots, out: &mut PacketBuf) -> bool
     ensures some { result ≡ is_some (command_next controller.old slots.old) }
@@ -212,8 +214,8 @@ fn command_out(controller: &mut Controller, slots: &mut Slots, out: &mut PacketB
 }
 
 /// Writes what goes out next in place of what `out` holds: a command that is due, while the controller
-/// takes any, and else a packet of the first slot that may give one. There is nothing, and nothing
-/// changes, once all is out.
+/// takes any, and else a packet of the first slot that may give one. `false`, with nothing changed, once
+/// all is out.
 #[inline(always)]
 #[tactic(auto, using(crate::proofs::places::Entering::owes_what_an_event_brings))]
 pub fn next_out(controller: &mut Controller, slots: &mut Slots, out: &mut PacketBuf) -> bool
@@ -237,7 +239,8 @@ pub fn next_out(controller: &mut Controller, slots: &mut Slots, out: &mut Packet
     either_out(controller, slots, out)
 }
 
-/// Writes the next command, or else the next packet. It stands apart for its proof.
+/// Writes the next command, or else the next packet: `false`, with nothing changed, where there is
+/// neither. It stands apart for its proof.
 #[inline(always)]
 fn either_out(controller: &mut Controller, slots: &mut Slots, out: &mut PacketBuf) -> bool
     ensures some { result ≡ is_some (next_out controller.old slots.old) }
@@ -273,8 +276,8 @@ fn packet_into(slots: &mut Slots, out: &mut [u8]) -> Option<usize>
     slots.next_into(place, out)
 }
 
-/// Writes what goes out next at the front of `out`, as `next_out` has it: a command by way of `packet`.
-/// Says how many octets it has.
+/// Writes what goes out next at the front of `out`, a command by way of `packet`, and says how many
+/// octets it has. Nothing changes once all is out.
 #[inline(always)]
 pub(crate) fn next_into(
     controller: &mut Controller,
@@ -373,7 +376,8 @@ pub(crate) fn may_owe(controller: &Controller, slots: &Slots) -> bool
 }
 
 /// Writes what goes out before the controller is initialised, where no slot has a connection: the
-/// command of initialisation.
+/// command of initialisation. `false`, with nothing changed, where none is due or the controller takes
+/// none.
 pub(crate) fn init_out(controller: &mut Controller, out: &mut PacketBuf) -> bool
     ensures some { result ≡ is_some (next_out controller.old []) }
     ensures octets { OnTrue result (next_out controller.old [] ≡ Some out.new) }

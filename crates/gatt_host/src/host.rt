@@ -346,7 +346,7 @@ impl Host {
 }
 
 /// Puts the next packet that is to go out in place of what `out` holds, by way of `packet`, and takes in
-/// that it is out.
+/// that it is out: `false`, with nothing changed, where there is none.
 fn copy_next(state: &mut HostState, packet: &mut PacketBuf, out: &mut PacketOctets) -> bool
     ensures some { result ≡ is_some (next_packet_out state.old) }
     ensures octets { OnTrue result (next_packet_out state.old ≡ Some out.new.items) }

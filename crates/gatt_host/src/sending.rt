@@ -14,7 +14,8 @@ use crate::host_state::HostState;
 use le_h4::PacketBuf;
 
 impl HostState {
-    /// Puts the next packet that is to go out in place of what `out` holds, and takes in that it is out.
+    /// Puts the next packet that is to go out in place of what `out` holds, and takes in that it is out:
+    /// `false`, with nothing changed, where there is none.
     #[inline(always)]
     pub(crate) fn next_out(&mut self, out: &mut PacketBuf) -> bool
         ensures some { result ≡ is_some (next_packet_out self.old) }
@@ -38,7 +39,7 @@ impl HostState {
     }
 
     /// Puts the next packet of a connection in place of what `out` holds, where no command is due, and
-    /// takes in that it is out.
+    /// takes in that it is out: `false`, with nothing changed, where there is none.
     #[inline(always)]
     pub(crate) fn next_packet(&mut self, out: &mut PacketBuf) -> bool
         requires { OwesPacketsAlone self.old }

@@ -101,7 +101,7 @@ fn take_in(
     Ok(whole.used)
 }
 
-/// The packet that is lent, or else the one that the deframer has marked, which ends behind so many
+/// The packet that is lent, or else the one that the deframer has marked, which ends behind `used`
 /// octets.
 #[inline(always)]
 fn lent_or_marked<'a>(

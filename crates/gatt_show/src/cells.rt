@@ -31,7 +31,7 @@ pub fn add_right(text: &mut Vec<u8>, number: u64, width: usize) -> Result<(), Al
     text.extend_from_slice(cell)
 }
 
-/// Adds so many blanks.
+/// Adds `count` blanks.
 #[tactic(auto, using(crate::proofs::Blanks::some_blanks))]
 fn add_blanks(text: &mut Vec<u8>, count: usize) -> Result<(), AllocError>
     requires { count ≤ WIDEST }

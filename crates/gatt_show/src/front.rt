@@ -206,7 +206,7 @@ impl<'a> Front<'a> {
     }
 }
 
-/// Leaves so many elements of the array at a key, if there is one.
+/// Leaves the first `count` elements of the array at a key, if there is one.
 fn cut_array(table: &mut Table, key: &str, count: usize) {
     if let Some(array) = array_at(table, key) {
         array.truncate(count);

@@ -4,7 +4,7 @@ use crate::cells::add_number;
 use std::alloc::AllocError;
 use toml::de::Error;
 
-/// Adds where octets stop to be UTF-8: behind so many that are.
+/// Adds where octets stop to be UTF-8: behind the first `valid` of them.
 pub fn add_no_text(text: &mut Vec<u8>, octets: &[u8], valid: usize) -> Result<(), AllocError> {
     add_position(text, octets, valid)?;
     text.extend_from_slice(b": it is not UTF-8")

@@ -76,6 +76,7 @@ fn add_element(text: &mut Vec<u8>, front: &Front<'_>, fault: TableFault) -> Resu
     Ok(())
 }
 
+/// Adds the name of an element and its number.
 fn add_counted(text: &mut Vec<u8>, name: &[u8], count: usize) -> Result<(), AllocError> {
     text.extend_from_slice(name)?;
     add_number(text, count as u64)

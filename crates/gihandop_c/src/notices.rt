@@ -125,6 +125,7 @@ fn of_attribute(kind: u8, handle: u16, attribute: u16, bits: u8) -> NoticeFields
     said
 }
 
+/// A client has connected.
 fn connected(handle: u16, peer: Peer) -> NoticeFields
     ensures { result ≡ notice_fields (Connected handle peer) }
 {
@@ -135,6 +136,7 @@ fn connected(handle: u16, peer: Peer) -> NoticeFields
     said
 }
 
+/// A connection was encrypted with a key.
 fn secured(handle: u16, facts: KeyFacts) -> NoticeFields
     ensures { result ≡ notice_fields (Secured handle facts) }
 {
@@ -145,6 +147,7 @@ fn secured(handle: u16, facts: KeyFacts) -> NoticeFields
     said
 }
 
+/// A connection is to end.
 fn ending(handle: u16, reason: u8) -> NoticeFields
     ensures { result ≡ notice_fields (Ending handle reason) }
 {

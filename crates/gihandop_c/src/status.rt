@@ -47,12 +47,14 @@ pub(crate) const BAD_KEYS: u32 = 200;
 /// The rows file is refused: this and the number of its first fault, 1 to 4.
 pub(crate) const BAD_ROWS: u32 = 300;
 
+/// The status of a host that a fault has stopped.
 pub(crate) fn of_host_fault(fault: HostFault) -> u32
     ensures { result ≡ STOPPED + number_of_fault fault }
 {
     STOPPED + u32::from(fault.number())
 }
 
+/// The status of a call that was refused.
 pub(crate) fn of_refusal(fault: AppFault) -> u32
     ensures number { result ≡ REFUSED + number_of_refusal fault }
     ensures status { result ≡ call_status (Some (refused_of fault)) }
@@ -68,18 +70,21 @@ pub(crate) fn of_refusal(fault: AppFault) -> u32
     }
 }
 
+/// The status of a table file that is refused.
 pub(crate) fn of_table_fault(fault: TableFault) -> u32
     ensures { result ≡ BAD_TABLE + table_fault_number fault }
 {
     BAD_TABLE + u32::from(fault.number())
 }
 
+/// The status of a key file that is refused.
 pub(crate) fn of_key_fault(fault: KeyFault) -> u32
     ensures { result ≡ BAD_KEYS + key_fault_number fault }
 {
     BAD_KEYS + u32::from(fault.number())
 }
 
+/// The status of a rows file that is refused.
 pub(crate) fn of_rows_fault(fault: RowsFault) -> u32
     ensures { result ≡ BAD_ROWS + rows_fault_number fault }
 {

@@ -54,6 +54,7 @@ pub fn shared_buffers(returned: &[u8]) -> Result<Buffers, InitFault>
     }
 }
 
+/// The buffers, where a host can use them.
 fn usable(buffers: Buffers) -> Result<Buffers, InitFault>
     ensures { result ≡ usable_of buffers }
 {

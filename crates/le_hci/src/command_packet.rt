@@ -59,6 +59,7 @@ pub fn write_command(command: &Command<'_>, out: &mut ArrayVec<u8, COMMAND_ROOM>
 /// Enabled, as the parameter of LE Set Advertise Enable: Core 5.0, Vol 2 Part E, 7.8.9.
 const ENABLE: u8 = 0x01;
 
+/// Writes a command in place of the content: its header and its parameters.
 fn write_packet(opcode: u16, parameters: &[u8], out: &mut ArrayVec<u8, COMMAND_ROOM>)
     requires { length parameters.now ≤ MAX_PARAMETERS }
     ensures packet { out.new.items ≡ command_packet opcode parameters.now }
@@ -77,6 +78,7 @@ fn write_header(opcode: u16, length: u8, out: &mut ArrayVec<u8, COMMAND_ROOM>)
     append(&[low, high, length], out);
 }
 
+/// Appends octets for which there is room.
 fn append(octets: &[u8], out: &mut ArrayVec<u8, COMMAND_ROOM>)
     requires { array_vec_len out.old + length octets.now ≤ COMMAND_ROOM }
     ensures { out.new.items ≡ out.old.items ++ octets.now }
@@ -84,6 +86,7 @@ fn append(octets: &[u8], out: &mut ArrayVec<u8, COMMAND_ROOM>)
     out.try_extend_from_slice(octets).unwrap();
 }
 
+/// Writes LE Set Advertising Parameters: Core 5.0, Vol 2 Part E, 7.8.5.
 fn write_advertising_parameters(
     opcode: u16,
     own_address_type: u8,
@@ -113,6 +116,7 @@ fn write_advertising_parameters(
     write_packet(opcode, &parameters, out);
 }
 
+/// Writes LE Set Advertising Data, filled up to 31 octets: Core 5.0, Vol 2 Part E, 7.8.7.
 fn write_advertising_data(
     opcode: u16,
     advertising: &ArrayVec<u8, MAX_ADVERTISING_DATA>,
@@ -129,7 +133,7 @@ fn write_advertising_data(
     fill_up(octets.len(), out);
 }
 
-/// Appends the octets 00 that so many octets of advertising data are filled up with. It stands apart
+/// Appends the octets 00 that `length` octets of advertising data are filled up with. It stands apart
 /// for its proof.
 fn fill_up(length: usize, out: &mut ArrayVec<u8, COMMAND_ROOM>)
     requires shorter { length ≤ MAX_ADVERTISING_DATA }
@@ -139,6 +143,7 @@ fn fill_up(length: usize, out: &mut ArrayVec<u8, COMMAND_ROOM>)
     append(&[0x00; MAX_ADVERTISING_DATA][length..], out);
 }
 
+/// Writes LE Long Term Key Request Reply: Core 5.0, Vol 2 Part E, 7.8.25.
 fn write_key_reply(opcode: u16, handle: u16, key: &[u8; 16], out: &mut ArrayVec<u8, COMMAND_ROOM>)
     ensures packet { out.new.items ≡ command_packet opcode (key_reply handle key.now) }
     ensures fits { length out.new.items ≤ MAX_COMMAND }

@@ -32,6 +32,7 @@ pub fn read(code: u8, parameters: &[u8]) -> Option<Event<'_>>
     }
 }
 
+/// Reads an LE event, which its first parameter names: Core 5.0, Vol 2 Part E, 7.7.65.
 fn read_le_meta(parameters: &[u8]) -> Option<Event<'_>>
     ensures { option_map report_of result ≡ le_meta_form parameters.now }
 {
@@ -52,6 +53,7 @@ pub fn handle(low: u8, high: u8) -> u16
     u16::from_le_bytes([low, high]) & HANDLE
 }
 
+/// Reads a Disconnection Complete event: Core 5.0, Vol 2 Part E, 7.7.5.
 fn read_disconnection_complete(parameters: &[u8]) -> Option<Event<'_>>
     ensures { option_map report_of result ≡ disconnection_complete parameters.now }
 {
@@ -65,6 +67,7 @@ fn read_disconnection_complete(parameters: &[u8]) -> Option<Event<'_>>
     }
 }
 
+/// Reads an Encryption Change event: Core 5.0, Vol 2 Part E, 7.7.8.
 fn read_encryption_change(parameters: &[u8]) -> Option<Event<'_>>
     ensures { option_map report_of result ≡ encryption_change parameters.now }
 {
@@ -78,6 +81,7 @@ fn read_encryption_change(parameters: &[u8]) -> Option<Event<'_>>
     }
 }
 
+/// Reads a Command Complete event: Core 5.0, Vol 2 Part E, 7.7.14.
 fn read_command_complete(parameters: &[u8]) -> Option<Event<'_>>
     ensures { option_map report_of result ≡ command_complete parameters.now }
 {
@@ -91,6 +95,7 @@ fn read_command_complete(parameters: &[u8]) -> Option<Event<'_>>
     }
 }
 
+/// Reads a Command Status event: Core 5.0, Vol 2 Part E, 7.7.15.
 fn read_command_status(parameters: &[u8]) -> Option<Event<'_>>
     ensures { option_map report_of result ≡ command_status parameters.now }
 {
@@ -104,6 +109,7 @@ fn read_command_status(parameters: &[u8]) -> Option<Event<'_>>
     }
 }
 
+/// Reads a Hardware Error event: Core 5.0, Vol 2 Part E, 7.7.16.
 fn read_hardware_error(parameters: &[u8]) -> Option<Event<'_>>
     ensures { option_map report_of result ≡ hardware_error parameters.now }
 {
@@ -113,6 +119,7 @@ fn read_hardware_error(parameters: &[u8]) -> Option<Event<'_>>
     }
 }
 
+/// Reads a Number Of Completed Packets event: Core 5.0, Vol 2 Part E, 7.7.19.
 #[inline(always)]
 fn read_number_of_completed_packets(parameters: &[u8]) -> Option<Event<'_>>
     ensures { option_map report_of result ≡ number_of_completed_packets parameters.now }
@@ -134,6 +141,7 @@ fn entries(count: u8, octets: &[u8]) -> Option<&[[u8; 4]]>
     entries.get(..usize::from(count))
 }
 
+/// Reads an Encryption Key Refresh Complete event: Core 5.0, Vol 2 Part E, 7.7.39.
 fn read_encryption_key_refresh_complete(parameters: &[u8]) -> Option<Event<'_>>
     ensures { option_map report_of result ≡ encryption_key_refresh_complete parameters.now }
 {
@@ -146,6 +154,7 @@ fn read_encryption_key_refresh_complete(parameters: &[u8]) -> Option<Event<'_>>
     }
 }
 
+/// Reads an LE Connection Complete event: Core 5.0, Vol 2 Part E, 7.7.65.1.
 fn read_connection_complete(parameters: &[u8]) -> Option<Event<'_>>
     ensures { option_map report_of result ≡ connection_complete parameters.now }
 {
@@ -181,6 +190,7 @@ fn read_connection_complete(parameters: &[u8]) -> Option<Event<'_>>
     })
 }
 
+/// Reads an LE Long Term Key Request event: Core 5.0, Vol 2 Part E, 7.7.65.5.
 fn read_long_term_key_request(parameters: &[u8]) -> Option<Event<'_>>
     ensures { option_map report_of result ≡ long_term_key_request parameters.now }
 {

@@ -56,6 +56,7 @@ fn is_name(word: &str) -> bool
     !is_command_word(word) && has_only_letters_and_digits(word)
 }
 
+/// Whether a word is of ASCII letters and digits alone.
 fn has_only_letters_and_digits(word: &str) -> bool
     ensures { result ≡ list_all is_ascii_alphanumeric word.now }
 {

@@ -72,6 +72,7 @@ impl Sim {
         Sim::with_room(alloc, config).map_err(|_| SimFault::OutOfMemory)
     }
 
+    /// Takes the memory of a controller with no phone.
     fn with_room(alloc: Global, config: SimConfig) -> Result<Sim, AllocError>
         requires cut_least { 1 ≤ config.cut }
         requires cut_most { config.cut ≤ MAX_ACL_LEN }

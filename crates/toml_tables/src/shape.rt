@@ -59,6 +59,7 @@ fn is_listed(keys: &[Key], name: &str, value: &Value) -> bool
     false
 }
 
+/// Whether a value has this shape.
 #[tactic(auto, using(crate::proofs::Views::all_items_view))]
 fn has_shape(value: &Value, shape: Shape) -> bool
     ensures { result ≡ has_shape shape (view value.now) }
@@ -74,18 +75,21 @@ fn has_shape(value: &Value, shape: Shape) -> bool
     }
 }
 
+/// Whether all items are texts.
 fn are_texts(items: &[Value]) -> bool
     ensures { result ≡ list_all (λ item. is_text (view item)) items.now }
 {
     items.iter().all(|item| item.is_str())
 }
 
+/// Whether all items are integers.
 fn are_integers(items: &[Value]) -> bool
     ensures { result ≡ list_all (λ item. is_integer (view item)) items.now }
 {
     items.iter().all(|item| item.is_integer())
 }
 
+/// Whether all items are tables.
 fn are_tables(items: &[Value]) -> bool
     ensures { result ≡ list_all (λ item. is_table (view item)) items.now }
 {

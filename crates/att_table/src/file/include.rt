@@ -67,6 +67,7 @@ pub fn earlier_service(attributes: &[Attr], position: i64) -> Option<ServiceHand
     service_at(attributes, usize::try_from(position).ok()?)
 }
 
+/// The service at a position among those that another one follows.
 #[tactic(auto, using(crate::proofs::Services::later_place))]
 fn service_at(attributes: &[Attr], position: usize) -> Option<ServiceHandles>
     ensures { result ≡ slice_get (earlier_services attributes.now) position }
