@@ -15,6 +15,8 @@ mod equal_views;
 #[cfg(test)]
 mod files;
 #[cfg(test)]
+mod key_faults;
+#[cfg(test)]
 mod long_scripts;
 #[cfg(test)]
 mod machine;
@@ -39,8 +41,8 @@ mod serve_paths;
 #[cfg(test)]
 mod serving;
 #[cfg(test)]
-mod show_faults;
-#[cfg(test)]
 mod show_tables;
 #[cfg(test)]
 mod showing;
+#[cfg(test)]
+mod table_faults;
