@@ -1,30 +1,24 @@
 -- What a set of places covers, as slots change and as places leave it.
-use Rattle.std.proofs.Common.{◌≡◌, ◌≢◌, ℕ, zero, suc, ◌+◌, ◌<◌, ◌≤◌, ◌==◌, Bool, true, false, ◌||◌, List, [], ◌∷◌, length, map, set, take, replicate, get_or, Option, Some, None, refl, sym, ap, subst, ◌∙◌, arith}
+use Rattle.std.proofs.Common.{◌≡◌, ◌≢◌, ℕ, zero, suc, ◌<◌, ◌≤◌, ◌==◌, Bool, true, false, ◌||◌, List, [], ◌∷◌, length, map, set, take, replicate, get_or, Option, Some, None, refl, sym, ap, subst, ◌∙◌, arith}
 use Rattle.std.specs.Prelude.{is_none, is_some, if◌then◌else◌, not}
-use Rattle.std.specs.Bool.{OnFalse, OnTrue}
 use Rattle.std.specs.Int.{bit_at}
 use Rattle.std.specs.List.{list_any, position}
 use Rattle.std.specs.Option.{option_map, option_map_or}
-use Rattle.std.proofs.lemmas.Bool.{cases_eq, cases_lt, OnFalse_from, OnTrue_at}
+use Rattle.std.proofs.lemmas.Bool.{cases_eq, cases_lt}
 use Rattle.std.proofs.lemmas.Bool.Decides.{nat_tests}
 use Rattle.std.proofs.lemmas.List.{get_or-set_same, get_or-set_other, length-map, length-set}
-use Rattle.std.proofs.lemmas.Nat.Bits.{bit_at-zero}
 use Rattle.std.proofs.lemmas.Option.{slice_get-get_or}
 use Rattle.std.proofs.Math.Logic.{⊎_elim}
 use Rattle.gatt_slots.proofs.Found.{clash, first_at, kept-is, none_at, past, within}
-use Rattle.att_numbers.specs.Types.{Handle, Row}
+use Rattle.att_numbers.specs.Types.{Row}
 use Rattle.att_attributes.specs.declared.attr.Attr.{Attr}
 use Rattle.att_table.specs.ConfigRow.{kept_row}
 use Rattle.gatt_subs.specs.Indications.{Indications, after_replacement, times_out}
-use Rattle.att_table.specs.Table.{Contents}
-use Rattle.gatt_slots.proofs.Quiet.{nothing_heard_by_all, quiet_slot}
 use Rattle.gatt_slots.specs.Commands.{gives, has_command}
-use Rattle.gatt_slots.specs.Hearing.{hearer_facts_of, delivery_in_turn, delivery_of, with_delivery}
 use Rattle.gatt_slots.specs.SlotEffects.{after_table, after_time}
 use Rattle.gatt_slots.specs.SlotState.{SlotState}
 use Rattle.gatt_slots.specs.Places.{is_slot_due, is_some_handle, may_listen, waits, Covers, WaitsForNothingNew, IsMarked}
-use Rattle.gatt_slots.specs.Slots.{SlotStates, all_heard, handles_for, slot_heard, heard_from, is_in, slot_state_at}
-use Rattle.gatt_subs.specs.Rows.{Subscriptions, row_of}
+use Rattle.gatt_slots.specs.Slots.{SlotStates, slot_state_at}
 use Rattle.gatt_slots.specs.declared.marks.Marks.{Marks}
 use Rattle.gatt_slots.specs.declared.places.Due.{Due}
 use Rattle.gatt_slots.specs.declared.places.Places.{Places}
@@ -53,6 +47,11 @@ at-other slots place other slot apart = ⊎_elim
     (λ beyond.
     past (set slots place slot) other (omega (arith, beyond, length-set slots place slot)) ∙ sym (past slots other (omega (arith, beyond))))
     (cases_lt other (length slots))
+
+-- what is read at a place
+pub read_at : (slots : SlotStates) (place : ℕ) (slot : Option SlotState) → place < length slots → slot ≡ get_or slots place slot → slot_state_at slots place ≡ slot
+read_at slots place slot within is =
+    ap (λ (found : Option (Option SlotState)). option_map_or (λ (it : Option SlotState). it) found None) (slice_get-get_or slots place slot within) ∙ sym is
 
 -- a slot is changed whose place comes into the set
 pub covered_with : (due : Due) (old new : ℕ) (slots : SlotStates) (place : ℕ) (slot : Option SlotState) → Covers due old slots → bit_at new place ≡ 1
@@ -318,134 +317,3 @@ table_marked old new slots marks = each_marked (after_table old new) slots marks
     configured true row is = is
     configured false [] is = is
     configured false (entry ∷ row) is = some (length row)
-
--- an empty set covers nothing, and so nothing is due
-pub none_covered : (due : Due) (places : ℕ) (slots : SlotStates) → Covers due places slots → places ≡ 0 → position (is_slot_due due) slots ≡ None
-none_covered due places slots covers empty = none_due due slots (λ place. idle place (is_slot_due due (slot_state_at slots place)) refl)
-  where
-    idle : (place : ℕ) (so : Bool) → is_slot_due due (slot_state_at slots place) ≡ so → is_slot_due due (slot_state_at slots place) ≡ false
-    idle place false is = is
-    idle place true is = bit (sym (covers place is) ∙ ap (λ (it : ℕ). bit_at it place) empty ∙ bit_at-zero place)
-      where
-        bit : ◌≡◌ {A = ℕ} 1 0 → is_slot_due due (slot_state_at slots place) ≡ false
-        bit e = absurd (omega (arith, e))
-
--- where no place but one is in a set, each that is in it is that one
-outside : {X : Type 0} (bits place : ℕ) → bits ≡ 0 → bit_at bits place ≡ 1 → X
-outside bits place none within =
-    let e : ◌≡◌ {A = ℕ} 1 0 = sym within ∙ ap (λ (it : ℕ). bit_at it place) none ∙ bit_at-zero place in absurd (omega (arith, e))
-
--- nothing is due at a place that is not in the set
-pub idle_outside : (due : Due) (places : ℕ) (slots : SlotStates) (place : ℕ) → Covers due places slots → bit_at places place ≡ 0 → is_slot_due due (slot_state_at slots place) ≡ false
-idle_outside due places slots place covers outside = by (is_slot_due due (slot_state_at slots place)) refl
-  where
-    by : (so : Bool) → is_slot_due due (slot_state_at slots place) ≡ so → is_slot_due due (slot_state_at slots place) ≡ false
-    by false is = is
-    by true is = absurd (omega (arith, covers place is, outside))
-
--- where no place is in the set, nothing is due at any slot
-none-any : (due : Due) (slots : SlotStates) → ((place : ℕ) → is_slot_due due (slot_state_at slots place) ≡ false) → list_any (is_slot_due due) slots ≡ false
-none-any due [] idle = refl
-none-any due (slot ∷ slots) idle = λ i. idle zero i || none-any due slots (λ place. idle (suc place)) i
-
-pub unmarked_idle : (due : Due) (places : ℕ) (slots : SlotStates) (place : ℕ) → Covers due places slots → is_in places place ≡ false → is_slot_due due (slot_state_at slots place) ≡ false
-unmarked_idle due places slots place covers outside = by (is_slot_due due (slot_state_at slots place)) refl
-  where
-    by : (so : Bool) → is_slot_due due (slot_state_at slots place) ≡ so → is_slot_due due (slot_state_at slots place) ≡ false
-    by false is = is
-    by true is = clash (ap (λ (bit : ℕ). bit == 1) (covers place is)) outside
-
--- where none is marked at which a value waits, what is due of what waits is nothing
-pub quiet_where_unmarked : (table : Contents) (now : ℕ) (rows : Subscriptions) (own : Option ℕ) (places : ℕ) (slots : SlotStates) → Covers Indication places slots → places ≡ 0
-    → slots ≡ all_heard table now rows own [] [] slots
-quiet_where_unmarked table now rows own places slots covers empty =
-    nothing_heard_by_all table now rows own slots (none-any Indication slots (λ place.
-    idle_outside Indication places slots place covers (ap (λ (it : ℕ). bit_at it place) empty ∙ bit_at-zero place)))
-
--- nor does a value come to wait by it
-pub heard_waits : (table : Contents) (now : ℕ) (rows : Subscriptions) (slot : Option SlotState) → waits (slot_heard table now rows [] slot) ≡ true → waits slot ≡ true
-heard_waits table now rows slot still = by (waits slot) refl
-  where
-    by : (so : Bool) → waits slot ≡ so → waits slot ≡ true
-    by true is = is
-    by false is = clash still (ap waits (quiet_slot table now rows slot is) ∙ is)
-
-turned : (is : Bool) → not is ≡ false → is ≡ true
-turned true e = refl
-turned false e = cc e
-
-pub none_marked : (due : Due) (places : ℕ) (slots : SlotStates) (empty : Bool) → Covers due places slots → OnTrue empty (places ≡ 0)
-    → OnFalse (not empty) (list_any (is_slot_due due) slots ≡ false)
-none_marked due places slots empty covers is = OnFalse_from _ _ (λ lacks. none-any due slots (λ place.
-    idle_outside due places slots place covers (ap (λ (it : ℕ). bit_at it place) (OnTrue_at (turned empty lacks) is) ∙ bit_at-zero place)))
-
--- what is read at a place
-pub read_at : (slots : SlotStates) (place : ℕ) (slot : Option SlotState) → place < length slots → slot ≡ get_or slots place slot → slot_state_at slots place ≡ slot
-read_at slots place slot within is =
-    ap (λ (found : Option (Option SlotState)). option_map_or (λ (it : Option SlotState). it) found None) (slice_get-get_or slots place slot within) ∙ sym is
-
--- what hears at each place
-module _ (hear : ℕ → Option SlotState → Option SlotState) (nobody : (place : ℕ) → hear place None ≡ None) where
-  pub heard-at : (start : ℕ) (slots : SlotStates) (place : ℕ) → slot_state_at (heard_from start hear slots) place ≡ hear (start + place) (slot_state_at slots place)
-  heard-at start [] place = sym (nobody (start + place))
-  heard-at start (slot ∷ slots) zero = ap (λ (at : ℕ). hear at slot) (omega arith)
-  heard-at start (slot ∷ slots) (suc place) =
-      heard-at (start + 1) slots place ∙ ap (λ (at : ℕ). hear at (slot_state_at slots place)) (omega arith)
-
--- no command comes of what is heard
-heard-command : (table : Contents) (now : ℕ) (rows : Subscriptions) (handles : List Handle) (slot : Option SlotState)
-    → has_command (slot_heard table now rows handles slot) ≡ has_command slot
-heard-command table now rows handles None = refl
-heard-command table now rows handles (Some slot_state) =
-    elim slot_state.live as (λ (live : Bool). (let heard : SlotState = if live then with_delivery slot_state (delivery_in_turn table (hearer_facts_of now (row_of rows slot_state.peer) slot_state) now handles (delivery_of slot_state)) else slot_state in has_command (Some heard)) ≡ has_command (Some slot_state)) [
-      | true ↦ refl
-      | false ↦ refl
-    ]
-
-pub commands_heard : (table : Contents) (now : ℕ) (rows : Subscriptions) (own : Option ℕ) (here handles : List Handle) (places : ℕ) (slots heard : SlotStates)
-    → heard ≡ all_heard table now rows own here handles slots → Covers Command places slots → Covers Command places heard
-commands_heard table now rows own here handles places slots heard is covers = λ place due.
-    let hear : ℕ → Option SlotState → Option SlotState = λ at slot. slot_heard table now rows (handles_for own here handles at) slot in
-    covers place
-    (sym (heard-command table now rows (handles_for own here handles place) (slot_state_at slots place))
-    ∙ ap has_command (sym (heard-at hear (λ at. refl) 0 slots place ∙ ap (λ (at : ℕ). hear at (slot_state_at slots place)) (first place))) ∙ ap (λ (it : SlotStates). has_command (slot_state_at it place)) (sym is) ∙ due)
-  where
-    first : (place : ℕ) → 0 + place ≡ place
-    first place = omega arith
-
--- nor does a connection come to listen by what it hears
-heard-listens : (table : Contents) (now : ℕ) (rows : Subscriptions) (handles : List Handle) (slot : Option SlotState)
-    → may_listen (slot_heard table now rows handles slot) ≡ may_listen slot
-heard-listens table now rows handles None = refl
-heard-listens table now rows handles (Some slot_state) =
-    elim slot_state.live as (λ (live : Bool). (let heard : SlotState = if live then with_delivery slot_state (delivery_in_turn table (hearer_facts_of now (row_of rows slot_state.peer) slot_state) now handles (delivery_of slot_state)) else slot_state in may_listen (Some heard)) ≡ may_listen (Some slot_state)) [
-      | true ↦ refl
-      | false ↦ refl
-    ]
-
-pub listening_heard : (table : Contents) (now : ℕ) (rows : Subscriptions) (own : Option ℕ) (here handles : List Handle) (places : ℕ) (slots heard : SlotStates)
-    → heard ≡ all_heard table now rows own here handles slots → Covers Value places slots → Covers Value places heard
-listening_heard table now rows own here handles places slots heard is covers = λ place listens.
-    let hear : ℕ → Option SlotState → Option SlotState = λ at slot. slot_heard table now rows (handles_for own here handles at) slot in
-    covers place
-    (sym (heard-listens table now rows (handles_for own here handles place) (slot_state_at slots place))
-    ∙ ap may_listen (sym (heard-at hear (λ at. refl) 0 slots place ∙ ap (λ (at : ℕ). hear at (slot_state_at slots place)) (first place))) ∙ ap (λ (it : SlotStates). may_listen (slot_state_at it place)) (sym is) ∙ listens)
-  where
-    first : (place : ℕ) → 0 + place ≡ place
-    first place = omega arith
-
--- nor does a slot come to be free
-heard-free : (hear : ℕ → Option SlotState → Option SlotState) → ((place : ℕ) (slot : Option SlotState) → is_none (hear place slot) ≡ is_none slot)
-    → (start : ℕ) (slots : SlotStates) → list_any (λ it. is_none it) (heard_from start hear slots) ≡ list_any (λ it. is_none it) slots
-heard-free hear stays start [] = refl
-heard-free hear stays start (slot ∷ slots) = λ i. stays start slot i || heard-free hear stays (start + 1) slots i
-
-pub free_heard : (table : Contents) (now : ℕ) (rows : Subscriptions) (own : Option ℕ) (here handles : List Handle) (slots heard : SlotStates)
-    → heard ≡ all_heard table now rows own here handles slots → list_any (λ it. is_none it) slots ≡ false → list_any (λ it. is_none it) heard ≡ false
-free_heard table now rows own here handles slots heard is none =
-    ap (λ (it : SlotStates). list_any (λ slot. is_none slot) it) is
-    ∙ heard-free (λ at slot. slot_heard table now rows (handles_for own here handles at) slot) stays 0 slots ∙ none
-  where
-    stays : (place : ℕ) (slot : Option SlotState) → is_none (slot_heard table now rows (handles_for own here handles place) slot) ≡ is_none slot
-    stays place None = refl
-    stays place (Some slot_state) = refl

@@ -12,7 +12,7 @@ use Rattle.gatt_slots.specs.Slots.{SlotStates, all_heard, all_notified, all_noti
 use Rattle.gatt_slots.specs.declared.places.Due.TheVariants.{Indication, Value}
 use Rattle.gatt_laws.specs.declared.TheConstants.{MAX_SLOTS}
 use Rattle.gatt_slots.proofs.Found.{clash, past}
-use Rattle.gatt_slots.proofs.Covering.{unmarked_idle}
+use Rattle.gatt_slots.proofs.Uncovered.{unmarked_idle}
 use Rattle.gatt_slots.proofs.Quiet.{nothing_raised, quiet_slot, unlistening}
 use Rattle.gatt_subs.specs.Hearing.{may_hear_at}
 use Rattle.gatt_subs.specs.Rows.{Subscriptions}

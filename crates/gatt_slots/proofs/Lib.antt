@@ -7,6 +7,8 @@ pub mod FirstPlace
 pub mod Found
 mod SlotBits
 pub mod Covering
+pub mod Uncovered
+pub mod HeardMarks
 mod OneByOne
 pub mod Alone
 pub mod AtPlace

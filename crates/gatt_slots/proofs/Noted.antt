@@ -14,7 +14,8 @@ use Rattle.att_attributes.specs.declared.attr.Attr.{Attr}
 use Rattle.att_table.specs.ConfigRow.{kept_row}
 use Rattle.att_table.specs.Table.{Contents}
 use Rattle.gatt_laws.specs.machine.Effect.{authentication_failure, channel_answer, lost_encryption, remote_user_terminated}
-use Rattle.gatt_slots.proofs.Covering.{at-other, at-same, heard-at, read_at}
+use Rattle.gatt_slots.proofs.Covering.{at-other, at-same, read_at}
+use Rattle.gatt_slots.proofs.HeardMarks.{heard-at}
 use Rattle.gatt_slots.proofs.Found.{clash, first_at, kept-is}
 use Rattle.gatt_slots.specs.Commands.{slot_without_command, slot_without_packet}
 use Rattle.gatt_slots.specs.Handles.{noted_of, AreNoted, AreNotedIfAny}

@@ -7,7 +7,8 @@ use Rattle.std.proofs.lemmas.List.{length-set}
 use Rattle.std.proofs.lemmas.Nat.Bits.{bit_at-zero}
 use Rattle.std.proofs.Math.Logic.{⊎_elim}
 use Rattle.gatt_laws.specs.declared.TheConstants.{MAX_SLOTS}
-use Rattle.gatt_slots.proofs.Covering.{at-other, at-same, heard-at}
+use Rattle.gatt_slots.proofs.Covering.{at-other, at-same}
+use Rattle.gatt_slots.proofs.HeardMarks.{heard-at}
 use Rattle.gatt_slots.proofs.Found.{past}
 use Rattle.gatt_slots.specs.SlotState.{SlotState}
 use Rattle.gatt_slots.specs.Slots.{SlotStates, heard_from, is_in, slot_state_at}

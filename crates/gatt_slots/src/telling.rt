@@ -160,7 +160,7 @@ pub(crate) fn notify_alone(
 
 /// What is due is indicated, where a value may wait. It stands apart for its proof.
 #[inline(always)]
-#[tactic(auto, using(crate::proofs::Covering::quiet_where_unmarked))]
+#[tactic(auto, using(crate::proofs::Uncovered::quiet_where_unmarked))]
 pub(crate) fn indicate_due(slots: &mut [Slot], heard: &mut Heard, moment: Moment<'_>)
     requires few { length slots.old ≤ MAX_SLOTS }
     requires covered { CoversHeard slots.old heard.old }

@@ -1,5 +1,6 @@
 use Rattle.std.proofs.Common.{◌≡◌, ◌<◌, false, length, refl, sym, ap, ◌∙◌, arith}
-use Rattle.gatt_slots.proofs.Covering.{covered_without, first_due, idle_outside, none_covered, none-due, read_at}
+use Rattle.gatt_slots.proofs.Covering.{covered_without, first_due, none-due, read_at}
+use Rattle.gatt_slots.proofs.Uncovered.{idle_outside, none_covered}
 use Rattle.gatt_slots.proofs.Found.{past}
 use Rattle.gatt_slots.specs.Places.{is_slot_due}
 use Rattle.gatt_slots.specs.Slots.{slot_state_at}

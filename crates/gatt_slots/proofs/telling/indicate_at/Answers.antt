@@ -1,7 +1,7 @@
 use Rattle.std.proofs.Common.{◌≡◌, [], Option, get_or, set, sym, ap, ◌∙◌}
 use Rattle.std.proofs.lemmas.Bool.{OnFalse_at}
 use Rattle.gatt_slots.proofs.AtPlace.{there_at}
-use Rattle.gatt_slots.proofs.Covering.{heard_waits}
+use Rattle.gatt_slots.proofs.Uncovered.{heard_waits}
 use Rattle.gatt_slots.specs.Commands.{gives}
 use Rattle.gatt_slots.specs.Places.{waits}
 use Rattle.gatt_slots.specs.SlotState.{SlotState}

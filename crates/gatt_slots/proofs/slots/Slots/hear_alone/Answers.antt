@@ -1,6 +1,6 @@
 use Rattle.std.proofs.Common.{◌≡◌, ◌≤◌, ℕ, [], ◌∷◌, None, length, sym, ap, subst, ◌∙◌, arith}
 use Rattle.gatt_slots.proofs.Alone.{all_alone}
-use Rattle.gatt_slots.proofs.Covering.{commands_heard, free_heard, listening_heard}
+use Rattle.gatt_slots.proofs.HeardMarks.{commands_heard, free_heard, listening_heard}
 use Rattle.gatt_slots.proofs.Noted.{heard_noted, written_over}
 use Rattle.gatt_slots.specs.Handles.{AreNotedIfAny}
 use Rattle.gatt_slots.specs.declared.marks.Marks.{Marks}

@@ -1,5 +1,5 @@
 use Rattle.std.proofs.Common.{◌≡◌, ◌≤◌, ℕ, [], None, length, sym, ap, subst, ◌∙◌, arith}
-use Rattle.gatt_slots.proofs.Covering.{commands_heard, free_heard, listening_heard}
+use Rattle.gatt_slots.proofs.HeardMarks.{commands_heard, free_heard, listening_heard}
 use Rattle.gatt_slots.proofs.InTurn.{all_in_turn}
 use Rattle.gatt_slots.proofs.Noted.{heard_noted, written_over}
 use Rattle.gatt_slots.proofs.OfTable.{of_table_then}

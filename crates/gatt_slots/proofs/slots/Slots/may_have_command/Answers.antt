@@ -2,7 +2,7 @@ use Rattle.std.proofs.Common.{◌≡◌, false, subst}
 use Rattle.std.specs.Prelude.{not}
 use Rattle.std.specs.Bool.{OnFalse}
 use Rattle.std.specs.List.{list_any}
-use Rattle.gatt_slots.proofs.Covering.{none_marked}
+use Rattle.gatt_slots.proofs.Uncovered.{none_marked}
 use Rattle.gatt_slots.specs.Commands.{has_command}
 use Rattle.gatt_slots.specs.Slots.{SlotStates}
 use Rattle.gatt_slots.specs.declared.places.Due.TheVariants.{Command}

@@ -1,7 +1,7 @@
 use Rattle.std.proofs.Common.{◌≡◌, ℕ, [], None, sym, subst}
 use Rattle.std.proofs.lemmas.Bool.{OnFalse_at, OnFalse_from}
 use Rattle.att_table.specs.Table.{Contents}
-use Rattle.gatt_slots.proofs.Covering.{none_marked}
+use Rattle.gatt_slots.proofs.Uncovered.{none_marked}
 use Rattle.gatt_slots.proofs.Quiet.{nothing_heard_by_all}
 use Rattle.gatt_slots.specs.Slots.{SlotStates, all_heard}
 use Rattle.gatt_slots.specs.declared.places.Due.TheVariants.{Indication}
