@@ -1,16 +1,15 @@
 //! Writes that are prepared, and made together: Core 5.0, Vol 3 Part F, 3.4.6.
 
-ghost use Rattle.std.specs.Prelude.{◌≡◌, ◌≤◌, ℕ, ◌∷◌, [], List, length, map, IfSome, IsNone, OnSome, Err, Ok, IsOk};
+ghost use Rattle.std.specs.Prelude.{◌≡◌, ◌≤◌, [], length, map, IfSome, IsNone, Err, Ok};
 ghost use Rattle.att_numbers.specs.Types.{Row};
 ghost use Rattle.att_numbers.specs.declared.opcode.TheConstants.{EXECUTE_WRITE_REQUEST};
 ghost use Rattle.att_table.specs.ConfigRow.{IsRowOf};
 ghost use Rattle.att_writes.specs.declared.queue.Place.{Place};
 ghost use Rattle.att_writes.specs.Applied.{applied_to, written_to, stored_in};
-ghost use Rattle.att_writes.specs.Entry.{entry_of};
 ghost use Rattle.att_writes.specs.Fits.{EntriesFit, after_all};
 ghost use Rattle.att_writes.specs.Leaves.{LeavesStored};
 ghost use Rattle.att_writes.specs.Outcome.{write_outcome};
-ghost use Rattle.att_writes.specs.Queue.{entries_in, sizes_of, handles_of_entries, once_each, prepare_fault, queue_after, prepare_outcome, touched_by};
+ghost use Rattle.att_writes.specs.Queue.{entries_in, sizes_of, once_each, prepare_fault, queue_after, prepare_outcome, touched_by};
 ghost use Rattle.att_writes.specs.declared.queue.TheConstants.{MAX_PREPARED};
 
 use crate::entry::EntryRef;

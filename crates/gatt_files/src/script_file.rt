@@ -1,6 +1,6 @@
 //! Scripts, as octets of an input.
 
-ghost use Rattle.std.specs.Prelude.{◌≡◌, ◌≢◌, ℕ, IfErr, IfOk};
+ghost use Rattle.std.specs.Prelude.{◌≡◌, IfErr, IfOk};
 ghost use Rattle.octets.specs.Memory.{Gives};
 ghost use Rattle.scripts.specs.Phones.{HasNamedPhones};
 ghost use Rattle.gatt_files.specs.ScriptFile.{script_in, IsScriptRefusal};

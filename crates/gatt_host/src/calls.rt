@@ -1,15 +1,12 @@
 //! What an application asks, as what happens to a host.
 
-ghost use Rattle.std.specs.Prelude.{◌≡◌, ◌≤◌, true, length, Err, IsOk, IsOkAnd, IfOk, IfErr, OnErr};
-ghost use Rattle.att_attributes.specs.Attributes.{attribute_at};
+ghost use Rattle.std.specs.Prelude.{◌≡◌, true, Err, IsOk, IsOkAnd, IfOk, IfErr, OnErr};
 ghost use Rattle.att_table.specs.Changer.{changer_of};
-ghost use Rattle.att_table.specs.Table.{room_at};
 ghost use Rattle.gatt_laws.specs.machine.Calls.{has_length, same_changer, AuthorizeCall, DisconnectCall, TickCall, UpdateCall};
 ghost use Rattle.gatt_host.specs.Calls.{call_of, refused_of};
 ghost use Rattle.gatt_host.specs.Asked.{call_happening, replacement_happening};
 ghost use Rattle.gatt_host.specs.ServerState.{after_replacing, with_last};
 ghost use Rattle.gatt_host.specs.Meaning.{IsAfter, IsOfItsTable};
-ghost use Rattle.gatt_slots.specs.Slots.{place_serving};
 
 use crate::host_state::HostState;
 use crate::last_event::LastEvent;

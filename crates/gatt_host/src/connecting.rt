@@ -5,7 +5,7 @@ ghost use Rattle.std.specs.Prelude.{◌≡◌, ◌<◌, ◌^◌, length, Some, I
 ghost use Rattle.gatt_host.specs.Answers.{following_if, stop_of};
 ghost use Rattle.gatt_host.specs.ServerState.{after_connection_complete, opened};
 ghost use Rattle.gatt_host.specs.Meaning.{IsAfter};
-ghost use Rattle.gatt_laws.specs.machine.Packets.{completed_event, status_event, status_of};
+ghost use Rattle.gatt_laws.specs.machine.Packets.{completed_event, status_event};
 ghost use Rattle.le_acl.specs.Quotas.{acl_len, quota};
 ghost use Rattle.le_hci.specs.InitTold.{told_in};
 

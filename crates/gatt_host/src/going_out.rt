@@ -3,13 +3,12 @@
 
 ghost use Rattle.std.specs.Prelude.{◌≡◌, ◌≢◌, ◌<◌, ◌≤◌, length, take, IfSome, List, ◌&&◌, not, nat_lt, is_some, true, None, Some, ◌∷◌, []};
 ghost use Rattle.std.specs.Bool.{OnTrue, OnFalse};
-ghost use Rattle.std.specs.List.{list_any, position};
 ghost use Rattle.std.specs.Option.{option_map};
 ghost use Rattle.gatt_laws.specs.machine.Controller.{controller_after};
 ghost use Rattle.gatt_laws.specs.machine.State.{State, command_octets};
 ghost use Rattle.gatt_slots.specs.Commands.{command_due, gives, has_command, slot_without_command, slot_without_packet};
 ghost use Rattle.gatt_slots.specs.Slots.{slot_state_at, slots_at};
-ghost use Rattle.gatt_host.specs.GoingOut.{first_slot_command, command_next, controller_then, has_free_slot, init_command, is_drained, next_out, first_slot_packet, slots_commanded, slots_then, with_first};
+ghost use Rattle.gatt_host.specs.GoingOut.{first_slot_command, command_next, controller_then, init_command, is_drained, next_out, first_slot_packet, slots_commanded, slots_then, with_first};
 ghost use Rattle.gatt_host.specs.Owing.{IsAllSent, IsOwing, OwesTheRest, OwesWhatAnEventBrings};
 ghost use Rattle.octets.specs.Number.{Octets};
 ghost use Rattle.le_hci.specs.Command.{Commanded, LeSetAdvertiseEnable, command_of, opcode_of};

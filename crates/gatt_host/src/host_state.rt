@@ -49,11 +49,7 @@ pub(crate) struct HostState {
 
 impl Model for HostState {
     ghost use Rattle.std.specs.Prelude.{◌≡◌, ◌≤◌, length};
-    ghost use Rattle.gatt_host.specs.Answers.{following_if, stop_of};
-    ghost use Rattle.gatt_laws.specs.machine.Packets.{completed_event, status_event, status_of};
-    ghost use Rattle.le_acl.specs.Quotas.{acl_len, quota};
-    ghost use Rattle.le_hci.specs.InitTold.{told_in};
-    ghost use Rattle.gatt_host.specs.ServerState.{server_after_event, opened, ServerState};
+    ghost use Rattle.gatt_host.specs.ServerState.{server_after_event, ServerState};
     ghost use Rattle.att_pdu.specs.declared.pdu_buf.TheConstants.{MAX_MTU, MIN_MTU};
 
     ghost Value = { ServerState };

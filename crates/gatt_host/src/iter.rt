@@ -1,6 +1,6 @@
 //! The notices of what a host took in last, one after another.
 
-ghost use Rattle.std.specs.Prelude.{◌≡◌, length};
+ghost use Rattle.std.specs.Prelude.{length};
 ghost use Rattle.std.specs.Iterator.{at_most};
 ghost use Rattle.gatt_host.specs.Telling.{GivesTheFirst, Untold};
 

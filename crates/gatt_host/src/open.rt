@@ -1,6 +1,6 @@
 //! A host is opened, and all its room is made.
 
-ghost use Rattle.std.specs.Prelude.{◌≡◌, ◌↔◌, [], false, true, replicate, None, Err, IfOk};
+ghost use Rattle.std.specs.Prelude.{◌≡◌, ◌↔◌, [], false, true, None, Err, IfOk};
 ghost use Rattle.std.specs.Option.{option_map_or};
 ghost use Rattle.gatt_laws.specs.machine.Input.{run};
 ghost use Rattle.gatt_laws.specs.machine.Start.{is_static};
@@ -22,7 +22,7 @@ use gatt_subs::Rows;
 use le_acl::Reassembler;
 use le_h4::{Deframer, PacketBuf};
 use le_security::Keys;
-use std::alloc::{AllocError, Global};
+use std::alloc::Global;
 use std::array;
 
 /// The two most significant bits of a static random address, in its last octet: Core 5.0, Vol 6 Part

@@ -1,12 +1,12 @@
 //! Packets from the controller, as what happens to a host.
 
 ghost use Rattle.std.specs.Bool.{OnTrue};
-ghost use Rattle.std.specs.Prelude.{◌≡◌, ◌<◌, false, true, length, get_or, IsSome, IsOk, IfSome, IfErr, Ok, Some, OnErr};
+ghost use Rattle.std.specs.Prelude.{◌≡◌, ◌<◌, false, true, length, IsSome, IsOk, IfErr, Ok, Some, OnErr};
 ghost use Rattle.std.specs.Result.{result_err, result_map_both};
 ghost use Rattle.std.specs.Option.{option_and_then, option_map_or};
-ghost use Rattle.gatt_laws.specs.machine.Packets.{fragment_event, frame_event, of_octets, of_frame};
+ghost use Rattle.gatt_laws.specs.machine.Packets.{fragment_event, frame_event, of_frame};
 ghost use Rattle.gatt_host.specs.GoingOut.{is_drained};
-ghost use Rattle.gatt_host.specs.ServerState.{server_slot_at, open_slots};
+ghost use Rattle.gatt_host.specs.ServerState.{open_slots};
 ghost use Rattle.gatt_host.specs.HostModel.{is_own_fault, RefinesPacket};
 ghost use Rattle.gatt_host.specs.Meaning.{recombination, once_heard, with_fragment, IsOfItsTable, IsAfter};
 ghost use Rattle.le_h4.specs.Packet.{packet_of_ref};

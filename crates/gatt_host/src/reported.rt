@@ -1,13 +1,12 @@
 //! What the controller reports, as what happens to the connections of a host.
 
-ghost use Rattle.std.specs.Prelude.{◌≡◌, ◌==◌, ◌<◌, ◌^◌, true, if◌then◌else◌, Some, IsSome, IfSome};
+ghost use Rattle.std.specs.Prelude.{◌≡◌, ◌==◌, ◌<◌, true, if◌then◌else◌, Some};
 ghost use Rattle.gatt_laws.specs.machine.Controller as laws;
-ghost use Rattle.gatt_laws.specs.machine.Event.{Connected, Disconnected, KeyAsked, Encrypted, Refreshed, Asks, OtherChannel, Nothing};
+ghost use Rattle.gatt_laws.specs.machine.Event.{Disconnected, KeyAsked, Encrypted, Refreshed, Nothing};
 ghost use Rattle.gatt_laws.specs.machine.Packets.{connection_complete_event, connection_event, connection_event_if_ready, own_event};
 ghost use Rattle.gatt_host.specs.Meaning.{context_in, frames_after, IsAfter, IsOfItsTable};
 ghost use Rattle.gatt_slots.specs.Slots.{place_holding, place_serving};
 ghost use Rattle.le_hci.specs.Event.{report_of};
-ghost use Rattle.le_hci.specs.InitTold.{told_in};
 
 use crate::frames::Frames;
 use crate::host_state::HostState;

@@ -2,7 +2,7 @@
 
 ghost use Rattle.std.specs.Prelude.{◌≡◌, ◌++◌, IfOk, OnOk};
 ghost use Rattle.std.specs.List.{flat_map};
-ghost use Rattle.gatt_show.specs.Access.{handle_text, handles_or_dash, holder_lines, is_role_told, left_need, permits, standing_with_key, way_line, way_lines, way_word};
+ghost use Rattle.gatt_show.specs.Access.{handle_text, handles_or_dash, holder_lines, left_need, permits, standing_with_key, way_line, way_lines, way_word};
 
 use crate::cells::add_number;
 use crate::line::all_attributes;

@@ -3,7 +3,7 @@
 ghost use Rattle.std.specs.Prelude.{◌≡◌, ◌++◌, option_map, OnOk};
 ghost use Rattle.toml.specs.View.{items_view, table_view};
 ghost use Rattle.toml_tables.specs.Reading.{text_at};
-ghost use Rattle.gatt_show.specs.Holders.{FactsAreTheServers, TellsHolders, entries_text, entry_text, facts_at, facts_words, holder_name, holder_text, holders_text, words_if, written_size, written_text};
+ghost use Rattle.gatt_show.specs.Holders.{FactsAreTheServers, TellsHolders, entries_text, entry_text, facts_at, facts_words, holder_name, holder_text, words_if, written_size, written_text};
 
 use crate::access::add_holder;
 use crate::rights::add_size;

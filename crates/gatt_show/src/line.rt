@@ -1,6 +1,6 @@
 //! A line for each attribute of a table.
 
-ghost use Rattle.std.specs.Prelude.{◌≡◌, ◌++◌, [], drop, IfOk, OnOk};
+ghost use Rattle.std.specs.Prelude.{◌≡◌, ◌++◌, [], IfOk, OnOk};
 ghost use Rattle.std.specs.List.{flat_map};
 ghost use Rattle.gatt_show.specs.Line.{attribute_line, attribute_lines, declared_text, include_text, kind_word, length_text, rest_of_line, shown_table, told_value, used_text};
 ghost use Rattle.gatt_show.specs.TypeText.{type_text};

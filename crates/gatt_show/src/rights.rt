@@ -1,6 +1,6 @@
 //! What may be done with an attribute, and what it needs, in words.
 
-ghost use Rattle.std.specs.Prelude.{◌≡◌, ◌++◌, if◌then◌else◌, [], IfOk, OnOk};
+ghost use Rattle.std.specs.Prelude.{◌≡◌, ◌++◌, if◌then◌else◌, IfOk, OnOk};
 ghost use Rattle.gatt_show.specs.Rights.{asked_size_words, both_texts, reading_text, heard_words, needs_reading, is_written, key_words, need_words, rights_text, size_words, word, writing_text, written_words};
 
 use crate::cells::add_number;

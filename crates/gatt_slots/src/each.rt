@@ -1,6 +1,6 @@
 //! Which of the slots has a connection, and what an event does to each.
 
-ghost use Rattle.std.specs.Prelude.{◌≡◌, ◌<◌, ◌≤◌, ◌++◌, false, is_none, length, map, IfSome};
+ghost use Rattle.std.specs.Prelude.{◌≡◌, ◌<◌, ◌≤◌, ◌++◌, false, length, map, IfSome};
 ghost use Rattle.std.specs.Option.{option_map_or, option_to_list};
 ghost use Rattle.le_hci.specs.Event.{completed_packets_of};
 ghost use Rattle.gatt_slots.specs.Handles.{AreNotedIfAny};

@@ -1,6 +1,6 @@
 //! What happens to the connection of a slot, beside requests of the Attribute Protocol.
 
-ghost use Rattle.std.specs.Prelude.{◌≡◌, ◌<◌, ◌≤◌, ◌^◌, ◌==◌, ◌&&◌, not, is_some, [], ◌++◌, length, if◌then◌else◌, Some, None, IfOk, IfSome};
+ghost use Rattle.std.specs.Prelude.{◌≡◌, ◌<◌, ◌≤◌, ◌^◌, ◌==◌, ◌&&◌, not, is_some, [], length, Some, None, IfOk, IfSome};
 ghost use Rattle.std.specs.Option.{option_copied, option_map, option_map_or, option_to_list};
 ghost use Rattle.gatt_laws.specs.machine.Effect.{channel_answer, gained_encryption};
 ghost use Rattle.gatt_slots.specs.SlotEffects.{new_slot_state, after_authorizing, slot_after_packets_completed, slot_after_ending, after_key_asked, after_link_step, after_loss, slot_after_other_channel, after_table, after_time, has_no_room, with_channel_answer};

@@ -1,6 +1,6 @@
 //! Requests of the Attribute Protocol on the connection of a slot.
 
-ghost use Rattle.std.specs.Prelude.{◌≡◌, ◌<◌, ◌≤◌, ◌==◌, ◌&&◌, true, false, IsSome, is_some, length, if◌then◌else◌, None, IfSome};
+ghost use Rattle.std.specs.Prelude.{◌≡◌, ◌<◌, ◌==◌, ◌&&◌, true, false, IsSome, is_some, length, if◌then◌else◌, None, IfSome};
 ghost use Rattle.std.specs.Bool.{OnFalse};
 ghost use Rattle.std.specs.Option.{option_map, option_map_or};
 ghost use Rattle.att_pdu.specs.Grammar.{request_of, is_due};

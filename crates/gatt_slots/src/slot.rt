@@ -1,18 +1,12 @@
 ghost use Rattle.std.specs.Prelude.{◌≡◌, ◌<◌, ◌^◌, IfSome};
-ghost use Rattle.std.specs.Bool.{OnTrue, OnFalse};
-ghost use Rattle.std.specs.Option.{option_and_then, option_map};
-ghost use Rattle.le_hci.specs.Command.{command_of};
-ghost use Rattle.gatt_slots.specs.Commands.{command_due, gives, slot_packet, slot_without_command, slot_without_packet};
 
-use arrayvec::ArrayVec;
 use att_policy::KeyFacts;
 use att_table::ConfigRow;
 use gatt_conn::Conn;
 use gatt_subs::PendingOfTable;
 use le_acl::Sender;
-use le_hci::{Command, Peer};
+use le_hci::Peer;
 use le_security::Link;
-use std::alloc::{AllocError, Global};
 use std::marker::Model;
 
 /// Whether a slot is free, serves a connection, or has one that is ending: it is told to disconnect,

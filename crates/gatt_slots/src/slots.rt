@@ -1,9 +1,9 @@
 //! The slots of a host, as one value that knows where something may be due.
 
-ghost use Rattle.std.specs.Prelude.{◌≡◌, ℕ, false, ◌<◌, ◌≤◌, length, map, replicate, take, [], ◌∷◌, None, Some, IfOk, IfSome, IsSome};
+ghost use Rattle.std.specs.Prelude.{◌≡◌, ℕ, ◌<◌, ◌≤◌, length, map, replicate, take, [], ◌∷◌, None, Some, IfOk, IfSome, IsSome};
 ghost use Rattle.std.specs.Bool.{OnTrue, OnFalse};
 ghost use Rattle.std.specs.Borrow.{sem};
-ghost use Rattle.std.specs.List.{list_any, position};
+ghost use Rattle.std.specs.List.{position};
 ghost use Rattle.att_table.specs.ConfigRow.{bits_at, IsRowOf};
 ghost use Rattle.att_table.specs.Table.{Contents};
 ghost use Rattle.gatt_slots.specs.Connections.{FindsNext};

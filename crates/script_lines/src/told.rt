@@ -1,10 +1,9 @@
 //! What is printed of what a line of a script has brought.
 
-ghost use Rattle.std.specs.Prelude.{◌≡◌, ◌<◌, ◌≤◌, [], ◌∷◌, length, Ok, IfErr, IfSome, OnErr, OnOk};
+ghost use Rattle.std.specs.Prelude.{◌≡◌, ◌<◌, ◌≤◌, length, Ok, IfErr, IfSome, OnErr, OnOk};
 ghost use Rattle.std.specs.Io.KnownBytes.{Appends};
 ghost use Rattle.le_acl.specs.declared.frame.TheConstants.{MAX_FRAME};
 ghost use Rattle.le_l2cap.specs.Frame.{frame_of, BasicFrame};
-ghost use Rattle.octets.specs.Number.{Octets};
 ghost use Rattle.octets.specs.Stream.{WritesFront};
 ghost use Rattle.sim_controller.specs.Simulated.{phone_at};
 ghost use Rattle.script_lines.specs.Lines.{IsOfPhone, ended_line, frame_line, heard_line, outcome_text, phone_text, phones_text, refused_line, sign_of, with_told_phone, with_told_phones};

@@ -1,4 +1,4 @@
-ghost use Rattle.std.specs.Prelude.{◌≡◌, ◌++◌, ◌≤◌, [], length, is_some};
+ghost use Rattle.std.specs.Prelude.{◌≡◌, ◌++◌, ◌≤◌, length, is_some};
 ghost use Rattle.le_acl.specs.Reassembler.{assembled_of};
 ghost use Rattle.sim_controller.specs.Assembled.{assembly, assembly_by};
 

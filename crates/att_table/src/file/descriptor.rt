@@ -1,6 +1,5 @@
 //! The descriptors of a characteristic in a table file.
 
-ghost use Rattle.std.specs.Prelude.{◌≡◌};
 ghost use Rattle.att_table.specs.file.TableFile.{descriptor_step};
 
 use crate::file::draft::Draft;

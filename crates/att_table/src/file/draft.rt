@@ -1,13 +1,13 @@
 //! A table as it is read from a file: it grows by one attribute at a time, within its limits.
 
-ghost use Rattle.std.specs.Prelude.{◌≡◌, ◌≢◌, ◌+◌, ◌≤◌, ◌<◌, [], length, OnOk, IfOk, IfSome, IsSome};
+ghost use Rattle.std.specs.Prelude.{◌≡◌, ◌+◌, ◌≤◌, ◌<◌, [], length, OnOk, IfOk, IfSome, IsSome};
 ghost use Rattle.octets.specs.Memory.{Leaves};
 ghost use Rattle.att_attributes.specs.declared.attr.Role.TheVariants.{Declaration};
 ghost use Rattle.att_attributes.specs.Attributes.{attribute_at, is_configuration};
 ghost use Rattle.att_table.specs.declared.table_fault.TableFault.TheVariants.{OutOfMemory};
 ghost use Rattle.att_table.specs.file.Placed.{next_handle, add, declare};
 ghost use Rattle.att_table.specs.file.Service.{earlier_service};
-ghost use Rattle.att_table.specs.Table.{counted_octets, last_role, most_octets, IsNext};
+ghost use Rattle.att_table.specs.Table.{counted_octets, last_role, IsNext};
 ghost use Rattle.att_numbers.specs.declared.limit.TheConstants.{MAX_DECLARATION};
 
 use crate::file::include;

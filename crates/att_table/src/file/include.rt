@@ -1,8 +1,7 @@
 //! The includes of a service in a table file.
 
-ghost use Rattle.std.specs.Prelude.{◌≡◌, slice_get, IsSome, IfSome};
+ghost use Rattle.std.specs.Prelude.{◌≡◌, slice_get, IsSome};
 ghost use Rattle.att_attributes.specs.Attributes.{attribute_at};
-ghost use Rattle.att_attributes.specs.Group.{is_service_type};
 ghost use Rattle.att_table.specs.file.Service.{followed_end, followed_service, earlier_services, earlier_service, include_value};
 ghost use Rattle.att_table.specs.file.TableFile.{include_step};
 
