@@ -3,6 +3,7 @@
 
 mod answered;
 mod conn;
+mod serving;
 mod writing;
 
 pub use answered::{Answered, Placed, Served, answer, answer_into, answer_over};

@@ -10,8 +10,9 @@ ghost use Rattle.att_writes.specs.Queue.{prepare_fault, queue_after};
 ghost use Rattle.gatt_conn.specs.Answer.{entry_at, prepare_response, answer_to, stored_by, handles_by};
 ghost use Rattle.gatt_conn.specs.Served.{ServesRequest};
 
-use crate::answered::{Served, refuse, with_answer, without_answer};
+use crate::answered::Served;
 use crate::conn::Conn;
+use crate::serving::{refuse, with_answer, without_answer};
 use att_numbers::opcode;
 use att_pdu::{ExecuteFlags, PduBuf};
 use att_table::{ConfigRow, Table};
