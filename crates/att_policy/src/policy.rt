@@ -86,7 +86,28 @@ pub fn first_broken(
         (λ r. IsFirstBroken access (option_copied guard.entry) standing.entry.now r.0) }
     ensures code { IfSome result (λ r. r.1 ≡ code_of access standing.entry.now r.0) }
 {
-    let rule = first_broken_rule(access, guard, standing)?;
+    let rule = first_broken_rule::<true>(access, guard, standing)?;
+    Some((rule, code(rule, access, standing)))
+}
+
+/// The first rule that an access breaks, with its ATT error code, or `None` where the access is
+/// permitted. All rules are judged in the code of the caller: for a request of one attribute, which then
+/// saves no registers for a call, and knows the error code of each rule.
+#[inline(always)]
+pub fn first_broken_in_place(
+    access: Access,
+    guard: Option<&Guard>,
+    standing: &Standing,
+) -> Option<(Rule, u8)>
+    ensures exact { result
+        ≡ first_broken_of access (option_copied guard.entry) standing.entry.now }
+    ensures permitted { IsNone result ↔ IsPermitted access
+        (option_copied guard.entry) standing.entry.now }
+    ensures first { IfSome result
+        (λ r. IsFirstBroken access (option_copied guard.entry) standing.entry.now r.0) }
+    ensures code { IfSome result (λ r. r.1 ≡ code_of access standing.entry.now r.0) }
+{
+    let rule = first_broken_rule::<false>(access, guard, standing)?;
     Some((rule, code(rule, access, standing)))
 }
 
@@ -102,9 +123,13 @@ pub fn may_hear(guard: &Guard, bits: u8, standing: &Standing) -> bool
 }
 
 /// The first rule that an access to an attribute breaks: that it exists, that its properties permit the
-/// access, and then what its guard needs.
+/// access, and then what its guard needs, which is judged apart, or in the code of the caller.
 #[inline(always)]
-fn first_broken_rule(access: Access, guard: Option<&Guard>, standing: &Standing) -> Option<Rule>
+fn first_broken_rule<const APART: bool>(
+    access: Access,
+    guard: Option<&Guard>,
+    standing: &Standing,
+) -> Option<Rule>
     ensures { result ≡ first_broken_rule_of access (option_copied guard.entry)
         standing.entry.now }
 {
@@ -116,13 +141,17 @@ fn first_broken_rule(access: Access, guard: Option<&Guard>, standing: &Standing)
     }
     let need = access.need(guard);
     if need.needs_encryption() || need.authorized {
-        return first_unmet_rule_apart(need, standing);
+        return if APART {
+            first_unmet_rule_apart(need, standing)
+        } else {
+            first_unmet_rule(need, standing)
+        };
     }
     None
 }
 
-/// The first rule on what is needed that a connection fails. It is not inlined where attributes are
-/// read and written, most of which need nothing.
+/// The first rule on what is needed that a connection fails. It is not inlined where many attributes
+/// are read, or one is written, most of which need nothing.
 #[inline(never)]
 fn first_unmet_rule_apart(need: &Need, standing: &Standing) -> Option<Rule>
     ensures { result ≡ first_unmet_rule_of need.now standing.entry.now }

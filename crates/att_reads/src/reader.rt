@@ -1,8 +1,10 @@
 ghost use Rattle.std.specs.Prelude.{◌≡◌, ◌≤◌, ◌∷◌, [], IfOk, IfErr, IsSome, None, Some};
+ghost use Rattle.std.specs.Option.{option_copied};
 ghost use Rattle.att_reads.specs.Access.{refusal_at, value_for};
 ghost use Rattle.att_attributes.specs.Attributes.{attribute_at};
 
-use att_policy::{Access, Standing, first_broken};
+use att_attributes::Attr;
+use att_policy::{Access, Standing, first_broken, first_broken_in_place};
 use att_table::{ConfigRow, Role, Table};
 
 /// A client that reads: the table, what the client has configured, and what the policy sees of it.
@@ -50,11 +52,44 @@ impl<'a> Reader<'a> {
         if let Some((_, code)) = first_broken(Access::Read, guard, self.standing) {
             return Err(code);
         }
+        Ok(self.value_of(attr, handle))
+    }
+
+    /// The value of the attribute at a handle, or the error code of the first rule of the policy
+    /// that reading it breaks, for a request of one value: all rules are judged in place.
+    #[inline(always)]
+    pub fn read_one(self, handle: u16) -> Result<&'a [u8], u8>
+        ensures permitted { IfOk result
+            (λ value. refusal_at self.entry.table.now.attributes self.entry.standing.now handle
+            ≡ None) }
+        ensures value { IfOk result
+            (λ value. value.now ≡ value_for self.entry.table.now self.entry.row.now handle) }
+        ensures exists { IfOk result
+            (λ value. IsSome (attribute_at self.entry.table.now.attributes handle)) }
+        ensures refused { IfErr result
+            (λ code. refusal_at self.entry.table.now.attributes self.entry.standing.now handle
+            ≡ Some code) }
+    {
+        let attr = self.table.get(handle);
+        let guard = attr.map(|attr| &attr.guard);
+        if let Some((_, code)) = first_broken_in_place(Access::Read, guard, self.standing) {
+            return Err(code);
+        }
+        Ok(self.value_of(attr, handle))
+    }
+
+    /// The value of the attribute at a handle: that of a client characteristic configuration is the
+    /// client's own.
+    #[inline(always)]
+    fn value_of(self, attr: Option<&Attr>, handle: u16) -> &'a [u8]
+        requires attribute { option_copied attr
+            ≡ attribute_at self.table.now.attributes handle }
+        requires exists { IsSome (attribute_at self.table.now.attributes handle) }
+        ensures { result.now ≡ value_for self.entry.table.now self.entry.row.now handle }
+    {
         match attr {
-            Some(attr) if attr.role == Role::Configuration => {
-                Ok(configuration(self.row.get(handle)))
-            }
-            _ => Ok(self.table.value(handle)),
+            Some(attr) if attr.role == Role::Configuration => configuration(self.row.get(handle)),
+            _ => self.table.value(handle),
         }
     }
 }

@@ -22,7 +22,7 @@ pub fn read(reader: Reader<'_>, handle: u16, out: &mut PduBuf<'_>)
         (mtu_of out.old) handle) }
     ensures same_buffer { IsSameBuffer out.old out.new }
 {
-    match reader.read(handle) {
+    match reader.read_one(handle) {
         Ok(value) => out.replace_by_front(opcode::READ_RESPONSE, value),
         Err(code) => out.error(opcode::READ_REQUEST, handle, code),
     }
@@ -37,7 +37,7 @@ pub fn read_blob(reader: Reader<'_>, handle: u16, offset: u16, out: &mut PduBuf<
         (mtu_of out.old) handle offset) }
     ensures same_buffer { IsSameBuffer out.old out.new }
 {
-    match reader.read(handle) {
+    match reader.read_one(handle) {
         Ok(value) => part(value, handle, offset, out),
         Err(code) => out.error(opcode::READ_BLOB_REQUEST, handle, code),
     }
