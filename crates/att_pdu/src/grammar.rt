@@ -87,8 +87,10 @@ pub fn fault_of(opcode: u8) -> PduFault
         | opcode::PREPARE_WRITE_RESPONSE
         | opcode::EXECUTE_WRITE_RESPONSE
         | opcode::HANDLE_VALUE_NOTIFICATION
-        | opcode::HANDLE_VALUE_INDICATION
-        | opcode::HANDLE_VALUE_CONFIRMATION => PduFault::Ignored,
+        | opcode::HANDLE_VALUE_INDICATION => PduFault::Ignored,
+        // It has an arm of its own, since two neighbors in one would be asked for as a range, behind
+        // the jump by the opcode.
+        opcode::HANDLE_VALUE_CONFIRMATION => PduFault::Ignored,
         command if command & opcode::COMMAND_FLAG != 0 => PduFault::Ignored,
         unknown => PduFault::Unsupported(unknown),
     }
