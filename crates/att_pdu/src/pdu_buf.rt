@@ -21,6 +21,9 @@ const _: () = prove!(1 + 2 + 2 + MAX_VALUE == MAX_PDU);
 /// How many octets an Error Response has: Core 5.0, Vol 3 Part F, 3.4.1.1.
 const ERROR_SIZE: usize = 5;
 
+/// How many octets an Exchange MTU Response has: Core 5.0, Vol 3 Part F, 3.4.2.2.
+const EXCHANGE_MTU_SIZE: usize = 3;
+
 /// Where a PDU ends in its buffer.
 #[derive(Clone, Copy)]
 pub(crate) enum End {
@@ -46,7 +49,7 @@ pub struct PduBuf<'a> {
 
 impl<'a> PduBuf<'a> {
     ghost use Rattle.att_pdu.specs.PduBuf.{contents, mtu_of, IsIn, IsOver, StandsOver, IsSameBuffer, AppendsWhereFits};
-    ghost use Rattle.att_pdu.specs.Response.{OfAttribute, OfGroup, element_octets, ErrorResponse, sent};
+    ghost use Rattle.att_pdu.specs.Response.{OfAttribute, OfGroup, element_octets, ErrorResponse, ExchangeMtuResponse, sent};
 
     /// An empty PDU in `octets`, whose content is dropped.
     pub fn new(octets: &'a mut PduOctets, mtu: u16) -> PduBuf<'a>
@@ -127,14 +130,20 @@ impl<'a> PduBuf<'a> {
         ensures error { contents self.new ≡ sent (ErrorResponse request_opcode handle code) }
         ensures same_buffer { IsSameBuffer self.old self.new }
     {
-        let keeps_length = match self.end {
-            End::OfBuffer => matches!(self.octets.len(), 0 | ERROR_SIZE),
-            End::Before(_) => true,
-        };
-        if keeps_length {
+        if self.keeps_length(ERROR_SIZE) {
             self.put_error(request_opcode, handle, code);
         } else {
             self.put_error_anew(request_opcode, handle, code);
+        }
+    }
+
+    /// Whether the buffer holds nothing, or need not change its length where this many octets replace
+    /// the content.
+    #[inline(always)]
+    fn keeps_length(&self, size: usize) -> bool {
+        match self.end {
+            End::OfBuffer => self.octets.is_empty() || self.octets.len() == size,
+            End::Before(_) => true,
         }
     }
 
@@ -157,6 +166,40 @@ impl<'a> PduBuf<'a> {
         let [low, high] = handle.to_le_bytes();
         let error: [u8; ERROR_SIZE] = [opcode::ERROR_RESPONSE, request_opcode, low, high, code];
         self.replace(&error, &[]);
+    }
+
+    /// Replaces the content by the Exchange MTU Response: Core 5.0, Vol 3 Part F, 3.4.2.2.
+    #[inline(always)]
+    pub fn exchange_mtu(&mut self, server_rx_mtu: u16)
+        ensures response { contents self.new ≡ sent (ExchangeMtuResponse server_rx_mtu) }
+        ensures same_buffer { IsSameBuffer self.old self.new }
+    {
+        if self.keeps_length(EXCHANGE_MTU_SIZE) {
+            self.put_exchange_mtu(server_rx_mtu);
+        } else {
+            self.put_exchange_mtu_anew(server_rx_mtu);
+        }
+    }
+
+    /// Puts an Exchange MTU Response into a buffer that has to get its length first, as
+    /// `put_error_anew` does.
+    #[inline(never)]
+    fn put_exchange_mtu_anew(&mut self, server_rx_mtu: u16)
+        ensures response { contents self.new ≡ sent (ExchangeMtuResponse server_rx_mtu) }
+        ensures same_buffer { IsSameBuffer self.old self.new }
+    {
+        self.put_exchange_mtu(server_rx_mtu);
+    }
+
+    /// Puts an Exchange MTU Response in place of the content.
+    #[inline(always)]
+    fn put_exchange_mtu(&mut self, server_rx_mtu: u16)
+        ensures response { contents self.new ≡ sent (ExchangeMtuResponse server_rx_mtu) }
+        ensures same_buffer { IsSameBuffer self.old self.new }
+    {
+        let [low, high] = server_rx_mtu.to_le_bytes();
+        let response: [u8; EXCHANGE_MTU_SIZE] = [opcode::EXCHANGE_MTU_RESPONSE, low, high];
+        self.replace(&response, &[]);
     }
 
     /// Replaces the content by octets of two places, one behind the other: an opcode with what is fixed

@@ -290,9 +290,10 @@ fn exchange_mtu(conn: &mut Conn, client_rx_mtu: u16, out: &mut PduBuf<'_>) -> Se
         result }
     ensures conn { conn.new ≡ after_exchange conn.old client_rx_mtu }
 {
-    let [low, high] = conn.rx_mtu().to_le_bytes();
-    out.replace(&[opcode::EXCHANGE_MTU_RESPONSE, low, high], &[]);
+    let rx_mtu = conn.rx_mtu();
+    // The answer comes last, so that no registers are saved for what is behind it.
     conn.exchange(client_rx_mtu);
+    out.exchange_mtu(rx_mtu);
     with_answer()
 }
 
