@@ -3,6 +3,7 @@ pub mod Blocks
 pub mod Dividing
 pub mod Feeding
 pub mod Firsts
+pub mod Joining
 pub mod Laws
 pub mod Lying
 pub mod Progressing

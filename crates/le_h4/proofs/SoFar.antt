@@ -1,14 +1,16 @@
 -- How gathering goes on with a piece of the stream.
-use Rattle.std.proofs.Common.{◌≡◌, ◌≢◌, ℕ, zero, suc, ◌-◌, ◌<◌, ◌≤◌, List, [], ◌∷◌, ◌++◌, length, take, drop, false, Some, None, refl, sym, ◌∙◌, ap, subst, arith, inl, inr, append_assoc}
-use Rattle.std.proofs.lemmas.Bool.{le-ltb, cases_lt}
-use Rattle.std.proofs.lemmas.List.{append-nil, length-append, length-drop, length-take, take-append-drop, take_at, drop_all}
+use Rattle.std.proofs.Common.{◌≡◌, ◌≢◌, ℕ, suc, ◌+◌, ◌-◌, ◌<◌, ◌≤◌, List, [], ◌∷◌, ◌++◌, length, take, drop, false, Some, None, refl, sym, ◌∙◌, ap, subst, arith, inl, inr, append_assoc}
+use Rattle.std.specs.Prelude.{Ok}
+use Rattle.std.proofs.lemmas.Bool.{le-leb, lt-leb, le-ltb, cases_lt}
+use Rattle.std.proofs.lemmas.List.{append-nil, length-append, length-drop, length-take, take_all, take-append-le, take-append-drop, take_at, drop_all}
 use Rattle.le_h4.specs.Packet.{Packet, AclPacket, EventPacket, ScoPacket, First, FirstPacket, NoneYet, NoPacket, first_of, Spells}
 use Rattle.le_h4.specs.Division.{is_long, unfinished, before, division_past}
-use Rattle.le_h4.specs.Progress.{progress_of, IsWithinFirst, packet_in, BeginsWith}
-use Rattle.le_h4.specs.Gathering.{GathersPacket, GathersAll, GathersLost}
+use Rattle.le_h4.specs.Progress.{progress_of, IsWithinFirst, packet_in, IsSizeOf}
+use Rattle.le_h4.specs.Gathering.{GathersPacket, GathersAll, GathersLost, GoesOn, Gathers, fed_of}
+use Rattle.le_h4.specs.declared.deframer.Fed.{Fed}
 use Rattle.le_h4.specs.declared.progress.Progress.{Progress}
 use Rattle.le_h4.specs.declared.progress.Progress.TheVariants.{Lacks, Whole, Long, Desync}
-use Rattle.le_h4.proofs.Firsts.{first_spelled}
+use Rattle.le_h4.proofs.Firsts.{first_spelled, first_append-packet}
 use Rattle.le_h4.proofs.Dividing.{division_first, division-part, division-lost, division-packet, past_none, past_part, past_more}
 use Rattle.le_h4.proofs.Progressing.{Agrees, EndsIn, agrees}
 
@@ -251,40 +253,73 @@ filled skipping_first gathered_first octets skipping missing gathered holds rest
     let Q : List ℕ → Type 0 = λ xs. SoFar skipping_first gathered_first octets skipping (gathered ++ take missing rest) xs in
     subst P (sym is_held) (subst Q (sym is_rest) (so_far-fill skipping_first gathered_first octets skipping missing gathered rest so_far lacks idle))
 
--- where nothing is gathered and nothing passed over, a packet that is all there is taken at once
-pub gathers_first : (octets : List ℕ) (size : ℕ) → BeginsWith octets size → GathersPacket 0 [] octets size 0 (take size octets)
-gathers_first octets size begins =
-    let spelling : List ℕ = take size octets in
-    let spelled : Spells spelling begins.packet = (first_spelled spelling begins.packet begins.first).0 in
-    let short = short_packet 0 [] octets spelling begins.packet (omega (arith, begins.kept, length-take size octets)) spelled in
-    record {
-      packet = begins.packet;
-      first = begins.first;
-      none_left = refl;
-      divided = λ rest.
-          past_none (spelling ++ rest) ∙ division-packet spelling rest begins.packet begins.first short
-          ∙ ap (before (begins.packet ∷ [])) (sym (past_none rest));
-      spelled = record { earlier = []; spelling = spelling; parts = refl; spelled = spelled };
-      some = some_octets spelling size (λ none. absurd (let e : first_of [] ≡ FirstPacket begins.packet [] = ap first_of (sym none) ∙ begins.first in cc)) refl;
-      within = begins.within;
-    }
-  where
-    some_octets : (spelling : List ℕ) (size : ℕ) → (spelling ≡ [] → ⊥) → spelling ≡ take size octets → 0 < size
-    some_octets spelling zero some is = absurd (some is)
-    some_octets spelling (suc size) some is = omega arith
+-- a packet that is unfinished has more octets than are gathered
+pub unfinished_less : (gathered octets : List ℕ) (size : ℕ) → packet_in (first_of gathered) ≡ None → IsSizeOf (gathered ++ octets) size → length gathered < size
+unfinished_less gathered octets size unfinished sized = elim (cases_lt (length gathered) size) [
+  | inl less ↦ less
+  | inr whole ↦
+      let begins = sized.whole (omega (arith, length-append gathered octets)) in
+      let alone : first_of (take size gathered) ≡ FirstPacket begins.packet [] =
+      ap first_of (sym (take-append-le size gathered octets whole)) ∙ begins.first in
+      let found : packet_in (first_of gathered) ≡ Some begins.packet =
+      ap (λ (xs : List ℕ). packet_in (first_of xs)) (sym (take-append-drop size gathered))
+      ∙ ap packet_in (first_append-packet (take size gathered) (drop size gathered) [] begins.packet alone) in
+      absurd (let e : Some begins.packet ≡ None = sym found ∙ unfinished in cc)
+]
 
--- and octets that end within their first packet are all held
-pub gathers_front : (octets : List ℕ) (missing : ℕ) → progress_of octets ≡ Lacks missing → GathersAll 0 [] octets (length octets) 0 octets
-gathers_front octets missing lacks =
-    let begins : first_of octets ≡ NoneYet = alone octets NoneYet (at_progress octets (Lacks missing) lacks).1 in
-    record {
-      none = ap packet_in begins;
-      divided = λ rest. refl;
-      unfinished = past_none octets ∙ division-part octets begins;
-      fits = record {
-        whole = λ packet rest is. absurd (let e : NoneYet ≡ FirstPacket packet rest = sym begins ∙ is in cc);
-        lost = λ indicator is. absurd (let e : NoneYet ≡ NoPacket indicator = sym begins ∙ is in cc);
-      };
-      passes = λ some. absurd (omega arith);
-      all = refl;
-    }
+-- the octets of the packet are those so far and those that it lacks
+take_on : (gathered octets : List ℕ) (missing : ℕ) → take (length gathered + missing) (gathered ++ octets) ≡ gathered ++ take missing octets
+take_on [] octets missing = let same : 0 + missing ≡ missing = omega arith in ap (λ (n : ℕ). take n octets) same
+take_on (x ∷ gathered) octets missing =
+    let same : length (x ∷ gathered) + missing ≡ suc (length gathered + missing) = omega arith in
+    ap (λ (n : ℕ). take n (x ∷ (gathered ++ octets))) same ∙ ap (λ (xs : List ℕ). x ∷ xs) (take_on gathered octets missing)
+
+-- where none is passed over, octets that go on with a packet are gathered to its end, or all of them
+gathers_on : (gathered octets : List ℕ) (missing : ℕ) (holds : List ℕ) → packet_in (first_of gathered) ≡ None → GoesOn gathered octets missing holds
+    → Gathers 0 gathered octets (Ok (fed_of missing (length octets))) 0 holds
+gathers_on gathered octets missing holds unfinished goes_on = elim (cases_lt (length octets) missing) [
+  | inl lacks ↦
+      let begins : first_of (gathered ++ octets) ≡ NoneYet = goes_on.size.part (omega (arith, length-append gathered octets)) in
+      let held : gathered ++ octets ≡ holds =
+      ap (λ (xs : List ℕ). gathered ++ xs) (sym (take_all missing octets (omega arith))) ∙ sym goes_on.gathers in
+      let all : GathersAll 0 gathered octets (length octets) 0 (gathered ++ octets) = record {
+        none = ap packet_in begins;
+        divided = λ rest. ap (division_past 0) (sym (append_assoc gathered octets rest));
+        unfinished = past_none (gathered ++ octets) ∙ division-part (gathered ++ octets) begins;
+        fits = record {
+          whole = λ packet rest is. absurd (let e : NoneYet ≡ FirstPacket packet rest = sym begins ∙ is in cc);
+          lost = λ indicator is. absurd (let e : NoneYet ≡ NoPacket indicator = sym begins ∙ is in cc);
+        };
+        passes = λ some. absurd (omega arith);
+        all = refl;
+      } in
+      rw (lt-leb missing (length octets) lacks) (subst (GathersAll 0 gathered octets (length octets) 0) held all)
+  | inr whole ↦
+      let begins = goes_on.size.whole (omega (arith, length-append gathered octets)) in
+      let spelling : List ℕ = gathered ++ take missing octets in
+      let first : first_of spelling ≡ FirstPacket begins.packet [] = ap first_of (sym (take_on gathered octets missing)) ∙ begins.first in
+      let spelled : Spells spelling begins.packet = (first_spelled spelling begins.packet first).0 in
+      let short = short_packet 0 [] octets spelling begins.packet
+      (omega (arith, begins.kept, length-append gathered (take missing octets), length-take missing octets)) spelled in
+      let ends : GathersPacket 0 gathered octets missing 0 spelling = record {
+        packet = begins.packet;
+        first = first;
+        none_left = refl;
+        divided = λ rest.
+            ap (division_past 0) (sym (append_assoc gathered (take missing octets) rest))
+            ∙ past_none (spelling ++ rest)
+            ∙ division-packet spelling rest begins.packet first short
+            ∙ ap (before (begins.packet ∷ [])) (sym (past_none rest));
+        spelled = record { earlier = []; spelling = spelling; parts = refl; spelled = spelled };
+        some = omega (arith, unfinished_less gathered octets (length gathered + missing) unfinished goes_on.size);
+        within = whole;
+      } in
+      rw (le-leb missing (length octets) whole) (subst (GathersPacket 0 gathered octets missing 0) (sym goes_on.gathers) ends)
+]
+
+pub gathers_fed : (skipping : ℕ) (gathered octets : List ℕ) (missing : ℕ) (holds : List ℕ) (fed : Fed) → 0 ≡ skipping → packet_in (first_of gathered) ≡ None
+    → GoesOn gathered octets missing holds → fed ≡ fed_of missing (length octets) → Gathers skipping gathered octets (Ok fed) skipping holds
+gathers_fed skipping gathered octets missing holds fed idle unfinished goes_on is =
+    let P : ℕ → Type 0 = λ n. Gathers n gathered octets (Ok fed) n holds in
+    let Q : Fed → Type 0 = λ found. Gathers 0 gathered octets (Ok found) 0 holds in
+    subst P idle (subst Q (sym is) (gathers_on gathered octets missing holds unfinished goes_on))

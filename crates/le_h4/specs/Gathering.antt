@@ -1,5 +1,5 @@
 -- What is gathered of one packet. Of the code alone.
-use Rattle.std.specs.Prelude.{◌≡◌, ℕ, ◌<◌, ◌≤◌, true, false, [], ◌∷◌, ◌++◌, length, take, None, Result, Ok, Err}
+use Rattle.std.specs.Prelude.{◌≡◌, ℕ, ◌+◌, ◌<◌, ◌≤◌, nat_le, if◌then◌else◌, true, false, [], ◌∷◌, ◌++◌, length, take, None, Result, Ok, Err}
 use Rattle.octets.specs.Number.{Octets}
 use Rattle.le_h4.specs.declared.deframer.Fed.{Fed}
 use Rattle.le_h4.specs.declared.deframer.H4Fault.{H4Fault}
@@ -7,7 +7,7 @@ use Rattle.le_h4.specs.declared.deframer.H4Fault.TheVariants.{Desync}
 use Rattle.le_h4.specs.Packet.{Packet, FirstPacket, NoPacket, first_of}
 use Rattle.le_h4.specs.Division.{unfinished, lost, before, division_past}
 use Rattle.le_h4.specs.Deframer.{EndsWith}
-use Rattle.le_h4.specs.Progress.{IsWithinFirst, packet_in}
+use Rattle.le_h4.specs.Progress.{IsWithinFirst, IsSizeOf, packet_in}
 
 -- so many of these octets were taken, and end a packet
 pub record GathersPacket (skipping : ℕ) (gathered octets : Octets) (used left : ℕ) (holds : Octets) : Type 0 where
@@ -35,6 +35,16 @@ pub record GathersLost (skipping : ℕ) (gathered octets : Octets) (indicator le
   pub holds_it : holds ≡ indicator ∷ []
   pub first : first_of holds ≡ NoPacket indicator
   pub divided : (rest : Octets) → division_past skipping (gathered ++ (octets ++ rest)) ≡ lost indicator
+
+-- the packet that is gathered lacks so many octets, and those of them that are there are gathered too
+pub record GoesOn (gathered octets : Octets) (missing : ℕ) (holds : Octets) : Type 0 where
+  pub size : IsSizeOf (gathered ++ octets) (length gathered + missing)
+  pub gathers : holds ≡ gathered ++ take missing octets
+
+-- how far a piece of so many octets is taken, where a packet lacks some
+abbrev pub fed_of : ℕ → ℕ → Fed
+fed_of missing count =
+    if nat_le missing count then record { used = missing; packet = true } else record { used = count; packet = false }
 
 -- what is held changes so by a piece of the stream
 abbrev pub Gathers : ℕ → Octets → Octets → Result Fed H4Fault → ℕ → Octets → Type 0

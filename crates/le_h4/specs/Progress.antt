@@ -1,5 +1,5 @@
 -- How far the octets of one packet have come. Of the code alone.
-use Rattle.std.specs.Prelude.{◌≡◌, ℕ, ◌+◌, ◌-◌, ◌==◌, ◌≤◌, nat_le, if◌then◌else◌, [], ◌∷◌, length, take, Option, Some, None}
+use Rattle.std.specs.Prelude.{◌≡◌, ℕ, ◌+◌, ◌-◌, ◌==◌, ◌<◌, ◌≤◌, nat_le, if◌then◌else◌, [], ◌∷◌, length, take, slice_get, Option, Some, None}
 use Rattle.le_h4.specs.declared.progress.Progress.{Progress}
 use Rattle.le_h4.specs.declared.progress.Progress.TheVariants.{Lacks, Whole, Long, Desync}
 use Rattle.le_h4.specs.Packet.{Packet, EventPacket, ScoPacket, First, FirstPacket, NoneYet, NoPacket, first_of, acl_packet}
@@ -35,32 +35,39 @@ progress_of (indicator ∷ octets) =
     else if indicator == EVENT then event_progress octets
     else Desync indicator
 
--- how many octets behind its indicator the header of a packet states, its own among them
-abbrev pub acl_size : Octets → Option ℕ
-acl_size (low ∷ high ∷ size_low ∷ size_high ∷ octets) = Some (4 + from_two size_low size_high)
-acl_size _ = None
+-- how many octets a packet has behind its indicator, so far as those that are there say: its header, and the data that
+-- the header states
+abbrev pub acl_size : Option ℕ → Option ℕ → ℕ
+acl_size (Some low) (Some high) = 4 + from_two low high
+acl_size (Some low) None = 4
+acl_size None high = 4
 
-abbrev pub sco_size : Octets → Option ℕ
-sco_size (low ∷ high ∷ size ∷ octets) = Some (3 + size)
-sco_size _ = None
+abbrev pub short_size : ℕ → Option ℕ → ℕ
+short_size header (Some size) = header + size
+short_size header None = header
 
-abbrev pub event_size : Octets → Option ℕ
-event_size (code ∷ size ∷ octets) = Some (2 + size)
-event_size _ = None
+abbrev pub size_by : Octets → Option ℕ → Option ℕ
+size_by octets (Some indicator) =
+    if indicator == ACL then Some (acl_size (slice_get octets 3) (slice_get octets 4))
+    else if indicator == SCO then Some (short_size 3 (slice_get octets 3))
+    else if indicator == EVENT then Some (short_size 2 (slice_get octets 2))
+    else None
+size_by octets None = None
 
 abbrev pub stated_size : Octets → Option ℕ
-stated_size [] = None
-stated_size (indicator ∷ octets) =
-    if indicator == ACL then acl_size octets
-    else if indicator == SCO then sco_size octets
-    else if indicator == EVENT then event_size octets
-    else None
+stated_size octets = size_by octets (slice_get octets 0)
 
 -- these octets begin with a packet of so many, which is kept
 pub record BeginsWith (octets : Octets) (size : ℕ) : Type 0 where
   pub packet : Packet
   pub first : first_of (take size octets) ≡ FirstPacket packet []
   pub within : size ≤ length octets
+  pub kept : size ≤ MAX_PACKET_IN
+
+-- these octets begin with a packet of so many, which is kept, or are less than it
+pub record IsSizeOf (octets : Octets) (size : ℕ) : Type 0 where
+  pub whole : size ≤ length octets → BeginsWith octets size
+  pub part : length octets < size → first_of octets ≡ NoneYet
   pub kept : size ≤ MAX_PACKET_IN
 
 -- what is lacking is at most so much

@@ -1,19 +1,18 @@
 ghost use Rattle.std.specs.Prelude.{◌≡◌, ℕ, ◌+◌, ◌-◌, ◌<◌, ◌≤◌, ◌↔◌, [], ◌++◌, length, take, drop, ◌∷◌, Some, None, IsTrue, IsSome, IsNone, IfOk, IfSome, OnOk, if◌then◌else◌};
-ghost use Rattle.std.specs.Bool.{OnTrue, OnFalse};
 ghost use Rattle.std.specs.Option.{option_map};
 ghost use Rattle.octets.specs.Number.{Octets};
 ghost use Rattle.le_h4.specs.Packet.{packet_of_ref, first_of, Spells};
 ghost use Rattle.le_h4.specs.Division.{unfinished, lost, before, kept_first};
 ghost use Rattle.le_h4.specs.Deframer.{deframing_at_start, lost_at, still, marks, EndsWith, MarksTheDivision};
 ghost use Rattle.le_h4.specs.Progress.{IsWithinFirst, packet_in};
-ghost use Rattle.le_h4.specs.Gathering.{Gathers, GathersAll};
+ghost use Rattle.le_h4.specs.Gathering.{Gathers, GoesOn, fed_of};
 ghost use Rattle.le_h4.specs.Held.{deframing_of, unless_marked};
 ghost use Rattle.le_h4.specs.Whole.{lying_in, is_at_border};
 ghost use Rattle.le_h4.specs.declared.progress.TheConstants.{MAX_PACKET_IN};
 
 use crate::gathered::Gathered;
 use crate::packet::{PacketRef, WholePacket, first_packet, read_packet};
-use crate::progress::{MAX_PACKET_IN, Progress, progress_at, whole_size};
+use crate::progress::{Progress, known_size, progress_at};
 use std::marker::Model;
 
 /// How far a piece of the stream was taken.
@@ -164,8 +163,8 @@ fn forget(gathered: &mut Gathered, marked: bool)
     }
 }
 
-/// Gathers octets to the end of a packet that is kept, or all of them. A packet that is all there,
-/// where nothing was gathered before, is copied at once.
+/// Gathers octets to the end of a packet that is kept, or all of them. Where none is passed over, the
+/// size of the packet tells at once which are to be copied.
 fn gather(gathered: &mut Gathered, skipping: &mut usize, octets: &[u8]) -> Result<Fed, H4Fault>
     requires fits { IsWithinFirst gathered.old }
     requires unfinished { packet_in (first_of gathered.old) ≡ None }
@@ -173,40 +172,71 @@ fn gather(gathered: &mut Gathered, skipping: &mut usize, octets: &[u8]) -> Resul
     ensures gathers { Gathers skipping.old gathered.old octets.now result skipping.new
         gathered.new }
 {
-    if !gathered.is_empty() || *skipping > 0 {
-        return gather_by_parts(gathered, skipping, octets);
+    if *skipping == 0 {
+        if gathered.is_empty() {
+            if let Some(size) = known_size(&[], octets) {
+                return Ok(fill_up(gathered, size, octets));
+            }
+        } else if let Some(missing) = go_on(gathered, octets) {
+            return Ok(fed_of(missing, octets));
+        }
     }
-    let Some(size) = whole_size(octets) else {
-        return gather_by_parts(gathered, skipping, octets);
-    };
-    fill(gathered, size, octets);
-    Ok(Fed {
-        used: size,
-        packet: true,
-    })
+    gather_by_parts(gathered, skipping, octets)
 }
 
-/// Gathers the front of a packet, by one copy, where nothing was gathered before and the octets end
-/// within it.
-fn gather_front(gathered: &mut Gathered, skipping: usize, octets: &[u8]) -> bool
-    ensures gathers { OnTrue result (GathersAll skipping gathered.old octets.now
-        (length octets.now) skipping gathered.new) }
-    ensures unchanged { OnFalse result (gathered.new ≡ gathered.old) }
+/// Gathers the octets that go on with the packet that is gathered, where it is kept, and says how many
+/// it lacks. Apart, so that a packet that is whole saves no registers for it.
+#[inline(never)]
+fn go_on(gathered: &mut Gathered, octets: &[u8]) -> Option<usize>
+    requires { packet_in (first_of gathered.old) ≡ None }
+    ensures goes_on { IfSome result
+        (λ missing. GoesOn gathered.old octets.now missing gathered.new) }
+    ensures unchanged { IsNone result → gathered.new ≡ gathered.old }
 {
-    if skipping > 0 || !gathered.is_empty() || octets.len() > MAX_PACKET_IN {
-        return false;
+    let so_far = gathered.as_slice();
+    let size = known_size(so_far, octets)?;
+    let missing = size - so_far.len();
+    fill(gathered, missing, octets);
+    Some(missing)
+}
+
+/// Gathers octets, as many as there are of those that are missing, and says how far they are taken.
+#[inline(always)]
+fn fill_up(gathered: &mut Gathered, missing: usize, octets: &[u8]) -> Fed
+    requires { length gathered.old + missing ≤ MAX_PACKET_IN }
+    ensures gathered { gathered.new ≡ gathered.old ++ take missing octets.now }
+    ensures fed { result ≡ fed_of missing (length octets.now) }
+{
+    if missing <= octets.len() {
+        gathered.append(&octets[..missing]);
+    } else {
+        gathered.append(octets);
     }
-    match progress_at(octets) {
-        Progress::Lacks(_) => {
-            gathered.append(octets);
-            true
+    fed_of(missing, octets)
+}
+
+/// How far octets are taken where a packet lacks so many.
+#[inline(always)]
+fn fed_of(missing: usize, octets: &[u8]) -> Fed
+    ensures { result ≡ fed_of missing (length octets.now) }
+{
+    if missing <= octets.len() {
+        Fed {
+            used: missing,
+            packet: true,
         }
-        _ => false,
+    } else {
+        Fed {
+            used: octets.len(),
+            packet: false,
+        }
     }
 }
 
 /// Gathers octets to the end of a packet that is kept, or all of them: header and data each by what
 /// they lack.
+#[cold]
+#[inline(never)]
 fn gather_by_parts(
     gathered: &mut Gathered,
     skipping: &mut usize,
@@ -218,12 +248,6 @@ fn gather_by_parts(
     ensures gathers { Gathers skipping.old gathered.old octets.now result skipping.new
         gathered.new }
 {
-    if gather_front(gathered, *skipping, octets) {
-        return Ok(Fed {
-            used: octets.len(),
-            packet: false,
-        });
-    }
     let mut rest = octets;
     'packets: loop {
         rest = skip(skipping, rest);

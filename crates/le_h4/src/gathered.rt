@@ -65,8 +65,9 @@ impl Gathered {
         requires { length self.old + length octets.now ≤ MAX_PACKET_IN }
         ensures { self.new ≡ self.old ++ octets.now }
     {
-        let end = self.len + octets.len();
-        self.octets[self.len..end].copy_from_slice(octets);
+        let start = self.len;
+        let end = start + octets.len();
         self.len = end;
+        self.octets[start..end].copy_from_slice(octets);
     }
 }

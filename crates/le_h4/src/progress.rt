@@ -1,5 +1,5 @@
-ghost use Rattle.std.specs.Prelude.{◌≡◌, ◌-◌, ◌≤◌, length, IfSome};
-ghost use Rattle.le_h4.specs.Progress.{progress_of, data_progress, short_progress, LacksAtMost, stated_size, BeginsWith};
+ghost use Rattle.std.specs.Prelude.{◌≡◌, ◌-◌, ◌≤◌, ◌++◌, length, slice_get, IfSome};
+ghost use Rattle.le_h4.specs.Progress.{progress_of, data_progress, short_progress, LacksAtMost, acl_size, short_size, stated_size, IsSizeOf};
 
 use crate::indicator;
 use crate::write::HEADER;
@@ -51,42 +51,72 @@ pub(crate) fn progress_at(octets: &[u8]) -> Progress
     }
 }
 
-/// How many octets the packet has that these begin with, where all of them are there and it is kept.
-#[tactic(auto, using(crate::proofs::Beginning::begins))]
+/// How many octets the packet has that `first` and then `second` begin with, so far as they say: those
+/// of its header, and of its data where the header is all there. There is no answer where they begin
+/// with no packet, or with one that is not kept.
 #[inline(always)]
-pub(crate) fn whole_size(octets: &[u8]) -> Option<usize>
-    ensures { IfSome result (λ size. BeginsWith octets.now size) }
+pub(crate) fn known_size(first: &[u8], second: &[u8]) -> Option<usize>
+    ensures { IfSome result (IsSizeOf (first.now ++ second.now)) }
 {
-    let size = stated_size(octets)?;
-    if size < octets.len() && size < MAX_PACKET_IN {
+    let size = stated_size(first, second)?;
+    if size < MAX_PACKET_IN {
         Some(size + 1)
     } else {
         None
     }
 }
 
-/// How many octets behind its indicator the header of a packet states.
+/// How many octets behind its indicator the packet has, so far as they say.
 #[inline(always)]
-fn stated_size(octets: &[u8]) -> Option<usize>
-    ensures { result ≡ stated_size octets.now }
+fn stated_size(first: &[u8], second: &[u8]) -> Option<usize>
+    ensures { result ≡ stated_size (first.now ++ second.now) }
 {
-    let [indicator, rest @ ..] = octets else {
-        return None;
-    };
-    match *indicator {
-        indicator::ACL => match rest {
-            [_, _, low, high, ..] => Some(4 + usize::from(u16::from_le_bytes([*low, *high]))),
-            _ => None,
-        },
-        indicator::SCO => match rest {
-            [_, _, size, ..] => Some(3 + usize::from(*size)),
-            _ => None,
-        },
-        indicator::EVENT => match rest {
-            [_, size, ..] => Some(2 + usize::from(*size)),
-            _ => None,
-        },
+    match octet_at(first, second, 0)? {
+        indicator::ACL => Some(acl_size(octet_at(first, second, 3), octet_at(first, second, 4))),
+        indicator::SCO => Some(short_size(3, octet_at(first, second, 3))),
+        indicator::EVENT => Some(short_size(2, octet_at(first, second, 2))),
         _ => None,
+    }
+}
+
+/// The size of an ACL packet behind its indicator, by the octets of its header that state that of its
+/// data.
+#[inline(always)]
+fn acl_size(low: Option<u8>, high: Option<u8>) -> usize
+    ensures { result ≡ acl_size low high }
+{
+    let Some(high) = high else {
+        return 4;
+    };
+    let Some(low) = low else {
+        return 4;
+    };
+    4 + usize::from(u16::from_le_bytes([low, high]))
+}
+
+/// The size of another packet behind its indicator, by that of its header and the octet that states
+/// that of its data.
+#[inline(always)]
+fn short_size(header: usize, size: Option<u8>) -> usize
+    requires { header ≤ 3 }
+    ensures { result ≡ short_size header size }
+{
+    match size {
+        Some(size) => header + usize::from(size),
+        None => header,
+    }
+}
+
+/// An octet of those of two places, one behind the other.
+#[inline(always)]
+fn octet_at(first: &[u8], second: &[u8], index: usize) -> Option<u8>
+    ensures { result ≡ slice_get (first.now ++ second.now) index }
+{
+    if index < first.len() {
+        Some(first[index])
+    } else {
+        let octet = second.get(index - first.len())?;
+        Some(*octet)
     }
 }
 

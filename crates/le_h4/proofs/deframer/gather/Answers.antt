@@ -1,16 +1,24 @@
-use Rattle.std.proofs.Common.{◌≡◌, ℕ, List, [], ◌++◌, take, sym, ◌∙◌, ap, subst, arith}
+use Rattle.std.proofs.Common.{◌≡◌, ℕ, ◌+◌, List, [], ◌++◌, length, subst, arith}
 use Rattle.std.proofs.lemmas.Grind.{common_steps}
-use Rattle.le_h4.specs.Gathering.{GathersPacket}
-use Rattle.le_h4.proofs.SoFar.{gathers_first}
+use Rattle.le_h4.specs.Gathering.{GoesOn}
+use Rattle.le_h4.specs.Progress.{IsSizeOf}
+use Rattle.le_h4.proofs.SoFar.{gathers_fed}
 use Rattle.le_h4.proofs.deframer.gather.Goals as goal
 
-pub returns : goal.returns
-returns c =
-    let taken : List ℕ = take c.in-Some.size c.args.octets.now in
+pub returns-in-Some : goal.returns-in-Some
+returns-in-Some c =
+    let octets : List ℕ = c.args.octets.now in
     let none : [] ≡ c.args.gathered.now = grind (arith, common_steps) in
-    let idle : 0 ≡ c.args.skipping.now = omega (arith, c.if-skipping-gt0.false) in
-    let held : taken ≡ c.fill.new.gathered = sym (c.fill.ensures.gathered ∙ ap (λ (xs : List ℕ). xs ++ taken) (sym none)) in
-    let P : ℕ → Type 0 = λ skipping. GathersPacket skipping [] c.args.octets.now c.in-Some.size skipping taken in
-    let Q : List ℕ → Type 0 = λ gathered. GathersPacket c.args.skipping.now gathered c.args.octets.now c.in-Some.size c.args.skipping.now taken in
-    let R : List ℕ → Type 0 = λ holds. GathersPacket c.args.skipping.now c.args.gathered.now c.args.octets.now c.in-Some.size c.args.skipping.now holds in
-    record { gathers = subst R held (subst Q none (subst P idle (gathers_first c.args.octets.now c.in-Some.size c.in-Some.ensures))) }
+    let idle : 0 ≡ c.args.skipping.now = omega (arith, c.if-skipping-eq0.true) in
+    let more : c.in-Some.size ≡ 0 + c.in-Some.size = omega arith in
+    let P : List ℕ → Type 0 = λ gathered. IsSizeOf (gathered ++ octets) (length gathered + c.in-Some.size) in
+    let goes_on : GoesOn c.args.gathered.now octets c.in-Some.size c.fill_up.new.gathered = record {
+      size = subst P none (subst (IsSizeOf octets) more c.in-Some.ensures);
+      gathers = c.fill_up.ensures.gathered;
+    } in
+    record { gathers = gathers_fed _ _ _ _ _ _ idle c.requires.unfinished goes_on c.fill_up.ensures.fed }
+
+pub returns-in-Some-go_on : goal.returns-in-Some-go_on
+returns-in-Some-go_on c =
+    let idle : 0 ≡ c.args.skipping.now = omega (arith, c.if-skipping-eq0.true) in
+    record { gathers = gathers_fed _ _ _ _ _ _ idle c.requires.unfinished c.in-Some-go_on.ensures.goes_on c.fed_of.ensures }

@@ -1,5 +1,4 @@
 use Rattle.std.proofs.Common.{◌≡◌, ℕ, ◌<◌, ◌≤◌, List, [], length, sym, ◌∙◌, ap, subst, arith}
-use Rattle.std.proofs.lemmas.Bool.{OnFalse_at}
 use Rattle.std.proofs.lemmas.Grind.{common_steps}
 use Rattle.le_h4.specs.Progress.{progress_of}
 use Rattle.le_h4.specs.declared.progress.Progress.TheVariants.{Lacks, Whole, Long, Desync}
@@ -7,10 +6,7 @@ use Rattle.le_h4.proofs.SoFar.{SoFar, so_far-start, so_far-long, gathers_packet,
 use Rattle.le_h4.proofs.deframer.gather_by_parts.Goals as goal
 
 pub packets-init : goal.packets-init
-packets-init c =
-    let P : List ℕ → Type 0 = λ holds. SoFar c.args.skipping.now c.args.gathered.now c.args.octets.now c.args.skipping.now holds c.args.octets.now in
-    let same : c.args.gathered.now ≡ c.gather_front.new.gathered = sym (OnFalse_at (c.if-gather_front.false) c.gather_front.ensures.unchanged) in
-    subst P same (so_far-start _ _ _ c.requires.fits c.requires.unfinished c.requires.passes)
+packets-init c = so_far-start _ _ _ c.requires.fits c.requires.unfinished c.requires.passes
 
 pub returns-in-Whole : goal.returns-in-Whole
 returns-in-Whole c =
