@@ -1,4 +1,5 @@
 pub mod Accepted
 pub mod Ends
 pub mod Handles
+pub mod Lent
 pub mod LongUuid

@@ -1,5 +1,6 @@
 ghost use Rattle.std.specs.Prelude.{◌≡◌, ◌+◌, ◌-◌, ◌≤◌, ◌↔◌, [], ◌∷◌, ◌++◌, length, IsTrue, take, drop};
 ghost use Rattle.std.specs.Bool.{OnTrue, OnFalse};
+ghost use Rattle.std.specs.Borrow.{sem};
 ghost use Rattle.octets.specs.Number.{two_octets};
 ghost use Rattle.arrayvec.specs.ArrayVec.{array_vec_len};
 ghost use Rattle.att_pdu.specs.End.{length_in, needed};
@@ -48,6 +49,7 @@ pub struct PduBuf<'a> {
 }
 
 impl<'a> PduBuf<'a> {
+    ghost use Rattle.att_pdu.specs.Lends.{LendsOctets};
     ghost use Rattle.att_pdu.specs.PduBuf.{contents, mtu_of, IsIn, IsOver, StandsOver, IsSameBuffer, AppendsWhereFits};
     ghost use Rattle.att_pdu.specs.Response.{OfAttribute, OfGroup, element_octets, ErrorResponse, ExchangeMtuResponse, sent};
 
@@ -232,6 +234,16 @@ impl<'a> PduBuf<'a> {
             End::OfBuffer => resize(self.octets, size),
             End::Before(place) => *place = size,
         }
+    }
+
+    /// Lends the octets of the buffer, to be written over. The first of them are the content.
+    #[inline(always)]
+    pub fn octets_mut(&mut self) -> &mut [u8]
+        ensures* written { sem 𝓛 (LendsOctets self.entry result) }
+        ensures front { take (length (contents self.old)) result.now ≡ contents self.old }
+        ensures within { length (contents self.old) ≤ length result.now }
+    {
+        self.octets.as_mut_slice()
     }
 
     /// Puts octets over those of the content from `place` on.

@@ -1,11 +1,11 @@
 -- How candidates are listed one after another.
-use Rattle.std.proofs.Common.{◌≡◌, ◌<◌, ◌≤◌, ℕ, ◌+◌, ◌-◌, ◌/◌, Bool, true, false, List, None, [], ◌∷◌, ◌++◌, length, take, zero, suc, refl, sym, ap, ◌∙◌, arith, append_assoc, length-append}
+use Rattle.std.proofs.Common.{◌≡◌, ◌<◌, ◌≤◌, ℕ, ◌+◌, ◌-◌, ◌*◌, ◌/◌, Bool, true, false, List, None, [], ◌∷◌, ◌++◌, length, take, zero, suc, refl, sym, ap, ◌∙◌, arith, append_assoc, length-append, length-take}
 use Rattle.std.specs.Prelude.{take_while, cond, min, map}
-use Rattle.std.proofs.Math.Nat.{div-eq-sub-div, div-eq_of_lt}
+use Rattle.std.proofs.Math.Nat.{div-eq-sub-div, div-eq_of_lt, le-div_iff_mul-le, mul_comm}
 use Rattle.std.proofs.lemmas.Grind.{common_steps}
-use Rattle.std.proofs.lemmas.List.{append-nil}
+use Rattle.std.proofs.lemmas.List.{append-nil, length-map, take_all}
 use Rattle.std.proofs.lemmas.List.Sums.{take_while-cons}
-use Rattle.std.specs.List.{flat_map}
+use Rattle.std.specs.List.{flat_map, prefix_len}
 use Rattle.att_pdu.specs.Response.{element_octets}
 use Rattle.att_reads.specs.Listing.{Candidate, candidate_size, is_listed, run_within, elements, elements_within, with_listed, HasNext, HasNoNext}
 use Rattle.octets.specs.Number.{Octets}
@@ -108,3 +108,23 @@ pub listed_fitting : {A : Type 0} (of : A → Candidate) (mtu size count : ℕ) 
 listed_fitting of mtu size count octets xs is =
     ap (λ n. with_listed mtu size octets (map of (take n xs))) is
     ∙ ap (λ candidates. octets ++ joined candidates) (cut_run of size ((mtu - length octets) / size) xs)
+
+-- nor does the room matter where there is enough for all
+all_listed : (room size : ℕ) (octets : Octets) (candidates : List Candidate) → length candidates ≤ (room - length octets) / size
+    → with_listed room size octets candidates ≡ octets ++ joined (take_while (is_listed size) candidates)
+all_listed room size octets candidates enough =
+    let run = length-take (prefix_len (is_listed size) candidates) candidates in
+    ap (λ listed. octets ++ joined listed) (take_all ((room - length octets) / size) (take_while (is_listed size) candidates) (omega (arith, run, enough)))
+
+pub listed_in_room : {A : Type 0} (of : A → Candidate) (room mtu size count : ℕ) (octets : Octets) (xs : List A) → 0 < size → length octets + size * count ≤ room
+    → count ≡ min (length xs) ((mtu - length octets) / size)
+    → with_listed room size octets (map of (take count xs)) ≡ with_listed mtu size octets (map of xs)
+listed_in_room of room mtu size count octets xs above enough is =
+    let all = length-map (take count xs) of in
+    let cut = length-take count xs in
+    let product = mul_comm size count in
+    let fits : count * size ≤ room - length octets = omega (arith, enough, product) in
+    let in_room : count ≤ (room - length octets) / size = (le-div_iff_mul-le above).1 fits in
+    all_listed room size octets (map of (take count xs)) (omega (arith, all, cut, in_room))
+    ∙ sym (all_listed mtu size octets (map of (take count xs)) (omega (arith, all, cut, is)))
+    ∙ listed_fitting of mtu size count octets xs is

@@ -61,3 +61,9 @@ pub record PutsNext (old new : PduBuf) (place size : ℕ) (candidate : Candidate
   pub kept : OnFalse result (HasNoNext (mtu_of old) size candidate (take place (contents old)) (take place (contents new)))
   pub held : length (contents new) ≡ length (contents old)
   pub same_buffer : IsSameBuffer old new
+
+-- the same of octets that are written over
+pub record PutsOver (old new : Octets) (place size : ℕ) (candidate : Candidate) (result : Bool) : Type 0 where
+  pub put : OnTrue result (HasNext (length old) size candidate (take place old) (take (place + size) new))
+  pub kept : OnFalse result (HasNoNext (length old) size candidate (take place old) (take place new))
+  pub held : length new ≡ length old

@@ -1,16 +1,16 @@
 //! The requests that find attributes: Core 5.0, Vol 3 Part F, 3.4.3.
 
-ghost use Rattle.std.specs.Prelude.{◌≡◌, ◌-◌, ◌<◌, ◌≤◌, ◌+◌, ◌*◌, ◌/◌, ◌∷◌, ◌++◌, [], map, filter, length, take, IsSome};
+ghost use Rattle.std.specs.Prelude.{◌≡◌, ◌-◌, ◌<◌, ◌≤◌, ◌+◌, ◌*◌, ◌/◌, ◌∷◌, ◌++◌, [], map, filter, length, take, drop, IsSome};
 ghost use Rattle.std.specs.List.{list_any};
 ghost use Rattle.std.specs.Bool.{OnTrue};
 ghost use Rattle.att_numbers.specs.declared.opcode.TheConstants.{FIND_INFORMATION_REQUEST, FIND_INFORMATION_RESPONSE, FIND_BY_TYPE_VALUE_REQUEST};
 ghost use Rattle.att_numbers.specs.declared.error_code.TheConstants.{ATTRIBUTE_NOT_FOUND};
 ghost use Rattle.att_pdu.specs.PduBuf.{contents, mtu_of, IsSameBuffer, AppendsWhereFits};
 ghost use Rattle.att_pdu.specs.declared.pdu_buf.TheConstants.{MAX_MTU};
-ghost use Rattle.att_pdu.specs.Response.{element_octets, sent, ErrorResponse, FindInformationResponse, FindByTypeValueResponse};
+ghost use Rattle.att_pdu.specs.Response.{OfAttribute, element_octets, sent, ErrorResponse, FindInformationResponse, FindByTypeValueResponse};
 ghost use Rattle.att_attributes.specs.Attributes.{attribute_at};
 ghost use Rattle.att_reads.specs.Answer.{is_match, with_groups, group_of, information_of, information_format};
-ghost use Rattle.att_reads.specs.Listing.{size_of_first, elements_within, with_listed, PutsNext};
+ghost use Rattle.att_reads.specs.Listing.{size_of_first, elements_within, with_listed, PutsOver};
 ghost use Rattle.att_reads.specs.Refusals.{unless_refused, not_found};
 
 use crate::list::fitting;
@@ -64,36 +64,53 @@ fn list(attributes: &[Attr], format: u8, size: usize, out: &mut PduBuf<'_>)
 {
     let count = fitting(attributes.len(), size as u16, out.mtu() - 2);
     out.resize(2 + size * count);
-    out.put(0, &[opcode::FIND_INFORMATION_RESPONSE, format]);
-    put_all(&attributes[..count], size, out);
+    let end = put_list(&attributes[..count], format, size, out.octets_mut());
+    out.truncate(end);
 }
 
-/// Puts these attributes, for which there is just room, behind the opcode and the format, up to the
-/// first that has another size, where the list ends.
+/// Puts the opcode, the format and these attributes over octets, of which there are enough, up to the
+/// first attribute that has another size, and answers where the list ends.
 #[inline(always)]
-fn put_all(attributes: &[Attr], size: usize, out: &mut PduBuf<'_>)
+fn put_list(attributes: &[Attr], format: u8, size: usize, octets: &mut [u8]) -> usize
     requires size { 0 < size }
-    requires room { 2 + size * length attributes.now ≡ length (contents out.old) }
-    ensures listed { contents out.new
-        ≡ with_listed (mtu_of out.old) size (take 2 (contents out.old))
+    requires room { 2 + size * length attributes.now ≤ length octets.old }
+    ensures listed { take result octets.new
+        ≡ with_listed (length octets.old) size (FIND_INFORMATION_RESPONSE ∷ format ∷ [])
         (map information_of attributes.now) }
-    ensures same_buffer { IsSameBuffer out.old out.new }
+    ensures within { result ≤ 2 + size * length attributes.now }
+    ensures held { length octets.new ≡ length octets.old }
+{
+    write(octets, 0, &[opcode::FIND_INFORMATION_RESPONSE, format]);
+    put_all(attributes, size, octets)
+}
+
+/// Puts these attributes over octets, behind the first two, up to the first that has another size, and
+/// answers where the list ends.
+#[inline(always)]
+fn put_all(attributes: &[Attr], size: usize, octets: &mut [u8]) -> usize
+    requires size { 0 < size }
+    requires room { 2 + size * length attributes.now ≤ length octets.old }
+    ensures listed { take result octets.new
+        ≡ with_listed (length octets.old) size (take 2 octets.old)
+        (map information_of attributes.now) }
+    ensures within { result ≤ 2 + size * length attributes.now }
+    ensures held { length octets.new ≡ length octets.old }
 {
     let mut place = 2;
     for attr in attributes {
-        if !put_next(attr, size, place, out) {
-            out.truncate(place);
-            return;
+        if !put_next(attr, size, place, octets) {
+            return place;
         }
         place += size;
     }
+    place
 }
 
-/// Puts an attribute that has this size.
+/// Puts an attribute that has this size over octets.
 #[inline(always)]
-fn put_next(attr: &Attr, size: usize, place: usize, out: &mut PduBuf<'_>) -> bool
-    requires { place + size ≤ length (contents out.old) }
-    ensures { PutsNext out.old out.new place size (information_of attr.now) result }
+fn put_next(attr: &Attr, size: usize, place: usize, octets: &mut [u8]) -> bool
+    requires { place + size ≤ length octets.old }
+    ensures { PutsOver octets.old octets.new place size (information_of attr.now) result }
 {
     if is_of_16_bits(attr.kind) {
         if size != 4 {
@@ -101,14 +118,48 @@ fn put_next(attr: &Attr, size: usize, place: usize, out: &mut PduBuf<'_>) -> boo
         }
         let [low, high] = attr.handle.to_le_bytes();
         let [kind_low, kind_high] = ((attr.kind >> 96) as u16).to_le_bytes();
-        out.put(place, &[low, high, kind_low, kind_high]);
+        write(octets, place, &[low, high, kind_low, kind_high]);
         return true;
     }
     if size != 18 {
         return false;
     }
-    out.put_pair(place, attr.handle, &attr.kind.to_le_bytes());
+    write_pair(octets, place, attr.handle, &attr.kind.to_le_bytes());
     true
+}
+
+/// Puts octets over others from a place on.
+#[inline(always)]
+fn write(octets: &mut [u8], place: usize, more: &[u8])
+    requires { place + length more.now ≤ length octets.old }
+    ensures front { take (place + length more.now) octets.new
+        ≡ take place octets.old ++ more.now }
+    ensures held { length octets.new ≡ length octets.old }
+{
+    octets[place..place + more.len()].copy_from_slice(more);
+}
+
+/// Puts a handle and octets over others from a place on.
+#[inline(always)]
+fn write_pair(octets: &mut [u8], place: usize, handle: u16, more: &[u8])
+    requires { place + 2 + length more.now ≤ length octets.old }
+    ensures front { take (place + 2 + length more.now) octets.new
+        ≡ take place octets.old ++ element_octets (OfAttribute handle more.now) }
+    ensures held { length octets.new ≡ length octets.old }
+{
+    write_both(octets, place, &handle.to_le_bytes(), more);
+}
+
+/// Puts octets of two places, one behind the other, over others from a place on.
+#[inline(always)]
+fn write_both(octets: &mut [u8], place: usize, first: &[u8], second: &[u8])
+    requires { place + length first.now + length second.now ≤ length octets.old }
+    ensures { octets.new ≡ take place octets.old ++ first.now ++ second.now
+        ++ drop (place + length first.now + length second.now) octets.old }
+{
+    let middle = place + first.len();
+    octets[place..middle].copy_from_slice(first);
+    octets[middle..middle + second.len()].copy_from_slice(second);
 }
 
 /// Answers a Find By Type Value Request of the attributes at these handles, of which all have the
