@@ -17,7 +17,11 @@ pub fn is_of_16_bits(kind: u128) -> bool
 {
     let upper = (kind >> 64) as u64;
     let lower = (kind % (1 << 64)) as u64;
-    lower == BASE_LOWER && upper % (1 << 32) == BASE_UPPER && upper < 1 << 48
+    // Less the base, the number is left in its upper half and nothing in the lower: with the halves
+    // exchanged, one comparison tells both.
+    let rest = upper.wrapping_sub(BASE_UPPER);
+    let number = ((rest % (1 << 32)) << 32) + (rest >> 32);
+    lower == BASE_LOWER && number < 1 << 16
 }
 
 /// An attribute type as it stands in a value or a PDU, the lowest octet first: 2 octets for one of

@@ -62,7 +62,7 @@ pub record PutsNext (old new : PduBuf) (place size : ℕ) (candidate : Candidate
   pub held : length (contents new) ≡ length (contents old)
   pub same_buffer : IsSameBuffer old new
 
--- the same of octets that are written over
+-- a candidate was put into octets that a PDU lends, from a place on, where it may be listed and fits, and else what stands before the place is the same
 pub record PutsOver (old new : Octets) (place size : ℕ) (candidate : Candidate) (result : Bool) : Type 0 where
   pub put : OnTrue result (HasNext (length old) size candidate (take place old) (take (place + size) new))
   pub kept : OnFalse result (HasNoNext (length old) size candidate (take place old) (take place new))
