@@ -1,6 +1,6 @@
 -- The policy: the rules of an access in their order, what breaks each, and its error code.
 -- The codes are those of Core 5.0, Vol 3 Part F, 3.4.1.1; the order is this profile's own.
-use Rattle.std.specs.Prelude.{◌≡◌, ℕ, ◌+◌, ◌<◌, Bool, true, false, ◌==◌, ◌&&◌, not, nat_lt, nat_le, is_none, if◌then◌else◌, List, [], ◌∷◌, Option, Some, None}
+use Rattle.std.specs.Prelude.{◌≡◌, ℕ, ◌+◌, ◌<◌, Bool, true, false, ◌==◌, ◌&&◌, ◌||◌, not, nat_lt, nat_le, is_none, if◌then◌else◌, List, [], ◌∷◌, Option, Some, None}
 use Rattle.std.specs.Int.RustNames.{bit_and}
 use Rattle.std.specs.List.{find}
 use Rattle.std.specs.Option.{option_map, option_map_or}
@@ -110,6 +110,11 @@ first_broken_of access guard standing =
 -- no rule is broken
 abbrev pub IsPermitted : Access → Option Guard → Standing → Type 0
 IsPermitted access guard standing = (rule : Rule) → is_broken access guard standing rule ≡ false
+
+-- whether an access is permitted to whoever asks: it has its property, and nothing is needed
+abbrev pub is_open_of : Access → Guard → Bool
+is_open_of access guard =
+    has_property guard.properties (property_of access) && not (needs_encryption_of (need_of access guard) || (need_of access guard).authorized)
 
 -- this rule is broken, and none before it
 pub record IsFirstBroken (access : Access) (guard : Option Guard) (standing : Standing) (rule : Rule) : Type 0 where

@@ -7,5 +7,5 @@ mod policy;
 mod standing;
 
 pub use guard::{Guard, INDICATION, Need, Properties};
-pub use policy::{Access, Rule, first_broken, first_broken_in_place, may_hear};
+pub use policy::{Access, Rule, first_broken, first_broken_in_place, is_open, may_hear};
 pub use standing::{KeyFacts, Standing};

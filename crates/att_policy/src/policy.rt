@@ -1,6 +1,6 @@
-ghost use Rattle.std.specs.Prelude.{◌≡◌, ◌↔◌, IsTrue, IsNone, IfSome};
+ghost use Rattle.std.specs.Prelude.{◌≡◌, ◌↔◌, Some, None, IsTrue, IsNone, IfSome};
 ghost use Rattle.std.specs.Option.{option_copied};
-ghost use Rattle.att_policy.specs.Policy.{property_of, need_of, not_permitted_code, first_unmet_rule_of, first_broken_rule_of, first_broken_of, may_hear_of, code_of, IsFirstBroken, IsPermitted, MayHear};
+ghost use Rattle.att_policy.specs.Policy.{property_of, need_of, not_permitted_code, first_unmet_rule_of, first_broken_rule_of, first_broken_of, is_open_of, may_hear_of, code_of, IsFirstBroken, IsPermitted, MayHear};
 
 use crate::guard::{Guard, Need, Properties};
 use crate::standing::Standing;
@@ -109,6 +109,18 @@ pub fn first_broken_in_place(
 {
     let rule = first_broken_rule::<false>(access, guard, standing)?;
     Some((rule, code(rule, access, standing)))
+}
+
+/// Whether an access to an attribute is permitted to every connection: it has its property, and nothing
+/// is needed.
+#[inline(always)]
+pub fn is_open(access: Access, guard: &Guard) -> bool
+    ensures exact { result ≡ is_open_of access guard.now }
+    ensures permitted { IsTrue result
+        → (standing : Standing) → first_broken_of access (Some guard.now) standing ≡ None }
+{
+    let need = access.need(guard);
+    guard.properties.contains(access.property()) && !(need.needs_encryption() | need.authorized)
 }
 
 /// Whether a client that has configured these bits may be notified of a value, or have it indicated:

@@ -1,10 +1,10 @@
-ghost use Rattle.std.specs.Prelude.{◌≡◌, ◌≤◌, ◌∷◌, [], IfOk, IfErr, IsSome, None, Some};
+ghost use Rattle.std.specs.Prelude.{◌≡◌, ◌≤◌, ◌∷◌, [], IfOk, IfErr, IfSome, IsSome, None, Some};
 ghost use Rattle.std.specs.Option.{option_copied};
 ghost use Rattle.att_reads.specs.Access.{refusal_at, value_for};
 ghost use Rattle.att_attributes.specs.Attributes.{attribute_at};
 
 use att_attributes::Attr;
-use att_policy::{Access, Standing, first_broken, first_broken_in_place};
+use att_policy::{Access, Standing, first_broken, first_broken_in_place, is_open};
 use att_table::{ConfigRow, Role, Table};
 
 /// A client that reads: the table, what the client has configured, and what the policy sees of it.
@@ -53,6 +53,22 @@ impl<'a> Reader<'a> {
             return Err(code);
         }
         Ok(self.value_of(attr, handle))
+    }
+
+    /// The value of the attribute at a handle, where every client may read it.
+    #[inline(always)]
+    pub fn read_open(self, handle: u16) -> Option<&'a [u8]>
+        ensures permitted { IfSome result
+            (λ value. refusal_at self.entry.table.now.attributes self.entry.standing.now handle
+            ≡ None) }
+        ensures value { IfSome result
+            (λ value. value.now ≡ value_for self.entry.table.now self.entry.row.now handle) }
+    {
+        let attr = self.table.get(handle)?;
+        if !is_open(Access::Read, &attr.guard) {
+            return None;
+        }
+        Some(self.value_of(Some(attr), handle))
     }
 
     /// The value of the attribute at a handle, or the error code of the first rule of the policy

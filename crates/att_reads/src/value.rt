@@ -12,6 +12,8 @@ ghost use Rattle.att_reads.specs.Refusals.{unless_refused, offset_refusal};
 use crate::reader::Reader;
 use att_numbers::{error_code, opcode};
 use att_pdu::PduBuf;
+use att_policy::Standing;
+use att_table::{ConfigRow, Table};
 
 /// Answers a Read Request.
 #[inline(always)]
@@ -22,6 +24,32 @@ pub fn read(reader: Reader<'_>, handle: u16, out: &mut PduBuf<'_>)
         (mtu_of out.old) handle) }
     ensures same_buffer { IsSameBuffer out.old out.new }
 {
+    match reader.read_open(handle) {
+        Some(value) => out.replace_by_front(opcode::READ_RESPONSE, value),
+        None => read_guarded(reader.table, reader.row, reader.standing, handle, out),
+    }
+}
+
+/// Answers a Read Request of a value that not every client may read. It is not inlined, so that few
+/// registers are saved where every client may.
+#[inline(never)]
+#[tactic(auto, unfolding(crate::specs::Answer::value_answer))]
+fn read_guarded(
+    table: &Table,
+    row: &ConfigRow,
+    standing: &Standing,
+    handle: u16,
+    out: &mut PduBuf<'_>,
+)
+    ensures answer { contents out.new
+        ≡ sent (value_answer table.now row.now standing.entry.now (mtu_of out.old) handle) }
+    ensures same_buffer { IsSameBuffer out.old out.new }
+{
+    let reader = Reader {
+        table,
+        row,
+        standing,
+    };
     match reader.read_one(handle) {
         Ok(value) => out.replace_by_front(opcode::READ_RESPONSE, value),
         Err(code) => out.error(opcode::READ_REQUEST, handle, code),
@@ -37,6 +65,41 @@ pub fn read_blob(reader: Reader<'_>, handle: u16, offset: u16, out: &mut PduBuf<
         (mtu_of out.old) handle offset) }
     ensures same_buffer { IsSameBuffer out.old out.new }
 {
+    match reader.read_open(handle) {
+        Some(value) => part(value, handle, offset, out),
+        None => {
+            read_blob_guarded(
+                reader.table,
+                reader.row,
+                reader.standing,
+                handle,
+                offset,
+                out,
+            );
+        }
+    }
+}
+
+/// Answers a Read Blob Request of a value that not every client may read.
+#[inline(never)]
+#[tactic(auto, unfolding(crate::specs::Answer::part_answer))]
+fn read_blob_guarded(
+    table: &Table,
+    row: &ConfigRow,
+    standing: &Standing,
+    handle: u16,
+    offset: u16,
+    out: &mut PduBuf<'_>,
+)
+    ensures answer { contents out.new ≡ sent
+        (part_answer table.now row.now standing.entry.now (mtu_of out.old) handle offset) }
+    ensures same_buffer { IsSameBuffer out.old out.new }
+{
+    let reader = Reader {
+        table,
+        row,
+        standing,
+    };
     match reader.read_one(handle) {
         Ok(value) => part(value, handle, offset, out),
         Err(code) => out.error(opcode::READ_BLOB_REQUEST, handle, code),
