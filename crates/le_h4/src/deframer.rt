@@ -1,4 +1,4 @@
-ghost use Rattle.std.specs.Prelude.{◌≡◌, ℕ, ◌+◌, ◌-◌, ◌<◌, ◌≤◌, ◌↔◌, [], ◌++◌, length, take, drop, ◌∷◌, Some, None, IsTrue, IsSome, IsNone, IfOk, IfSome, OnOk, if◌then◌else◌};
+ghost use Rattle.std.specs.Prelude.{◌≡◌, ℕ, ◌+◌, ◌-◌, ◌<◌, ◌≤◌, ◌↔◌, [], ◌++◌, length, take, drop, ◌∷◌, Some, None, true, IsTrue, IsSome, IsNone, IfOk, IfSome, OnOk, if◌then◌else◌};
 ghost use Rattle.std.specs.Option.{option_map};
 ghost use Rattle.octets.specs.Number.{Octets};
 ghost use Rattle.le_h4.specs.Packet.{packet_of_ref, first_of, Spells};
@@ -149,9 +149,10 @@ impl Deframer {
 
 /// Whether no packet is unfinished, and none is passed over. One that is marked is whole.
 fn is_at_border(gathered: &Gathered, skipping: usize, marked: bool) -> bool
+    requires { marked ≡ true → skipping ≡ 0 }
     ensures { result ≡ is_at_border (deframing_of skipping gathered.now marked) }
 {
-    skipping == 0 && (marked || gathered.is_empty())
+    marked || (skipping == 0 && gathered.is_empty())
 }
 
 /// Forgets what is gathered where it is a packet that is marked.
