@@ -1,6 +1,6 @@
 //! Inputs that are read to their ends.
 
-ghost use Rattle.std.specs.Prelude.{◌≡◌, IfErr, IfOk, IfSome};
+ghost use Rattle.std.specs.Prelude.{◌≡◌, [], IfErr, IfOk, IfSome, OnOk};
 ghost use Rattle.gatt_files.specs.Input.{IsInputFault};
 
 use crate::fault::ShellFault;
@@ -25,10 +25,21 @@ pub fn read_all<R: Read>(alloc: Global, reader: &mut R) -> Result<Vec<u8>, Shell
     ensures faults { IfErr result IsInputFault }
 {
     let mut octets = Vec::new(alloc);
+    read_into(reader, &mut octets)?;
+    Ok(octets)
+}
+
+/// Puts all octets of an input into an empty `octets`.
+fn read_into<R: Read>(reader: &mut R, octets: &mut Vec<u8>) -> Result<(), ShellFault>
+    requires { octets.old.items ≡ [] }
+    ensures all { OnOk result
+        (IfSome (R.remaining reader.old) (λ input. octets.new.items ≡ input)) }
+    ensures faults { IfErr result IsInputFault }
+{
     let mut chunk = [0; CHUNK];
     for _read in 0..READS {
         match reader.read(&mut chunk) {
-            Ok(0) => return Ok(octets),
+            Ok(0) => return Ok(()),
             Ok(count) => octets.extend_from_slice(&chunk[..count])?,
             Err(error) if error.kind() == ErrorKind::Interrupted => {}
             Err(_) => return Err(ShellFault::Unreadable),

@@ -1,5 +1,5 @@
 use Rattle.std.specs.Io.KnownBytes.{Consumes}
-use Rattle.gatt_files.proofs.input.read_all.Given as goal
+use Rattle.gatt_files.proofs.input.read_into.Given as goal
 
 -- what was read is kept
 abbrev pub invariant-loop-read : goal.invariant-loop-read
