@@ -53,7 +53,6 @@ pub fn print_hex_line<W: Write>(octets: &[u8], writer: &mut W) -> Result<(), She
 
 /// Writes a number out in decimal, and a line feed. Where the writer fails, the front of that is
 /// written, and the fault is `Unwritten`.
-#[tactic(auto, using(crate::proofs::Fronts::at_error, crate::proofs::Fronts::front_first, crate::proofs::Fronts::front_rest))]
 pub fn print_number_line<W: Write>(number: u64, writer: &mut W) -> Result<(), ShellFault>
     ensures ok { OnOk result
         (Appends (W.contents writer.old) (W.contents writer.new) (decimal number ++ 10 ∷ [])) }
