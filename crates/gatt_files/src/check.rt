@@ -1,7 +1,7 @@
 //! The command `check`.
 
 ghost use Rattle.std.specs.Prelude.{◌≡◌, ◌≢◌, ◌++◌, ℕ, IfErr, IfSome, IsOk, OnOk};
-ghost use Rattle.std.specs.Io.KnownBytes.{Keeps};
+ghost use Rattle.std.specs.Io.KnownBytes.{Appends, Keeps};
 ghost use Rattle.gatt_files.specs.Check.{AreCounted, IsCheckFault, attributes_line, keys_line};
 ghost use Rattle.gatt_files.specs.KeyFile.{keys_in, KeysAreRefusedAs};
 ghost use Rattle.gatt_files.specs.TableFile.{table_in, TableIsRefusedAs};
@@ -52,7 +52,16 @@ pub fn check_files<T: Read, K: Read, W: Write>(
 {
     let table = read_table(alloc, table)?;
     let keys = read_keys(alloc, keys)?;
-    print(count_lines(&table, &keys).as_slice(), writer)
+    print_counts(&table, &keys, writer)
+}
+
+/// Prints how many attributes a table has, and how many keys there are.
+fn print_counts<W: Write>(table: &Table, keys: &Keys, writer: &mut W) -> Result<(), ShellFault>
+    ensures ok { OnOk result (Appends (W.contents writer.old) (W.contents writer.new)
+        (attributes_line table.now ++ keys_line keys.now)) }
+    ensures faults { IfErr result (λ fault. fault ≡ ShellFault.Unwritten) }
+{
+    print(count_lines(table, keys).as_slice(), writer)
 }
 
 /// The path of a table file.
