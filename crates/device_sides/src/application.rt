@@ -1,12 +1,10 @@
 //! The application: one at a time, which says lines and hears lines.
 
 use arrayvec::ArrayVec;
-use device_ends::{Line, Listener, Retry, Source, Waiting, bind_at_path, retry_after};
+use device_ends::{Line, Listener, Retry, Waiting, retry_after};
 use device_lines::{Found, Inbox, LONGEST, Outbox};
 use std::alloc::Global;
-use std::fs::Files;
 use std::io;
-use std::net::{Net, SocketAddr, TcpListener, TcpStream};
 
 /// As many octets may wait for an application that does not read.
 const LIMIT: usize = 65_536;
@@ -40,31 +38,9 @@ impl Application {
         }
     }
 
-    /// Listens at a path, where a socket that was left behind is removed first; another file is left
-    /// alone, and nothing is listened for. Nobody but the owner may connect.
-    pub(crate) fn listen_at_path<R: Files + Net>(
-        &mut self,
-        rt: &R,
-        waiting: &Waiting,
-        path: &str,
-    ) -> io::Result<()> {
-        let listener = bind_at_path(rt, path)?;
-        waiting.watch(&listener, Source::Applications)?;
-        self.listener = Some(Listener::Path(listener));
-        Ok(())
-    }
-
-    /// Listens at an address, and gives that with the port that was bound.
-    pub(crate) fn listen_at_port<R: Net<Listener = TcpListener, Stream = TcpStream>>(
-        &mut self,
-        rt: &R,
-        waiting: &Waiting,
-        address: SocketAddr,
-    ) -> io::Result<SocketAddr> {
-        let listener = waiting.listen(rt, address, Source::Applications)?;
-        let bound = listener.local_addr()?;
-        self.listener = Some(Listener::Port(listener));
-        Ok(bound)
+    /// Applications connect here from now on.
+    pub(crate) fn listen(&mut self, listener: Listener) {
+        self.listener = Some(listener);
     }
 
     /// Takes the next application that connects, if one does, in place of the one before.

@@ -1,12 +1,13 @@
 //! The sides of a device are opened, as the words ask for them.
 
 use crate::application::Application;
-use device_ends::{Log, Recording, Source, Waiting, Way};
+use device_ends::{Listener, Log, Recording, Source, Waiting, Way, bind_at_path};
 use device_words::{Door, Reached};
 use std::alloc::Global;
 use std::fs::{File, Files};
 use std::io;
 use std::net::{Net, SocketAddr, TcpListener, TcpStream};
+use std::os::unix::net::UnixListener;
 use std::time::Clock;
 
 /// The way to a controller: one that connects is listened for.
@@ -17,24 +18,34 @@ pub(crate) fn way_to<'a, R: Net<Listener = TcpListener, Stream = TcpStream> + Cl
     reached: Reached<'a>,
 ) -> io::Result<Way<'a>> {
     match reached {
-        Reached::Listen(address) => {
-            let listener = waiting.listen(log.rt, address, Source::Controllers)?;
-            say_address(alloc, log, &listener)?;
-            Ok(Way::Listen(listener))
-        }
+        Reached::Listen(address) => way_from(alloc, log, waiting, address),
         Reached::Connect(address) => Ok(Way::Connect(address)),
         Reached::Serial(path) => Ok(Way::Serial(path)),
     }
 }
 
-/// Logs where controllers connect.
+/// The way to a controller that connects to an address.
+fn way_from<'a, R: Net<Listener = TcpListener, Stream = TcpStream> + Clock + Eprint>(
+    alloc: Global,
+    log: &Log<'_, R>,
+    waiting: &Waiting,
+    address: SocketAddr,
+) -> io::Result<Way<'a>> {
+    let listener = waiting.listen(log.rt, address, Source::Controllers)?;
+    let bound = listener.local_addr()?;
+    say_address(alloc, log, "listening for a controller:", bound)?;
+    Ok(Way::Listen(listener))
+}
+
+/// Logs an address behind words.
 fn say_address<R: Clock + Eprint>(
     alloc: Global,
     log: &Log<'_, R>,
-    listener: &TcpListener,
+    words: &str,
+    address: SocketAddr,
 ) -> io::Result<()> {
-    let bound = format!(in alloc; "{}", listener.local_addr()?)?;
-    log.say_of("listening for a controller:", bound.as_str());
+    let text = format!(in alloc; "{address}")?;
+    log.say_of(words, text.as_str());
     Ok(())
 }
 
@@ -55,16 +66,29 @@ pub(crate) fn open_door<
     }
 }
 
-/// Waits for an application at a path.
+/// Waits for an application at a path, where a socket that was left behind is removed first; another
+/// file is left alone, and nothing is waited for. Nobody but the owner may connect.
 fn open_at_path<R: Net + Files + Clock + Eprint>(
     log: &Log<'_, R>,
     waiting: &Waiting,
     application: &mut Application,
     path: &str,
 ) -> io::Result<()> {
-    application.listen_at_path(log.rt, waiting, path)?;
+    let listener = listen_at_path(log.rt, waiting, path)?;
+    application.listen(Listener::Path(listener));
     log.say_of("listening for an application:", path);
     Ok(())
+}
+
+/// Listens at a path for applications.
+fn listen_at_path<R: Net + Files>(
+    rt: &R,
+    waiting: &Waiting,
+    path: &str,
+) -> io::Result<UnixListener> {
+    let listener = bind_at_path(rt, path)?;
+    waiting.watch(&listener, Source::Applications)?;
+    Ok(listener)
 }
 
 /// Waits for an application at an address.
@@ -75,10 +99,10 @@ fn open_at_port<R: Net<Listener = TcpListener, Stream = TcpStream> + Clock + Epr
     application: &mut Application,
     address: SocketAddr,
 ) -> io::Result<()> {
-    let bound = application.listen_at_port(log.rt, waiting, address)?;
-    let bound = format!(in alloc; "{bound}")?;
-    log.say_of("listening for an application:", bound.as_str());
-    Ok(())
+    let listener = waiting.listen(log.rt, address, Source::Applications)?;
+    let bound = listener.local_addr()?;
+    application.listen(Listener::Port(listener));
+    say_address(alloc, log, "listening for an application:", bound)
 }
 
 /// Begins a capture in a file at a path, or tells that this cannot be created. Where that cannot be
