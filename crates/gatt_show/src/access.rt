@@ -1,10 +1,11 @@
 //! Who may use the attributes of a table.
 
-ghost use Rattle.std.specs.Prelude.{◌≡◌, ◌++◌, IfOk, OnOk};
+ghost use Rattle.std.specs.Prelude.{◌≡◌, ◌++◌, is_none, Some, IfOk, OnOk};
 ghost use Rattle.std.specs.List.{flat_map};
+ghost use Rattle.att_policy.specs.Policy.{first_broken_of};
 ghost use Rattle.gatt_show.specs.Access.{handle_text, handles_or_dash, holder_lines, left_need, permits, standing_with_key, way_line, way_lines, way_word};
 
-use crate::cells::add_number;
+use crate::cells::{add_number, add_octets};
 use crate::line::all_attributes;
 use att_policy::{Access, Guard, KeyFacts, Standing, first_broken, may_hear};
 use att_table::{Attr, Role, Table};
@@ -37,8 +38,8 @@ pub fn add_holder(
     ensures ok { OnOk result (text.new.items
         ≡ text.old.items ++ holder_lines table.now name.now key) }
 {
-    text.extend_from_slice(name)?;
-    text.extend_from_slice(b"\n")?;
+    add_octets(text, name)?;
+    add_octets(text, b"\n")?;
     add_ways(alloc, text, table, key)
 }
 
@@ -71,10 +72,10 @@ fn add_way(
     ensures ok { OnOk result (text.new.items
         ≡ text.old.items ++ way_line table.now.attributes key way) }
 {
-    text.extend_from_slice(way_word(way).as_bytes())?;
+    add_octets(text, way_word(way).as_bytes())?;
     let handles = handles(alloc, all_attributes(table), key, way)?;
     add_handles_or_dash(text, &handles)?;
-    text.extend_from_slice(b"\n")
+    add_octets(text, b"\n")
 }
 
 /// Adds some handles, or a dash for none.
@@ -82,8 +83,8 @@ fn add_handles_or_dash(text: &mut Vec<u8>, handles: &[u8]) -> Result<(), AllocEr
     ensures ok { OnOk result (text.new.items ≡ text.old.items ++ handles_or_dash handles.now) }
 {
     match handles {
-        [] => text.extend_from_slice(b" -"),
-        _ => text.extend_from_slice(handles),
+        [] => add_octets(text, b" -"),
+        _ => add_octets(text, handles),
     }
 }
 
@@ -142,7 +143,7 @@ fn add_handle(
     if attr.role == Role::Declaration || !permits(way, &attr.guard, &standing_of(key, true)) {
         return Ok(());
     }
-    text.extend_from_slice(b" ")?;
+    add_octets(text, b" ")?;
     add_number(text, u64::from(attr.handle))?;
     add_left_need(text, permits(way, &attr.guard, &standing_of(key, false)))
 }
@@ -154,7 +155,7 @@ fn add_left_need(text: &mut Vec<u8>, is_met: bool) -> Result<(), AllocError>
     if is_met {
         Ok(())
     } else {
-        text.extend_from_slice(b"(authorized)")
+        add_octets(text, b"(authorized)")
     }
 }
 
@@ -175,9 +176,16 @@ fn permits(way: Way, guard: &Guard, standing: &Standing) -> bool
     ensures { result ≡ permits way guard.now standing.entry.now }
 {
     match way {
-        Way::Reading => first_broken(Access::Read, Some(guard), standing).is_none(),
-        Way::Writing => first_broken(Access::Write, Some(guard), standing).is_none(),
-        Way::Commanding => first_broken(Access::Command, Some(guard), standing).is_none(),
+        Way::Reading => is_permitted(Access::Read, guard, standing),
+        Way::Writing => is_permitted(Access::Write, guard, standing),
+        Way::Commanding => is_permitted(Access::Command, guard, standing),
         Way::Hearing => may_hear(guard, 3, standing),
     }
+}
+
+/// Whether a connection may access a guarded attribute.
+fn is_permitted(access: Access, guard: &Guard, standing: &Standing) -> bool
+    ensures { result ≡ is_none (first_broken_of access (Some guard.now) standing.entry.now) }
+{
+    first_broken(access, Some(guard), standing).is_none()
 }

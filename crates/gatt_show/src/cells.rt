@@ -15,7 +15,7 @@ pub fn add_left(text: &mut Vec<u8>, cell: &[u8], width: usize) -> Result<(), All
     requires { width ≤ WIDEST }
     ensures ok { OnOk result (text.new.items ≡ text.old.items ++ left width cell.now) }
 {
-    text.extend_from_slice(cell)?;
+    add_octets(text, cell)?;
     add_blanks(text, width.saturating_sub(cell.len()))
 }
 
@@ -27,7 +27,7 @@ pub fn add_right(text: &mut Vec<u8>, number: u64, width: usize) -> Result<(), Al
     let mut digits = Buffer::new();
     let cell = digits.format(number).as_bytes();
     add_blanks(text, width.saturating_sub(cell.len()))?;
-    text.extend_from_slice(cell)
+    add_octets(text, cell)
 }
 
 /// Adds `count` blanks.
@@ -36,7 +36,7 @@ fn add_blanks(text: &mut Vec<u8>, count: usize) -> Result<(), AllocError>
     requires { count ≤ WIDEST }
     ensures ok { OnOk result (text.new.items ≡ text.old.items ++ replicate count 32) }
 {
-    text.extend_from_slice(&[b' '; WIDEST][..count])
+    add_octets(text, &[b' '; WIDEST][..count])
 }
 
 /// Adds a number in decimal.
@@ -44,5 +44,12 @@ pub fn add_number(text: &mut Vec<u8>, number: u64) -> Result<(), AllocError>
     ensures ok { OnOk result (text.new.items ≡ text.old.items ++ decimal number) }
 {
     let mut digits = Buffer::new();
-    text.extend_from_slice(digits.format(number).as_bytes())
+    add_octets(text, digits.format(number).as_bytes())
+}
+
+/// Adds octets.
+pub fn add_octets(text: &mut Vec<u8>, octets: &[u8]) -> Result<(), AllocError>
+    ensures ok { OnOk result (text.new.items ≡ text.old.items ++ octets.now) }
+{
+    text.extend_from_slice(octets)
 }

@@ -226,32 +226,47 @@ fn array_at<'t>(table: &'t mut Table, key: &str) -> Option<&'t mut Vec<Value>> {
 /// Leaves some keys of a table.
 fn keep_keys(alloc: Global, table: &mut Table, keys: &Kept<'_>) -> Result<(), AllocError> {
     match *keys {
-        Kept::All => {}
-        Kept::Alone(key) => {
-            if let Some((name, value)) = table.remove_entry(key) {
-                table.clear();
-                table.insert(name, value)?;
-            }
-        }
+        Kept::All => Ok(()),
+        Kept::Alone(key) => keep_alone(alloc, table, key),
         Kept::AloneAs(key, value) => {
             table.clear();
-            put(alloc, table, key, value)?;
+            put(alloc, table, key, value)
         }
-        Kept::Without(left_out) => remove_all(table, left_out),
+        Kept::Without(left_out) => {
+            remove_all(table, left_out);
+            Ok(())
+        }
         Kept::With(key, value, left_out) => {
             remove_all(table, left_out);
-            put(alloc, table, key, value)?;
+            put(alloc, table, key, value)
         }
     }
-    Ok(())
+}
+
+/// Leaves one key of a table, if it has this one.
+fn keep_alone(alloc: Global, table: &mut Table, key: &str) -> Result<(), AllocError> {
+    let name = String::from_str(alloc, key)?;
+    match table.remove(key) {
+        Some(value) => {
+            table.clear();
+            insert(table, name, value)
+        }
+        None => Ok(()),
+    }
 }
 
 /// Puts a value at a key, as TOML writes it.
 fn put(alloc: Global, table: &mut Table, key: &str, value: &str) -> Result<(), AllocError> {
-    let Ok(value) = Value::from_str(alloc, value) else {
-        return Err(AllocError);
-    };
-    table.insert(String::from_str(alloc, key)?, value)?;
+    let name = String::from_str(alloc, key)?;
+    match Value::from_str(alloc, value) {
+        Ok(value) => insert(table, name, value),
+        Err(_) => Err(AllocError),
+    }
+}
+
+/// Puts a value at a key.
+fn insert(table: &mut Table, name: String, value: Value) -> Result<(), AllocError> {
+    table.insert(name, value)?;
     Ok(())
 }
 

@@ -3,9 +3,10 @@
 ghost use Rattle.std.specs.Prelude.{◌≡◌, ◌++◌, option_map, OnOk};
 ghost use Rattle.toml.specs.View.{items_view, table_view};
 ghost use Rattle.toml_tables.specs.Reading.{text_at};
-ghost use Rattle.gatt_show.specs.Holders.{FactsAreTheServers, TellsHolders, entries_text, entry_text, facts_at, facts_words, holder_name, holder_text, words_if, written_size, written_text};
+ghost use Rattle.gatt_show.specs.Holders.{FactsAreTheServers, TellsHolders, entries_text, entry_text, facts_at, facts_words, holder_name, holder_text, holders_text, words_if, written_size, written_text};
 
 use crate::access::add_holder;
+use crate::cells::add_octets;
 use crate::rights::add_size;
 use att_policy::KeyFacts;
 use att_table::Table;
@@ -25,11 +26,36 @@ pub fn add_holders(
     ensures ok { OnOk result (TellsHolders table.now key_file.now text.old.items text.new.items) }
     ensures facts { FactsAreTheServers }
 {
+    add_all(alloc, text, table, key_file)
+}
+
+/// Adds what a stranger may do, and what each peer of a key file may do.
+fn add_all(
+    alloc: Global,
+    text: &mut Vec<u8>,
+    table: &Table,
+    key_file: &str,
+) -> Result<(), AllocError>
+    ensures ok { OnOk result (TellsHolders table.now key_file.now text.old.items text.new.items) }
+{
     let Ok(document) = toml::table_from_str(alloc, key_file) else {
         return Err(AllocError);
     };
+    add_of_document(alloc, text, table, &document)
+}
+
+/// Adds what a stranger may do, and what each peer of the document of a key file may do.
+fn add_of_document(
+    alloc: Global,
+    text: &mut Vec<u8>,
+    table: &Table,
+    document: &toml::Table,
+) -> Result<(), AllocError>
+    ensures ok { OnOk result (text.new.items
+        ≡ text.old.items ++ holders_text table.now (table_view document.now)) }
+{
     add_one(alloc, text, table, b"stranger", None)?;
-    add_entries(alloc, text, table, toml_tables::items(&document, "key"))
+    add_entries(alloc, text, table, toml_tables::items(document, "key"))
 }
 
 /// Adds what somebody may do, behind a blank line.
@@ -43,7 +69,7 @@ fn add_one(
     ensures ok { OnOk result (text.new.items
         ≡ text.old.items ++ holder_text table.now name.now key) }
 {
-    text.extend_from_slice(b"\n")?;
+    add_octets(text, b"\n")?;
     add_holder(alloc, text, table, name, key)
 }
 
@@ -115,7 +141,7 @@ fn add_name(text: &mut Vec<u8>, members: &toml::Table, facts: KeyFacts) -> Resul
         ≡ text.old.items ++ holder_name (table_view members.now)) }
 {
     add_text(text, members, "kind")?;
-    text.extend_from_slice(b" ")?;
+    add_octets(text, b" ")?;
     add_text(text, members, "address")?;
     add_facts(text, facts)
 }
@@ -126,7 +152,7 @@ fn add_text(text: &mut Vec<u8>, members: &toml::Table, key: &str) -> Result<(), 
         ≡ text.old.items ++ written_text (text_at key.now (table_view members.now))) }
 {
     match toml_tables::text(members, key) {
-        Some(written) => text.extend_from_slice(written.as_bytes()),
+        Some(written) => add_octets(text, written.as_bytes()),
         None => Ok(()),
     }
 }
@@ -145,7 +171,7 @@ fn add_if(text: &mut Vec<u8>, holds: bool, words: &[u8]) -> Result<(), AllocErro
     ensures ok { OnOk result (text.new.items ≡ text.old.items ++ words_if holds words.now) }
 {
     if holds {
-        text.extend_from_slice(words)
+        add_octets(text, words)
     } else {
         Ok(())
     }

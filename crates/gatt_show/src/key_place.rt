@@ -1,9 +1,9 @@
 //! Where a key file has its fault, and what it is, in words.
 
-use crate::cells::add_number;
+use crate::cells::{add_number, add_octets};
 use crate::front::{Front, Kept, Level};
 use crate::refused::Refused;
-use crate::wrong_key::{Others, add_name, add_range, add_words, add_wrong_key};
+use crate::wrong_key::{Others, add_name, add_range, add_said, add_words, add_wrong_key};
 use le_security::KeyFault;
 use std::alloc::AllocError;
 use toml::Table;
@@ -26,11 +26,17 @@ pub fn add_key_place(
     fault: KeyFault,
 ) -> Result<(), AllocError> {
     let front = refused.shortest("key", &[Level::Elements])?;
-    if front.elements > 0 {
-        text.extend_from_slice(b"key ")?;
-        add_number(text, front.elements as u64)?;
-    }
+    add_entry(text, front.elements)?;
     add_fault(text, refused, &front, fault)
+}
+
+/// Adds which entry is the last one, if it is another than the root.
+fn add_entry(text: &mut Vec<u8>, count: usize) -> Result<(), AllocError> {
+    if count == 0 {
+        return Ok(());
+    }
+    add_octets(text, b"key ")?;
+    add_number(text, count as u64)
 }
 
 /// Adds which key of the last entry of a front is at fault, and why.
@@ -64,7 +70,7 @@ fn add_missing(
     if let Some(entry) = front.last_element(&mut kept) {
         add_name(text, front, missing(entry))?;
     }
-    text.extend_from_slice(b": the key is missing")
+    add_octets(text, b": the key is missing")
 }
 
 /// The key of an entry that is missed first.
@@ -84,11 +90,10 @@ fn add_bad_address(
     front: &Front<'_>,
 ) -> Result<(), AllocError> {
     if stays_with(refused, front, "kind", "\"public\"")? {
-        add_name(text, front, "address")?;
-        text.extend_from_slice(b": it is not six pairs of hexadecimal digits joined by colons")
+        let said = b": it is not six pairs of hexadecimal digits joined by colons";
+        add_said(text, front, "address", said)
     } else {
-        add_name(text, front, "kind")?;
-        text.extend_from_slice(b": it is neither public nor random")
+        add_said(text, front, "kind", b": it is neither public nor random")
     }
 }
 
@@ -99,11 +104,9 @@ fn add_bad_hex(
     front: &Front<'_>,
 ) -> Result<(), AllocError> {
     if stays_with(refused, front, "rand", "\"0000000000000000\"")? {
-        add_name(text, front, "ltk")?;
-        text.extend_from_slice(b": it is not 32 hexadecimal digits")
+        add_said(text, front, "ltk", b": it is not 32 hexadecimal digits")
     } else {
-        add_name(text, front, "rand")?;
-        text.extend_from_slice(b": it is not 16 hexadecimal digits")
+        add_said(text, front, "rand", b": it is not 16 hexadecimal digits")
     }
 }
 

@@ -1,12 +1,14 @@
 //! A line for each attribute of a table.
 
-ghost use Rattle.std.specs.Prelude.{◌≡◌, ◌++◌, [], IfOk, OnOk};
+ghost use Rattle.std.specs.Prelude.{◌≡◌, ◌++◌, [], codes, IfOk, OnOk};
+ghost use Rattle.std.specs.Fmt.{decimal};
 ghost use Rattle.std.specs.List.{flat_map};
+ghost use Rattle.gatt_show.specs.Cells.{left, right};
 ghost use Rattle.gatt_show.specs.Line.{attribute_line, attribute_lines, declared_text, include_text, kind_word, length_text, rest_of_line, shown_table, told_value, used_text};
 ghost use Rattle.gatt_show.specs.TypeText.{type_text};
 ghost use Rattle.att_numbers.specs.AttributeType.{type_octets};
 
-use crate::cells::{add_left, add_number, add_right};
+use crate::cells::{add_left, add_number, add_octets, add_right};
 use crate::rights::add_rights;
 use crate::type_text::add_type;
 use att_numbers::attribute_type::{INCLUDE, PRIMARY_SERVICE, SECONDARY_SERVICE};
@@ -33,7 +35,7 @@ fn add_lines(
         ≡ text.old.items ++ attribute_lines table.now attributes.now) }
 {
     match attributes {
-        [] => text.extend_from_slice(b"no attributes\n"),
+        [] => add_octets(text, b"no attributes\n"),
         _ => add_attributes(alloc, text, table, attributes),
     }
 }
@@ -73,12 +75,20 @@ fn add_attribute(
     ensures ok { OnOk result (text.new.items
         ≡ text.old.items ++ attribute_line table.now attr.now) }
 {
-    add_right(text, u64::from(attr.handle), 4)?;
-    text.extend_from_slice(b"  ")?;
-    add_left(text, kind_word(attr.role, attr.kind).as_bytes(), 14)?;
-    text.extend_from_slice(b"  ")?;
+    add_front(text, attr)?;
     add_rest(alloc, text, table, attr)?;
-    text.extend_from_slice(b"\n")
+    add_octets(text, b"\n")
+}
+
+/// Adds the handle of an attribute, and what it is.
+fn add_front(text: &mut Vec<u8>, attr: &Attr) -> Result<(), AllocError>
+    ensures ok { OnOk result (text.new.items ≡ text.old.items ++ (right 4 (decimal attr.now.handle)
+        ++ codes "  " ++ left 14 (kind_word attr.now.role attr.now.kind) ++ codes "  ")) }
+{
+    add_right(text, u64::from(attr.handle), 4)?;
+    add_octets(text, b"  ")?;
+    add_left(text, kind_word(attr.role, attr.kind).as_bytes(), 14)?;
+    add_octets(text, b"  ")
 }
 
 /// What an attribute is, in a word.
@@ -147,7 +157,7 @@ fn add_include(text: &mut Vec<u8>, table: &Table, value: &[u8]) -> Result<(), Al
     };
     let first = u16::from_le_bytes([*low, *high]);
     add_type(text, told_value(table, first))?;
-    text.extend_from_slice(b" at ")?;
+    add_octets(text, b" at ")?;
     add_number(text, u64::from(first))
 }
 
@@ -159,7 +169,7 @@ fn add_used(alloc: Global, text: &mut Vec<u8>, attr: &Attr) -> Result<(), AllocE
     let kind = type_cell(alloc, attr.kind)?;
     let length = length_cell(alloc, attr)?;
     add_left(text, &kind, 40)?;
-    text.extend_from_slice(b"  ")?;
+    add_octets(text, b"  ")?;
     add_left(text, &length, 5)?;
     add_rights(alloc, text, &attr.guard)
 }
@@ -180,11 +190,11 @@ fn length_cell(alloc: Global, attr: &Attr) -> Result<Vec<u8>, AllocError>
 {
     let mut cell = Vec::new(alloc);
     if attr.role == Role::Configuration {
-        cell.extend_from_slice(b"2")?;
+        add_octets(&mut cell, b"2")?;
         return Ok(cell);
     }
     if !attr.fixed {
-        cell.extend_from_slice(b"0-")?;
+        add_octets(&mut cell, b"0-")?;
     }
     add_number(&mut cell, u64::from(attr.largest))?;
     Ok(cell)

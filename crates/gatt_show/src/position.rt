@@ -1,13 +1,13 @@
 //! Places in a text, and what is wrong where it is no TOML.
 
-use crate::cells::add_number;
+use crate::cells::{add_number, add_octets};
 use std::alloc::AllocError;
 use toml::de::Error;
 
 /// Adds where octets stop to be UTF-8: behind the first `valid` of them.
 pub fn add_no_text(text: &mut Vec<u8>, octets: &[u8], valid: usize) -> Result<(), AllocError> {
     add_position(text, octets, valid)?;
-    text.extend_from_slice(b": it is not UTF-8")
+    add_octets(text, b": it is not UTF-8")
 }
 
 /// Adds where a text stops to be TOML, and why. That memory was refused has no place.
@@ -16,8 +16,8 @@ pub fn add_no_toml(text: &mut Vec<u8>, octets: &[u8], error: &Error) -> Result<(
         return Err(AllocError);
     };
     add_position(text, octets, span.start)?;
-    text.extend_from_slice(b": ")?;
-    text.extend_from_slice(error.message().as_bytes())
+    add_octets(text, b": ")?;
+    add_octets(text, error.message().as_bytes())
 }
 
 /// A place in a text: its line, and its column in characters, both counted from 1.
@@ -47,9 +47,9 @@ impl Position {
 /// Adds the line and the column of the octet at a place.
 fn add_position(text: &mut Vec<u8>, octets: &[u8], at: usize) -> Result<(), AllocError> {
     let position = Position::behind(octets.get(..at).unwrap_or(octets));
-    text.extend_from_slice(b"line ")?;
+    add_octets(text, b"line ")?;
     add_number(text, position.line)?;
-    text.extend_from_slice(b", column ")?;
+    add_octets(text, b", column ")?;
     add_number(text, position.column)
 }
 

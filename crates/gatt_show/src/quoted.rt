@@ -1,5 +1,6 @@
 //! Texts of files as they are quoted: one line of printable ASCII, whatever they are.
 
+use crate::cells::add_octets;
 use std::alloc::AllocError;
 
 /// The most characters of a text that are quoted.
@@ -11,7 +12,7 @@ pub fn add_quoted(text: &mut Vec<u8>, quoted: &str) -> Result<(), AllocError> {
     let mut left = LONGEST;
     for character in quoted.chars() {
         if left == 0 {
-            return text.extend_from_slice(b"..");
+            return add_octets(text, b"..");
         }
         left -= 1;
         add_escaped(text, character)?;
@@ -23,7 +24,7 @@ pub fn add_quoted(text: &mut Vec<u8>, quoted: &str) -> Result<(), AllocError> {
 fn add_escaped(text: &mut Vec<u8>, character: char) -> Result<(), AllocError> {
     for escaped in character.escape_default() {
         let mut octets = [0; 4];
-        text.extend_from_slice(escaped.encode_utf8(&mut octets).as_bytes())?;
+        add_octets(text, escaped.encode_utf8(&mut octets).as_bytes())?;
     }
     Ok(())
 }

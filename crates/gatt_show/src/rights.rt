@@ -3,7 +3,7 @@
 ghost use Rattle.std.specs.Prelude.{◌≡◌, ◌++◌, if◌then◌else◌, IfOk, OnOk};
 ghost use Rattle.gatt_show.specs.Rights.{asked_size_words, both_texts, reading_text, heard_words, needs_reading, is_written, key_words, need_words, rights_text, size_words, word, writing_text, written_words};
 
-use crate::cells::add_number;
+use crate::cells::{add_number, add_octets};
 use att_policy::{Guard, Need, Properties};
 use bitflags::Flags;
 use std::alloc::{AllocError, Global};
@@ -17,7 +17,7 @@ pub fn add_rights(alloc: Global, text: &mut Vec<u8>, guard: &Guard) -> Result<()
         (true, true) => add_both(alloc, text, guard),
         (true, false) => add_heard(text, guard),
         (false, true) => add_written(text, guard),
-        (false, false) => text.extend_from_slice(b" nothing"),
+        (false, false) => add_octets(text, b" nothing"),
     }
 }
 
@@ -31,7 +31,7 @@ fn add_both(alloc: Global, text: &mut Vec<u8>, guard: &Guard) -> Result<(), Allo
         add_heard_words(text, guard.properties)?;
     } else {
         add_heard(text, guard)?;
-        text.extend_from_slice(b";")?;
+        add_octets(text, b";")?;
     }
     add_written(text, guard)
 }
@@ -104,7 +104,7 @@ fn add_word(
         ≡ text.old.items ++ word properties property said.now) }
 {
     if properties.contains(property) {
-        text.extend_from_slice(said)
+        add_octets(text, said)
     } else {
         Ok(())
     }
@@ -127,10 +127,10 @@ fn add_need(text: &mut Vec<u8>, need: &Need) -> Result<(), AllocError>
     if need.needs_encryption() {
         add_key(text, need)?;
         if need.authorized {
-            return text.extend_from_slice(b", authorized");
+            return add_octets(text, b", authorized");
         }
     } else if need.authorized {
-        return text.extend_from_slice(b" if authorized");
+        return add_octets(text, b" if authorized");
     }
     Ok(())
 }
@@ -140,12 +140,12 @@ fn add_key(text: &mut Vec<u8>, need: &Need) -> Result<(), AllocError>
     ensures ok { OnOk result (text.new.items ≡ text.old.items ++ key_words need.now) }
 {
     if need.secure {
-        return text.extend_from_slice(b" if secure connections");
+        return add_octets(text, b" if secure connections");
     }
     if need.needs_authentication() {
-        text.extend_from_slice(b" if authenticated")?;
+        add_octets(text, b" if authenticated")?;
     } else {
-        text.extend_from_slice(b" if encrypted")?;
+        add_octets(text, b" if encrypted")?;
     }
     add_asked_size(text, need.key_size)
 }
@@ -164,6 +164,6 @@ fn add_asked_size(text: &mut Vec<u8>, size: Option<u8>) -> Result<(), AllocError
 pub fn add_size(text: &mut Vec<u8>, size: u8) -> Result<(), AllocError>
     ensures ok { OnOk result (text.new.items ≡ text.old.items ++ size_words size) }
 {
-    text.extend_from_slice(b", key of ")?;
+    add_octets(text, b", key of ")?;
     add_number(text, u64::from(size))
 }

@@ -1,5 +1,6 @@
 //! Where a rows file has its fault, and what it is, in words.
 
+use crate::cells::add_octets;
 use crate::position::add_no_text;
 use gatt_subs::{Rows, RowsFault};
 use std::alloc::{AllocError, Global};
@@ -14,9 +15,14 @@ pub fn add_rows_fault(alloc: Global, text: &mut Vec<u8>, octets: &[u8]) -> Resul
         Err(error) => return add_no_text(text, octets, error.valid_up_to()),
     };
     match rows_fault(alloc, file)? {
-        Some(fault) => text.extend_from_slice(format!(in alloc; "{fault}")?.as_bytes()),
+        Some(fault) => add_words(alloc, text, fault),
         None => Ok(()),
     }
+}
+
+/// Adds what the reader says of a fault.
+fn add_words(alloc: Global, text: &mut Vec<u8>, fault: RowsFault) -> Result<(), AllocError> {
+    add_octets(text, format!(in alloc; "{fault}")?.as_bytes())
 }
 
 /// The first fault of a rows file.

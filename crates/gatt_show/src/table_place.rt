@@ -1,10 +1,10 @@
 //! Where a table file has its fault, and what it is, in words.
 
-use crate::cells::add_number;
+use crate::cells::{add_number, add_octets};
 use crate::front::{Front, Kept, Level};
 use crate::quoted::add_quoted;
 use crate::refused::Refused;
-use crate::wrong_key::{Others, add_name, add_range, add_words, add_wrong_key};
+use crate::wrong_key::{Others, add_name, add_range, add_said, add_words, add_wrong_key};
 use att_table::{TableFault, TableKey};
 use std::alloc::AllocError;
 
@@ -78,14 +78,13 @@ fn add_element(text: &mut Vec<u8>, front: &Front<'_>, fault: TableFault) -> Resu
 
 /// Adds the name of an element and its number.
 fn add_counted(text: &mut Vec<u8>, name: &[u8], count: usize) -> Result<(), AllocError> {
-    text.extend_from_slice(name)?;
+    add_octets(text, name)?;
     add_number(text, count as u64)
 }
 
 /// Adds the key that is missing.
 fn add_missing(text: &mut Vec<u8>, front: &Front<'_>, key: TableKey) -> Result<(), AllocError> {
-    add_name(text, front, key_name(key))?;
-    text.extend_from_slice(b": the key is missing")
+    add_said(text, front, key_name(key), b": the key is missing")
 }
 
 /// Adds the key whose text is bad, and what the reader says of it.
@@ -116,8 +115,7 @@ fn add_too_long(
     front: &Front<'_>,
 ) -> Result<(), AllocError> {
     if refused.has_fault_without(front, &["max"])? {
-        add_name(text, front, "value")?;
-        return text.extend_from_slice(b": it has more than 512 octets");
+        return add_said(text, front, "value", b": it has more than 512 octets");
     }
     add_name(text, front, "max")?;
     let mut kept = front.of(refused.alloc, refused.document)?;
@@ -166,7 +164,8 @@ fn add_property(
 ) -> Result<(), AllocError> {
     let without = front.with_keys(&Kept::Without(&["config"]));
     if !refused.has_fault(&without)? {
-        return text.extend_from_slice(
+        return add_octets(
+            text,
             b", config: there is nothing to configure without notify or indicate",
         );
     }
@@ -174,7 +173,7 @@ fn add_property(
     let bad = without.with(Level::Properties, count);
     add_name(text, front, "properties")?;
     add_last_property(text, refused, &bad)?;
-    text.extend_from_slice(b": it is none of ")?;
+    add_octets(text, b": it is none of ")?;
     add_allowed(text, refused, front)
 }
 
@@ -196,9 +195,9 @@ fn add_last_property(
 
 /// Adds a text of a file, in quotes.
 fn add_in_quotes(text: &mut Vec<u8>, quoted: &str) -> Result<(), AllocError> {
-    text.extend_from_slice(b" \"")?;
+    add_octets(text, b" \"")?;
     add_quoted(text, quoted)?;
-    text.extend_from_slice(b"\"")
+    add_octets(text, b"\"")
 }
 
 /// Adds the properties that the last element of a front may have.
@@ -230,7 +229,7 @@ fn is_allowed(
 /// Adds a word of several, behind a comma unless it is the first.
 fn add_one_of(text: &mut Vec<u8>, word: &str, is_first: bool) -> Result<(), AllocError> {
     if !is_first {
-        text.extend_from_slice(b", ")?;
+        add_octets(text, b", ")?;
     }
-    text.extend_from_slice(word.as_bytes())
+    add_octets(text, word.as_bytes())
 }

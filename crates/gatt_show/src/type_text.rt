@@ -4,6 +4,7 @@ ghost use Rattle.std.specs.Prelude.{◌≡◌, ◌++◌, OnOk};
 ghost use Rattle.std.specs.Option.{option_map};
 ghost use Rattle.gatt_show.specs.TypeText.{long_text, named, type_text, uuid_text};
 
+use crate::cells::add_octets;
 use crate::names::name_of;
 use std::alloc::AllocError;
 
@@ -17,7 +18,7 @@ pub fn add_type(text: &mut Vec<u8>, octets: &[u8]) -> Result<(), AllocError>
         [low, high] => {
             let mut digits = [0; 4];
             hex::encode_to_slice([*high, *low], &mut digits).unwrap();
-            text.extend_from_slice(&digits)?;
+            add_octets(text, &digits)?;
             add_name(text, name_of(u16::from_le_bytes([*low, *high])))
         }
         _ => add_long(text, octets),
@@ -34,7 +35,7 @@ fn add_long(text: &mut Vec<u8>, octets: &[u8]) -> Result<(), AllocError>
             let octets = [
                 *a, *b, *c, *d, *e, *f, *g, *h, *i, *j, *k, *l, *m, *n, *o, *p,
             ];
-            text.extend_from_slice(&uuid_text(octets))
+            add_octets(text, &uuid_text(octets))
         }
         _ => Ok(()),
     }
@@ -47,8 +48,8 @@ fn add_name(text: &mut Vec<u8>, name: Option<&str>) -> Result<(), AllocError>
 {
     match name {
         Some(name) => {
-            text.extend_from_slice(b" ")?;
-            text.extend_from_slice(name.as_bytes())
+            add_octets(text, b" ")?;
+            add_octets(text, name.as_bytes())
         }
         None => Ok(()),
     }

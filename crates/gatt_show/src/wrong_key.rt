@@ -1,6 +1,6 @@
 //! Which key of an element is at fault, and what it has to be.
 
-use crate::cells::add_number;
+use crate::cells::{add_number, add_octets};
 use crate::front::{Front, Kept};
 use crate::quoted::add_quoted;
 use crate::refused::Refused;
@@ -47,19 +47,30 @@ impl Others {
 /// Adds the name of a key, behind the element that has it.
 pub fn add_name(text: &mut Vec<u8>, front: &Front<'_>, key: &str) -> Result<(), AllocError> {
     if front.elements > 0 {
-        text.extend_from_slice(b", ")?;
+        add_octets(text, b", ")?;
     }
     if let Some(inner) = front.inner {
-        text.extend_from_slice(inner.as_bytes())?;
-        text.extend_from_slice(b", ")?;
+        add_octets(text, inner.as_bytes())?;
+        add_octets(text, b", ")?;
     }
     add_quoted(text, key)
 }
 
+/// Adds the name of a key, behind the element that has it, and what is wrong with it.
+pub fn add_said(
+    text: &mut Vec<u8>,
+    front: &Front<'_>,
+    key: &str,
+    said: &[u8],
+) -> Result<(), AllocError> {
+    add_name(text, front, key)?;
+    add_octets(text, said)
+}
+
 /// Adds what the reader says of the fault, behind its place.
 pub fn add_words(text: &mut Vec<u8>, refused: &Refused<'_>) -> Result<(), AllocError> {
-    text.extend_from_slice(b": ")?;
-    text.extend_from_slice(refused.fault.words(refused.alloc)?.as_bytes())
+    add_octets(text, b": ")?;
+    add_octets(text, refused.fault.words(refused.alloc)?.as_bytes())
 }
 
 /// Adds the first key of the last table of a front that is refused where it stands alone, and why: it
@@ -72,7 +83,7 @@ pub fn add_wrong_key(
     let mut kept = front.of(refused.alloc, refused.document)?;
     match front.last_table(&mut kept) {
         Some(table) => add_wrong_key_of(text, refused, front, table),
-        None => text.extend_from_slice(b": it has to be a table"),
+        None => add_octets(text, b": it has to be a table"),
     }
 }
 
@@ -112,11 +123,11 @@ fn add_wrong(
             if is_integer && *name == INTEGER {
                 return add_range(text, refused, front, Others::Left, key, 16);
             }
-            text.extend_from_slice(b": it has to be ")?;
-            return text.extend_from_slice(name);
+            add_octets(text, b": it has to be ")?;
+            return add_octets(text, name);
         }
     }
-    text.extend_from_slice(b": there is no such key")
+    add_octets(text, b": there is no such key")
 }
 
 /// Adds from which number to which one a key may have, of which this one is accepted.
@@ -130,11 +141,11 @@ pub fn add_range(
 ) -> Result<(), AllocError> {
     let least = least_number(refused, front, others, key, good)?;
     let greatest = bound(refused, front, others, key, good, TOO_MUCH)?;
-    text.extend_from_slice(b": it has to be ")?;
+    add_octets(text, b": it has to be ")?;
     if least != greatest {
-        text.extend_from_slice(b"from ")?;
+        add_octets(text, b"from ")?;
         add_number(text, least as u64)?;
-        text.extend_from_slice(b" to ")?;
+        add_octets(text, b" to ")?;
     }
     add_number(text, greatest as u64)
 }
