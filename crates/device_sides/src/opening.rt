@@ -7,7 +7,6 @@ use std::alloc::Global;
 use std::fs::{File, Files};
 use std::io;
 use std::net::{Net, SocketAddr, TcpListener, TcpStream};
-use std::os::unix::net::UnixListener;
 use std::time::Clock;
 
 /// The way to a controller: one that connects is listened for.
@@ -74,21 +73,11 @@ fn open_at_path<R: Net + Files + Clock + Eprint>(
     application: &mut Application,
     path: &str,
 ) -> io::Result<()> {
-    let listener = listen_at_path(log.rt, waiting, path)?;
+    let listener = bind_at_path(log.rt, path)?;
+    waiting.watch(&listener, Source::Applications)?;
     application.listen(Listener::Path(listener));
     log.say_of("listening for an application:", path);
     Ok(())
-}
-
-/// Listens at a path for applications.
-fn listen_at_path<R: Net + Files>(
-    rt: &R,
-    waiting: &Waiting,
-    path: &str,
-) -> io::Result<UnixListener> {
-    let listener = bind_at_path(rt, path)?;
-    waiting.watch(&listener, Source::Applications)?;
-    Ok(listener)
 }
 
 /// Waits for an application at an address.
