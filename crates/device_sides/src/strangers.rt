@@ -2,6 +2,7 @@
 
 ghost use Rattle.std.specs.Prelude.{◌≤◌, length, IfSome};
 
+use crate::controller_side::sooner;
 use arrayvec::ArrayVec;
 use gatt_laws::MAX_SLOTS;
 use le_h4::{Deframer, PacketRef};
@@ -85,10 +86,7 @@ impl Strangers {
         let mut due = None;
         for stranger in self.known.as_slice() {
             let at = stranger.since.saturating_add(limit);
-            due = Some(match due {
-                Some(first) if first <= at => first,
-                _ => at,
-            });
+            due = sooner(due, Some(at));
         }
         due
     }
