@@ -7,6 +7,7 @@ use crate::refused::Refused;
 use crate::wrong_key::{Others, add_name, add_range, add_said, add_words, add_wrong_key};
 use att_table::{TableFault, TableKey};
 use std::alloc::AllocError;
+use toml::Table;
 
 /// The levels of a table file, from its root down.
 const LEVELS: [Level; 4] = [
@@ -115,15 +116,34 @@ fn add_too_long(
     front: &Front<'_>,
 ) -> Result<(), AllocError> {
     if refused.has_fault_without(front, &["max"])? {
-        return add_said(text, front, "value", b": it has more than 512 octets");
+        add_said(text, front, "value", b": it has more than 512 octets")
+    } else {
+        add_bad_largest(text, refused, front)
     }
+}
+
+/// Adds which numbers the largest length of a value may be.
+fn add_bad_largest(
+    text: &mut Vec<u8>,
+    refused: &Refused<'_>,
+    front: &Front<'_>,
+) -> Result<(), AllocError> {
     add_name(text, front, "max")?;
+    match value_length(refused, front)? {
+        Some(length) => add_range(text, refused, front, Others::Kept, "max", length),
+        None => Ok(()),
+    }
+}
+
+/// How many octets the value of the last element of a front has, if there is that element.
+fn value_length(refused: &Refused<'_>, front: &Front<'_>) -> Result<Option<usize>, AllocError> {
     let mut kept = front.of(refused.alloc, refused.document)?;
-    let Some(element) = front.last_element(&mut kept) else {
-        return Ok(());
+    let length = match front.last_element(&mut kept) {
+        Some(element) => Some(toml_tables::text(element, "value").unwrap_or("").len() / 2),
+        None => None,
     };
-    let length = toml_tables::text(element, "value").map_or(0, |value| value.len() / 2);
-    add_range(text, refused, front, Others::Kept, "max", length)
+    drop(kept);
+    Ok(length)
 }
 
 /// Adds which key of a bad need is at fault, and why.
@@ -132,9 +152,19 @@ fn add_need(
     refused: &Refused<'_>,
     front: &Front<'_>,
 ) -> Result<(), AllocError> {
-    if !refused.has_fault_without(front, &["config"])? {
-        return add_in_need(text, refused, front, &["read", "write"], "config");
+    if refused.has_fault_without(front, &["config"])? {
+        add_used_need(text, refused, front)
+    } else {
+        add_in_need(text, refused, front, &["read", "write"], "config")
     }
+}
+
+/// Adds which key of a bad need of a value is at fault, and why.
+fn add_used_need(
+    text: &mut Vec<u8>,
+    refused: &Refused<'_>,
+    front: &Front<'_>,
+) -> Result<(), AllocError> {
     if refused.has_fault_without(front, &["config", "write"])? {
         add_in_need(text, refused, front, &["config", "write"], "read")
     } else {
@@ -163,16 +193,26 @@ fn add_property(
     front: &Front<'_>,
 ) -> Result<(), AllocError> {
     let without = front.with_keys(&Kept::Without(&["config"]));
-    if !refused.has_fault(&without)? {
-        return add_octets(
+    if refused.has_fault(&without)? {
+        add_bad_property(text, refused, front, &without)
+    } else {
+        add_octets(
             text,
             b", config: there is nothing to configure without notify or indicate",
-        );
+        )
     }
-    let count = refused.least(&without, Level::Properties)?;
-    let bad = without.with(Level::Properties, count);
+}
+
+/// Adds the property that is bad, also without a client configuration, and those that it may be.
+fn add_bad_property(
+    text: &mut Vec<u8>,
+    refused: &Refused<'_>,
+    front: &Front<'_>,
+    without: &Front<'_>,
+) -> Result<(), AllocError> {
+    let count = refused.least(without, Level::Properties)?;
     add_name(text, front, "properties")?;
-    add_last_property(text, refused, &bad)?;
+    add_last_property(text, refused, &without.with(Level::Properties, count))?;
     add_octets(text, b": it is none of ")?;
     add_allowed(text, refused, front)
 }
@@ -184,7 +224,14 @@ fn add_last_property(
     front: &Front<'_>,
 ) -> Result<(), AllocError> {
     let mut kept = front.of(refused.alloc, refused.document)?;
-    let Some(element) = front.last_element(&mut kept) else {
+    let added = add_last_word(text, front.last_element(&mut kept));
+    drop(kept);
+    added
+}
+
+/// Adds the last property that an element has, in quotes, if there is one.
+fn add_last_word(text: &mut Vec<u8>, element: Option<&mut Table>) -> Result<(), AllocError> {
+    let Some(element) = element else {
         return Ok(());
     };
     match toml_tables::items(element, "properties").last() {
