@@ -1,9 +1,13 @@
 -- How a host is opened: this profile's own.
 use Rattle.std.specs.Prelude.{Bool, ◌&&◌, if◌then◌else◌, List, []}
+use Rattle.att_table.specs.Changer.{changer_of}
 use Rattle.att_table.specs.Table.{Contents}
 use Rattle.gatt_host.specs.declared.config.Config.{Config}
+use Rattle.gatt_host.specs.declared.last_event.LastEvent.TheVariants as last
+use Rattle.gatt_host.specs.ServerState.{ServerState}
 use Rattle.gatt_laws.specs.machine.SharedState.{Bonds, ServiceChangedPending}
-use Rattle.gatt_laws.specs.machine.Start.{Start, may_be_opened}
+use Rattle.gatt_laws.specs.machine.Start.{Start, may_be_opened, new_controller}
+use Rattle.gatt_slots.specs.Slots.{SlotStates}
 use Rattle.gatt_subs.specs.Fit.{fitted_bond}
 use Rattle.gatt_subs.specs.Rows.{Subscriptions}
 use Rattle.le_security.specs.declared.entry.Entry.{Entry}
@@ -31,4 +35,20 @@ start_of table keys rows config = record {
   rx_mtu = config.rx_mtu;
   address = config.address;
   advertising = config.advertising;
+}
+
+-- what is held at first, over rows that fit the keys and the table
+abbrev pub held_at_first : Contents → List Entry → Subscriptions → SlotStates → Config → ServerState
+held_at_first table keys rows slots config = record {
+  table = table;
+  changer = changer_of table;
+  keys = keys;
+  rows = rows;
+  rx_mtu = config.rx_mtu;
+  time = 0;
+  controller = new_controller (start_of table keys rows config);
+  slots = slots;
+  last = last.Quiet;
+  written = [];
+  late = [];
 }

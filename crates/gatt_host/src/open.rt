@@ -1,12 +1,13 @@
 //! A host is opened, and all its room is made.
 
-ghost use Rattle.std.specs.Prelude.{◌≡◌, ◌↔◌, [], false, true, None, Err, IfOk};
+ghost use Rattle.std.specs.Prelude.{◌≡◌, ◌↔◌, [], false, true, replicate, None, Err, IfOk, IsOk};
 ghost use Rattle.std.specs.Option.{option_map_or};
 ghost use Rattle.gatt_laws.specs.machine.Input.{run};
 ghost use Rattle.gatt_laws.specs.machine.Start.{is_static};
-ghost use Rattle.gatt_host.specs.Opening.{is_configured, start_of};
+ghost use Rattle.gatt_host.specs.Opening.{held_at_first, is_configured, start_of};
 ghost use Rattle.gatt_host.specs.Promises.{GivesWhatIsDue, Promise};
 ghost use Rattle.gatt_host.specs.HostModel.{RefinesRun};
+ghost use Rattle.gatt_subs.specs.Fit.{fitted_rows, HasFittedBonds};
 
 use crate::config::{Config, OpenFault};
 use crate::controller::Controller;
@@ -50,34 +51,63 @@ impl Host {
         ensures promise { Promise }
     {
         let mut rows = rows;
-        if !is_configured(&config) {
-            return Err(OpenFault::BadConfig);
-        }
-        if rows.fit(alloc, &keys, &table).is_err() {
-            return Err(OpenFault::OutOfMemory);
-        }
-        let Ok(slots) = Slots::new(alloc, config.slots) else {
-            return Err(OpenFault::OutOfMemory);
+        let slots = match free_slots(alloc, &table, &keys, &mut rows, &config) {
+            Ok(slots) => slots,
+            Err(fault) => return Err(fault),
         };
         Ok(Host {
-            state: HostState {
-                changer: table.changer(),
-                table,
-                keys,
-                rows,
-                rx_mtu: config.rx_mtu,
-                time: 0,
-                controller: Controller::new(config.address, config.advertising),
-                slots,
-                last: LastEvent::Quiet,
-                written: ArrayVec::new(),
-                late: ArrayVec::new(),
-            },
+            state: held_at_first(table, keys, rows, slots, config),
             frames: array::from_fn(|_| Reassembler::new()),
             deframer: Deframer::new(),
             fault: None,
             packet: PacketBuf::new(),
         })
+    }
+}
+
+/// Judges the configuration, keeps of the rows what fits the keys and the table, and makes the slots.
+fn free_slots(
+    alloc: Global,
+    table: &Table,
+    keys: &Keys,
+    rows: &mut Rows,
+    config: &Config,
+) -> Result<Slots, OpenFault>
+    ensures config { (result ≡ Err OpenFault.BadConfig) ↔ (is_configured config.now ≡ false) }
+    ensures configured { IsOk result → is_configured config.now ≡ true }
+    ensures rows { IsOk result → rows.new ≡ fitted_rows keys.now table.now rows.old }
+    ensures bonds { IsOk result → HasFittedBonds keys.now table.now rows.old rows.new }
+    ensures slots { IfOk result (λ slots. slots ≡ replicate config.now.slots None) }
+{
+    if !is_configured(config) {
+        return Err(OpenFault::BadConfig);
+    }
+    if rows.fit(alloc, keys, table).is_err() {
+        return Err(OpenFault::OutOfMemory);
+    }
+    match Slots::new(alloc, config.slots) {
+        Ok(slots) => Ok(slots),
+        Err(_) => Err(OpenFault::OutOfMemory),
+    }
+}
+
+/// What a host holds at first.
+fn held_at_first(table: Table, keys: Keys, rows: Rows, slots: Slots, config: Config) -> HostState
+    requires { is_configured config ≡ true }
+    ensures { result ≡ held_at_first table keys rows slots config }
+{
+    HostState {
+        changer: table.changer(),
+        table,
+        keys,
+        rows,
+        rx_mtu: config.rx_mtu,
+        time: 0,
+        controller: Controller::new(config.address, config.advertising),
+        slots,
+        last: LastEvent::Quiet,
+        written: ArrayVec::new(),
+        late: ArrayVec::new(),
     }
 }
 

@@ -1,6 +1,6 @@
 -- A host that has just been opened stands at the start of its run.
 use Rattle.std.proofs.Common.{◌≡◌, ℕ, ◌≤◌, Bool, true, false, if◌then◌else◌, List, [], ◌∷◌, length, replicate, filter, Option, Some, None, refl, sym, ap, subst, arith}
-use Rattle.std.specs.Prelude.{unwrap_or, ◌&&◌, Result, Ok, Err, OnOk, is_err}
+use Rattle.std.specs.Prelude.{unwrap_or, ◌&&◌, Result, Err}
 use Rattle.std.specs.Option.{option_map, option_map_or}
 use Rattle.std.proofs.lemmas.List.{length-map}
 use Rattle.std.proofs.lemmas.List.Elements.{All-nil}
@@ -8,21 +8,17 @@ use Rattle.att_numbers.specs.Types.{Handle, Row}
 use Rattle.att_attributes.specs.declared.attr.Attr.{Attr}
 use Rattle.att_attributes.specs.Attributes.{is_configuration_at}
 use Rattle.att_table.proofs.Configurations.{row_of}
-use Rattle.att_table.specs.Changer.{changer_of}
 use Rattle.att_table.specs.ConfigRow.{with_bits, is_supported, IsRowOf}
 use Rattle.att_table.specs.Table.{Contents}
 use Rattle.gatt_host.proofs.meaning.Beginning.{stands_in_at_the_start}
-use Rattle.gatt_host.proofs.owing.Nexts.{clash}
 use Rattle.gatt_host.proofs.refinement.AtTheStart.{fitted_known}
 use Rattle.gatt_host.specs.declared.config.Config.{Config}
 use Rattle.gatt_host.specs.declared.host_fault.HostFault.{HostFault}
-use Rattle.gatt_host.specs.declared.last_event.LastEvent.TheVariants as last
 use Rattle.gatt_host.specs.ServerState.{ServerState}
-use Rattle.gatt_host.specs.Opening.{is_configured, start_of}
+use Rattle.gatt_host.specs.Opening.{held_at_first, is_configured, start_of}
 use Rattle.gatt_host.specs.StateRefinement.{IsOpenedAs}
 use Rattle.gatt_host.specs.HostModel.{HasRowsOfTheStart, IsReached, SameFault, RefinesRun, HostModel}
 use Rattle.gatt_laws.specs.machine.Input.{run}
-use Rattle.gatt_laws.specs.machine.Start.{new_controller}
 use Rattle.gatt_subs.proofs.Supported.{supported_configuration}
 use Rattle.gatt_subs.specs.declared.bond.Bond.{Bond}
 use Rattle.gatt_subs.specs.Fit.{fitted_bond, fitted_rows, peers_of, with_entries, HasFittedBonds, IsListed}
@@ -70,22 +66,6 @@ owed-if-known : (known : Bool) (bond : Bond) (found : Option Bond) → found ≡
 owed-if-known true bond found is = sym (ap (λ (found : Option Bond). option_map_or (λ (bond : Bond). bond.owed) found false) is)
 owed-if-known false bond found is = sym (ap (λ (found : Option Bond). option_map_or (λ (bond : Bond). bond.owed) found false) is)
 
--- what is held at first
-abbrev pub held_at_first : Contents → List Entry → Subscriptions → Config → ServerState
-held_at_first table keys rows config = record {
-  table = table;
-  changer = changer_of table;
-  keys = keys;
-  rows = rows;
-  rx_mtu = config.rx_mtu;
-  time = 0;
-  controller = new_controller (start_of table keys rows config);
-  slots = replicate config.slots None;
-  last = last.Quiet;
-  written = [];
-  late = [];
-}
-
 module _ (table : Contents) (keys : List Entry) (old new : Subscriptions) (config : Config) (fitted : HasFittedBonds keys table old new)
     (is_fitted : new ≡ fitted_rows keys table old) where
   listed : IsListed keys new
@@ -93,7 +73,7 @@ module _ (table : Contents) (keys : List Entry) (old new : Subscriptions) (confi
       subst (λ (rows : Subscriptions). IsListed keys rows) (sym is_fitted)
       (record { peers = refl; count = length-map (peers_of keys) (fitted_bond table old); unfitted = refl })
 
-  opened-as : IsOpenedAs (start_of table keys old config) (held_at_first table keys new config)
+  opened-as : IsOpenedAs (start_of table keys old config) (held_at_first table keys new (replicate config.slots None) config)
   opened-as = record {
     table = refl;
     changer = refl;
@@ -111,7 +91,7 @@ module _ (table : Contents) (keys : List Entry) (old new : Subscriptions) (confi
   few : is_configured config ≡ true → config.slots ≤ MAX_SLOTS
   few configured = grind (arith, configured)
 
-  pub stands_when_opened : (host : HostModel) → is_configured config ≡ true → host.server ≡ held_at_first table keys new config → length host.frames ≡ MAX_SLOTS
+  pub stands_when_opened : (host : HostModel) → is_configured config ≡ true → host.server ≡ held_at_first table keys new (replicate config.slots None) config → length host.frames ≡ MAX_SLOTS
       → host.stream ≡ deframing_at_start → host.fault ≡ None → RefinesRun (run (start_of table keys old config) []) [] host
   unfolding run
   stands_when_opened host configured server frames stream fault = record {
@@ -133,7 +113,9 @@ reached_when_opened table keys rows config host refines = record {
   refines = refines;
 }
 
--- what is so of an answer without a fault
-pub without_fault : {A : Type 0} {E : Type 0} {P : Type 0} (result : Result A E) → is_err result ≡ false → OnOk result P → P
-without_fault (Ok answer) none holds = holds
-without_fault (Err fault) none holds = absurd (clash (sym none))
+-- a fault is the same one, whatever is answered without it
+same-fault : {T E : Type 0} (fault other : E) → ◌≡◌ {A = Result T E} (Err fault) (Err other) → fault ≡ other
+same-fault fault other is = cc is
+
+pub still_refused : {T U E : Type 0} (fault other : E) → ◌≡◌ {A = Result T E} (Err fault) (Err other) → ◌≡◌ {A = Result U E} (Err fault) (Err other)
+still_refused {E = E} fault other is = ap (λ (why : E). Err why) (same-fault fault other is)
