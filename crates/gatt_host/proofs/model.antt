@@ -10,6 +10,7 @@ pub mod Octets
 pub mod Taking
 pub mod Feeds
 pub mod Due
+pub mod Stands
 pub mod Opened
 pub mod Driving
 pub mod Calling

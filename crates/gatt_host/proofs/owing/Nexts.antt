@@ -1,14 +1,15 @@
 -- What goes out next, by what is due.
-use Rattle.std.proofs.Common.{◌≡◌, Bool, true, false, List, [], ◌∷◌, Option, Some, None, refl, sym, ap, ◌∙◌}
+use Rattle.std.proofs.Common.{◌≡◌, ℕ, Bool, true, false, List, [], ◌∷◌, Option, Some, None, refl, sym, ap, ◌∙◌}
 use Rattle.std.specs.Prelude.{nat_lt, ◌&&◌, not, is_some, if◌then◌else◌}
 use Rattle.std.specs.Bool.{OnFalse}
 use Rattle.std.specs.Option.{option_map, option_map_or, option_or}
 use Rattle.std.proofs.lemmas.Bool.{OnFalse_at}
 use Rattle.gatt_laws.specs.machine.Controller.{Controller, controller_after}
-use Rattle.gatt_host.specs.GoingOut.{init_command, first_slot_command, has_free_slot, enabling_command, command_next, controller_then, next_out, first_slot_packet}
+use Rattle.gatt_host.specs.GoingOut.{init_command, first_slot_command, has_free_slot, enabling_command, command_next, controller_then, next_out, first_slot_packet, slots_commanded, with_first}
 use Rattle.gatt_laws.specs.machine.State.{command_octets}
+use Rattle.gatt_slots.specs.Commands.{has_command, slot_without_command}
 use Rattle.gatt_slots.specs.SlotState.{SlotState}
-use Rattle.le_hci.specs.Command.{Commanded, LeSetAdvertiseEnable}
+use Rattle.le_hci.specs.Command.{Commanded, LeSetAdvertiseEnable, opcode_of}
 
 pub is_none_where : {A : Type 0} (found : Option A) → is_some found ≡ false → found ≡ None
 is_none_where None lacks = refl
@@ -29,6 +30,20 @@ there_where None has = absurd (clash has)
 pub some_of : {A : Type 0} (x y : A) → Some x ≡ Some y → x ≡ y
 some_of x y e = cc e
 
+-- a command with this opcode is there
+pub record ThereWith (found : Option Commanded) (opcode : ℕ) : Type 0 where
+  pub x : Commanded
+  pub is : found ≡ Some x
+  pub opcode_is : opcode ≡ opcode_of x
+
+pub there_with : (found : Option Commanded) (opcode : ℕ) → Some opcode ≡ option_map opcode_of found → ThereWith found opcode
+there_with (Some x) opcode is = record { x = x; is = refl; opcode_is = some_of opcode (opcode_of x) is }
+there_with None opcode is = absurd (clash (sym (ap is_some is)))
+
+pub none_with : (found : Option Commanded) → None ≡ option_map opcode_of found → found ≡ None
+none_with (Some x) is = absurd (clash (ap is_some is))
+none_with None is = refl
+
 module _ (controller : Controller) (slots : List (Option SlotState)) where
   abbrev Is : Option Commanded → Type 0
   Is found = command_next controller slots ≡ found
@@ -48,6 +63,11 @@ module _ (controller : Controller) (slots : List (Option SlotState)) where
 
   pub then_controller : (found : Option Commanded) → Is found → controller_then controller slots ≡ option_map_or (λ command. controller_after controller (command ∷ [])) found controller
   then_controller found is = ap (λ due. option_map_or (λ command. controller_after controller (command ∷ [])) due controller) is
+
+  -- the slots, by whether the command is that of initialisation
+  pub commanded_by : (some : Bool) → is_some (init_command controller) ≡ some
+      → slots_commanded controller slots ≡ (if some then slots else with_first has_command (option_map slot_without_command) slots)
+  commanded_by some is = ap (λ (some : Bool). if some then slots else with_first has_command (option_map slot_without_command) slots) is
 
 pub enabling_some : (due : Bool) → is_some (let found : Option Commanded = if due then Some LeSetAdvertiseEnable else None in found) ≡ due
 enabling_some true = refl

@@ -1,10 +1,10 @@
 -- A Command Status that refuses the command that initialisation awaits stops the host.
-use Rattle.std.proofs.Common.{◌≡◌, ℕ, Bool, true, false, [], ◌∷◌, Option, Some, None, Result, Ok, Err, sym, ap, ◌∙◌}
+use Rattle.std.proofs.Common.{◌≡◌, ℕ, Bool, true, false, [], ◌∷◌, Option, Some, None, Result, Ok, Err, refl, sym, ap, ◌∙◌}
 use Rattle.std.proofs.lemmas.Bool.{eqb-true}
 use Rattle.std.specs.Prelude.{◌==◌, ◌&&◌, not, if◌then◌else◌}
 use Rattle.std.specs.Option.{option_map_or}
 use Rattle.gatt_host.proofs.owing.Nexts.{clash}
-use Rattle.gatt_host.specs.Answers.{stop_of}
+use Rattle.gatt_host.specs.Answers.{following_stop, stop_of}
 use Rattle.gatt_host.specs.declared.host_fault.HostFault.TheVariants as stop
 use Rattle.gatt_laws.specs.machine.Controller.{Controller}
 use Rattle.gatt_laws.specs.machine.Packets.{Fault, InitFailed, answered, following_of, is_awaited, status_event}
@@ -39,3 +39,8 @@ stops_where_refused controller status allowed opcode is other =
     ∙ ap (λ (zero : Bool). stop_of (answered allowed opcode (Some status) (if not zero then leads else Ok None))) other
     ∙ ap (λ (result : Result (Option Init) Fault). stop_of (answered allowed opcode (Some status) result))
     (leads-to (opcode_awaited controller.init) controller.init opcode status (right-of controller.awaiting _ is) other)
+
+-- what stops initialisation stops the host
+pub stops_where_told : (allowed opcode : ℕ) (status : Option ℕ) (following : Result (Option Init) Fault) → stop_of (answered allowed opcode status following) ≡ following_stop following
+stops_where_told allowed opcode status (Ok following) = refl
+stops_where_told allowed opcode status (Err fault) = refl

@@ -5,6 +5,8 @@ use Rattle.gatt_host.proofs.model.Driving.{past_fault}
 use Rattle.gatt_host.proofs.model.Feeds.{fault_answered, none_answered}
 use Rattle.gatt_host.proofs.model.Hearing.{past_heard}
 use Rattle.gatt_host.proofs.model.HearingTurns.{nothing_heard}
+use Rattle.gatt_host.proofs.model.Stands.{past_going}
+use Rattle.gatt_host.proofs.Promises.{keeps_connections_apart, keeps_the_policy}
 use Rattle.gatt_host.specs.Calls.{call_of}
 use Rattle.gatt_host.specs.Calling.{answer_told}
 use Rattle.gatt_host.specs.declared.fault.Fault.TheVariants as told
@@ -69,3 +71,39 @@ returns-clause-answers g c = λ none. record {
       call_refused (call_of c.args.call) c.args.host.now c.feed.new.host c.do_call.new.host (g.W.Sink.contents c.args.out.now) (g.W.Sink.contents c.feed.new.out) (g.W.Sink.contents c.do_call.new.out)
       (none_answered c.feed.new.host.fault c.in_ok-feed.ensures.outcome) (c.feed.ensures.feeds none) c.in_ok-do_call.field-0 c.in_ok-do_call.ensures.refused;
 }
+
+pub returns-in_err-feed-clause-policy : goal.returns-in_err-feed-clause-policy
+returns-in_err-feed-clause-policy g c = keeps_the_policy
+
+pub returns-in_err-feed-clause-apart : goal.returns-in_err-feed-clause-apart
+returns-in_err-feed-clause-apart g c = keeps_connections_apart
+
+pub returns-in_err-do_call-clause-policy : goal.returns-in_err-do_call-clause-policy
+returns-in_err-do_call-clause-policy g c = keeps_the_policy
+
+pub returns-in_err-do_call-clause-apart : goal.returns-in_err-do_call-clause-apart
+returns-in_err-do_call-clause-apart g c = keeps_connections_apart
+
+pub returns-clause-policy : goal.returns-clause-policy
+returns-clause-policy g c = keeps_the_policy
+
+pub returns-clause-apart : goal.returns-clause-apart
+returns-clause-apart g c = keeps_connections_apart
+
+pub returns-in_err-do_call-clause-stopped : goal.returns-in_err-do_call-clause-stopped
+returns-in_err-do_call-clause-stopped g c = past_going c.args.host.now c.feed.new.host (none_answered c.feed.new.host.fault c.in_ok-feed.ensures.outcome) c.feed.ensures.stopped
+
+pub returns-in_err-do_call-clause-sink_stopped : goal.returns-in_err-do_call-clause-sink_stopped
+returns-in_err-do_call-clause-sink_stopped g c = past_going c.args.host.now c.feed.new.host (none_answered c.feed.new.host.fault c.in_ok-feed.ensures.outcome) c.feed.ensures.stopped
+
+pub returns-in_err-do_call-clause-listener_stopped : goal.returns-in_err-do_call-clause-listener_stopped
+returns-in_err-do_call-clause-listener_stopped g c = past_going c.args.host.now c.feed.new.host (none_answered c.feed.new.host.fault c.in_ok-feed.ensures.outcome) c.feed.ensures.stopped
+
+pub returns-clause-stopped : goal.returns-clause-stopped
+returns-clause-stopped g c = past_going c.args.host.now c.feed.new.host (none_answered c.feed.new.host.fault c.in_ok-feed.ensures.outcome) c.feed.ensures.stopped
+
+pub returns-clause-sink_stopped : goal.returns-clause-sink_stopped
+returns-clause-sink_stopped g c = past_going c.args.host.now c.feed.new.host (none_answered c.feed.new.host.fault c.in_ok-feed.ensures.outcome) c.feed.ensures.stopped
+
+pub returns-clause-listener_stopped : goal.returns-clause-listener_stopped
+returns-clause-listener_stopped g c = past_going c.args.host.now c.feed.new.host (none_answered c.feed.new.host.fault c.in_ok-feed.ensures.outcome) c.feed.ensures.stopped

@@ -4,6 +4,8 @@ use Rattle.gatt_host.proofs.model.Calls.{call_refused, call_told, takes_call}
 use Rattle.gatt_host.proofs.model.Told.{told_in_run}
 use Rattle.gatt_host.proofs.model.Items.{drained_where, is_of_its_table, reached_by}
 use Rattle.gatt_host.specs.Calls.{call_of}
+use Rattle.gatt_host.proofs.model.Stands.{past_none, past_some}
+use Rattle.gatt_host.proofs.Promises.{keeps_connections_apart, keeps_the_policy}
 use Rattle.gatt_host.specs.contracts.host.Host.{the_view}
 use Rattle.gatt_host.specs.Meaning.{IsAfter}
 use Rattle.gatt_host.specs.HostModel.{RefinesRun, Takes, HostModel, all_out}
@@ -52,3 +54,27 @@ returns-clause-told c = λ start input sent is none still.
     told_in_run (ACall (call_of c.args.call)) (run start input) sent old new going (call_event (run start input).intake.state (call_of c.args.call))
     refl still (subst (λ (host : HostModel). RefinesRun (run start input) sent host) (sym c.self.view_is) is) (λ refines.
     call_told (call_of c.args.call) old new going out c.app.result c.app.ensures.after c.app.ensures.refused c.app.ensures.silent (run start input) sent refines)
+
+pub returns-then-is_some-clause-takes : goal.returns-then-is_some-clause-takes
+returns-then-is_some-clause-takes c = past_some (the_view c.self.inside) c.args.self.now c.self.view_is (sym c.is_some.ensures ∙ c.if-is_some.true)
+
+pub returns-then-is_some-clause-told : goal.returns-then-is_some-clause-told
+returns-then-is_some-clause-told c = λ start input sent is none. past_some (the_view c.self.inside) c.args.self.now c.self.view_is (sym c.is_some.ensures ∙ c.if-is_some.true) none
+
+pub returns-then-is_some-clause-refused : goal.returns-then-is_some-clause-refused
+returns-then-is_some-clause-refused c = λ start input sent is. past_some (the_view c.self.inside) c.args.self.now c.self.view_is (sym c.is_some.ensures ∙ c.if-is_some.true)
+
+pub returns-then-is_some-clause-policy : goal.returns-then-is_some-clause-policy
+returns-then-is_some-clause-policy c = keeps_the_policy
+
+pub returns-then-is_some-clause-apart : goal.returns-then-is_some-clause-apart
+returns-then-is_some-clause-apart c = keeps_connections_apart
+
+pub returns-clause-stopped : goal.returns-clause-stopped
+returns-clause-stopped c = past_none (the_view c.self.inside) c.args.self.now c.self.view_is (is_none_where (the_view c.self.inside).fault (sym c.is_some.ensures ∙ c.if-is_some.false))
+
+pub returns-clause-policy : goal.returns-clause-policy
+returns-clause-policy c = keeps_the_policy
+
+pub returns-clause-apart : goal.returns-clause-apart
+returns-clause-apart c = keeps_connections_apart

@@ -3,6 +3,8 @@ use Rattle.std.specs.Prelude.{IsOk}
 use Rattle.gatt_host.proofs.model.Items.{drained_where, none_unless, reached_by, is_of_its_table}
 use Rattle.gatt_host.proofs.model.Packets.{passes_long, takes_packet}
 use Rattle.gatt_host.proofs.model.Told.{long_told, not_long, ok_where, told_in_run}
+use Rattle.gatt_host.proofs.model.Stands.{past_none, past_stop}
+use Rattle.gatt_host.proofs.Promises.{keeps_connections_apart, keeps_the_policy}
 use Rattle.gatt_host.specs.contracts.host.Host.{the_view}
 use Rattle.gatt_host.specs.HostModel.{RefinesPacket, RefinesRun, Takes, HostModel, all_out}
 use Rattle.gatt_laws.specs.machine.Input.{APacket, run}
@@ -63,3 +65,36 @@ returns-clause-told c = λ start input sent is none still.
     (not_long (run start input).intake.state (run start input).intake.fragments (packet_of_ref c.args.packet) (sym c.is_long.ensures ∙ c.if-is_long.false)) still
     (subst (λ (host : HostModel). RefinesRun (run start input) sent host) (sym c.self.view_is) is) (λ refines.
     c.packet-taken.ensures.told done (run start input) sent refines)
+
+pub returns-in-Some-clause-takes : goal.returns-in-Some-clause-takes
+returns-in-Some-clause-takes c = past_stop (the_view c.self.inside) c.args.self.now c.self.view_is c.in-Some.fault c.in-Some.is
+
+pub returns-in-Some-clause-told : goal.returns-in-Some-clause-told
+returns-in-Some-clause-told c = λ start input sent is none. past_stop (the_view c.self.inside) c.args.self.now c.self.view_is c.in-Some.fault c.in-Some.is none
+
+pub returns-in-Some-clause-not_own : goal.returns-in-Some-clause-not_own
+returns-in-Some-clause-not_own c = past_stop (the_view c.self.inside) c.args.self.now c.self.view_is c.in-Some.fault c.in-Some.is
+
+pub returns-in-Some-clause-policy : goal.returns-in-Some-clause-policy
+returns-in-Some-clause-policy c = keeps_the_policy
+
+pub returns-in-Some-clause-apart : goal.returns-in-Some-clause-apart
+returns-in-Some-clause-apart c = keeps_connections_apart
+
+pub returns-then-is_long-clause-stopped : goal.returns-then-is_long-clause-stopped
+returns-then-is_long-clause-stopped c = past_none (the_view c.self.inside) c.args.self.now c.self.view_is c.in_default.is
+
+pub returns-then-is_long-clause-policy : goal.returns-then-is_long-clause-policy
+returns-then-is_long-clause-policy c = keeps_the_policy
+
+pub returns-then-is_long-clause-apart : goal.returns-then-is_long-clause-apart
+returns-then-is_long-clause-apart c = keeps_connections_apart
+
+pub returns-clause-stopped : goal.returns-clause-stopped
+returns-clause-stopped c = past_none (the_view c.self.inside) c.args.self.now c.self.view_is c.in_default.is
+
+pub returns-clause-policy : goal.returns-clause-policy
+returns-clause-policy c = keeps_the_policy
+
+pub returns-clause-apart : goal.returns-clause-apart
+returns-clause-apart c = keeps_connections_apart

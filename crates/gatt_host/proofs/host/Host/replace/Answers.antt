@@ -3,6 +3,8 @@ use Rattle.gatt_host.proofs.owing.Nexts.{is_none_where}
 use Rattle.gatt_host.proofs.model.Calls.{replaced_after, table_told, takes_table}
 use Rattle.gatt_host.proofs.model.Told.{told_in_run}
 use Rattle.gatt_host.proofs.model.Items.{reached_by}
+use Rattle.gatt_host.proofs.model.Stands.{past_none, past_some}
+use Rattle.gatt_host.proofs.Promises.{keeps_connections_apart, keeps_the_policy}
 use Rattle.gatt_host.specs.contracts.host.Host.{the_view}
 use Rattle.gatt_host.specs.HostModel.{RefinesRun, Takes, HostModel, all_out}
 use Rattle.gatt_laws.specs.machine.Calls.{replacement_event}
@@ -40,3 +42,27 @@ returns-clause-told c = λ start input sent is none still.
     table_told c.args.table old new going out c.replace_table.result
     (replaced_after c.args.table old.server new.server c.replace_table.result c.replace_table.ensures.after) c.replace_table.ensures.accepted c.replace_table.ensures.refused
     c.replace_table.ensures.silent (run start input) sent refines)
+
+pub returns-then-is_some-clause-takes : goal.returns-then-is_some-clause-takes
+returns-then-is_some-clause-takes c = past_some (the_view c.self.inside) c.args.self.now c.self.view_is (sym c.is_some.ensures ∙ c.if-is_some.true)
+
+pub returns-then-is_some-clause-told : goal.returns-then-is_some-clause-told
+returns-then-is_some-clause-told c = λ start input sent is none. past_some (the_view c.self.inside) c.args.self.now c.self.view_is (sym c.is_some.ensures ∙ c.if-is_some.true) none
+
+pub returns-then-is_some-clause-refused : goal.returns-then-is_some-clause-refused
+returns-then-is_some-clause-refused c = λ start input sent is. past_some (the_view c.self.inside) c.args.self.now c.self.view_is (sym c.is_some.ensures ∙ c.if-is_some.true)
+
+pub returns-then-is_some-clause-policy : goal.returns-then-is_some-clause-policy
+returns-then-is_some-clause-policy c = keeps_the_policy
+
+pub returns-then-is_some-clause-apart : goal.returns-then-is_some-clause-apart
+returns-then-is_some-clause-apart c = keeps_connections_apart
+
+pub returns-clause-stopped : goal.returns-clause-stopped
+returns-clause-stopped c = past_none (the_view c.self.inside) c.args.self.now c.self.view_is (is_none_where (the_view c.self.inside).fault (sym c.is_some.ensures ∙ c.if-is_some.false))
+
+pub returns-clause-policy : goal.returns-clause-policy
+returns-clause-policy c = keeps_the_policy
+
+pub returns-clause-apart : goal.returns-clause-apart
+returns-clause-apart c = keeps_connections_apart

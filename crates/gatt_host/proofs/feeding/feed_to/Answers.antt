@@ -1,0 +1,40 @@
+use Rattle.gatt_host.proofs.model.Stands.{past_none, past_stop}
+use Rattle.gatt_host.proofs.Promises.{keeps_connections_apart, keeps_the_policy}
+use Rattle.gatt_host.specs.contracts.host.Host.{the_view}
+use Rattle.gatt_host.proofs.feeding.feed_to.Goals as goal
+
+pub returns-in-Some-clause-feeds : goal.returns-in-Some-clause-feeds
+returns-in-Some-clause-feeds g c = past_stop (the_view c.host.inside) c.args.host.now c.host.view_is c.in-Some.fault c.in-Some.is
+
+pub returns-in-Some-clause-heard : goal.returns-in-Some-clause-heard
+returns-in-Some-clause-heard g c = past_stop (the_view c.host.inside) c.args.host.now c.host.view_is c.in-Some.fault c.in-Some.is
+
+pub returns-in-Some-clause-due : goal.returns-in-Some-clause-due
+returns-in-Some-clause-due g c = past_stop (the_view c.host.inside) c.args.host.now c.host.view_is c.in-Some.fault c.in-Some.is
+
+pub returns-in-Some-clause-feeding : goal.returns-in-Some-clause-feeding
+returns-in-Some-clause-feeding g c = past_stop (the_view c.host.inside) c.args.host.now c.host.view_is c.in-Some.fault c.in-Some.is
+
+pub returns-in-Some-clause-failures : goal.returns-in-Some-clause-failures
+returns-in-Some-clause-failures g c = past_stop (the_view c.host.inside) c.args.host.now c.host.view_is c.in-Some.fault c.in-Some.is
+
+pub returns-in-Some-clause-policy : goal.returns-in-Some-clause-policy
+returns-in-Some-clause-policy g c = keeps_the_policy
+
+pub returns-in-Some-clause-apart : goal.returns-in-Some-clause-apart
+returns-in-Some-clause-apart g c = keeps_connections_apart
+
+pub returns-clause-stopped : goal.returns-clause-stopped
+returns-clause-stopped g c = past_none (the_view c.host.inside) c.args.host.now c.host.view_is c.in_default.is
+
+pub returns-clause-sink_stopped : goal.returns-clause-sink_stopped
+returns-clause-sink_stopped g c = past_none (the_view c.host.inside) c.args.host.now c.host.view_is c.in_default.is
+
+pub returns-clause-listener_stopped : goal.returns-clause-listener_stopped
+returns-clause-listener_stopped g c = past_none (the_view c.host.inside) c.args.host.now c.host.view_is c.in_default.is
+
+pub returns-clause-policy : goal.returns-clause-policy
+returns-clause-policy g c = keeps_the_policy
+
+pub returns-clause-apart : goal.returns-clause-apart
+returns-clause-apart g c = keeps_connections_apart

@@ -1,0 +1,25 @@
+use Rattle.gatt_host.proofs.model.Stands.{past_none, past_stop}
+use Rattle.gatt_host.proofs.Promises.{keeps_connections_apart, keeps_the_policy}
+use Rattle.gatt_host.specs.contracts.host.Host.{the_view}
+use Rattle.gatt_host.proofs.host.Host.take.Goals as goal
+
+pub returns-in-Some-clause-takes : goal.returns-in-Some-clause-takes
+returns-in-Some-clause-takes c = past_stop (the_view c.self.inside) c.args.self.now c.self.view_is c.in-Some.fault c.in-Some.is
+
+pub returns-in-Some-clause-not_own : goal.returns-in-Some-clause-not_own
+returns-in-Some-clause-not_own c = past_stop (the_view c.self.inside) c.args.self.now c.self.view_is c.in-Some.fault c.in-Some.is
+
+pub returns-in-Some-clause-policy : goal.returns-in-Some-clause-policy
+returns-in-Some-clause-policy c = keeps_the_policy
+
+pub returns-in-Some-clause-apart : goal.returns-in-Some-clause-apart
+returns-in-Some-clause-apart c = keeps_connections_apart
+
+pub returns-clause-stopped : goal.returns-clause-stopped
+returns-clause-stopped c = past_none (the_view c.self.inside) c.args.self.now c.self.view_is c.in_default.is
+
+pub returns-clause-policy : goal.returns-clause-policy
+returns-clause-policy c = keeps_the_policy
+
+pub returns-clause-apart : goal.returns-clause-apart
+returns-clause-apart c = keeps_connections_apart
