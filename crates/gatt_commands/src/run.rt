@@ -149,7 +149,7 @@ fn run_text<V: RowsStore, W: Write>(
 {
     let script = judged_script(alloc, text, next.is_some())?;
     let mut host = open_host(alloc, table, keys, rows)?;
-    run_opened(
+    let ran = run_opened(
         alloc,
         &mut host,
         &mut next,
@@ -158,5 +158,9 @@ fn run_text<V: RowsStore, W: Write>(
         shows.notices,
         shown_text(text, shows.lines),
         writer,
-    )
+    );
+    // Each is dropped as a whole, for the proof.
+    drop(host);
+    drop(next);
+    ran
 }

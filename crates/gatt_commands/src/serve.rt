@@ -113,7 +113,10 @@ pub fn serve_paths<F: Files + Net<Listener = TcpListener, Stream = TcpStream>>(
     ensures { IfErr result IsServeFault }
 {
     let mut host = open_paths(alloc, system, paths)?;
-    serve_at(system, &mut host, paths.rows, address)
+    let served = serve_at(system, &mut host, paths.rows, address);
+    // It is dropped as a whole, for the proof.
+    drop(host);
+    served
 }
 
 /// Listens at an address, and serves the first connection with a host that is open.

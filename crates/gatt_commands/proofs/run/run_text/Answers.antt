@@ -24,9 +24,9 @@ returns-clause-runs g c = λ past. record {
   has_lines = c.shown_text.ensures;
   host = c.in_ok-host.host;
   opened = c.in_ok-host.ensures.opened;
-  last = c.run_opened.new.host;
-  next_then = c.run_opened.new.next;
-  runs = c.run_opened.ensures.runs past;
+  last = c.run_opened-ran.new.host;
+  next_then = c.run_opened-ran.new.next;
+  runs = c.run_opened-ran.ensures.runs past;
 }
 
 pub returns-clause-unbegun : goal.returns-clause-unbegun
@@ -40,11 +40,11 @@ returns-clause-unbegun g c = or_more
       has_lines = c.shown_text.ensures;
       host = c.in_ok-host.host;
       opened = c.in_ok-host.ensures.opened;
-      last = c.run_opened.new.host;
-      next_then = c.run_opened.new.next;
+      last = c.run_opened-ran.new.host;
+      next_then = c.run_opened-ran.new.next;
       runs = runs;
     })
-    c.run_opened.ensures.unbegun
+    c.run_opened-ran.ensures.unbegun
 
 pub returns-in_err-script-clause-script : goal.returns-in_err-script-clause-script
 returns-in_err-script-clause-script g c = λ line is.
@@ -69,4 +69,4 @@ returns-in_err-script-clause-faults g c =
     c.from_residual.ensures.1 c.in_err-script.ensures.refused
 
 pub returns-clause-faults : goal.returns-clause-faults
-returns-clause-faults g c = ran_at_all c.run_opened.result c.run_opened.ensures.faults
+returns-clause-faults g c = ran_at_all c.run_opened-ran.result c.run_opened-ran.ensures.faults
