@@ -30,7 +30,10 @@ pub(crate) fn open_host(
     ensures opened { IfOk result (IsOpened table keys rows) }
     ensures faults { IfErr result (λ fault. fault ≡ ShellFault.Memory) }
 {
-    Host::open(alloc, table, keys, rows, configured()).map_err(|_| ShellFault::Memory)
+    match Host::open(alloc, table, keys, rows, configured()) {
+        Ok(host) => Ok(host),
+        Err(_) => Err(ShellFault::Memory),
+    }
 }
 
 /// What the host is opened with, beside its files.

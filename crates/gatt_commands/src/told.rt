@@ -14,7 +14,6 @@ use sim_controller::Sim;
 use std::io::Write;
 
 /// Prints what a line has brought, and then what was noted.
-#[tactic(auto, using(gatt_files::proofs::Fronts::at_error, gatt_files::proofs::Fronts::front_first, gatt_files::proofs::Fronts::front_then, gatt_files::proofs::Fronts::front_rest))]
 pub(crate) fn print_line<W: Write>(
     sim: &mut Sim,
     names: &[Name<'_>],
