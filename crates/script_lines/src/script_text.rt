@@ -54,7 +54,6 @@ pub fn echo<'a, W: Write>(
 }
 
 /// Prints a line with its line feed.
-#[tactic(auto, using(gatt_files::proofs::Fronts::at_error, gatt_files::proofs::Fronts::front_first, gatt_files::proofs::Fronts::front_rest))]
 fn print_line<W: Write>(line: &[u8], writer: &mut W) -> Result<(), ShellFault>
     ensures ok { OnOk result
         (Appends (W.contents writer.old) (W.contents writer.new) (line.now ++ line_feed)) }

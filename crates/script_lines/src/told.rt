@@ -1,6 +1,6 @@
 //! What is printed of what a line of a script has brought.
 
-ghost use Rattle.std.specs.Prelude.{◌≡◌, ◌<◌, ◌≤◌, length, Ok, IfErr, IfSome, OnErr, OnOk};
+ghost use Rattle.std.specs.Prelude.{◌≡◌, ◌<◌, ◌≤◌, ◌++◌, length, Ok, IfErr, IfSome, OnErr, OnOk};
 ghost use Rattle.std.specs.Io.KnownBytes.{Appends};
 ghost use Rattle.le_acl.specs.declared.frame.TheConstants.{MAX_FRAME};
 ghost use Rattle.le_l2cap.specs.Frame.{frame_of, BasicFrame};
@@ -64,7 +64,6 @@ fn print_phones<W: Write>(
 
 /// Prints the number of the fault for which a call of the application, or an act of a phone, was
 /// refused.
-#[tactic(auto, using(gatt_files::proofs::Fronts::at_error, gatt_files::proofs::Fronts::front_first, gatt_files::proofs::Fronts::front_then, gatt_files::proofs::Fronts::front_rest))]
 fn print_refused<W: Write>(
     names: &[Name<'_>],
     refused: Refused,
@@ -83,8 +82,7 @@ fn print_refused<W: Write>(
             print_number_line(u64::from(number), writer)
         }
         Refused::Act { phone, number } => {
-            print(names[usize::from(phone)].as_str().as_bytes(), writer)?;
-            print(b" refused ", writer)?;
+            print_name(&names[usize::from(phone)], b" refused ", writer)?;
             print_number_line(u64::from(number), writer)
         }
     }
@@ -117,7 +115,6 @@ fn print_phone<W: Write>(
 }
 
 /// Prints a frame that a phone has heard: its channel and its payload.
-#[tactic(auto, using(gatt_files::proofs::Fronts::at_error, gatt_files::proofs::Fronts::front_first, gatt_files::proofs::Fronts::front_then, gatt_files::proofs::Fronts::front_rest))]
 fn print_frame<W: Write>(name: &Name<'_>, octets: &[u8], writer: &mut W) -> Result<(), ShellFault>
     requires { length octets.now ≤ MAX_FRAME }
     ensures ok { (frame : BasicFrame) → frame_of octets.now ≡ Ok frame
@@ -132,8 +129,7 @@ fn print_frame<W: Write>(name: &Name<'_>, octets: &[u8], writer: &mut W) -> Resu
     let Ok(frame) = read_frame(octets) else {
         return Ok(());
     };
-    print(name.as_str().as_bytes(), writer)?;
-    print(sign_of(frame.cid), writer)?;
+    print_name(name, sign_of(frame.cid), writer)?;
     print_hex_line(frame.payload, writer)
 }
 
@@ -151,7 +147,6 @@ fn sign_of(cid: u16) -> &'static [u8]
 }
 
 /// Prints that the host has ended the connection of a phone, for a reason.
-#[tactic(auto, using(gatt_files::proofs::Fronts::at_error, gatt_files::proofs::Fronts::front_first, gatt_files::proofs::Fronts::front_then, gatt_files::proofs::Fronts::front_rest))]
 fn print_ended<W: Write>(name: &Name<'_>, reason: u8, writer: &mut W) -> Result<(), ShellFault>
     ensures ok { OnOk result
         (Appends (W.contents writer.old) (W.contents writer.new) (ended_line name.now reason)) }
@@ -159,7 +154,18 @@ fn print_ended<W: Write>(name: &Name<'_>, reason: u8, writer: &mut W) -> Result<
         (WritesFront (ended_line name.now reason) (W.contents writer.old) (W.contents writer.new)) }
     ensures faults { IfErr result (λ fault. fault ≡ ShellFault.Unwritten) }
 {
-    print(name.as_str().as_bytes(), writer)?;
-    print(b" ended ", writer)?;
+    print_name(name, b" ended ", writer)?;
     print_hex_line(&[reason], writer)
+}
+
+/// Prints a name and what stands behind it.
+fn print_name<W: Write>(name: &Name<'_>, behind: &[u8], writer: &mut W) -> Result<(), ShellFault>
+    ensures ok { OnOk result
+        (Appends (W.contents writer.old) (W.contents writer.new) (name.now ++ behind.now)) }
+    ensures front { OnErr result
+        (WritesFront (name.now ++ behind.now) (W.contents writer.old) (W.contents writer.new)) }
+    ensures faults { IfErr result (λ fault. fault ≡ ShellFault.Unwritten) }
+{
+    print(name.as_str().as_bytes(), writer)?;
+    print(behind, writer)
 }

@@ -1,24 +1,20 @@
-use Rattle.std.proofs.Common.{[], ◌∷◌, ◌++◌, refl, ◌∙◌}
+use Rattle.std.proofs.Common.{[], ◌∷◌, ◌++◌, refl}
 use Rattle.std.specs.Prelude.{codes}
 use Rattle.hex.specs.Hex.{encode_lower}
-use Rattle.gatt_files.proofs.Fronts.{first_of, four_parts, then_of}
+use Rattle.gatt_files.proofs.Fronts.{first_of, then_of, three_parts}
 use Rattle.script_lines.specs.Lines.{line_feed}
 use Rattle.script_lines.proofs.told.print_ended.Goals as goal
 
-pub returns-in_err-print-2-clause-front : goal.returns-in_err-print-2-clause-front
-returns-in_err-print-2-clause-front g c =
+pub returns-in_err-print_name-clause-front : goal.returns-in_err-print_name-clause-front
+returns-in_err-print_name-clause-front g c =
+    let named = c.args.name.now ++ codes " ended " in
     let reason = encode_lower (c.args.reason ∷ []) in
-    four_parts c.from_residual-in_err-print-2.result c.args.name.now (codes " ended ") reason line_feed (g.W.Write.contents c.args.writer.now)
-    (g.W.Write.contents c.print-2.new.writer)
-    (then_of c.from_residual-in_err-print-2.result c.as_bytes.result.now c.args.name.now (codes " ended " ++ (reason ++ line_feed)) _ _ _
-    (c.as_bytes.ensures.value ∙ c.as_str.ensures) c.in_ok-print.ensures.ok
-    (first_of c.from_residual-in_err-print-2.result (codes " ended ") (codes " ended ") (reason ++ line_feed) _ _ refl c.in_err-print-2.ensures.front))
+    three_parts c.from_residual.result named reason line_feed (g.W.Write.contents c.args.writer.now) (g.W.Write.contents c.print_name.new.writer)
+    (first_of c.from_residual.result named named (reason ++ line_feed) _ _ refl c.in_err-print_name.ensures.front)
 
 pub returns-clause-front : goal.returns-clause-front
 returns-clause-front g c =
+    let named = c.args.name.now ++ codes " ended " in
     let reason = encode_lower (c.args.reason ∷ []) in
-    four_parts c.print_hex_line.result c.args.name.now (codes " ended ") reason line_feed (g.W.Write.contents c.args.writer.now)
-    (g.W.Write.contents c.print_hex_line.new.writer)
-    (then_of c.print_hex_line.result c.as_bytes.result.now c.args.name.now (codes " ended " ++ (reason ++ line_feed)) _ _ _
-    (c.as_bytes.ensures.value ∙ c.as_str.ensures) c.in_ok-print.ensures.ok
-    (then_of c.print_hex_line.result (codes " ended ") (codes " ended ") (reason ++ line_feed) _ _ _ refl c.in_ok-print-2.ensures.ok c.print_hex_line.ensures.front))
+    three_parts c.print_hex_line.result named reason line_feed (g.W.Write.contents c.args.writer.now) (g.W.Write.contents c.print_hex_line.new.writer)
+    (then_of c.print_hex_line.result named named (reason ++ line_feed) _ _ _ refl c.in_ok-print_name.ensures.ok c.print_hex_line.ensures.front)
