@@ -59,19 +59,31 @@ fn prepare_and_serve<
     listen_and_serve(rt, alloc, settings, host)
 }
 
-/// Listens, and serves a host.
+/// Listens, and serves a host. Host and device are dropped as a whole, here and below, for the proof.
 fn listen_and_serve<
     R: Files<File = File> + Net<Listener = TcpListener, Stream = TcpStream> + Clock + Eprint,
 >(rt: &R, alloc: Global, settings: &Settings<'_>, host: Host) -> Result<(), Stop> {
-    let mut device = reaching(rt, alloc, settings, host.rows())?;
-    open_and_serve(settings, host, &mut device)
+    match reaching(rt, alloc, settings, host.rows()) {
+        Ok(mut device) => {
+            let served = open_and_serve(settings, host, &mut device);
+            drop(device);
+            served
+        }
+        Err(stop) => {
+            drop(host);
+            Err(stop)
+        }
+    }
 }
 
 /// Opens what a device still needs, and serves a host.
 fn open_and_serve<
     R: Files<File = File> + Net<Listener = TcpListener, Stream = TcpStream> + Clock + Eprint,
 >(settings: &Settings<'_>, host: Host, device: &mut Device<'_, R>) -> Result<(), Stop> {
-    open_ends(&mut device.sides, settings)?;
+    if let Err(stop) = open_ends(&mut device.sides, settings) {
+        drop(host);
+        return Err(stop);
+    }
     device.sides.log().say("ready");
     if settings.once {
         serve_once(device, host, settings.log_values)
@@ -85,7 +97,9 @@ fn serve_once<
     R: Files<File = File> + Net<Listener = TcpListener, Stream = TcpStream> + Clock + Eprint,
 >(device: &mut Device<'_, R>, host: Host, logs_values: bool) -> Result<(), Stop> {
     let mut host = host;
-    serve_one(device, &mut host, logs_values).outcome()
+    let over = serve_one(device, &mut host, logs_values);
+    drop(host);
+    over.outcome()
 }
 
 /// Serves each controller with what the one before has left.
@@ -98,6 +112,7 @@ fn serve_each<
         host = reopen(device.alloc, host, &settings.host)?;
         device.sides.lose();
     }
+    drop(host);
     Ok(())
 }
 
