@@ -19,10 +19,20 @@ pub(crate) fn read_host<R: Files + Eprint>(
     files: &FileWords<'_>,
     settings: &HostSettings,
 ) -> Result<Host, Stop> {
-    let table = gatt_files::read_table(alloc, &mut LazyFile::new(rt, files.table))?;
-    let keys = gatt_files::read_keys(alloc, &mut LazyFile::new(rt, files.keys))?;
+    let table = read_table(rt, alloc, files.table)?;
+    let keys = read_keys(rt, alloc, files.keys)?;
     let rows = read_known_rows(rt, alloc, files, &keys)?;
     open(alloc, table, keys, rows, settings)
+}
+
+/// The table of a file.
+fn read_table<F: Files>(files: &F, alloc: Global, path: &str) -> Result<Table, ShellFault> {
+    gatt_files::read_table(alloc, &mut LazyFile::new(files, path))
+}
+
+/// The keys of a file.
+fn read_keys<F: Files>(files: &F, alloc: Global, path: &str) -> Result<Keys, ShellFault> {
+    gatt_files::read_keys(alloc, &mut LazyFile::new(files, path))
 }
 
 /// The rows of the file, which are refused where a peer has no key, unless such rows are dropped.
