@@ -57,9 +57,3 @@ pub three_parts : {T E : Type 0} (result : Result T E) (first second third : Oct
     → OnErr result (WritesFront (first ++ (second ++ third)) held holds) → OnErr result (WritesFront ((first ++ second) ++ third) held holds)
 three_parts result first second third held holds =
     subst (λ (octets : Octets). OnErr result (WritesFront octets held holds)) (sym (append_assoc first second third))
-
-pub four_parts : {T E : Type 0} (result : Result T E) (first second third fourth : Octets) (held holds : Option Octets)
-    → OnErr result (WritesFront (first ++ (second ++ (third ++ fourth))) held holds) → OnErr result (WritesFront (((first ++ second) ++ third) ++ fourth) held holds)
-four_parts result first second third fourth held holds =
-    subst (λ (octets : Octets). OnErr result (WritesFront octets held holds))
-    (sym (append_assoc (first ++ second) third fourth ∙ append_assoc first second (third ++ fourth)))
