@@ -54,25 +54,13 @@ fn ask_for_table(
 }
 
 fn make_call(rt: &impl Abort, host: &mut Host, call: App<'_>, written: &mut Written) {
-    assert!(rt; are_made(host, &[Input::Call(call)], written));
-}
-
-/// Whether a host makes these calls, and takes in no octet.
-fn are_made(host: &mut Host, calls: &[Input<'_>], written: &mut Written) -> bool {
-    drive(host, calls, written) == Ok(0)
+    // A call takes in no octet.
+    assert!(rt; drive(host, &[Input::Call(call)], written) == Ok(0));
 }
 
 fn refuse(rt: &impl Abort, host: &mut Host, call: App<'_>, fault: AppFault) {
-    assert!(rt; refusal(host, call) == Some(fault));
-}
-
-/// Why a call is refused, if all is out and it is.
-fn refusal(host: &mut Host, call: App<'_>) -> Option<AppFault> {
-    if host.drained() {
-        host.app(call).err()
-    } else {
-        None
-    }
+    assert!(rt; host.drained());
+    assert!(rt; host.app(call) == Err(fault));
 }
 
 /// Replaces the table of a host, which gives the old one back; or hands the new one back, for a fault.

@@ -1,7 +1,7 @@
 //! A table that is replaced while peers are connected.
 
 use crate::peers::Who::{Phone, Stranger};
-use crate::player::{Setting, Step, play};
+use crate::player::{Play, Setting, Step, play_each};
 use crate::tables::File::{Door, Porch, PorchNext};
 use gatt_host::{App, AppFault};
 
@@ -61,9 +61,13 @@ const WITHOUT_A_CHANGER: &[Step] = &[
     Step::Value(3, "4c6f636b"),
 ];
 
+const PLAYS: &[Play] = &[
+    (AT_THE_PORCH, CONNECTED),
+    (AT_THE_PORCH, AWAY),
+    (AT_THE_DOOR, WITHOUT_A_CHANGER),
+];
+
 #[test]
 fn tables_replaced(rt: HostRuntime) {
-    play(&rt, rt.alloc(), AT_THE_PORCH, CONNECTED);
-    play(&rt, rt.alloc(), AT_THE_PORCH, AWAY);
-    play(&rt, rt.alloc(), AT_THE_DOOR, WITHOUT_A_CHANGER);
+    play_each(&rt, rt.alloc(), PLAYS);
 }

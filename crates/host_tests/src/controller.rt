@@ -72,17 +72,9 @@ fn answer_next(
     answered: usize,
 ) -> usize {
     let mut octets = Octets::new();
-    let rest = behind(rt, written.octets(), answered);
+    let rest = written.octets().get(answered..).expect(rt, "whole packets");
     let length = answer(rt, controller, rest, &mut octets);
     take(rt, host, octets.as_slice(), written);
-    sum(rt, answered, length)
-}
-
-fn behind<'a>(rt: &impl Abort, written: &'a [u8], answered: usize) -> &'a [u8] {
-    written.get(answered..).expect(rt, "whole packets")
-}
-
-fn sum(rt: &impl Abort, answered: usize, length: usize) -> usize {
     answered.checked_add(length).expect(rt, "a length")
 }
 

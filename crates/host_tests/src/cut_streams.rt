@@ -3,7 +3,7 @@
 use crate::player::{Setting, feed_pieces, opened};
 use crate::tables::File::Door;
 use crate::wire::{Octets, Written, spell};
-use gatt_host::{Host, feed};
+use gatt_host::feed;
 use std::alloc::Global;
 use std::process::Abort;
 
@@ -60,17 +60,6 @@ pub fn due_after(rt: &impl Abort, count: usize) -> Octets {
     due
 }
 
-/// Takes in two pieces.
-fn feed_both(rt: &impl Abort, alloc: Global, pieces: (&[u8], &[u8]), written: &mut Written) {
-    let mut host = opened(rt, alloc, SETTING);
-    take_both(rt, &mut host, pieces, written);
-    drop(host);
-}
-
-fn take_both(rt: &impl Abort, host: &mut Host, pieces: (&[u8], &[u8]), written: &mut Written) {
-    assert!(rt; feed(host, pieces.0, written).is_ok() && feed(host, pieces.1, written).is_ok());
-}
-
 /// Cuts the stream at every place.
 fn cut_everywhere(rt: &impl Abort, alloc: Global, told: &[u8], wanted: &[u8]) {
     for place in 0..told.len() {
@@ -81,9 +70,12 @@ fn cut_everywhere(rt: &impl Abort, alloc: Global, told: &[u8], wanted: &[u8]) {
 
 /// Whether just this is written where a host takes in two pieces.
 fn is_all(rt: &impl Abort, alloc: Global, pieces: (&[u8], &[u8]), wanted: &[u8]) -> bool {
+    let mut host = opened(rt, alloc, SETTING);
     let mut written = Written::new();
-    feed_both(rt, alloc, pieces, &mut written);
-    written.octets() == wanted
+    let are_taken = feed(&mut host, pieces.0, &mut written).is_ok()
+        && feed(&mut host, pieces.1, &mut written).is_ok();
+    drop(host);
+    are_taken && written.octets() == wanted
 }
 
 /// Ends the stream at every place: all is written that is due there.
@@ -100,13 +92,10 @@ fn end_everywhere(rt: &impl Abort, alloc: Global, told: &[u8]) {
 /// Takes in octet by octet.
 fn feed_each(rt: &impl Abort, alloc: Global, told: &[u8], wanted: &[u8]) {
     let mut host = opened(rt, alloc, SETTING);
-    take_each(rt, &mut host, told, wanted);
-    drop(host);
-}
-
-fn take_each(rt: &impl Abort, host: &mut Host, told: &[u8], wanted: &[u8]) {
     let mut written = Written::new();
-    assert!(rt; feed_pieces(host, 1, told, &mut written) && written.octets() == wanted);
+    let are_taken = feed_pieces(&mut host, 1, told, &mut written);
+    drop(host);
+    assert!(rt; are_taken && written.octets() == wanted);
 }
 
 #[test]

@@ -1,7 +1,7 @@
 //! The faults of calls, and those at which a host stops.
 
 use crate::peers::Who::Stranger;
-use crate::player::{Setting, Step, play};
+use crate::player::{Play, Setting, Step, play_each};
 use crate::tables::File::Door;
 use gatt_host::{App, AppFault, HostFault};
 
@@ -45,11 +45,17 @@ const ERROR: &[Step] = &[
     Step::Stops("07", HostFault::Hardware(0x42)),
 ];
 
+const PLAYS: &[Play] = &[
+    (SETTING, REFUSED),
+    (SETTING, LOST),
+    (SETTING, SHORT),
+    (SETTING, WITHOUT_SUBEVENT),
+    (SETTING, ERROR),
+];
+
 #[test]
 fn faults(rt: HostRuntime) {
-    for steps in [REFUSED, LOST, SHORT, WITHOUT_SUBEVENT, ERROR] {
-        play(&rt, rt.alloc(), SETTING, steps);
-    }
+    play_each(&rt, rt.alloc(), PLAYS);
 }
 
 #[test]

@@ -1,7 +1,7 @@
 //! Frames of peers, in fragments and on other channels.
 
 use crate::peers::Who::Stranger;
-use crate::player::{Setting, Step, play};
+use crate::player::{Play, Setting, Step, play_each};
 use crate::tables::File::Door;
 
 const SETTING: &Setting<'static> = &Setting {
@@ -63,10 +63,14 @@ const OTHER_CHANNELS: &[Step] = &[
     Step::AsksOn(0x40, 5, "120908000000000000000000", "010902000000"),
 ];
 
+const PLAYS: &[Play] = &[
+    (SETTING, IN_FRAGMENTS),
+    (SETTING, PASSED_OVER),
+    (SETTING, HANDED_IN),
+    (SETTING, OTHER_CHANNELS),
+];
+
 #[test]
 fn frames(rt: HostRuntime) {
-    play(&rt, rt.alloc(), SETTING, IN_FRAGMENTS);
-    play(&rt, rt.alloc(), SETTING, PASSED_OVER);
-    play(&rt, rt.alloc(), SETTING, HANDED_IN);
-    play(&rt, rt.alloc(), SETTING, OTHER_CHANNELS);
+    play_each(&rt, rt.alloc(), PLAYS);
 }

@@ -163,16 +163,12 @@ enum Last<'a> {
 /// Makes so many exchanges with a new host, and then the last one.
 fn exchange_with_new(rt: &impl Abort, alloc: Global, count: usize, last: Last<'_>) {
     let mut host = opened(rt, alloc, SETTING);
-    exchange_up_to(rt, &mut host, count, last);
-    drop(host);
-}
-
-fn exchange_up_to(rt: &impl Abort, host: &mut Host, count: usize, last: Last<'_>) {
-    exchange_all(rt, host, 64, first(rt, count));
+    exchange_all(rt, &mut host, 64, first(rt, count));
     match last {
-        Last::Fault(octets, wanted, fault) => stop(rt, host, octets, wanted, fault),
-        Last::Exchange(octets, wanted) => exchange(rt, host, 64, octets, wanted),
+        Last::Fault(octets, wanted, fault) => stop(rt, &mut host, octets, wanted, fault),
+        Last::Exchange(octets, wanted) => exchange(rt, &mut host, 64, octets, wanted),
     }
+    drop(host);
 }
 
 /// Takes in octets that have a fault, in one piece. What is due before it is written.

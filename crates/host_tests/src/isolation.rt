@@ -2,7 +2,7 @@
 //! holds it up.
 
 use crate::peers::Who::{Phone, Stranger, Tablet};
-use crate::player::{Setting, Step, play};
+use crate::player::{Play, Setting, Step, play_each};
 use crate::tables::File::{Door, Other};
 use gatt_host::App;
 
@@ -141,12 +141,16 @@ const ONE_FULL_QUEUE: &[Step] = &[
     Step::Calls(App::Update(6, &[0x01]), &[(0x41, "1b060001")]),
 ];
 
+/// The same steps at both tables.
+const PLAYS: &[Play] = &[
+    (TWO_EACH, ASKED_OF_A_HIDDEN_VALUE),
+    (OTHER_TABLE, ASKED_OF_A_HIDDEN_VALUE),
+    (ONE_EACH, COMPLETED_FOR_ANOTHER),
+    (ONE_EACH, AFTER_A_DISCONNECTION),
+    (ONE_EACH, ONE_FULL_QUEUE),
+];
+
 #[test]
 fn nothing_crosses(rt: HostRuntime) {
-    // The same steps at both tables.
-    play(&rt, rt.alloc(), TWO_EACH, ASKED_OF_A_HIDDEN_VALUE);
-    play(&rt, rt.alloc(), OTHER_TABLE, ASKED_OF_A_HIDDEN_VALUE);
-    play(&rt, rt.alloc(), ONE_EACH, COMPLETED_FOR_ANOTHER);
-    play(&rt, rt.alloc(), ONE_EACH, AFTER_A_DISCONNECTION);
-    play(&rt, rt.alloc(), ONE_EACH, ONE_FULL_QUEUE);
+    play_each(&rt, rt.alloc(), PLAYS);
 }

@@ -82,8 +82,14 @@ const TOLD: &[Notice<'static>] = &[
     Notice::Disconnected { handle: 0x40 },
 ];
 
-fn put_day(rt: &impl Abort, octets: &mut Octets) {
-    spell(rt, octets, "043e130100400001010a00000000c018000000480000");
+/// The stream of the day.
+fn day(rt: &impl Abort) -> Octets {
+    let mut octets = Octets::new();
+    spell(
+        rt,
+        &mut octets,
+        "043e130100400001010a00000000c018000000480000",
+    );
     for pdu in [
         [0x12, 0x15, 0x00, 0x61].as_slice(),
         &[0x0A, 0x03, 0x00],
@@ -92,16 +98,10 @@ fn put_day(rt: &impl Abort, octets: &mut Octets) {
         &[0x16, 0x15, 0x00, 0x01, 0x00, 0x63],
         &[0x18, 0x01],
     ] {
-        put_told(rt, octets, 0x40, 0x04, pdu);
-        spell(rt, octets, "0413050140000100");
+        put_told(rt, &mut octets, 0x40, 0x04, pdu);
+        spell(rt, &mut octets, "0413050140000100");
     }
-    spell(rt, octets, "04050400400013");
-}
-
-/// The stream of the day.
-fn day(rt: &impl Abort) -> Octets {
-    let mut octets = Octets::new();
-    put_day(rt, &mut octets);
+    spell(rt, &mut octets, "04050400400013");
     octets
 }
 
@@ -179,14 +179,12 @@ const STEPS: &[Step] = &[
 ];
 
 /// Whether these notices are there, and no other.
-fn tells(host: &Host, wanted: &[Notice<'_>]) -> bool {
-    let mut told = host.notices();
-    for notice in wanted {
-        if told.next() != Some(*notice) {
-            return false;
-        }
+pub fn tells(host: &Host, wanted: &'static [Notice<'static>]) -> bool {
+    let mut listener = Expects::new(wanted);
+    for notice in host.notices() {
+        listener.hear(notice);
     }
-    told.next().is_none()
+    listener.is_met()
 }
 
 /// Takes the day in by these steps.

@@ -1,19 +1,8 @@
 //! What the application is told of packets, calls and tables.
 
-use crate::player::Setting;
-use crate::tables::File;
 use crate::tables::File::{Bell, Door, Porch, PorchNext};
 use crate::taken::{Case, Taken, play};
 use gatt_host::{App, KeyFacts, Notice, Peer};
-
-const fn at(table: File<'static>) -> Setting<'static> {
-    Setting {
-        table,
-        slots: 2,
-        rx_mtu: 247,
-        packets: 4,
-    }
-}
 
 const COMES: Taken = Taken::Packet("043e130100400001010a00000000c018000000480000");
 
@@ -338,34 +327,34 @@ const A_FULL_QUEUE_FOR_PAIRING: &[Case] = &[
 
 #[test]
 fn links_are_told(rt: HostRuntime) {
-    play(&rt, rt.alloc(), &at(Door), LINKS);
+    play(&rt, rt.alloc(), Door, LINKS);
 }
 
 #[test]
 fn writes_are_told(rt: HostRuntime) {
-    play(&rt, rt.alloc(), &at(Door), WRITES);
+    play(&rt, rt.alloc(), Door, WRITES);
 }
 
 #[test]
 fn keys_are_told(rt: HostRuntime) {
-    play(&rt, rt.alloc(), &at(Door), KEYS);
+    play(&rt, rt.alloc(), Door, KEYS);
 }
 
 #[test]
 fn indications_are_told(rt: HostRuntime) {
-    play(&rt, rt.alloc(), &at(Bell), INDICATIONS);
-    play(&rt, rt.alloc(), &at(Bell), TWO_INDICATIONS);
+    play(&rt, rt.alloc(), Bell, INDICATIONS);
+    play(&rt, rt.alloc(), Bell, TWO_INDICATIONS);
 }
 
 #[test]
 fn a_replacement_is_no_confirmation(rt: HostRuntime) {
-    play(&rt, rt.alloc(), &at(Porch), REPLACEMENT);
+    play(&rt, rt.alloc(), Porch, REPLACEMENT);
 }
 
 #[test]
 fn a_full_queue_is_told(rt: HostRuntime) {
-    play(&rt, rt.alloc(), &at(Door), A_FULL_QUEUE);
-    play(&rt, rt.alloc(), &at(Door), A_FULL_QUEUE_FOR_PAIRING);
+    play(&rt, rt.alloc(), Door, A_FULL_QUEUE);
+    play(&rt, rt.alloc(), Door, A_FULL_QUEUE_FOR_PAIRING);
 }
 
 /// The application ends a connection, which is told as an end of the host's own.
@@ -397,5 +386,5 @@ const AN_END: &[Case] = &[
 
 #[test]
 fn an_end_is_told(rt: HostRuntime) {
-    play(&rt, rt.alloc(), &at(Door), AN_END);
+    play(&rt, rt.alloc(), Door, AN_END);
 }

@@ -76,6 +76,16 @@ pub struct Setting<'a> {
     pub packets: u8,
 }
 
+/// What a host is opened with, and what happens to it.
+pub type Play = (&'static Setting<'static>, &'static [Step]);
+
+/// Plays one after the other, each with a host of its own.
+pub fn play_each(rt: &impl Abort, alloc: Global, plays: &[Play]) {
+    for (setting, steps) in plays {
+        play(rt, alloc, setting, steps);
+    }
+}
+
 /// Makes the steps of a new host, once its controller is initialised.
 pub fn play(rt: &impl Abort, alloc: Global, setting: &Setting<'_>, steps: &[Step]) {
     let mut host = opened(rt, alloc, setting);

@@ -1,7 +1,7 @@
 //! Requests of peers over their links.
 
 use crate::peers::Who::{Phone, Stranger, Tablet, TabletByItsShortKey, Watch};
-use crate::player::{Setting, Step, play};
+use crate::player::{Play, Setting, Step, play, play_each};
 use crate::tables::File::{Door, Other};
 use att_table::examples::DOOR;
 use gatt_host::App;
@@ -74,12 +74,16 @@ const PREPARED: &[Step] = &[
     Step::Asks(0x41, "1802", "0118000004"),
 ];
 
+const OVER_LINKS: &[Play] = &[
+    (AT_THE_DOOR, STATE_OF_THE_LOCK),
+    (AT_THE_DOOR, CODE_OF_THE_LOCK),
+    (AT_THE_DOOR, LISTED),
+    (AT_THE_DOOR, PREPARED),
+];
+
 #[test]
 fn policy_over_links(rt: HostRuntime) {
-    play(&rt, rt.alloc(), AT_THE_DOOR, STATE_OF_THE_LOCK);
-    play(&rt, rt.alloc(), AT_THE_DOOR, CODE_OF_THE_LOCK);
-    play(&rt, rt.alloc(), AT_THE_DOOR, LISTED);
-    play(&rt, rt.alloc(), AT_THE_DOOR, PREPARED);
+    play_each(&rt, rt.alloc(), OVER_LINKS);
 }
 
 /// That code, where it also needs a key of LE Secure Connections.
@@ -147,8 +151,9 @@ const AT_THE_WIDE_DOOR: &Setting<'static> = &Setting {
     packets: 4,
 };
 
+const LONG: &[Play] = &[(AT_THE_DOOR, MTUS), (AT_THE_WIDE_DOOR, LONG_VALUES)];
+
 #[test]
 fn long_values(rt: HostRuntime) {
-    play(&rt, rt.alloc(), AT_THE_DOOR, MTUS);
-    play(&rt, rt.alloc(), AT_THE_WIDE_DOOR, LONG_VALUES);
+    play_each(&rt, rt.alloc(), LONG);
 }

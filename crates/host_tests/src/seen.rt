@@ -1,23 +1,13 @@
 //! What can be seen of a host: when an indication is late, who is connected, and what is left of it.
 
-use crate::player::{Setting, ready};
-use crate::tables::File;
+use crate::player::ready;
 use crate::tables::File::{Bell, Door};
-use crate::taken::{Taken, go_on};
+use crate::taken::{Taken, at, go_on};
 use crate::wire::Written;
 use att_table::Table;
 use gatt_host::{App, Connection, Host, Peer, feed};
 use std::alloc::Global;
 use std::process::Abort;
-
-const fn at(table: File<'static>) -> Setting<'static> {
-    Setting {
-        table,
-        slots: 2,
-        rx_mtu: 247,
-        packets: 4,
-    }
-}
 
 const COMES: Taken = Taken::Packet("043e130100400001010a00000000c018000000480000");
 

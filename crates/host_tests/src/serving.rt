@@ -3,7 +3,7 @@
 use crate::player::{Setting, opened};
 use crate::tables::File::Door;
 use crate::wire::Written;
-use gatt_host::{End, Host, HostFault, serve};
+use gatt_host::{End, HostFault, serve};
 use octets::SliceSource;
 use std::alloc::Global;
 use std::process::Abort;
@@ -15,15 +15,6 @@ const SETTING: &Setting<'static> = &Setting {
     packets: 4,
 };
 
-/// Serves the beginning of an event, and then the end of the input, in so many turns: Reset, which is
-/// owed from the start, is written whether there is a turn or none.
-fn is_outcome(host: &mut Host, turns: u64, outcome: Result<End, HostFault>) -> bool {
-    let mut written = Written::new();
-    let mut source = SliceSource::new(&[0x04, 0x0E]);
-    serve(host, &mut source, &mut written, turns) == outcome
-        && written.octets() == [0x01, 0x03, 0x0C, 0x00].as_slice()
-}
-
 /// How many turns there are, and what comes of them.
 const CASES: &[(u64, Result<End, HostFault>)] = &[
     (1_000, Ok(End { turns: 2 })),
@@ -31,12 +22,16 @@ const CASES: &[(u64, Result<End, HostFault>)] = &[
     (0, Err(HostFault::Turns)),
 ];
 
-/// Whether serving leads a new host to this outcome.
+/// Whether a new host that is served the beginning of an event, and then the end of the input, comes to
+/// this outcome in so many turns. Reset, which is owed from the start, is written whether there is a
+/// turn or none.
 fn leads_to(rt: &impl Abort, alloc: Global, turns: u64, outcome: Result<End, HostFault>) -> bool {
     let mut host = opened(rt, alloc, SETTING);
-    let is_outcome = is_outcome(&mut host, turns, outcome);
+    let mut source = SliceSource::new(&[0x04, 0x0E]);
+    let mut written = Written::new();
+    let served = serve(&mut host, &mut source, &mut written, turns);
     drop(host);
-    is_outcome
+    served == outcome && written.octets() == [0x01, 0x03, 0x0C, 0x00].as_slice()
 }
 
 #[test]

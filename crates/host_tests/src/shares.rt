@@ -1,7 +1,7 @@
 //! What goes out while the controller does not complete packets.
 
 use crate::peers::Who::{Phone, Stranger};
-use crate::player::{Setting, Step, play};
+use crate::player::{Play, Setting, Step, play_each};
 use crate::tables::File::Door;
 use gatt_host::App;
 
@@ -99,10 +99,14 @@ const ENCRYPTION_LOST: &[Step] = &[
     Step::Octets("0413050140000100", ""),
 ];
 
+const PLAYS: &[Play] = &[
+    (TWO_EACH, COMPLETED),
+    (TWO_EACH, NEVER_COMPLETED),
+    (ONE_ALONE, TOO_MANY_READS),
+    (ONE_EACH, ENCRYPTION_LOST),
+];
+
 #[test]
 fn shares(rt: HostRuntime) {
-    play(&rt, rt.alloc(), TWO_EACH, COMPLETED);
-    play(&rt, rt.alloc(), TWO_EACH, NEVER_COMPLETED);
-    play(&rt, rt.alloc(), ONE_ALONE, TOO_MANY_READS);
-    play(&rt, rt.alloc(), ONE_EACH, ENCRYPTION_LOST);
+    play_each(&rt, rt.alloc(), PLAYS);
 }

@@ -1,7 +1,7 @@
 //! What connections are told unasked.
 
 use crate::peers::Who::{Phone, Stranger, Tablet};
-use crate::player::{Setting, Step, play};
+use crate::player::{Play, Setting, Step, play_each};
 use crate::tables::File::{Bell, Door, Post};
 use gatt_host::App;
 
@@ -104,12 +104,16 @@ const TOLD_IN_TIME: &[Step] = &[
     Step::Calls(App::Update(3, &[0x03]), &[(0x40, "1d030003")]),
 ];
 
+const PLAYS: &[Play] = &[
+    (AT_THE_DOOR, KEPT_BY_A_BOND),
+    (AT_THE_DOOR, OF_AN_UNENCRYPTED_LINK),
+    (AT_THE_LETTER_BOX, AUTHORIZED),
+    (AT_THE_LETTER_BOX, READ_IN_TIME),
+    (AT_THE_LETTER_BOX, TOLD_IN_TIME),
+    (AT_THE_BELL, INDICATED),
+];
+
 #[test]
 fn told_unasked(rt: HostRuntime) {
-    play(&rt, rt.alloc(), AT_THE_DOOR, KEPT_BY_A_BOND);
-    play(&rt, rt.alloc(), AT_THE_DOOR, OF_AN_UNENCRYPTED_LINK);
-    play(&rt, rt.alloc(), AT_THE_LETTER_BOX, AUTHORIZED);
-    play(&rt, rt.alloc(), AT_THE_LETTER_BOX, READ_IN_TIME);
-    play(&rt, rt.alloc(), AT_THE_LETTER_BOX, TOLD_IN_TIME);
-    play(&rt, rt.alloc(), AT_THE_BELL, INDICATED);
+    play_each(&rt, rt.alloc(), PLAYS);
 }

@@ -1,6 +1,7 @@
 //! What a host takes in, and what its application is told of it.
 
 use crate::calls::replaced;
+use crate::listening::tells;
 use crate::player::{Setting, ready};
 use crate::tables::File;
 use crate::wire::{Octets, Written, put_told, spelled};
@@ -28,12 +29,22 @@ pub enum Taken {
 /// What is told of each.
 pub type Case = (Taken, &'static [Notice<'static>]);
 
-/// Takes in each in turn, and compares what is told of it.
-pub fn play(rt: &impl Abort, alloc: Global, setting: &Setting<'_>, cases: &[Case]) {
-    let mut host = ready(rt, alloc, setting);
+/// A setting with a table, and two slots.
+pub const fn at(table: File<'static>) -> Setting<'static> {
+    Setting {
+        table,
+        slots: 2,
+        rx_mtu: 247,
+        packets: 4,
+    }
+}
+
+/// Has a new host with a table take in each in turn, and compares what is told of it.
+pub fn play(rt: &impl Abort, alloc: Global, table: File<'static>, cases: &[Case]) {
+    let mut host = ready(rt, alloc, &at(table));
     for (place, &(taken, notices)) in cases.iter().enumerate() {
         take(rt, alloc, &mut host, taken);
-        compare(rt, &host, place, notices);
+        assert!(rt; tells(&host, notices), "the notices of {place}");
         settle(rt, &mut host, taken);
     }
     drop(host);
@@ -92,12 +103,4 @@ fn settle(rt: &impl Abort, host: &mut Host, taken: Taken) {
     if let Taken::Pdu(_) | Taken::Call(_) | Taken::Table(_) = taken {
         hear(rt, host, &[0x04, 0x13, 0x05, 0x01, 0x40, 0x00, 0x01, 0x00]);
     }
-}
-
-fn compare(rt: &impl Abort, host: &Host, place: usize, notices: &[Notice<'_>]) {
-    let mut told = host.notices();
-    for (number, notice) in notices.iter().enumerate() {
-        assert!(rt; told.next() == Some(*notice), "notice {number} of {place}");
-    }
-    assert!(rt; told.next().is_none(), "more at {place}");
 }
