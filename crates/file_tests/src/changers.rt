@@ -3,6 +3,7 @@
 use super::cases::{Example, assert_case, text_of};
 use att_table::Table;
 use std::alloc::Global;
+use std::process::Abort;
 
 const SERVICE: &str = "uuid = \"1801\"";
 
@@ -82,22 +83,15 @@ const CHANGERS: &[(Example, &str, &str, Option<u16>)] = &[
 #[test]
 fn changers(rt: HostRuntime) {
     for &(example, old, new, wanted) in CHANGERS {
-        let change = (text_of(example), old, new);
-        assert_case(&rt, is_changer(rt.alloc(), change, wanted), new);
+        check_changer(&rt, rt.alloc(), (text_of(example), old, new), wanted);
     }
 }
 
-fn is_changer(alloc: Global, change: (&str, &str, &str), wanted: Option<u16>) -> bool {
+fn check_changer(rt: &impl Abort, alloc: Global, change: (&str, &str, &str), wanted: Option<u16>) {
     let (text, old, new) = change;
-    match text.replacen(alloc, old, new, 1) {
-        Ok(text) => is_changer_of(alloc, &text, wanted),
-        Err(_) => false,
-    }
-}
-
-fn is_changer_of(alloc: Global, text: &str, wanted: Option<u16>) -> bool {
-    match Table::read(alloc, text) {
-        Ok(table) => table.changer() == wanted,
-        Err(_) => false,
-    }
+    let text = text.replacen(alloc, old, new, 1).expect(rt, "memory");
+    let table = Table::read(alloc, &text).expect(rt, "the table");
+    assert_case(rt, table.changer() == wanted, new);
+    drop(table);
+    drop(text);
 }

@@ -3,6 +3,7 @@
 use super::cases::{Example, assert_at, text_of};
 use att_table::{ConfigRow, Table};
 use std::alloc::Global;
+use std::process::Abort;
 
 /// A table, the text of the one in its place with a change of it, and entries by handle and bits,
 /// each with whether it stays.
@@ -105,30 +106,21 @@ fn full_row_at(handle: u16) -> (u8, bool) {
 #[test]
 fn keeps_what_has_its_meaning(rt: HostRuntime) {
     for (place, case) in REPLACEMENTS.iter().enumerate() {
-        assert_at(&rt, is_kept(rt.alloc(), case) == Some(true), place);
+        check_kept(&rt, rt.alloc(), place, case);
     }
 }
 
-fn is_kept(alloc: Global, case: &Replacement) -> Option<bool> {
+fn check_kept(rt: &impl Abort, alloc: Global, place: usize, case: &Replacement) {
     let (from, to) = case.change;
-    match text_of(case.new).replacen(alloc, from, to, 1) {
-        Ok(text) => is_kept_by(alloc, text_of(case.old), &text, case.entries),
-        Err(_) => None,
-    }
-}
-
-fn is_kept_by(alloc: Global, old: &str, new: &str, entries: &[(u16, u8, bool)]) -> Option<bool> {
-    match Table::read(alloc, old) {
-        Ok(table) => is_kept_of(alloc, &table, new, entries),
-        Err(_) => None,
-    }
-}
-
-fn is_kept_of(alloc: Global, old: &Table, new: &str, entries: &[(u16, u8, bool)]) -> Option<bool> {
-    match Table::read(alloc, new) {
-        Ok(table) => Some(keeps(old, &table, entries)),
-        Err(_) => None,
-    }
+    let old = Table::read(alloc, text_of(case.old)).expect(rt, "the old table");
+    let text = text_of(case.new)
+        .replacen(alloc, from, to, 1)
+        .expect(rt, "memory");
+    let new = Table::read(alloc, &text).expect(rt, "the new table");
+    assert_at(rt, keeps(&old, &new, case.entries), place);
+    drop(new);
+    drop(text);
+    drop(old);
 }
 
 fn keeps(old: &Table, new: &Table, entries: &[(u16, u8, bool)]) -> bool {
@@ -139,5 +131,10 @@ fn keeps(old: &Table, new: &Table, entries: &[(u16, u8, bool)]) -> bool {
         }
     }
     row.keep(old, new);
-    entries.iter().all(|&(handle, bits, stays)| row.get(handle) == if stays { bits } else { 0 })
+    for &(handle, bits, stays) in entries {
+        if row.get(handle) != if stays { bits } else { 0 } {
+            return false;
+        }
+    }
+    true
 }

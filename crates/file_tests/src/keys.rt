@@ -258,30 +258,17 @@ const ANSWERS: &[(Request, Option<Key>)] = &[
 
 #[test]
 fn answers(rt: HostRuntime) {
-    check_answers(&rt, rt.alloc(), ANSWERS);
-}
-
-fn check_answers(rt: &impl Abort, alloc: Global, cases: &[(Request, Option<Key>)]) {
-    let keys = read_all_keys(rt, alloc);
-    check_each_answer(rt, &keys, cases);
+    let keys = read_all_keys(&rt, rt.alloc());
+    check_each_answer(&rt, &keys, ANSWERS);
+    drop(keys);
 }
 
 /// The keys of the door, with the secure key behind them.
 fn read_all_keys(rt: &impl Abort, alloc: Global) -> Keys {
-    match KEYS.replacen(alloc, "", SECURE_KEY, 1) {
-        Ok(text) => read_keys(rt, alloc, &text),
-        Err(_) => panic!(rt; "memory"),
-    }
-}
-
-fn read_keys(rt: &impl Abort, alloc: Global, text: &str) -> Keys {
-    match Keys::read(alloc, text) {
-        Ok(keys) => keys,
-        Err(fault) => {
-            let number = fault.number();
-            panic!(rt; "fault {number}")
-        }
-    }
+    let text = KEYS.replacen(alloc, "", SECURE_KEY, 1).expect(rt, "memory");
+    let keys = Keys::read(alloc, &text).expect(rt, "the keys");
+    drop(text);
+    keys
 }
 
 fn check_each_answer(rt: &impl Abort, keys: &Keys, cases: &[(Request, Option<Key>)]) {
@@ -298,8 +285,10 @@ fn is_answer(keys: &Keys, request: &Request, key: Option<&Key>) -> bool {
 
 #[test]
 fn peers(rt: HostRuntime) {
-    let keys = read_keys(&rt, rt.alloc(), KEYS);
-    assert!(rt; has_peers(&keys) && knows_peers(&keys));
+    let keys = Keys::read(rt.alloc(), KEYS).expect(&rt, "the keys");
+    let are_known = has_peers(&keys) && knows_peers(&keys);
+    drop(keys);
+    assert!(rt; are_known);
 }
 
 fn has_peers(keys: &Keys) -> bool {

@@ -155,13 +155,12 @@ fn reads_as(alloc: Global, text: &str, wanted: &[Wanted<'_>]) -> bool {
 }
 
 fn are_acts(acts: &[Act<'_>], wanted: &[Wanted<'_>]) -> bool {
-    acts.len() == wanted.len() && are_each(acts, wanted)
-}
-
-fn are_each(acts: &[Act<'_>], wanted: &[Wanted<'_>]) -> bool {
-    acts.iter()
-        .zip(wanted)
-        .all(|(act, wanted)| is_act(act, wanted))
+    for (act, wanted) in acts.iter().zip(wanted) {
+        if !is_act(act, wanted) {
+            return false;
+        }
+    }
+    acts.len() == wanted.len()
 }
 
 fn is_act(act: &Act<'_>, wanted: &Wanted<'_>) -> bool {

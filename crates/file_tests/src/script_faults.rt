@@ -142,18 +142,12 @@ fn has_names(alloc: Global, text: &str, wanted: &str) -> bool {
 }
 
 fn are_names(names: &[Name<'_>], wanted: &str) -> bool {
-    names.len() == wanted.len() && are_letters(names, wanted.as_bytes())
-}
-
-fn are_letters(names: &[Name<'_>], letters: &[u8]) -> bool {
-    names
-        .iter()
-        .zip(letters)
-        .all(|(name, letter)| is_letter(name, *letter))
-}
-
-fn is_letter(name: &Name<'_>, letter: u8) -> bool {
-    name.as_str().as_bytes() == [letter].as_slice()
+    for (name, letter) in names.iter().zip(wanted.as_bytes()) {
+        if name.as_str().as_bytes() != [*letter].as_slice() {
+            return false;
+        }
+    }
+    names.len() == wanted.len()
 }
 
 /// A line writes at most 517 octets.

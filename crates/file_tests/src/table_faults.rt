@@ -4,6 +4,7 @@ use super::cases::{assert_at, assert_case};
 use att_table::Table;
 use att_table::examples::DOOR;
 use std::alloc::{AllocError, Global};
+use std::process::Abort;
 
 /// Whole files.
 const FILES: &[(&str, Result<usize, u8>)] = &[
@@ -237,22 +238,18 @@ fn with_repeated(
 #[test]
 fn names_of_the_door(rt: HostRuntime) {
     for &(lines, wanted) in NAMES {
-        assert_case(&rt, name_told(rt.alloc(), lines) == Some(wanted), lines);
+        check_name(&rt, rt.alloc(), lines, wanted);
     }
 }
 
-fn name_told(alloc: Global, lines: &str) -> Option<(u16, u8, Option<u8>)> {
-    match DOOR.replacen(alloc, "properties = [\"read\"]", lines, 1) {
-        Ok(text) => name_read(alloc, &text),
-        Err(_) => None,
-    }
-}
-
-fn name_read(alloc: Global, text: &str) -> Option<(u16, u8, Option<u8>)> {
-    match Table::read(alloc, text) {
-        Ok(table) => name_of(&table),
-        Err(_) => None,
-    }
+fn check_name(rt: &impl Abort, alloc: Global, lines: &str, wanted: (u16, u8, Option<u8>)) {
+    let text = DOOR
+        .replacen(alloc, "properties = [\"read\"]", lines, 1)
+        .expect(rt, "memory");
+    let table = Table::read(alloc, &text).expect(rt, "the table");
+    assert_case(rt, name_of(&table) == Some(wanted), lines);
+    drop(table);
+    drop(text);
 }
 
 fn name_of(table: &Table) -> Option<(u16, u8, Option<u8>)> {

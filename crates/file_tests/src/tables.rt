@@ -134,6 +134,7 @@ fn groups(rt: HostRuntime) {
 fn check_file(rt: &impl Abort, alloc: Global, text: &str, wanted: &Wanted) {
     let table = read_table(rt, alloc, text);
     check_table(rt, &table, wanted);
+    drop(table);
 }
 
 fn read_table(rt: &impl Abort, alloc: Global, text: &str) -> Table {
@@ -223,7 +224,9 @@ fn group_end_of(table: &Table, handle: u16) -> u16 {
 #[test]
 fn code_of_the_door(rt: HostRuntime) {
     let table = read_table(&rt, rt.alloc(), DOOR);
-    assert!(rt; has_code(&table));
+    let has_code = has_code(&table);
+    drop(table);
+    assert!(rt; has_code);
 }
 
 fn has_code(table: &Table) -> bool {
@@ -242,14 +245,17 @@ fn has_code(table: &Table) -> bool {
 fn comparisons_of_a_full_table(rt: HostRuntime) {
     let table = read_services(&rt, rt.alloc(), 1024);
     check_services(&rt, &table);
+    drop(table);
 }
 
 /// A table of so many services.
 fn read_services(rt: &impl Abort, alloc: Global, count: usize) -> Table {
-    match "[[service]]\nuuid = \"1800\"\n".repeat(alloc, count) {
-        Ok(text) => read_table(rt, alloc, &text),
-        Err(_) => panic!(rt; "memory"),
-    }
+    let text = "[[service]]\nuuid = \"1800\"\n"
+        .repeat(alloc, count)
+        .expect(rt, "memory");
+    let table = read_table(rt, alloc, &text);
+    drop(text);
+    table
 }
 
 fn check_services(rt: &impl Abort, table: &Table) {

@@ -3,7 +3,8 @@
 use super::cases::assert_case;
 use att_numbers::attribute_type::{BASE_UUID, PRIMARY_SERVICE, from_16_bits};
 use att_table::{Table, is_of_16_bits, is_service, type_octets};
-use std::alloc::{AllocError, Global};
+use std::alloc::Global;
+use std::process::Abort;
 
 const CUSTOM: u128 = 0x1234_5678_9ABC_DEF0_0123_4567_89AB_CDEF;
 
@@ -28,31 +29,23 @@ const TEXTS: &[(&str, Option<&[u8]>)] = &[
 #[test]
 fn texts(rt: HostRuntime) {
     for &(uuid, octets) in TEXTS {
-        assert_case(&rt, is_value_of_service(rt.alloc(), uuid, octets), uuid);
+        check_service(&rt, rt.alloc(), uuid, octets);
     }
 }
 
-/// Whether a service of this type has these octets as its value, or is refused where there are none.
-fn is_value_of_service(alloc: Global, uuid: &str, octets: Option<&[u8]>) -> bool {
-    match service_of(alloc, uuid) {
-        Ok(text) => is_first_value(alloc, &text, octets),
-        Err(_) => false,
-    }
-}
-
-fn service_of(alloc: Global, uuid: &str) -> Result<String, AllocError> {
-    format!(in alloc; "[[service]]\nuuid = \"{uuid}\"\n")
+/// Ends the test unless a service of this type has these octets as its value, or is refused where there
+/// are none.
+fn check_service(rt: &impl Abort, alloc: Global, uuid: &str, octets: Option<&[u8]>) {
+    let text = format!(in alloc; "[[service]]\nuuid = \"{uuid}\"\n").expect(rt, "memory");
+    assert_case(rt, is_first_value(alloc, &text, octets), uuid);
+    drop(text);
 }
 
 fn is_first_value(alloc: Global, text: &str, octets: Option<&[u8]>) -> bool {
     match Table::read(alloc, text) {
-        Ok(table) => has_first_value(&table, octets),
+        Ok(table) => table.get(1).is_some() && octets == Some(table.value(1)),
         Err(fault) => fault.number() == 3 && octets.is_none(),
     }
-}
-
-fn has_first_value(table: &Table, octets: Option<&[u8]>) -> bool {
-    table.get(1).is_some() && octets == Some(table.value(1))
 }
 
 #[test]

@@ -126,13 +126,10 @@ fn alike(rt: HostRuntime) {
 
 fn check_file(rt: &impl Abort, alloc: Global, text: &str, wanted: &Wanted) {
     let table = Table::read(alloc, text).expect(rt, "the table");
-    check_table(rt, &table, wanted);
-}
-
-fn check_table(rt: &impl Abort, table: &Table, wanted: &Wanted) {
-    check_short_types(rt, table, wanted.of_16_bits);
-    check_types(rt, table, wanted.of_types);
-    check_values(rt, table, wanted.values);
+    check_short_types(rt, &table, wanted.of_16_bits);
+    check_types(rt, &table, wanted.of_types);
+    check_values(rt, &table, wanted.values);
+    drop(table);
 }
 
 fn check_short_types(rt: &impl Abort, table: &Table, cases: &[(u16, u16, Option<u16>)]) {
