@@ -111,21 +111,15 @@ fn is_whole_of_new(
     whole
 }
 
+/// All that was due before the read that fails is written.
 #[test]
 fn readers_that_fail(rt: HostRuntime) {
     let told = all_told(&rt);
-    fail_readers(&rt, rt.alloc(), told.as_slice());
-}
-
-/// All that was due before the read that fails is written.
-fn fail_readers(rt: &impl Abort, alloc: Global, told: &[u8]) {
     for reads in 0..32 {
         let whole = reads > told.len().div_ceil(16);
-        let wanted = due_after(rt, reads * 16);
-        assert!(rt;
-            is_whole_of_new(rt, alloc, told, wanted.as_slice(), reads) == Some(whole),
-            "{reads}"
-        );
+        let wanted = due_after(&rt, reads * 16);
+        let ended = is_whole_of_new(&rt, rt.alloc(), told.as_slice(), wanted.as_slice(), reads);
+        assert!(rt; ended == Some(whole), "{reads}");
     }
 }
 

@@ -37,20 +37,15 @@ const EXCHANGES: &[(&str, &str)] = &[
     ("043e130100400001010a00000000c018000000480000", "010a200101"),
 ];
 
-/// Takes in octets in pieces of at most `size`, behind what the host has to say unasked.
-fn takes(host: &mut Host, size: usize, octets: &[u8], written: &mut Written) -> bool
-    requires { 0 < size }
-{
-    feed(host, &[], written).is_ok() && feed_pieces(host, size, octets, written)
-}
-
-/// Takes in what the controller sends, in pieces of at most `size` octets.
+/// Takes in what the controller sends, in pieces of at most `size` octets, behind what the host has to
+/// say unasked.
 fn exchange(rt: &impl Abort, host: &mut Host, size: usize, octets: &str, wanted: &str)
     requires { 0 < size }
 {
     let mut written = Written::new();
     let told = spelled(rt, octets, 0);
-    assert!(rt; takes(host, size, told.as_slice(), &mut written));
+    assert!(rt; feed(host, &[], &mut written).is_ok());
+    assert!(rt; feed_pieces(host, size, told.as_slice(), &mut written));
     compare(rt, octets, written.octets(), wanted);
 }
 
@@ -65,11 +60,6 @@ fn exchange_all(rt: &impl Abort, host: &mut Host, size: usize, exchanges: &[(&st
     for (octets, wanted) in exchanges {
         exchange(rt, host, size, octets, wanted);
     }
-}
-
-/// The first exchanges.
-fn first(rt: &impl Abort, count: usize) -> &'static [(&'static str, &'static str)] {
-    EXCHANGES.get(..count).expect(rt, "exchanges")
 }
 
 /// The whole initialisation, where packets come in pieces of at most `size` octets.
@@ -163,7 +153,8 @@ enum Last<'a> {
 /// Makes so many exchanges with a new host, and then the last one.
 fn exchange_with_new(rt: &impl Abort, alloc: Global, count: usize, last: Last<'_>) {
     let mut host = opened(rt, alloc, SETTING);
-    exchange_all(rt, &mut host, 64, first(rt, count));
+    let first = EXCHANGES.get(..count).expect(rt, "exchanges");
+    exchange_all(rt, &mut host, 64, first);
     match last {
         Last::Fault(octets, wanted, fault) => stop(rt, &mut host, octets, wanted, fault),
         Last::Exchange(octets, wanted) => exchange(rt, &mut host, 64, octets, wanted),

@@ -38,15 +38,11 @@ const CASES: &[Case] = &[
     ),
 ];
 
-/// The fault of a host that is opened so.
-fn fault_of(rt: &impl Abort, alloc: Global, config: Config) -> Option<OpenFault> {
+/// Whether a host that is opened so has that fault, or none.
+fn is_fault(rt: &impl Abort, alloc: Global, case: &Case) -> bool {
     let table = Table::read(alloc, DOOR).expect(rt, "the table");
     let keys = Keys::read(alloc, "").expect(rt, "the keys");
     let rows = Rows::read(alloc, "").expect(rt, "the rows");
-    Host::open(alloc, table, keys, rows, config).err()
-}
-
-fn is_fault(rt: &impl Abort, alloc: Global, case: &Case) -> bool {
     let (slots, rx_mtu, address, fault) = *case;
     let config = Config {
         slots,
@@ -54,7 +50,7 @@ fn is_fault(rt: &impl Abort, alloc: Global, case: &Case) -> bool {
         address,
         advertising: ArrayVec::new(),
     };
-    fault_of(rt, alloc, config) == fault
+    Host::open(alloc, table, keys, rows, config).err() == fault
 }
 
 #[test]

@@ -146,14 +146,10 @@ pub fn opened(rt: &impl Abort, alloc: Global, setting: &Setting<'_>) -> Host {
 
 /// The keys of both example files.
 fn read_keys(rt: &impl Abort, alloc: Global) -> Keys {
-    match format!(in alloc; "{KEYS}{SECURE_KEY}") {
-        Ok(text) => keys_of(rt, alloc, &text),
-        Err(_) => panic!(rt; "memory"),
-    }
-}
-
-fn keys_of(rt: &impl Abort, alloc: Global, text: &str) -> Keys {
-    Keys::read(alloc, text).expect(rt, "the keys")
+    let text = format!(in alloc; "{KEYS}{SECURE_KEY}").expect(rt, "memory");
+    let keys = Keys::read(alloc, &text).expect(rt, "the keys");
+    drop(text);
+    keys
 }
 
 fn no_rows(rt: &impl Abort, alloc: Global) -> Rows {

@@ -6,7 +6,6 @@ use crate::taken::{Taken, at, go_on};
 use crate::wire::Written;
 use att_table::Table;
 use gatt_host::{App, Connection, Host, Peer, feed};
-use std::alloc::Global;
 use std::process::Abort;
 
 const COMES: Taken = Taken::Packet("043e130100400001010a00000000c018000000480000");
@@ -128,16 +127,6 @@ fn connections_are_seen(rt: HostRuntime) {
     drop(host);
 }
 
-/// A phone writes a value, and then the stream is lost.
-fn lost(rt: &impl Abort, alloc: Global) -> Host {
-    let mut host = ready(rt, alloc, &at(Door));
-    go_on(rt, alloc, &mut host, COMES);
-    go_on(rt, alloc, &mut host, Taken::Pdu("12150061"));
-    let mut written = Written::new();
-    assert!(rt; feed(&mut host, &[0x07], &mut written).is_err());
-    host
-}
-
 fn is_written(table: &Table) -> bool {
     match table.get(21) {
         Some(_) => table.value(21) == b"a".as_slice(),
@@ -145,15 +134,16 @@ fn is_written(table: &Table) -> bool {
     }
 }
 
-fn take_apart(rt: &impl Abort, host: Host) {
+/// A phone writes a value, and then the stream is lost.
+#[test]
+fn values_are_left_after_a_fault(rt: HostRuntime) {
+    let mut host = ready(&rt, rt.alloc(), &at(Door));
+    go_on(&rt, rt.alloc(), &mut host, COMES);
+    go_on(&rt, rt.alloc(), &mut host, Taken::Pdu("12150061"));
+    assert!(rt; feed(&mut host, &[0x07], &mut Written::new()).is_err());
     let (table, keys, rows) = host.into_parts();
     assert!(rt; is_written(&table));
     drop(table);
     drop(keys);
     drop(rows);
-}
-
-#[test]
-fn values_are_left_after_a_fault(rt: HostRuntime) {
-    take_apart(&rt, lost(&rt, rt.alloc()));
 }

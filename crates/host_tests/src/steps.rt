@@ -81,17 +81,15 @@ fn check(rt: &impl Abort, host: &mut Host, step: Step, written: &mut Written) {
 
 fn check_value(rt: &impl Abort, table: &Table, handle: u16, value: &str) {
     let octets = spelled(rt, value, 0);
-    assert!(rt; has_value(table, handle, octets.as_slice()), "{value}");
+    assert!(rt;
+        table.get(handle).is_some() && table.value(handle) == octets.as_slice(),
+        "{value}"
+    );
 }
 
 fn stop(rt: &impl Abort, host: &mut Host, octets: &str, fault: HostFault, written: &mut Written) {
     let octets = spelled(rt, octets, 0);
     assert!(rt; feed(host, octets.as_slice(), written) == Err(fault));
-}
-
-/// Whether an attribute has this value.
-fn has_value(table: &Table, handle: u16, octets: &[u8]) -> bool {
-    table.get(handle).is_some() && table.value(handle) == octets
 }
 
 /// Whether the rows have this text.
