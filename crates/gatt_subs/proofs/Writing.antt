@@ -1,8 +1,9 @@
 -- What a sink takes in turn.
-use Rattle.std.proofs.Common.{◌≡◌, ℕ, ◌+◌, true, false, if◌then◌else◌, List, [], ◌∷◌, ◌++◌, ◌<◌, length, get_or, drop, Option, refl, sym, ap, subst, ◌∙◌, append_assoc}
+use Rattle.std.proofs.Common.{◌≡◌, ℕ, ◌+◌, true, false, if◌then◌else◌, List, [], ◌∷◌, ◌++◌, ◌<◌, length, get_or, drop, Option, refl, sym, ap, subst, ◌∙◌}
 use Rattle.std.specs.Prelude.{Result, Ok, Err, IsOk, OnOk, OnErr}
 use Rattle.std.specs.List.{flat_map}
 use Rattle.std.specs.Io.KnownBytes.{Appends}
+use Rattle.std.proofs.KnownBytes.{Appends-trans}
 use Rattle.std.proofs.lemmas.List.{append-nil, at_drop_more}
 use Rattle.octets.specs.Number.{Octets}
 use Rattle.octets.proofs.Writing.{HasWritten, breaks_off, written_more, written_none}
@@ -11,9 +12,8 @@ use Rattle.std.proofs.lemmas.List.Concat.{flat_map-append}
 use Rattle.le_hci.specs.declared.peer.Peer.{Peer}
 use Rattle.gatt_subs.specs.declared.bond.Bond.{Bond}
 use Rattle.gatt_subs.specs.declared.row_entry.RowEntry.{RowEntry}
-use Rattle.gatt_subs.specs.RowsText.{bond_entries, entries_of, entry_line, owed_line, owed_peers, text_in_parts, rows_text}
+use Rattle.gatt_subs.specs.RowsText.{bond_entries, entries_of, entry_line, owed_line, owed_peers, text_by_parts, rows_text}
 use Rattle.gatt_subs.specs.Rows.{Subscriptions}
-use Rattle.gatt_subs.specs.Unfitted.{WrittenRows}
 
 -- lines that are written one after the other
 pub lines_more : {X : Type 0} (line : X → Octets) (xs : List X) (i : ℕ) (d : X) (octets : Octets) (held mid holds : Option Octets) → i < length xs
@@ -102,57 +102,45 @@ owed_break_off peers bonds i d e held mid holds within within' so_far front =
     (subst (λ (rest : Octets). HasWritten (flat_map owed_line (owed_peers peers bonds)) rest held mid) (owed_from peers bonds i d e within within') so_far)
     front
 
--- the text in its parts
-pub text_of_parts : (rows : Subscriptions) → text_in_parts rows.peers rows.bonds rows.unfitted ≡ rows_text rows
+-- the text by what rows consist of
+pub text_of_parts : (rows : Subscriptions) → text_by_parts rows.peers rows.bonds rows.unfitted ≡ rows_text rows
 unfolding rows_text
-text_of_parts rows =
-    let A = flat_map entry_line (bond_entries rows.peers rows.bonds) in
-    let B = flat_map entry_line rows.unfitted.entries in
-    let C = flat_map owed_line (owed_peers rows.peers rows.bonds) in
-    let D = flat_map owed_line rows.unfitted.owed in
-    sym (append_assoc A B (C ++ D))
-    ∙ sym (λ i. flat_map-append entry_line (bond_entries rows.peers rows.bonds) rows.unfitted.entries i ++ flat_map-append owed_line (owed_peers rows.peers rows.bonds) rows.unfitted.owed i)
+text_of_parts rows = refl
 
--- where one of the parts breaks off
-last_breaks_off : (text piece : Octets) (held mid holds : Option Octets) → HasWritten text piece held mid → WritesFront piece mid holds → WritesFront text held holds
-last_breaks_off text piece held mid holds so_far front =
-    breaks_off text piece [] held mid holds (subst (λ (rest : Octets). HasWritten text rest held mid) (sym (append-nil piece)) so_far) front
+-- of two texts, one behind the other, the first breaks off
+pub first_breaks_off : (first second : Octets) (held holds : Option Octets) → WritesFront first held holds → WritesFront (first ++ second) held holds
+first_breaks_off first second held holds front =
+    breaks_off (first ++ second) first second held held holds (written_none (first ++ second) held) front
 
-first_written : (peers : List Peer) (bonds : List Bond) (unfitted : WrittenRows) (held mid : Option Octets) → Appends held mid (flat_map entry_line (bond_entries peers bonds))
-    → HasWritten (text_in_parts peers bonds unfitted) (flat_map entry_line unfitted.entries ++ (flat_map owed_line (owed_peers peers bonds) ++ flat_map owed_line unfitted.owed)) held mid
-first_written peers bonds unfitted held mid first =
-    written_more (text_in_parts peers bonds unfitted) (flat_map entry_line (bond_entries peers bonds)) (flat_map entry_line unfitted.entries ++ (flat_map owed_line (owed_peers peers bonds) ++ flat_map owed_line unfitted.owed)) held held mid
-    (written_none (text_in_parts peers bonds unfitted) held) first
+-- or the second, unless both are written
+pub second_breaks_off : {T E : Type 0} (result : Result T E) (first second : Octets) (held mid holds : Option Octets)
+    → Appends held mid first → OnErr result (WritesFront second mid holds) → OnErr result (WritesFront (first ++ second) held holds)
+second_breaks_off (Ok x) first second held mid holds is front = tt
+second_breaks_off (Err e) first second held mid holds is front =
+    breaks_off (first ++ second) second [] held mid holds
+    (subst (λ (rest : Octets). HasWritten (first ++ second) rest held mid) (sym (append-nil second))
+    (written_more (first ++ second) first second held held mid (written_none (first ++ second) held) is))
+    front
 
-second_written : (peers : List Peer) (bonds : List Bond) (unfitted : WrittenRows) (entries : List RowEntry) (held mid holds : Option Octets) → entries ≡ unfitted.entries
-    → Appends held mid (flat_map entry_line (bond_entries peers bonds)) → Appends mid holds (flat_map entry_line entries)
-    → HasWritten (text_in_parts peers bonds unfitted) (flat_map owed_line (owed_peers peers bonds) ++ flat_map owed_line unfitted.owed) held holds
-second_written peers bonds unfitted entries held mid holds is first second =
-    written_more (text_in_parts peers bonds unfitted) (flat_map entry_line unfitted.entries) (flat_map owed_line (owed_peers peers bonds) ++ flat_map owed_line unfitted.owed) held mid holds
-    (first_written peers bonds unfitted held mid first) (subst (λ (entries : List RowEntry). Appends mid holds (flat_map entry_line entries)) is second)
+pub both_written : {T E : Type 0} (result : Result T E) (first second : Octets) (held mid holds : Option Octets)
+    → Appends held mid first → OnOk result (Appends mid holds second) → OnOk result (Appends held holds (first ++ second))
+both_written (Ok x) first second held mid holds is written = Appends-trans held mid holds first second is written
+both_written (Err e) first second held mid holds is written = tt
 
-pub second_breaks_off : (peers : List Peer) (bonds : List Bond) (unfitted : WrittenRows) (entries : List RowEntry) (held mid holds : Option Octets) → entries ≡ unfitted.entries
-    → Appends held mid (flat_map entry_line (bond_entries peers bonds)) → WritesFront (flat_map entry_line entries) mid holds
-    → WritesFront (text_in_parts peers bonds unfitted) held holds
-second_breaks_off peers bonds unfitted entries held mid holds is first front =
-    breaks_off (text_in_parts peers bonds unfitted) (flat_map entry_line unfitted.entries) (flat_map owed_line (owed_peers peers bonds) ++ flat_map owed_line unfitted.owed) held mid holds
-    (first_written peers bonds unfitted held mid first) (subst (λ (entries : List RowEntry). WritesFront (flat_map entry_line entries) mid holds) is front)
+-- the same of lines, which stand for lists
+pub first_lines_break_off : {X : Type 0} (line : X → Octets) (xs ys : List X) (held holds : Option Octets)
+    → WritesFront (flat_map line xs) held holds → WritesFront (flat_map line (xs ++ ys)) held holds
+first_lines_break_off line xs ys held holds front =
+    subst (λ (text : Octets). WritesFront text held holds) (sym (flat_map-append line xs ys)) (first_breaks_off (flat_map line xs) (flat_map line ys) held holds front)
 
-pub third_breaks_off : (peers : List Peer) (bonds : List Bond) (unfitted : WrittenRows) (entries : List RowEntry) (held mid mid' holds : Option Octets) → entries ≡ unfitted.entries
-    → Appends held mid (flat_map entry_line (bond_entries peers bonds)) → Appends mid mid' (flat_map entry_line entries)
-    → WritesFront (flat_map owed_line (owed_peers peers bonds)) mid' holds → WritesFront (text_in_parts peers bonds unfitted) held holds
-third_breaks_off peers bonds unfitted entries held mid mid' holds is first second front =
-    breaks_off (text_in_parts peers bonds unfitted) (flat_map owed_line (owed_peers peers bonds)) (flat_map owed_line unfitted.owed) held mid' holds
-    (second_written peers bonds unfitted entries held mid mid' is first second) front
+pub second_lines_break_off : {T E : Type 0} (result : Result T E) {X : Type 0} (line : X → Octets) (xs ys : List X) (held mid holds : Option Octets)
+    → Appends held mid (flat_map line xs) → OnErr result (WritesFront (flat_map line ys) mid holds) → OnErr result (WritesFront (flat_map line (xs ++ ys)) held holds)
+second_lines_break_off result line xs ys held mid holds is front =
+    subst (λ (text : Octets). OnErr result (WritesFront text held holds)) (sym (flat_map-append line xs ys))
+    (second_breaks_off result (flat_map line xs) (flat_map line ys) held mid holds is front)
 
-pub fourth_breaks_off : {T E : Type 0} (result : Result T E) (peers : List Peer) (bonds : List Bond) (unfitted : WrittenRows) (entries : List RowEntry) (owed : List Peer) (held mid mid' mid'' holds : Option Octets)
-    → entries ≡ unfitted.entries → owed ≡ unfitted.owed
-    → Appends held mid (flat_map entry_line (bond_entries peers bonds)) → Appends mid mid' (flat_map entry_line entries)
-    → Appends mid' mid'' (flat_map owed_line (owed_peers peers bonds)) → OnErr result (WritesFront (flat_map owed_line owed) mid'' holds)
-    → OnErr result (WritesFront (text_in_parts peers bonds unfitted) held holds)
-fourth_breaks_off (Ok x) peers bonds unfitted entries owed held mid mid' mid'' holds is is' first second third front = tt
-fourth_breaks_off (Err e) peers bonds unfitted entries owed held mid mid' mid'' holds is is' first second third front =
-    last_breaks_off (text_in_parts peers bonds unfitted) (flat_map owed_line unfitted.owed) held mid'' holds
-    (written_more (text_in_parts peers bonds unfitted) (flat_map owed_line (owed_peers peers bonds)) (flat_map owed_line unfitted.owed) held mid' mid''
-    (second_written peers bonds unfitted entries held mid mid' is first second) third)
-    (subst (λ (owed : List Peer). WritesFront (flat_map owed_line owed) mid'' holds) is' front)
+pub both_lines_written : {T E : Type 0} (result : Result T E) {X : Type 0} (line : X → Octets) (xs ys : List X) (held mid holds : Option Octets)
+    → Appends held mid (flat_map line xs) → OnOk result (Appends mid holds (flat_map line ys)) → OnOk result (Appends held holds (flat_map line (xs ++ ys)))
+both_lines_written result line xs ys held mid holds is written =
+    subst (λ (text : Octets). OnOk result (Appends held holds text)) (sym (flat_map-append line xs ys))
+    (both_written result (flat_map line xs) (flat_map line ys) held mid holds is written)

@@ -8,7 +8,6 @@ use Rattle.std.specs.Str.Parse.{digits_value}
 use Rattle.octets.specs.Missing.{◌>>=◌}
 use Rattle.octets.specs.Number.{Octets}
 use Rattle.att_numbers.specs.Types.{Handle}
-use Rattle.le_hci.specs.declared.peer.Peer.{Peer}
 use Rattle.le_security.specs.Address.{peer_of}
 use Rattle.gatt_subs.specs.declared.rows_line.Line.{Line}
 use Rattle.gatt_subs.specs.declared.rows_line.Line.TheVariants.{Entry, Owed}
@@ -45,15 +44,19 @@ bits_of word =
     else if bytes_eq word (codes "3") then Some 3
     else None
 
--- behind two words: `! kind address` has one more, and `kind address handle value` two
+-- `kind address handle value`: what a peer has configured
+abbrev pub entry_of : Octets → Octets → Octets → Octets → Option Line
+entry_of kind address handle value = do
+  peer ← peer_of kind address
+  handle ← handle_of_row handle
+  bits ← bits_of value
+  Some (Entry (record { peer = peer; handle = handle; bits = bits }))
+
+-- behind two words: `! kind address` has one more, and an entry two
 abbrev pub line_behind : Octets → Octets → Octets → Option (Octets × Octets) → Option Line
 line_behind mark kind address None =
     if bytes_eq mark (codes "!") then option_map Owed (peer_of kind address) else None
-line_behind kind address rest (Some last) = do
-  peer ← peer_of kind address
-  handle ← handle_of_row last.0
-  bits ← bits_of last.1
-  Some (Entry (record { peer = peer; handle = handle; bits = bits }))
+line_behind kind address rest (Some last) = entry_of kind address last.0 last.1
 
 -- what a line says, if it is one of these
 unfoldable pub rows_line_of : Octets → Option Line

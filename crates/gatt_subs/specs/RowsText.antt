@@ -65,7 +65,7 @@ owed_in rows = owed_peers rows.peers rows.bonds ++ rows.unfitted.owed
 unfoldable pub rows_text : Subscriptions → Octets
 rows_text rows = flat_map entry_line (configured rows) ++ flat_map owed_line (owed_in rows)
 
--- the same in the four parts that it has; of the code alone
-abbrev pub text_in_parts : List Peer → List Bond → WrittenRows → Octets
-text_in_parts peers bonds unfitted =
-    flat_map entry_line (bond_entries peers bonds) ++ (flat_map entry_line unfitted.entries ++ (flat_map owed_line (owed_peers peers bonds) ++ flat_map owed_line unfitted.owed))
+-- the same by what rows consist of
+abbrev pub text_by_parts : List Peer → List Bond → WrittenRows → Octets
+text_by_parts peers bonds unfitted =
+    flat_map entry_line (bond_entries peers bonds ++ unfitted.entries) ++ flat_map owed_line (owed_peers peers bonds ++ unfitted.owed)

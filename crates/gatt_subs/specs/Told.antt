@@ -9,7 +9,7 @@ use Rattle.att_attributes.specs.declared.attr.Attr.{Attr}
 use Rattle.att_table.specs.Table.{value_at}
 use Rattle.octets.specs.Number.{Octets}
 use Rattle.gatt_subs.specs.Hearing.{may_hear_at}
-use Rattle.gatt_subs.specs.Indications.{Indications, Backlog, Milliseconds, hears, is_notified, after_notify, indicated_handle, after_indicate}
+use Rattle.gatt_subs.specs.Indications.{Indications, Backlog, Milliseconds, is_notified, after_notify, indicated_handle, after_indicate}
 
 -- as many octets of a value as fit behind the opcode and the handle
 abbrev pub value_front : Values → Handle → Mtu → Octets

@@ -4,7 +4,7 @@ ghost use Rattle.gatt_subs.specs.RowEntry.{rank_of, order_of, is_at};
 use le_hci::Peer;
 
 /// What a peer has configured at a handle.
-#[derive(Clone, Copy, Debug, PartialEq, Eq)]
+#[derive(Clone, Copy)]
 pub struct RowEntry {
     pub peer: Peer,
     /// The handle of a client characteristic configuration.

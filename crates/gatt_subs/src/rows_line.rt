@@ -2,14 +2,14 @@
 
 ghost use Rattle.std.specs.Prelude.{◌≡◌, None};
 ghost use Rattle.std.specs.Option.{option_map};
-ghost use Rattle.gatt_subs.specs.RowsLine.{parts_view, parts_of, line_behind, rows_line_of, handle_of_row, bits_of};
+ghost use Rattle.gatt_subs.specs.RowsLine.{parts_view, parts_of, entry_of, line_behind, rows_line_of, handle_of_row, bits_of};
 
 use crate::row_entry::RowEntry;
 use le_hci::Peer;
 use le_security::read_peer;
 
 /// What a line says.
-#[derive(Clone, Copy, Debug, PartialEq, Eq)]
+#[derive(Clone, Copy)]
 pub enum Line {
     /// What a peer has configured.
     Entry(RowEntry),
@@ -24,13 +24,20 @@ pub fn read_line(line: &str) -> Option<Line>
 {
     let (first, rest) = parts(line)?;
     let (second, rest) = parts(rest)?;
-    let Some((handle, value)) = parts(rest) else {
-        return read_owed(first, second, rest);
-    };
+    match parts(rest) {
+        Some((handle, bits)) => read_entry(first, second, handle, bits),
+        None => read_owed(first, second, rest),
+    }
+}
+
+/// What a peer has configured at a handle.
+fn read_entry(kind: &str, address: &str, handle: &str, bits: &str) -> Option<Line>
+    ensures { result ≡ entry_of kind.now address.now handle.now bits.now }
+{
     Some(Line::Entry(RowEntry {
-        peer: read_peer(first, second)?,
+        peer: read_peer(kind, address)?,
         handle: read_handle(handle)?,
-        bits: read_bits(value)?,
+        bits: read_bits(bits)?,
     }))
 }
 

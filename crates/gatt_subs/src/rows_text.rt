@@ -8,7 +8,7 @@ ghost use Rattle.arrayvec.specs.ArrayVec.{array_vec_len};
 ghost use Rattle.octets.specs.Stream.{CountsFailure, WritesFront};
 ghost use Rattle.gatt_subs.specs.InOrder.{in_order};
 ghost use Rattle.gatt_subs.specs.RowEntry.{order_of};
-ghost use Rattle.gatt_subs.specs.RowsText.{address_text, peer_text, entry_line, owed_line, owed_peers, bond_entries, entries_of, text_in_parts};
+ghost use Rattle.gatt_subs.specs.RowsText.{address_text, peer_text, entry_line, owed_line, owed_peers, bond_entries, entries_of, text_by_parts};
 
 use crate::bond::Bond;
 use crate::row_entry::RowEntry;
@@ -32,15 +32,51 @@ pub fn write_rows<W: Sink>(
 ) -> Result<(), Failed>
     requires { length bonds.now ≡ length peers.now }
     ensures ok { OnOk result (Appends (W.contents sink.old) (W.contents sink.new)
-        (text_in_parts peers.now bonds.now unfitted.now)) }
-    ensures front { OnErr result (WritesFront (text_in_parts peers.now bonds.now unfitted.now)
+        (text_by_parts peers.now bonds.now unfitted.now)) }
+    ensures front { OnErr result (WritesFront (text_by_parts peers.now bonds.now unfitted.now)
+        (W.contents sink.old) (W.contents sink.new)) }
+    ensures failures { CountsFailure (W.failures sink.old) (W.failures sink.new) result }
+{
+    write_configured(peers, bonds, unfitted.entries(), sink)?;
+    write_owed_in(peers, bonds, unfitted.owed(), sink)
+}
+
+/// Writes the lines of what is configured, by bonds and behind them by others.
+fn write_configured<W: Sink>(
+    peers: &[Peer],
+    bonds: &[Bond],
+    others: &[RowEntry],
+    sink: &mut W,
+) -> Result<(), Failed>
+    requires { length bonds.now ≡ length peers.now }
+    ensures ok { OnOk result (Appends (W.contents sink.old) (W.contents sink.new)
+        (flat_map entry_line (bond_entries peers.now bonds.now ++ others.now))) }
+    ensures front { OnErr result
+        (WritesFront (flat_map entry_line (bond_entries peers.now bonds.now ++ others.now))
         (W.contents sink.old) (W.contents sink.new)) }
     ensures failures { CountsFailure (W.failures sink.old) (W.failures sink.new) result }
 {
     write_bonds(peers, bonds, sink)?;
-    write_entries(unfitted.entries(), sink)?;
+    write_entries(others, sink)
+}
+
+/// Writes the lines of who is owed, of the peers of bonds and behind them of others.
+fn write_owed_in<W: Sink>(
+    peers: &[Peer],
+    bonds: &[Bond],
+    others: &[Peer],
+    sink: &mut W,
+) -> Result<(), Failed>
+    requires { length bonds.now ≡ length peers.now }
+    ensures ok { OnOk result (Appends (W.contents sink.old) (W.contents sink.new)
+        (flat_map owed_line (owed_peers peers.now bonds.now ++ others.now))) }
+    ensures front { OnErr result
+        (WritesFront (flat_map owed_line (owed_peers peers.now bonds.now ++ others.now))
+        (W.contents sink.old) (W.contents sink.new)) }
+    ensures failures { CountsFailure (W.failures sink.old) (W.failures sink.new) result }
+{
     write_owed_bonds(peers, bonds, sink)?;
-    write_owed(unfitted.owed(), sink)
+    write_owed(others, sink)
 }
 
 /// Writes the lines of what bonds have configured.
