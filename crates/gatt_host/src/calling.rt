@@ -23,7 +23,6 @@ use octets::Sink;
 /// and then what the call brings, so that another may follow at once. Answers `Fault::Call` where the
 /// call is refused, which changes nothing, and `Fault::Host` where the writer fails, or had the host
 /// stopped before.
-#[tactic(auto, using(crate::proofs::Promises::keeps_the_policy, crate::proofs::Promises::keeps_connections_apart))]
 pub fn call<W: Sink>(host: &mut Host, call: App<'_>, out: &mut W) -> Result<(), Fault>
     ensures feeds { host.old.fault ≡ None
         → Feeds (ACall (call_of call.entry) ∷ []) host.old host.new (W.contents out.old)
@@ -48,7 +47,6 @@ pub fn call<W: Sink>(host: &mut Host, call: App<'_>, out: &mut W) -> Result<(), 
 /// and then what the call brings, so that another may follow at once. Answers `Fault::Call` where the
 /// call is refused, which changes nothing, and `Fault::Host` where the writer fails, or had the host
 /// stopped before. What the call tells is heard before what it brings is written.
-#[tactic(auto, using(crate::proofs::Promises::keeps_the_policy, crate::proofs::Promises::keeps_connections_apart))]
 pub fn call_to<W: Sink, L: Listener>(
     host: &mut Host,
     call: App<'_>,

@@ -28,7 +28,6 @@ pub enum Input<'a> {
 /// Takes in octets and calls in their order, and writes what goes back: first what was owed, and then
 /// what each packet and each call brings, before the next. Says how many of the calls were refused.
 /// After a fault it answers that, and changes nothing.
-#[tactic(auto, using(crate::proofs::Promises::keeps_the_policy, crate::proofs::Promises::keeps_connections_apart))]
 pub fn drive<W: Sink>(
     host: &mut Host,
     inputs: &[Input<'_>],
@@ -59,7 +58,6 @@ pub fn drive<W: Sink>(
 /// what each packet and each call brings, before the next. Says how many of the calls were refused.
 /// After a fault it answers that, and changes nothing. What each packet and each call tells is heard
 /// before what it brings is written.
-#[tactic(auto, using(crate::proofs::Promises::keeps_the_policy, crate::proofs::Promises::keeps_connections_apart))]
 pub fn drive_to<W: Sink, L: Listener>(
     host: &mut Host,
     inputs: &[Input<'_>],

@@ -23,7 +23,6 @@ use octets::{Sink, write_all};
 /// Takes in octets of the stream from the controller, which may begin and end anywhere in its packets,
 /// and writes what goes back: first what was owed, and then what each packet brings, before the next is
 /// taken in. After a fault it answers that, and changes nothing.
-#[tactic(auto, using(crate::proofs::Promises::keeps_the_policy, crate::proofs::Promises::keeps_connections_apart))]
 pub fn feed<W: Sink>(host: &mut Host, octets: &[u8], out: &mut W) -> Result<(), HostFault>
     ensures feeds { host.old.fault ≡ None
         → Feeds (octet_items octets.now) host.old host.new (W.contents out.old)
@@ -49,7 +48,6 @@ pub fn feed<W: Sink>(host: &mut Host, octets: &[u8], out: &mut W) -> Result<(), 
 /// and writes what goes back: first what was owed, and then what each packet brings, before the next is
 /// taken in. After a fault it answers that, and changes nothing. What each packet tells is heard before
 /// what it brings is written.
-#[tactic(auto, using(crate::proofs::Promises::keeps_the_policy, crate::proofs::Promises::keeps_connections_apart))]
 pub fn feed_to<W: Sink, L: Listener>(
     host: &mut Host,
     octets: &[u8],

@@ -133,7 +133,6 @@ impl Host {
 
     /// Takes in one whole packet from the controller, once all is out. An ACL packet with more than
     /// 1,024 octets of data is ignored. After a fault it answers that, and changes nothing.
-    #[tactic(auto, using(crate::proofs::Promises::keeps_the_policy, crate::proofs::Promises::keeps_connections_apart))]
     pub fn packet(&mut self, packet: PacketRef<'_>) -> Result<(), HostFault>
         requires drained { all_out self.old ≡ true }
         ensures takes { self.old.fault ≡ None
@@ -163,7 +162,6 @@ impl Host {
     /// Takes in octets of the stream from the controller, once all is out: up to the end of the next
     /// packet, which is taken in with them, or all of them, where none ends in them. Says how many.
     /// After a fault it answers that, and changes nothing.
-    #[tactic(auto, using(crate::proofs::Promises::keeps_the_policy, crate::proofs::Promises::keeps_connections_apart))]
     pub fn take(&mut self, octets: &[u8]) -> Result<usize, HostFault>
         requires drained { all_out self.old ≡ true }
         ensures takes { self.old.fault ≡ None
@@ -190,7 +188,6 @@ impl Host {
 
     /// Does what the application asks, once all is out; or refuses it, and changes nothing but that no
     /// notice is there any more.
-    #[tactic(auto, using(crate::proofs::Promises::keeps_the_policy, crate::proofs::Promises::keeps_connections_apart))]
     pub fn app(&mut self, call: App<'_>) -> Result<(), AppFault>
         requires drained { all_out self.old ≡ true }
         ensures takes { self.old.fault ≡ None
@@ -215,7 +212,6 @@ impl Host {
 
     /// Replaces the table, once all is out, and gives the old one back with its values as they are; or
     /// gives the new one back with the fault, and changes nothing but that no notice is there any more.
-    #[tactic(auto, using(crate::proofs::Promises::keeps_the_policy, crate::proofs::Promises::keeps_connections_apart))]
     pub fn replace(&mut self, table: Table) -> Result<Table, (AppFault, Table)>
         requires drained { all_out self.old ≡ true }
         ensures takes { self.old.fault ≡ None → Takes (ATable table) self.old self.new }

@@ -32,7 +32,6 @@ pub struct End {
 /// goes back, until the reader is at its end or as many turns are over as there may be. The octets of a
 /// packet that is unfinished at the end are dropped. After a fault it answers that, and changes
 /// nothing.
-#[tactic(auto, using(crate::proofs::Promises::keeps_the_policy, crate::proofs::Promises::keeps_connections_apart))]
 pub fn serve<R: Source, W: Sink>(
     host: &mut Host,
     reader: &mut R,
@@ -70,7 +69,6 @@ pub fn serve<R: Source, W: Sink>(
 /// goes back, until the reader is at its end or as many turns are over as there may be. The octets of a
 /// packet that is unfinished at the end are dropped. After a fault it answers that, and changes
 /// nothing. What each packet tells is heard before what it brings is written.
-#[tactic(auto, using(crate::proofs::Promises::keeps_the_policy, crate::proofs::Promises::keeps_connections_apart))]
 pub fn serve_to<R: Source, W: Sink, L: Listener>(
     host: &mut Host,
     reader: &mut R,
