@@ -12,7 +12,7 @@ use gatt_laws::MAX_SLOTS;
 use std::mem::size_of;
 
 /// What may be due at a slot.
-#[derive(Clone, Copy, PartialEq, Eq)]
+#[derive(Clone, Copy)]
 pub(crate) enum Due {
     /// A command for its connection.
     Command,
