@@ -321,6 +321,12 @@ pub of_table_if_any : (handles : List Handle) (attributes : List Attr) (rows : S
 of_table_if_any [] attributes rows slots of = tt
 of_table_if_any (handle ∷ handles) attributes rows slots of = of
 
+-- and where there are some, they are
+pub of_table_of_some : (handles : List Handle) (attributes : List Attr) (rows : Subscriptions) (slots : SlotStates) → 0 < length handles → AreOfTableIfAny handles attributes rows slots
+    → AreOfTable attributes rows slots
+of_table_of_some [] attributes rows slots some of = absurd (omega (arith, some))
+of_table_of_some (handle ∷ handles) attributes rows slots some of = of
+
 -- and so after what keeps it so
 pub of_table_then : (handles : List Handle) (attributes : List Attr) (rows : Subscriptions) (slots new : SlotStates) → (AreOfTable attributes rows slots → AreOfTable attributes rows new)
     → AreOfTableIfAny handles attributes rows slots → AreOfTableIfAny handles attributes rows new

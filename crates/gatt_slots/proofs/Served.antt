@@ -1,12 +1,12 @@
 -- What serving a PDU leaves of the bond of the peer.
-use Rattle.std.proofs.Common.{◌≡◌, ℕ, Bool, true, false, Option, Some, refl, sym, ap, ◌∙◌, subst}
+use Rattle.std.proofs.Common.{◌≡◌, ℕ, Bool, true, false, List, [], Option, Some, refl, sym, ap, ◌∙◌, subst}
 use Rattle.std.specs.Prelude.{◌&&◌, is_some, if◌then◌else◌, IfSome, IsSome}
 use Rattle.std.specs.Option.{option_map, option_map_or}
 use Rattle.att_numbers.specs.Types.{Handle, Row}
 use Rattle.att_pdu.specs.Grammar.{request_of}
 use Rattle.att_table.specs.ConfigRow.{IsRowOf}
 use Rattle.att_table.specs.Table.{Contents}
-use Rattle.gatt_conn.specs.Answer.{Question, answer_to, conn_after, stored_by, is_confirmation}
+use Rattle.gatt_conn.specs.Answer.{Question, answer_to, conn_after, handles_by, stored_by, is_confirmation}
 use Rattle.gatt_conn.specs.Connection.{Bearer}
 use Rattle.gatt_laws.specs.machine.Effect.{remote_user_terminated}
 use Rattle.gatt_laws.specs.machine.ConnectionState.{KeyReply}
@@ -14,10 +14,10 @@ use Rattle.gatt_slots.specs.declared.slot.Use.{Use}
 use Rattle.gatt_slots.specs.declared.slot.Use.TheVariants.{Free, Live, Ending}
 use Rattle.gatt_slots.specs.Hearing.{row_by_key, slot_row_in_force}
 use Rattle.gatt_slots.specs.SlotState.{SlotState, slot_bearer}
-use Rattle.gatt_slots.specs.Request.{with_response, overflows, stored_of, bond_after, bond_served, confirms_changes, slot_after_request, slot_row_after, pending_after, with_owed_after}
+use Rattle.gatt_slots.specs.Request.{with_response, overflows, stored_of, bond_after, bond_served, confirms_changes, handles_written_by, slot_after_request, slot_row_after, pending_after, table_after, with_owed_after}
 use Rattle.gatt_slots.specs.SlotEffects.{slot_after_ending}
 use Rattle.gatt_slots.specs.Use.{slot_state_from, slot_state_where}
-use Rattle.gatt_slots.proofs.Bonds.{changes-as, changes-twice}
+use Rattle.gatt_slots.proofs.Bonds.{changes-as, changes-nothing, changes-twice}
 use Rattle.gatt_subs.specs.declared.bond.Bond.{Bond}
 use Rattle.gatt_subs.specs.Indications.{Indications, after_confirmation, is_told}
 use Rattle.gatt_subs.specs.Rows.{Subscriptions, row_of, ChangesBond}
@@ -38,6 +38,14 @@ module _ (table : Contents) (now : ℕ) (changer : Option Handle) (pdu : Octets)
       changes-as (λ (bond : Bond). confirmed (stored bond)) (bond_served table now changer (row_of old slot_state.peer) pdu slot_state) slot_state.peer old new
       (λ bond. sym (ap (λ (test : Bool). if test then bond else confirmed (stored bond)) spare))
       (changes-twice stored confirmed slot_state.peer old mid new first second)
+
+  unwritten : (slot_state : SlotState) → overflows pdu slot_state ≡ true
+      → ChangesBond (bond_served table now changer (row_of old slot_state.peer) pdu slot_state) slot_state.peer old old
+  unwritten slot_state full =
+      let confirmed = with_owed_after (confirms_changes changer pdu slot_state) in
+      let stored = bond_after (is_some slot_state.link.key) (stored_of table now (row_of old slot_state.peer) pdu slot_state).row in
+      changes-nothing (bond_served table now changer (row_of old slot_state.peer) pdu slot_state) slot_state.peer old
+      (λ bond. ap (λ (test : Bool). if test then bond else confirmed (stored bond)) full)
 
   -- whether a slot serves or is ending makes no difference
   module _ (handle : ℕ) (peer : Peer) (key_known : Bool) (until : ℕ) (row : Row) (link : Linking) (conn : Bearer) (pending : Indications)
@@ -70,6 +78,40 @@ module _ (table : Contents) (now : ℕ) (changer : Option Handle) (pdu : Octets)
         by (request_of pdu by.mtu)).row) peer old mid) stands first))
         (subst (λ (it : Bool). ChangesBond (with_owed_after (it && (is_some link.key && option_map_or (is_told pending) changer false))) peer mid new) tells
         (subst (λ (it : Bool). ChangesBond (with_owed_after (told && it)) peer mid new) knows-is second))
+
+    of_each : (P : SlotState → Type 0) → ((live : Bool) → P (kept_as live)) → (used : Use)
+        → IfSome (slot_state_where used handle peer key_known until row link conn pending sender reply reason) P
+    of_each P holds Free = tt
+    of_each P holds Live = holds true
+    of_each P holds Ending = holds false
+
+    -- where there is no room for an answer that is due, nothing is written
+    pub bond_where_full : (used : Use) → overflows pdu (kept_as true) ≡ true
+        → IfSome (slot_state_where used handle peer key_known until row link conn pending sender reply reason)
+        (λ slot_state. ChangesBond (bond_served table now changer (row_of old slot_state.peer) pdu slot_state) slot_state.peer old old)
+    bond_where_full used full =
+        of_each (λ slot_state. ChangesBond (bond_served table now changer (row_of old slot_state.peer) pdu slot_state) slot_state.peer old old) (λ live. unwritten (kept_as live) full) used
+
+    -- and where there is room, the values and the handles that are written are those that serving tells
+    pub table_served : (used : Use) (has_key : Bool) (stood : Bearer) (new_table : Contents) → overflows pdu (kept_as true) ≡ false
+        → has_key ≡ is_some link.key → stood ≡ slot_bearer now (kept_as true)
+        → new_table ≡ record table { values = (stored_by table (row_by_key has_key (row_of old peer) row) stood (request_of pdu stood.mtu)).values }
+        → IfSome (slot_state_where used handle peer key_known until row link conn pending sender reply reason)
+        (λ slot_state. new_table ≡ table_after table now (row_of old slot_state.peer) pdu slot_state)
+    table_served used has_key stood new_table spare key stands is =
+        of_each (λ slot_state. new_table ≡ table_after table now (row_of old slot_state.peer) pdu slot_state)
+        (λ live. is ∙ (λ i. record table { values = (stored_by table (row_by_key (key i) (row_of old peer) row) (stands i) (request_of pdu (stands i).mtu)).values })
+        ∙ sym (ap (λ (test : Bool). if test then table else record table { values = (stored_of table now (row_of old peer) pdu (kept_as live)).values }) spare)) used
+
+    pub handles_served : (used : Use) (has_key : Bool) (stood : Bearer) (written : List Handle) → overflows pdu (kept_as true) ≡ false
+        → has_key ≡ is_some link.key → stood ≡ slot_bearer now (kept_as true)
+        → written ≡ handles_by table (row_by_key has_key (row_of old peer) row) stood (request_of pdu stood.mtu)
+        → IfSome (slot_state_where used handle peer key_known until row link conn pending sender reply reason)
+        (λ slot_state. written ≡ handles_written_by table now (row_of old slot_state.peer) pdu slot_state)
+    handles_served used has_key stood written spare key stands is =
+        of_each (λ slot_state. written ≡ handles_written_by table now (row_of old slot_state.peer) pdu slot_state)
+        (λ live. is ∙ (λ i. handles_by table (row_by_key (key i) (row_of old peer) row) (stands i) (request_of pdu (stands i).mtu))
+        ∙ sym (ap (λ (test : Bool). if test then [] else handles_by table (row_by_key (is_some link.key) (row_of old peer) row) (slot_bearer now (kept_as live)) (request_of pdu conn.mtu)) spare)) used
 
     -- a slot that is not free has a row in force
     pub row_of_table : (used : Use) (has_key : Bool) → has_key ≡ is_some link.key

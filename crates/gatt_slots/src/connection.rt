@@ -27,7 +27,6 @@ impl Slot {
 }
 
 /// The first connection of slots from a place on, and the place behind its slot.
-#[tactic(auto, using(crate::proofs::Seen::seen_more, crate::proofs::Seen::seen_none))]
 pub(crate) fn next_connection(slots: &[Slot], from: usize) -> Option<(usize, Connection)>
     ensures { FindsNext slots.now from result }
 {

@@ -100,7 +100,6 @@ impl Slot {
     /// Tells the connection of a value that was written: whether it is notified. Where it is indicated
     /// the value waits.
     #[inline(always)]
-    #[tactic(auto, using(crate::proofs::Quiet::notified_stays))]
     pub(crate) fn notify(&mut self, raised: &Raised<'_>, moment: Moment<'_>) -> bool
         requires table { IsTable moment.table.now }
         requires bonds { HasBondsOfTable moment.table.now.attributes moment.rows.now }

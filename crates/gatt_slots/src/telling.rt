@@ -92,7 +92,6 @@ pub(crate) fn notify_all(
 /// A value is notified to the connections of the slots of `whom`, slot by slot. It is looked up once for
 /// all of them, and none is looked at where nobody may hear of it.
 #[inline(always)]
-#[tactic(auto, using(crate::proofs::InTurn::nobody_hears))]
 fn notify_for(slots: &mut [Slot], heard: &mut Heard, moment: Moment<'_>, whom: Places, handle: u16)
     requires few { length slots.old ≤ MAX_SLOTS }
     requires covered { CoversHeard slots.old heard.old }
@@ -124,7 +123,6 @@ fn notify_for(slots: &mut [Slot], heard: &mut Heard, moment: Moment<'_>, whom: P
 /// A value, the only one, is notified to the connections of the slots of `whom`, slot by slot: it is
 /// looked up once for all of them, and told at once where nothing waits before it.
 #[inline(always)]
-#[tactic(auto, using(crate::proofs::Alone::nobody_hears_alone))]
 pub(crate) fn notify_alone(
     slots: &mut [Slot],
     heard: &mut Heard,

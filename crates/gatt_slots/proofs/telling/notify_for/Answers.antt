@@ -7,6 +7,7 @@ use Rattle.gatt_slots.specs.OfTable.{SlotIsOfTable}
 use Rattle.gatt_slots.specs.Places.{waits}
 use Rattle.gatt_slots.specs.Slots.{slot_state_at, slot_notified}
 use Rattle.gatt_slots.proofs.Found.{kept-is}
+use Rattle.gatt_slots.proofs.InTurn.{nobody_hears}
 use Rattle.gatt_slots.proofs.OfTable.{notified_of_table, set_of_table}
 use Rattle.gatt_slots.proofs.OneByOne.{begins, goes_on, goes_past, ends}
 use Rattle.gatt_slots.proofs.telling.notify_for.Goals as goal
@@ -74,3 +75,11 @@ returns-clause-notified c =
     let a = c.args in
     ends (slot_notified a.moment.table.now a.moment.now a.moment.rows.now a.handle) refl a.whom.bits c.loop-place.left.bits a.slots.now c.loop-place.slots
     c.requires.few c.loop-place.invariant.0 (c.in_default-first.ensures.none refl)
+
+pub returns-in_default-clause-notified : goal.returns-in_default-clause-notified
+returns-in_default-clause-notified c =
+    let a = c.args in
+    nobody_hears a.moment.table.now a.moment.now a.moment.rows.now a.whom.bits a.handle a.slots.now (c.in_default.ensures.none refl)
+
+pub returns-in_default-clause-covered : goal.returns-in_default-clause-covered
+returns-in_default-clause-covered c = c.requires.covered

@@ -2,8 +2,7 @@ use Rattle.std.proofs.Common.{arith}
 use Rattle.std.proofs.lemmas.List.{length-set}
 use Rattle.gatt_slots.proofs.Covering.{covered_if, covered_still, covered_with, none_with}
 use Rattle.gatt_slots.specs.declared.places.Due.TheVariants.{Command, Packet, Value, Indication}
-use Rattle.gatt_slots.specs.Places.{IsMarked}
-use Rattle.std.specs.Prelude.{is_none, set}
+use Rattle.std.specs.Prelude.{is_none}
 use Rattle.gatt_slots.proofs.marks.Marks.happen.Goals as goal
 
 pub returns : goal.returns

@@ -1,4 +1,4 @@
-use Rattle.std.proofs.Common.{◌≡◌, false, true, None, arith}
+use Rattle.std.proofs.Common.{None, arith}
 use Rattle.std.proofs.lemmas.List.{length-set}
 use Rattle.gatt_slots.proofs.Covering.{covered_still}
 use Rattle.gatt_slots.specs.declared.places.Due.TheVariants.{Command, Packet, Value, Indication}

@@ -1,7 +1,12 @@
-use Rattle.std.proofs.Common.{◌≡◌, Option, subst, sym, arith, rules}
+use Rattle.std.proofs.Common.{◌≡◌, Option, subst, sym, ap, ◌∙◌, arith, rules}
+use Rattle.std.proofs.lemmas.Bool.{OnTrue_from}
+use Rattle.gatt_slots.proofs.Alone.{waits_as_before}
 use Rattle.gatt_slots.proofs.OfTable.{room_in_slot}
+use Rattle.gatt_slots.proofs.Quiet.{notified_stays}
 use Rattle.gatt_slots.specs.declared.slot.Use.TheVariants.{Live}
 use Rattle.gatt_slots.specs.OfTable.{SlotIsOfTable}
+use Rattle.gatt_slots.specs.Places.{waits}
+use Rattle.gatt_subs.specs.Indications.{Indications}
 use Rattle.gatt_slots.specs.SlotState.{SlotState}
 use Rattle.gatt_slots.proofs.slot.Slot.notify.Goals as goal
 
@@ -15,3 +20,16 @@ raise_value-notified-requires c =
           inside.reason c.row_in_force-row.result.now a.raised.now.handle c.requires.table c.requires.bonds live
           (subst (λ (it : Option SlotState). SlotIsOfTable a.moment.table.now.attributes it) (sym c.self.view_is) c.requires.slot) c.row_in_force-row.ensures,
     )
+
+pub returns-then-notified-clause-told : goal.returns-then-notified-clause-told
+returns-then-notified-clause-told c =
+    let a = c.args in
+    let inside = c.self.inside in
+    let raised = c.raise_value-notified in
+    OnTrue_from raised.result _ (λ told.
+    waits_as_before inside.used inside.handle inside.peer inside.key_known inside.until inside.row inside.link inside.conn inside.pending raised.new.self inside.sender
+    c.queue_value.new.sender inside.reply inside.reason
+    (ap (λ (it : Indications). it.waiting) (raised.ensures.pending
+    ∙ notified_stays inside.pending a.raised.now.table.attributes c.row_in_force-row.result.now c.standing-standing.result a.raised.now.handle c.backlog-backlog.result
+    (sym raised.ensures.notified ∙ told)))
+    ∙ ap waits c.self.view_is)

@@ -1,4 +1,4 @@
-use Rattle.std.proofs.Common.{sym, ◌∙◌, ap, subst, false, refl, Option}
+use Rattle.std.proofs.Common.{◌≡◌, sym, ◌∙◌, ap, subst, false, refl, Option}
 use Rattle.std.specs.Option.{option_map, option_map_or}
 use Rattle.std.specs.Prelude.{◌==◌, ◌&&◌, is_some, length, IfSome, IsSome}
 use Rattle.att_policy.specs.declared.standing.KeyFacts.{KeyFacts}
@@ -6,9 +6,9 @@ use Rattle.att_policy.specs.declared.standing.Standing.{Standing}
 use Rattle.att_table.specs.ConfigRow.{IsRowOf}
 use Rattle.gatt_slots.specs.Hearing.{slot_row_in_force}
 use Rattle.gatt_slots.specs.SlotState.{SlotState}
-use Rattle.gatt_slots.specs.Request.{bond_served, slot_after_request}
+use Rattle.gatt_slots.specs.Request.{bond_served, handles_written_by, slot_after_request, table_after}
 use Rattle.gatt_slots.proofs.Confirming.{confirms_nothing}
-use Rattle.gatt_slots.proofs.Served.{bond_of_served, kept_after_serving, row_of_table}
+use Rattle.gatt_slots.proofs.Served.{bond_of_served, bond_where_full, handles_served, kept_after_serving, row_of_table, table_served}
 use Rattle.gatt_subs.specs.Indications.{is_told}
 use Rattle.gatt_subs.specs.Rows.{row_of, ChangesBond}
 use Rattle.gatt_slots.proofs.slot.Slot.serve.Goals as goal
@@ -56,3 +56,42 @@ returns-clause-after c =
 pub returns-then-is_full-clause-confirmed : goal.returns-then-is_full-clause-confirmed
 returns-then-is_full-clause-confirmed c =
     confirms_nothing c.args.pdu.now c.self.inside.conn.mtu (length c.self.inside.sender.outgoing.queue == 16) (sym c.is_full.ensures.full ∙ c.if-is_full.true) c.args.self.now
+
+pub returns-then-is_full-clause-bond : goal.returns-then-is_full-clause-bond
+returns-then-is_full-clause-bond c =
+    let inside = c.self.inside in
+    let rows = c.args.rows.now in
+    subst (λ (self : Option SlotState). IfSome self (λ slot_state.
+    ChangesBond (bond_served c.args.table.now c.args.now c.args.changer.now (row_of rows slot_state.peer) c.args.pdu.now slot_state) slot_state.peer rows rows)) c.self.view_is
+    (bond_where_full c.args.table.now c.args.now c.args.changer.now c.args.pdu.now rows rows rows
+    inside.handle inside.peer inside.key_known inside.until inside.row inside.link inside.conn inside.pending inside.sender inside.reply inside.reason inside.used
+    (sym c.is_full.ensures.full ∙ c.if-is_full.true))
+
+pub returns-clause-table : goal.returns-clause-table
+returns-clause-table c =
+    let inside = c.self.inside in
+    let old = c.args.rows.now in
+    let new = c.answer_by_row-confirmed.new.table in
+    let left = c.answer_by_row-confirmed.ensures.answered.left in
+    subst (λ (self : Option SlotState). IfSome self (λ slot_state. new ≡ table_after c.args.table.now c.args.now (row_of old slot_state.peer) c.args.pdu.now slot_state)) c.self.view_is
+    (table_served c.args.table.now c.args.now c.args.changer.now c.args.pdu.now old old old
+    inside.handle inside.peer inside.key_known inside.until inside.row inside.link inside.conn inside.pending inside.sender inside.reply inside.reason inside.used
+    c.is_some-has_key.result c.stand.new.self new
+    (sym c.is_full.ensures.full ∙ c.if-is_full.false)
+    (c.is_some-has_key.ensures ∙ ap (λ (key : Option KeyFacts). is_some key) c.facts.ensures.key)
+    (c.stand.ensures ∙ ap (λ (standing : Standing). record inside.conn { standing = standing }) c.standing-standing.ensures)
+    (λ i. record { attributes = left.attributes i; values = left.values i }))
+
+pub returns-clause-written : goal.returns-clause-written
+returns-clause-written c =
+    let inside = c.self.inside in
+    let old = c.args.rows.now in
+    let written = c.answer_by_row-confirmed.new.written.items in
+    subst (λ (self : Option SlotState). IfSome self (λ slot_state. written ≡ handles_written_by c.args.table.now c.args.now (row_of old slot_state.peer) c.args.pdu.now slot_state)) c.self.view_is
+    (handles_served c.args.table.now c.args.now c.args.changer.now c.args.pdu.now old old old
+    inside.handle inside.peer inside.key_known inside.until inside.row inside.link inside.conn inside.pending inside.sender inside.reply inside.reason inside.used
+    c.is_some-has_key.result c.stand.new.self written
+    (sym c.is_full.ensures.full ∙ c.if-is_full.false)
+    (c.is_some-has_key.ensures ∙ ap (λ (key : Option KeyFacts). is_some key) c.facts.ensures.key)
+    (c.stand.ensures ∙ ap (λ (standing : Standing). record inside.conn { standing = standing }) c.standing-standing.ensures)
+    c.answer_by_row-confirmed.ensures.answered.touched)

@@ -7,7 +7,7 @@ use Rattle.gatt_slots.specs.declared.places.Due.TheVariants.{Command, Packet, Va
 use Rattle.le_hci.specs.declared.peer.Peer.{Peer}
 use Rattle.gatt_slots.specs.SlotEffects.{new_slot_state}
 use Rattle.gatt_slots.specs.SlotState.{SlotState}
-use Rattle.gatt_slots.specs.Slots.{SlotStates, at_place, slot_state_at}
+use Rattle.gatt_slots.specs.Slots.{SlotStates, at_place}
 use Rattle.gatt_slots.specs.Handles.{AreNoted}
 use Rattle.gatt_slots.proofs.slots.Slots.connect.Goals as goal
 

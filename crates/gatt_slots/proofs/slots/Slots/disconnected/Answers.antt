@@ -1,4 +1,4 @@
-use Rattle.std.proofs.Common.{◌≡◌, ◌<◌, Option, None, length, set, subst, sym, ap, ◌∙◌}
+use Rattle.std.proofs.Common.{◌<◌, Option, None, length, set, subst, sym, ap, ◌∙◌}
 use Rattle.gatt_slots.proofs.AtPlace.{left_at, there_at}
 use Rattle.gatt_slots.specs.Handles.{AreNoted}
 use Rattle.gatt_slots.specs.Places.{IsMarked}

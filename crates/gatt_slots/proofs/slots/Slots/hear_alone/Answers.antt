@@ -79,3 +79,13 @@ pub notify_alone-requires-clause-of_table : goal.notify_alone-requires-clause-of
 notify_alone-requires-clause-of_table c =
     let a = c.args in
     subst (λ (it : SlotStates). AreOfTable a.moment.table.now.attributes a.moment.rows.now it) (sym (c.as_mut_slice-slots.ensures.value ∙ c.self.view_is)) c.requires
+
+pub returns-clause-count : goal.returns-clause-count
+returns-clause-count c =
+    let old = c.self.inside.slots.items in
+    let lent = c.as_mut_slice-slots.result.now in
+    let new = c.indicate_due.new.slots in
+    let is : length lent ≡ length old = ap (λ (it : SlotStates). length it) c.as_mut_slice-slots.ensures.value in
+    let count : length new ≡ length old = c.indicate_due.ensures.count ∙ c.notify_alone.ensures.count ∙ is in
+    ap (λ (it : SlotStates). length it) (written_over c.self.inside.slots.len old new count (sym is ∙ c.as_mut_slice-slots.ensures.len))
+    ∙ count ∙ ap (λ (it : SlotStates). length it) c.self.view_is

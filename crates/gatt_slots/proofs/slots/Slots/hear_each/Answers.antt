@@ -92,3 +92,13 @@ notify_all-requires-2-clause-of_table c =
     let a = c.args in
     of_table_then a.handles.now a.moment.table.now.attributes a.moment.rows.now c.as_mut_slice-slots.result.now c.notify_all.new.slots c.notify_all.ensures.of_table
     (subst (λ (it : SlotStates). AreOfTableIfAny a.handles.now a.moment.table.now.attributes a.moment.rows.now it) (sym (c.as_mut_slice-slots.ensures.value ∙ c.self.view_is)) c.requires.handles)
+
+pub returns-clause-count : goal.returns-clause-count
+returns-clause-count c =
+    let old = c.self.inside.slots.items in
+    let lent = c.as_mut_slice-slots.result.now in
+    let new = c.indicate_due.new.slots in
+    let is : length lent ≡ length old = ap (λ (it : SlotStates). length it) c.as_mut_slice-slots.ensures.value in
+    let count : length new ≡ length old = c.indicate_due.ensures.count ∙ c.notify_all-2.ensures.count ∙ c.notify_all.ensures.count ∙ is in
+    ap (λ (it : SlotStates). length it) (written_over c.self.inside.slots.len old new count (sym is ∙ c.as_mut_slice-slots.ensures.len))
+    ∙ count ∙ ap (λ (it : SlotStates). length it) c.self.view_is
