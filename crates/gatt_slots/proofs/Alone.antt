@@ -18,6 +18,7 @@ use Rattle.gatt_subs.specs.Hearing.{may_hear_at, wants_indications}
 use Rattle.gatt_subs.specs.Indications.{Indications, first_handle, hears, may_indicate, rest_of, unconfirmed_since, with_handle}
 use Rattle.gatt_subs.specs.Rows.{Subscriptions, row_of}
 use Rattle.gatt_subs.specs.Told.{indication_of, notification_of}
+use Rattle.gatt_slots.specs.Commands.{gives}
 use Rattle.gatt_slots.specs.Hearing.{HearerFacts, Delivery, delivery_of, delivery_when_indicating, delivery_when_notifying, delivery_when_notifying_alone, delivery_with_heard, hearer_facts_of, with_delivery}
 use Rattle.gatt_slots.specs.SlotState.{SlotState}
 use Rattle.gatt_conn.specs.Connection.{Bearer}
@@ -61,6 +62,15 @@ pub waits_as_before : (used : Use) (handle : ℕ) (peer : Peer) (key_known : Boo
 waits_as_before Free handle peer key_known until row link conn pending new sender new-sender reply reason same = refl
 waits_as_before Live handle peer key_known until row link conn pending new sender new-sender reply reason same = ap is_some_handle same
 waits_as_before Ending handle peer key_known until row link conn pending new sender new-sender reply reason same = ap is_some_handle same
+
+-- and where no packet was queued, it gives as before
+pub gives_as_before : (used : Use) (handle : ℕ) (peer : Peer) (key_known : Bool) (until : ℕ) (row : Row) (link : Linking) (conn : Bearer) (pending new : Indications) (sender : Sending)
+    (reply : Option KeyReply) (reason : Option ℕ)
+    → gives (slot_state_where used handle peer key_known until row link conn new sender reply reason)
+    ≡ gives (slot_state_where used handle peer key_known until row link conn pending sender reply reason)
+gives_as_before Free handle peer key_known until row link conn pending new sender reply reason = refl
+gives_as_before Live handle peer key_known until row link conn pending new sender reply reason = refl
+gives_as_before Ending handle peer key_known until row link conn pending new sender reply reason = refl
 
 module _ (table : Contents) (ear : HearerFacts) (now : ℕ) (handle : Handle) where
   abbrev told-with : List Handle → Option Unconfirmed → Bool → Outgoing → Delivery

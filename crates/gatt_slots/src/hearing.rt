@@ -132,7 +132,6 @@ impl Slot {
     /// Tells the connection of a value that was written, the only one: whether it is told at once, by a
     /// notification or an indication. Where something waits before it, it waits.
     #[inline(always)]
-    #[tactic(auto, using(crate::proofs::Alone::told_stays))]
     pub(crate) fn notify_alone(&mut self, raised: &Raised<'_>, moment: Moment<'_>) -> bool
         requires table { IsTable moment.table.now }
         requires bonds { HasBondsOfTable moment.table.now.attributes moment.rows.now }

@@ -1,9 +1,10 @@
 use Rattle.std.proofs.Common.{◌≡◌, Option, subst, sym, ap, ◌∙◌, arith, rules}
-use Rattle.std.proofs.lemmas.Bool.{OnTrue_from}
-use Rattle.gatt_slots.proofs.Alone.{waits_as_before}
+use Rattle.std.proofs.lemmas.Bool.{OnFalse_from, OnTrue_from}
+use Rattle.gatt_slots.proofs.Alone.{gives_as_before, waits_as_before}
 use Rattle.gatt_slots.proofs.OfTable.{room_in_slot}
 use Rattle.gatt_slots.proofs.Quiet.{notified_stays}
 use Rattle.gatt_slots.specs.declared.slot.Use.TheVariants.{Live}
+use Rattle.gatt_slots.specs.Commands.{gives}
 use Rattle.gatt_slots.specs.OfTable.{SlotIsOfTable}
 use Rattle.gatt_slots.specs.Places.{waits}
 use Rattle.gatt_subs.specs.Indications.{Indications}
@@ -33,3 +34,17 @@ returns-then-notified-clause-told c =
     ∙ notified_stays inside.pending a.raised.now.table.attributes c.row_in_force-row.result.now c.standing-standing.result a.raised.now.handle c.backlog-backlog.result
     (sym raised.ensures.notified ∙ told)))
     ∙ ap waits c.self.view_is)
+
+pub returns-else-notified-clause-unnotified : goal.returns-else-notified-clause-unnotified
+returns-else-notified-clause-unnotified c =
+    let inside = c.self.inside in
+    OnFalse_from c.raise_value-notified.result _ (λ none.
+    gives_as_before inside.used inside.handle inside.peer inside.key_known inside.until inside.row inside.link inside.conn inside.pending c.raise_value-notified.new.self inside.sender
+    inside.reply inside.reason
+    ∙ ap gives c.self.view_is)
+
+pub invariant_of-self : goal.invariant_of-self
+invariant_of-self c = c.self.invariant
+
+pub invariant_of-self-else-notified : goal.invariant_of-self-else-notified
+invariant_of-self-else-notified c = c.self.invariant

@@ -1,6 +1,7 @@
 use Rattle.std.proofs.Common.{◌≡◌, Option, subst, sym, ap, ◌∙◌, arith, rules}
-use Rattle.gatt_slots.proofs.Alone.{told_stays, waits_as_before}
+use Rattle.gatt_slots.proofs.Alone.{gives_as_before, told_stays, waits_as_before}
 use Rattle.gatt_slots.proofs.OfTable.{room_in_slot}
+use Rattle.gatt_slots.specs.Commands.{gives}
 use Rattle.gatt_slots.specs.Places.{waits}
 use Rattle.gatt_subs.specs.Indications.{Indications}
 use Rattle.gatt_slots.specs.declared.slot.Use.TheVariants.{Live}
@@ -29,3 +30,16 @@ returns-clause-told c =
     ∙ told_stays inside.pending a.raised.now.table.attributes c.row_in_force-row.result.now c.standing-standing.result a.raised.now.handle c.backlog-backlog.result a.moment.now
     c.in-Some.telling (sym c.raise_alone.ensures.told ∙ c.in-Some.is))
     ∙ ap waits c.self.view_is
+
+pub returns-in_default-clause-untold : goal.returns-in_default-clause-untold
+returns-in_default-clause-untold c =
+    let inside = c.self.inside in
+    gives_as_before inside.used inside.handle inside.peer inside.key_known inside.until inside.row inside.link inside.conn inside.pending c.raise_alone.new.self inside.sender
+    inside.reply inside.reason
+    ∙ ap gives c.self.view_is
+
+pub invariant_of-self : goal.invariant_of-self
+invariant_of-self c = c.self.invariant
+
+pub invariant_of-self-2 : goal.invariant_of-self-2
+invariant_of-self-2 c = c.self.invariant

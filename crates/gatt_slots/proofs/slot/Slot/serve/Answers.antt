@@ -95,3 +95,6 @@ returns-clause-written c =
     (c.is_some-has_key.ensures ∙ ap (λ (key : Option KeyFacts). is_some key) c.facts.ensures.key)
     (c.stand.ensures ∙ ap (λ (standing : Standing). record inside.conn { standing = standing }) c.standing-standing.ensures)
     c.answer_by_row-confirmed.ensures.answered.touched)
+
+pub invariant_of-self : goal.invariant_of-self
+invariant_of-self c = c.self.invariant
