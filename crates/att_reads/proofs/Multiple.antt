@@ -4,7 +4,7 @@ use Rattle.std.specs.Prelude.{min}
 use Rattle.std.specs.List.{flat_map}
 use Rattle.att_numbers.specs.Types.{Handle, Code, Mtu, Row}
 use Rattle.att_numbers.specs.declared.opcode.TheConstants.{READ_MULTIPLE_REQUEST, READ_MULTIPLE_RESPONSE}
-use Rattle.att_pdu.specs.Response.{Response, ErrorResponse, ReadMultipleResponse, sent}
+use Rattle.att_pdu.specs.Response.{ErrorResponse, ReadMultipleResponse, sent}
 use Rattle.att_policy.specs.declared.standing.Standing.{Standing}
 use Rattle.att_policy.specs.Refusal.{Refusal}
 use Rattle.att_table.specs.Table.{Contents}

@@ -1,11 +1,11 @@
-use Rattle.std.proofs.Common.{◌≡◌, ◌+◌, ◌-◌, ◌/◌, ◌∷◌, length, take, drop, get_or, map, ap, sym, ◌∙◌, arith, length-take}
+use Rattle.std.proofs.Common.{◌≡◌, ◌+◌, ◌-◌, ◌*◌, ◌/◌, ◌∷◌, length, take, drop, get_or, map, ap, sym, ◌∙◌, arith, length-take}
 use Rattle.std.specs.Prelude.{min}
 use Rattle.att_pdu.specs.PduBuf.{contents, mtu_of}
-use Rattle.att_pdu.specs.Response.{element_octets, sent}
+use Rattle.att_pdu.specs.Response.{element_octets, ErrorResponse, sent}
 use Rattle.att_reads.specs.Access.{value_for}
 use Rattle.att_reads.specs.List.{listing_request, head_of, cut_of, element_of, candidate_of, list_answer}
 use Rattle.att_reads.specs.Listing.{with_listed}
-use Rattle.att_reads.proofs.Entries.{list_of_first}
+use Rattle.att_reads.proofs.Entries.{first_refused, front_fits, head_above, list_of_first}
 use Rattle.att_reads.proofs.Listed.{listed_fitting}
 use Rattle.att_reads.proofs.Lists.{first_and_rest}
 use Rattle.att_reads.proofs.list.answer.Goals as goal
@@ -45,3 +45,65 @@ returns-in-Ok-clause-answer c =
     ∙ list_of_first listing table row standing mtu c.args.start first rest c.front-front.result.now begun
     c.in-Ok.ensures.permitted c.args.out.now.least front first_is
     ∙ ap (λ hs. sent (list_answer listing table row standing mtu c.args.start hs)) (sym at)
+
+pub overflow_sub-mtu : goal.overflow_sub-mtu
+overflow_sub-mtu c =
+    let fits =
+    front_fits c.args.listing c.mtu.result c.cut-cut.result c.from.result c.in-Ok.value.now c.front-front.result.now c.mtu.ensures.least c.cut-cut.ensures c.front-front.ensures
+    (c.from.ensures ∙ c.head.ensures) in
+    omega (arith, fits, c.mtu.ensures.mtu, c.mtu-in-Ok.ensures.mtu)
+
+pub resize-requires : goal.resize-requires
+resize-requires c =
+    let fits =
+    front_fits c.args.listing c.mtu.result c.cut-cut.result c.from.result c.in-Ok.value.now c.front-front.result.now c.mtu.ensures.least c.cut-cut.ensures c.front-front.ensures
+    (c.from.ensures ∙ c.head.ensures) in
+    omega (arith, fits, c.fitting-more.ensures.fits, c.mtu.ensures.mtu, c.mtu-in-Ok.ensures.mtu)
+
+pub begin-requires-clause-room : goal.begin-requires-clause-room
+begin-requires-clause-room c = omega (arith, c.resize.ensures.size, c.from.ensures, c.head.ensures)
+
+pub put_all-requires-clause-room : goal.put_all-requires-clause-room
+put_all-requires-clause-room c =
+    let size = c.from.result + length c.front-front.result.now in
+    let rest = take (length c.args.handles.now - 1) (drop 1 c.args.handles.now) in
+    let more = c.fitting-more.result in
+    let taken = length-take more rest in
+    let all : length (take more rest) ≡ more = omega (arith, taken, c.fitting-more.ensures.count) in
+    omega (arith, ap (λ n. size * n) all, c.resize.ensures.size, c.begin.ensures.size)
+
+pub overflow_cast-size : goal.overflow_cast-size
+overflow_cast-size c =
+    let fits =
+    front_fits c.args.listing c.mtu.result c.cut-cut.result c.from.result c.in-Ok.value.now c.front-front.result.now c.mtu.ensures.least c.cut-cut.ensures c.front-front.ensures
+    (c.from.ensures ∙ c.head.ensures) in
+    omega (arith, fits, c.mtu.ensures.most)
+
+pub overflow_cast-size-in-Ok : goal.overflow_cast-size-in-Ok
+overflow_cast-size-in-Ok c =
+    let fits =
+    front_fits c.args.listing c.mtu.result c.cut-cut.result c.from.result c.in-Ok.value.now c.front-front.result.now c.mtu.ensures.least c.cut-cut.ensures c.front-front.ensures
+    (c.from.ensures ∙ c.head.ensures) in
+    omega (arith, fits, c.mtu.ensures.most)
+
+pub fitting-more-requires : goal.fitting-more-requires
+fitting-more-requires c =
+    let above = head_above c.args.listing in
+    omega (arith, above, c.from.ensures, c.head.ensures)
+
+pub put_all-requires-clause-size : goal.put_all-requires-clause-size
+put_all-requires-clause-size c =
+    let above = head_above c.args.listing in
+    omega (arith, above, c.from.ensures, c.head.ensures)
+
+pub returns-in-Err-clause-answer : goal.returns-in-Err-clause-answer
+returns-in-Err-clause-answer c =
+    let reader = c.args.reader in
+    let mtu = mtu_of c.args.out.now in
+    let handles = c.args.handles.now in
+    let first = get_or handles 0 0 in
+    let rest = take (length handles - 1) (drop 1 handles) in
+    c.error-in-Err.ensures.error
+    ∙ ap (λ request. sent (ErrorResponse request first c.in-Err.code)) c.request-in-Err.ensures
+    ∙ first_refused c.args.listing reader.table.now reader.row.now reader.standing.now mtu c.args.start first rest c.in-Err.code c.in-Err.ensures.refused
+    ∙ ap (λ hs. sent (list_answer c.args.listing reader.table.now reader.row.now reader.standing.now mtu c.args.start hs)) (sym (first_and_rest handles 0 c.in-len1-up.len_at_least))

@@ -1,4 +1,4 @@
-use Rattle.std.proofs.Common.{◌≡◌, ◌≤◌, ◌+◌, ◌*◌, length, take, drop}
+use Rattle.std.proofs.Common.{◌≡◌, ◌+◌, ◌*◌, length, take, drop}
 use Rattle.std.specs.Prelude.{map}
 use Rattle.att_pdu.specs.PduBuf.{contents, mtu_of, IsSameBuffer}
 use Rattle.att_reads.specs.List.{candidate_of}
