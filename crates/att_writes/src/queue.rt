@@ -69,7 +69,6 @@ impl Model for Queue {
 
 impl Queue {
     /// An empty queue, with all the room that it will need.
-    #[tactic(auto, using(crate::proofs::Lengths::applied_both, crate::proofs::Put::stored_touched, crate::proofs::PutBits::row_touched))]
     pub fn new(alloc: Global) -> Result<Queue, AllocError>
         ensures empty { IfOk result (λ queue. queue ≡ []) }
         // What holds of all writes, prepared or not.
