@@ -42,9 +42,3 @@ returns-else-notified-clause-unnotified c =
     gives_as_before inside.used inside.handle inside.peer inside.key_known inside.until inside.row inside.link inside.conn inside.pending c.raise_value-notified.new.self inside.sender
     inside.reply inside.reason
     ∙ ap gives c.self.view_is)
-
-pub invariant_of-self : goal.invariant_of-self
-invariant_of-self c = c.self.invariant
-
-pub invariant_of-self-else-notified : goal.invariant_of-self-else-notified
-invariant_of-self-else-notified c = c.self.invariant
