@@ -107,3 +107,13 @@ returns-in-Err-clause-answer c =
     ∙ ap (λ request. sent (ErrorResponse request first c.in-Err.code)) c.request-in-Err.ensures
     ∙ first_refused c.args.listing reader.table.now reader.row.now reader.standing.now mtu c.args.start first rest c.in-Err.code c.in-Err.ensures.refused
     ∙ ap (λ hs. sent (list_answer c.args.listing reader.table.now reader.row.now reader.standing.now mtu c.args.start hs)) (sym (first_and_rest handles 0 c.in-len1-up.len_at_least))
+
+pub overflow_mul-size : goal.overflow_mul-size
+overflow_mul-size c = omega (arith, c.fitting-more.ensures.fits, c.mtu-in-Ok.ensures.most)
+
+pub overflow_add-size-in-Ok-3 : goal.overflow_add-size-in-Ok-3
+overflow_add-size-in-Ok-3 c =
+    let fits =
+    front_fits c.args.listing c.mtu.result c.cut-cut.result c.from.result c.in-Ok.value.now c.front-front.result.now c.mtu.ensures.least c.cut-cut.ensures c.front-front.ensures
+    (c.from.ensures ∙ c.head.ensures) in
+    omega (arith, fits, c.fitting-more.ensures.fits, c.mtu.ensures.mtu, c.mtu-in-Ok.ensures.mtu, c.mtu-in-Ok.ensures.most)
