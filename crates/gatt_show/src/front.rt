@@ -152,18 +152,13 @@ impl<'a> Front<'a> {
         Ok(kept)
     }
 
-    /// How many elements a document has at a level, of the last element in which that array stands.
-    pub fn count(
-        &self,
-        alloc: Global,
-        document: &Table,
-        level: Level,
-    ) -> Result<usize, AllocError> {
-        let mut kept = self.with(level, usize::MAX).of(alloc, document)?;
-        Ok(match self.with(level, 0).last_element(&mut kept) {
+    /// How many elements a document that is cut so has at a level, of the last element in which that
+    /// array stands.
+    pub fn count(&self, document: &mut Table, level: Level) -> usize {
+        match self.with(level, 0).last_element(document) {
             Some(element) => toml_tables::items(element, level.key(self.root)).len(),
             None => 0,
-        })
+        }
     }
 
     /// Cuts the arrays of a document.

@@ -1,11 +1,9 @@
 //! Where a key file has its fault, and what it is, in words.
 
-use crate::cells::{add_number, add_octets};
 use crate::front::{Front, Kept, Level};
-use crate::refused::Refused;
-use crate::wrong_key::{Others, add_name, add_range, add_said, add_words, add_wrong_key};
+use crate::report::Report;
+use crate::wrong_key::{Others, add_name, add_range, add_said, add_wrong_key};
 use le_security::KeyFault;
-use std::alloc::AllocError;
 use toml::Table;
 
 /// The keys that an entry has to have, in the order in which they are missed.
@@ -20,57 +18,44 @@ const WANTED: [&str; 7] = [
 ];
 
 /// Adds where a document has its first fault, and what it is.
-pub fn add_key_place(
-    text: &mut Vec<u8>,
-    refused: &Refused<'_>,
-    fault: KeyFault,
-) -> Result<(), AllocError> {
-    let front = refused.shortest("key", &[Level::Elements])?;
-    add_entry(text, front.elements)?;
-    add_fault(text, refused, &front, fault)
+pub fn add_key_place(report: &mut Report<'_>, fault: KeyFault) {
+    let front = report.shortest("key", &[Level::Elements]);
+    add_entry(report, front.elements);
+    add_fault(report, &front, fault);
 }
 
 /// Adds which entry is the last one, if it is another than the root.
-fn add_entry(text: &mut Vec<u8>, count: usize) -> Result<(), AllocError> {
-    if count == 0 {
-        return Ok(());
+fn add_entry(report: &mut Report<'_>, count: usize) {
+    if count > 0 {
+        report.add(b"key ");
+        report.add_number(count as u64);
     }
-    add_octets(text, b"key ")?;
-    add_number(text, count as u64)
 }
 
 /// Adds which key of the last entry of a front is at fault, and why.
-fn add_fault(
-    text: &mut Vec<u8>,
-    refused: &Refused<'_>,
-    front: &Front<'_>,
-    fault: KeyFault,
-) -> Result<(), AllocError> {
+fn add_fault(report: &mut Report<'_>, front: &Front<'_>, fault: KeyFault) {
     match fault {
-        KeyFault::Shape => add_wrong_key(text, refused, front),
-        KeyFault::Missing => add_missing(text, refused, front),
-        KeyFault::BadAddress => add_bad_address(text, refused, front),
-        KeyFault::BadHex => add_bad_hex(text, refused, front),
-        KeyFault::BadSize => add_bad_size(text, refused, front),
+        KeyFault::Shape => add_wrong_key(report, front),
+        KeyFault::Missing => add_missing(report, front),
+        KeyFault::BadAddress => add_bad_address(report, front),
+        KeyFault::BadHex => add_bad_hex(report, front),
+        KeyFault::BadSize => add_bad_size(report, front),
         KeyFault::NotToml
         | KeyFault::Twice
         | KeyFault::TooMany
         | KeyFault::OutOfMemory
-        | KeyFault::NotZero => add_words(text, refused),
+        | KeyFault::NotZero => report.add_words(),
     }
 }
 
 /// Adds the key of an entry that is missed first.
-fn add_missing(
-    text: &mut Vec<u8>,
-    refused: &Refused<'_>,
-    front: &Front<'_>,
-) -> Result<(), AllocError> {
-    let mut kept = front.of(refused.alloc, refused.document)?;
+fn add_missing(report: &mut Report<'_>, front: &Front<'_>) {
+    let mut kept = report.document(front);
     if let Some(entry) = front.last_element(&mut kept) {
-        add_name(text, front, missing(entry))?;
+        add_name(report, front, missing(entry));
     }
-    add_octets(text, b": the key is missing")
+    drop(kept);
+    report.add(b": the key is missing");
 }
 
 /// The key of an entry that is missed first.
@@ -84,48 +69,31 @@ fn missing(table: &Table) -> &'static str {
 }
 
 /// Adds whether the kind of an address is bad, or else the address.
-fn add_bad_address(
-    text: &mut Vec<u8>,
-    refused: &Refused<'_>,
-    front: &Front<'_>,
-) -> Result<(), AllocError> {
-    if stays_with(refused, front, "kind", "\"public\"")? {
+fn add_bad_address(report: &mut Report<'_>, front: &Front<'_>) {
+    if stays_with(report, front, "kind", "\"public\"") {
         let said = b": it is not six pairs of hexadecimal digits joined by colons";
-        add_said(text, front, "address", said)
+        add_said(report, front, "address", said);
     } else {
-        add_said(text, front, "kind", b": it is neither public nor random")
+        add_said(report, front, "kind", b": it is neither public nor random");
     }
 }
 
 /// Adds whether the random number is bad, or else the long-term key.
-fn add_bad_hex(
-    text: &mut Vec<u8>,
-    refused: &Refused<'_>,
-    front: &Front<'_>,
-) -> Result<(), AllocError> {
-    if stays_with(refused, front, "rand", "\"0000000000000000\"")? {
-        add_said(text, front, "ltk", b": it is not 32 hexadecimal digits")
+fn add_bad_hex(report: &mut Report<'_>, front: &Front<'_>) {
+    if stays_with(report, front, "rand", "\"0000000000000000\"") {
+        add_said(report, front, "ltk", b": it is not 32 hexadecimal digits");
     } else {
-        add_said(text, front, "rand", b": it is not 16 hexadecimal digits")
+        add_said(report, front, "rand", b": it is not 16 hexadecimal digits");
     }
 }
 
 /// Adds which numbers the size may be.
-fn add_bad_size(
-    text: &mut Vec<u8>,
-    refused: &Refused<'_>,
-    front: &Front<'_>,
-) -> Result<(), AllocError> {
-    add_name(text, front, "size")?;
-    add_range(text, refused, front, Others::Kept, "size", 16)
+fn add_bad_size(report: &mut Report<'_>, front: &Front<'_>) {
+    add_name(report, front, "size");
+    add_range(report, front, Others::Kept, "size", 16);
 }
 
 /// Whether the fault stays with a good text at a key, so that it is that of another one.
-fn stays_with(
-    refused: &Refused<'_>,
-    front: &Front<'_>,
-    key: &str,
-    good: &str,
-) -> Result<bool, AllocError> {
-    refused.has_fault_with(front, &Kept::With(key, good, &[]))
+fn stays_with(report: &mut Report<'_>, front: &Front<'_>, key: &str, good: &str) -> bool {
+    report.has_fault_with(front, &Kept::With(key, good, &[]))
 }

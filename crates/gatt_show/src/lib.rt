@@ -12,6 +12,7 @@ mod place;
 mod position;
 mod quoted;
 mod refused;
+mod report;
 mod rights;
 mod rows_place;
 mod table_place;

@@ -3,6 +3,7 @@
 use crate::key_place::add_key_place;
 use crate::position::{add_no_text, add_no_toml};
 use crate::refused::{Fault, Format, Refused, fault_of};
+use crate::report::Report;
 use crate::table_place::add_table_place;
 use std::alloc::{AllocError, Global};
 use std::str;
@@ -60,8 +61,10 @@ fn add_fault(
 
 /// Adds where a document that is refused has its fault, and what it is.
 fn add_place(text: &mut Vec<u8>, refused: &Refused<'_>) -> Result<(), AllocError> {
+    let mut report = Report::of(refused);
     match refused.fault {
-        Fault::Table(fault) => add_table_place(text, refused, fault),
-        Fault::Keys(fault) => add_key_place(text, refused, fault),
+        Fault::Table(fault) => add_table_place(&mut report, fault),
+        Fault::Keys(fault) => add_key_place(&mut report, fault),
     }
+    text.extend_from_slice(&report.end()?)
 }

@@ -1,11 +1,5 @@
-//! Documents that are refused, and what the reader of their format says of fronts of them.
-//!
-//! A reader tells which fault is the first, and not where it is. So the same reader is asked for
-//! fronts of the file: the shortest one that it refuses so ends with what is at fault. Then it is
-//! asked which key of that element it is, and with which values of that key the fault is gone. No
-//! rule of a format is written here again.
+//! Documents that are refused, and what the reader of their format says of them.
 
-use crate::front::{Front, Kept, Level};
 use att_table::TableFault;
 use le_security::{KeyFault, Keys};
 use std::alloc::{AllocError, Global};
@@ -87,69 +81,5 @@ fn key_fault(alloc: Global, file: &str) -> Result<Option<Fault>, AllocError> {
         None => Ok(None),
         Some(KeyFault::OutOfMemory) => Err(AllocError),
         Some(fault) => Ok(Some(Fault::Keys(fault))),
-    }
-}
-
-impl Refused<'_> {
-    /// Whether a front of the document has its first fault.
-    pub fn has_fault(&self, front: &Front<'_>) -> Result<bool, AllocError> {
-        let kept = front.of(self.alloc, self.document)?;
-        Ok(fault_of(self.alloc, &kept, self.format)? == Some(self.fault))
-    }
-
-    /// Whether a front has the fault with these keys of its last table.
-    pub fn has_fault_with(&self, front: &Front<'_>, keys: &Kept<'_>) -> Result<bool, AllocError> {
-        self.has_fault(&front.with_keys(keys))
-    }
-
-    /// Whether a front has the fault without some keys of its last table.
-    pub fn has_fault_without(&self, front: &Front<'_>, keys: &[&str]) -> Result<bool, AllocError> {
-        self.has_fault_with(front, &Kept::Without(keys))
-    }
-
-    /// The shortest front of the document that has its first fault, found level by level from the root
-    /// down.
-    pub fn shortest(
-        &self,
-        root: &'static str,
-        levels: &[Level],
-    ) -> Result<Front<'static>, AllocError> {
-        let mut front = Front::of_root(root);
-        for level in levels {
-            if self.has_fault(&front)? {
-                return Ok(front);
-            }
-            front = front.with(*level, self.needed(&front.with_whole(*level), *level)?);
-        }
-        Ok(front)
-    }
-
-    /// How many elements of a level have to be there for the fault, of a front that is whole from this
-    /// level on: all, where it has not the fault, which then stands behind them.
-    fn needed(&self, whole: &Front<'_>, level: Level) -> Result<usize, AllocError> {
-        if self.has_fault(whole)? {
-            self.least(whole, level)
-        } else {
-            Ok(usize::MAX)
-        }
-    }
-
-    /// The least count at a level with which a front has the first fault of the document, where it
-    /// has not with 0, and has with all elements.
-    pub fn least(&self, front: &Front<'_>, level: Level) -> Result<usize, AllocError> {
-        let mut without = 0;
-        let mut with = front.count(self.alloc, self.document, level)?;
-        for _halving in 0..usize::BITS {
-            let middle = usize::midpoint(without, with);
-            if middle == without {
-                return Ok(with);
-            }
-            if self.has_fault(&front.with(level, middle))? {
-                with = middle;
-            } else {
-                without = middle;
-            }
-        }
-        Ok(with)
     }
 }

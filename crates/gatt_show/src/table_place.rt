@@ -1,12 +1,10 @@
 //! Where a table file has its fault, and what it is, in words.
 
-use crate::cells::{add_number, add_octets};
 use crate::front::{Front, Kept, Level};
 use crate::quoted::add_quoted;
-use crate::refused::Refused;
-use crate::wrong_key::{Others, add_name, add_range, add_said, add_words, add_wrong_key};
+use crate::report::Report;
+use crate::wrong_key::{Others, add_name, add_range, add_said, add_wrong_key};
 use att_table::{TableFault, TableKey};
-use std::alloc::AllocError;
 use toml::Table;
 
 /// The levels of a table file, from its root down.
@@ -27,76 +25,61 @@ const PROPERTIES: [(&str, &str); 5] = [
 ];
 
 /// Adds where a document has its first fault, and what it is.
-pub fn add_table_place(
-    text: &mut Vec<u8>,
-    refused: &Refused<'_>,
-    fault: TableFault,
-) -> Result<(), AllocError> {
-    let front = refused.shortest("service", &LEVELS)?;
-    add_element(text, &front, fault)?;
-    add_fault(text, refused, &front, fault)
+pub fn add_table_place(report: &mut Report<'_>, fault: TableFault) {
+    let front = report.shortest("service", &LEVELS);
+    add_element(report, &front, fault);
+    add_fault(report, &front, fault);
 }
 
 /// Adds which key of the last element of a front is at fault, and why.
-fn add_fault(
-    text: &mut Vec<u8>,
-    refused: &Refused<'_>,
-    front: &Front<'_>,
-    fault: TableFault,
-) -> Result<(), AllocError> {
+fn add_fault(report: &mut Report<'_>, front: &Front<'_>, fault: TableFault) {
     match fault {
-        TableFault::Shape => add_wrong_key(text, refused, front),
-        TableFault::Missing(key) => add_missing(text, front, key),
-        TableFault::TooLong => add_too_long(text, refused, front),
-        TableFault::BadSecurity => add_need(text, refused, front),
-        TableFault::BadProperty => add_property(text, refused, front),
-        TableFault::BadUuid => add_bad_text(text, refused, front, "uuid"),
-        TableFault::BadHex => add_bad_text(text, refused, front, "value"),
+        TableFault::Shape => add_wrong_key(report, front),
+        TableFault::Missing(key) => add_missing(report, front, key),
+        TableFault::TooLong => add_too_long(report, front),
+        TableFault::BadSecurity => add_need(report, front),
+        TableFault::BadProperty => add_property(report, front),
+        TableFault::BadUuid => add_bad_text(report, front, "uuid"),
+        TableFault::BadHex => add_bad_text(report, front, "value"),
         TableFault::NotToml
         | TableFault::TooMany
         | TableFault::BadInclude
-        | TableFault::OutOfMemory => add_words(text, refused),
+        | TableFault::OutOfMemory => report.add_words(),
     }
 }
 
 /// Adds which element is the last one of a front, if it is another than the root. Of an include it is
 /// told only where it is no key that is at fault.
-fn add_element(text: &mut Vec<u8>, front: &Front<'_>, fault: TableFault) -> Result<(), AllocError> {
+fn add_element(report: &mut Report<'_>, front: &Front<'_>, fault: TableFault) {
     if front.elements == 0 {
-        return Ok(());
+        return;
     }
-    add_counted(text, b"service ", front.elements)?;
+    add_counted(report, b"service ", front.elements);
     if front.characteristics > 0 {
-        add_counted(text, b", characteristic ", front.characteristics)?;
+        add_counted(report, b", characteristic ", front.characteristics);
         if front.descriptors > 0 {
-            add_counted(text, b", descriptor ", front.descriptors)?;
+            add_counted(report, b", descriptor ", front.descriptors);
         }
     } else if front.includes > 0 && fault != TableFault::Shape {
-        add_counted(text, b", include ", front.includes)?;
+        add_counted(report, b", include ", front.includes);
     }
-    Ok(())
 }
 
 /// Adds the name of an element and its number.
-fn add_counted(text: &mut Vec<u8>, name: &[u8], count: usize) -> Result<(), AllocError> {
-    add_octets(text, name)?;
-    add_number(text, count as u64)
+fn add_counted(report: &mut Report<'_>, name: &[u8], count: usize) {
+    report.add(name);
+    report.add_number(count as u64);
 }
 
 /// Adds the key that is missing.
-fn add_missing(text: &mut Vec<u8>, front: &Front<'_>, key: TableKey) -> Result<(), AllocError> {
-    add_said(text, front, key_name(key), b": the key is missing")
+fn add_missing(report: &mut Report<'_>, front: &Front<'_>, key: TableKey) {
+    add_said(report, front, key_name(key), b": the key is missing");
 }
 
 /// Adds the key whose text is bad, and what the reader says of it.
-fn add_bad_text(
-    text: &mut Vec<u8>,
-    refused: &Refused<'_>,
-    front: &Front<'_>,
-    key: &str,
-) -> Result<(), AllocError> {
-    add_name(text, front, key)?;
-    add_words(text, refused)
+fn add_bad_text(report: &mut Report<'_>, front: &Front<'_>, key: &str) {
+    add_name(report, front, key);
+    report.add_words();
 }
 
 /// The name of a key that has to be there.
@@ -110,173 +93,122 @@ fn key_name(key: TableKey) -> &'static str {
 }
 
 /// Adds whether a value is too long, or which numbers its largest length may be.
-fn add_too_long(
-    text: &mut Vec<u8>,
-    refused: &Refused<'_>,
-    front: &Front<'_>,
-) -> Result<(), AllocError> {
-    if refused.has_fault_without(front, &["max"])? {
-        add_said(text, front, "value", b": it has more than 512 octets")
+fn add_too_long(report: &mut Report<'_>, front: &Front<'_>) {
+    if report.has_fault_without(front, &["max"]) {
+        add_said(report, front, "value", b": it has more than 512 octets");
     } else {
-        add_bad_largest(text, refused, front)
+        add_bad_largest(report, front);
     }
 }
 
 /// Adds which numbers the largest length of a value may be.
-fn add_bad_largest(
-    text: &mut Vec<u8>,
-    refused: &Refused<'_>,
-    front: &Front<'_>,
-) -> Result<(), AllocError> {
-    add_name(text, front, "max")?;
-    match value_length(refused, front)? {
-        Some(length) => add_range(text, refused, front, Others::Kept, "max", length),
-        None => Ok(()),
+fn add_bad_largest(report: &mut Report<'_>, front: &Front<'_>) {
+    add_name(report, front, "max");
+    if let Some(length) = value_length(report, front) {
+        add_range(report, front, Others::Kept, "max", length);
     }
 }
 
 /// How many octets the value of the last element of a front has, if there is that element.
-fn value_length(refused: &Refused<'_>, front: &Front<'_>) -> Result<Option<usize>, AllocError> {
-    let mut kept = front.of(refused.alloc, refused.document)?;
+fn value_length(report: &mut Report<'_>, front: &Front<'_>) -> Option<usize> {
+    let mut kept = report.document(front);
     let length = match front.last_element(&mut kept) {
         Some(element) => Some(toml_tables::text(element, "value").unwrap_or("").len() / 2),
         None => None,
     };
     drop(kept);
-    Ok(length)
+    length
 }
 
 /// Adds which key of a bad need is at fault, and why.
-fn add_need(
-    text: &mut Vec<u8>,
-    refused: &Refused<'_>,
-    front: &Front<'_>,
-) -> Result<(), AllocError> {
-    if refused.has_fault_without(front, &["config"])? {
-        add_used_need(text, refused, front)
+fn add_need(report: &mut Report<'_>, front: &Front<'_>) {
+    if report.has_fault_without(front, &["config"]) {
+        add_used_need(report, front);
     } else {
-        add_in_need(text, refused, front, &["read", "write"], "config")
+        add_in_need(report, front, &["read", "write"], "config");
     }
 }
 
 /// Adds which key of a bad need of a value is at fault, and why.
-fn add_used_need(
-    text: &mut Vec<u8>,
-    refused: &Refused<'_>,
-    front: &Front<'_>,
-) -> Result<(), AllocError> {
-    if refused.has_fault_without(front, &["config", "write"])? {
-        add_in_need(text, refused, front, &["config", "write"], "read")
+fn add_used_need(report: &mut Report<'_>, front: &Front<'_>) {
+    if report.has_fault_without(front, &["config", "write"]) {
+        add_in_need(report, front, &["config", "write"], "read");
     } else {
-        add_in_need(text, refused, front, &["config", "read"], "write")
+        add_in_need(report, front, &["config", "read"], "write");
     }
 }
 
 /// Adds which key of a need is at fault, and why, where the others are left out.
-fn add_in_need(
-    text: &mut Vec<u8>,
-    refused: &Refused<'_>,
-    front: &Front<'_>,
-    others: &[&str],
-    need: &str,
-) -> Result<(), AllocError> {
+fn add_in_need(report: &mut Report<'_>, front: &Front<'_>, others: &[&str], need: &str) {
     let without = Kept::Without(others);
     let alone = front.with_keys(&without);
-    add_wrong_key(text, refused, &alone.with_inner(need))
+    add_wrong_key(report, &alone.with_inner(need));
 }
 
 /// Adds the property that is bad and those that it may be, or that there is a client configuration
 /// with nothing to configure.
-fn add_property(
-    text: &mut Vec<u8>,
-    refused: &Refused<'_>,
-    front: &Front<'_>,
-) -> Result<(), AllocError> {
+fn add_property(report: &mut Report<'_>, front: &Front<'_>) {
     let without = front.with_keys(&Kept::Without(&["config"]));
-    if refused.has_fault(&without)? {
-        add_bad_property(text, refused, front, &without)
+    if report.has_fault(&without) {
+        add_bad_property(report, front, &without);
     } else {
-        add_octets(
-            text,
-            b", config: there is nothing to configure without notify or indicate",
-        )
+        report.add(b", config: there is nothing to configure without notify or indicate");
     }
 }
 
 /// Adds the property that is bad, also without a client configuration, and those that it may be.
-fn add_bad_property(
-    text: &mut Vec<u8>,
-    refused: &Refused<'_>,
-    front: &Front<'_>,
-    without: &Front<'_>,
-) -> Result<(), AllocError> {
-    let count = refused.least(without, Level::Properties)?;
-    add_name(text, front, "properties")?;
-    add_last_property(text, refused, &without.with(Level::Properties, count))?;
-    add_octets(text, b": it is none of ")?;
-    add_allowed(text, refused, front)
+fn add_bad_property(report: &mut Report<'_>, front: &Front<'_>, without: &Front<'_>) {
+    let count = report.least(without, Level::Properties);
+    add_name(report, front, "properties");
+    add_last_property(report, &without.with(Level::Properties, count));
+    report.add(b": it is none of ");
+    add_allowed(report, front);
 }
 
 /// Adds the last property of an element, in quotes.
-fn add_last_property(
-    text: &mut Vec<u8>,
-    refused: &Refused<'_>,
-    front: &Front<'_>,
-) -> Result<(), AllocError> {
-    let mut kept = front.of(refused.alloc, refused.document)?;
-    let added = add_last_word(text, front.last_element(&mut kept));
+fn add_last_property(report: &mut Report<'_>, front: &Front<'_>) {
+    let mut kept = report.document(front);
+    if let Some(element) = front.last_element(&mut kept) {
+        add_last_word(report, element);
+    }
     drop(kept);
-    added
 }
 
 /// Adds the last property that an element has, in quotes, if there is one.
-fn add_last_word(text: &mut Vec<u8>, element: Option<&mut Table>) -> Result<(), AllocError> {
-    let Some(element) = element else {
-        return Ok(());
-    };
-    match toml_tables::items(element, "properties").last() {
-        Some(word) => add_in_quotes(text, word.as_str().unwrap_or("")),
-        None => Ok(()),
+fn add_last_word(report: &mut Report<'_>, element: &Table) {
+    if let Some(word) = toml_tables::items(element, "properties").last() {
+        add_in_quotes(report, word.as_str().unwrap_or(""));
     }
 }
 
 /// Adds a text of a file, in quotes.
-fn add_in_quotes(text: &mut Vec<u8>, quoted: &str) -> Result<(), AllocError> {
-    add_octets(text, b" \"")?;
-    add_quoted(text, quoted)?;
-    add_octets(text, b"\"")
+fn add_in_quotes(report: &mut Report<'_>, quoted: &str) {
+    report.add(b" \"");
+    add_quoted(report, quoted);
+    report.add(b"\"");
 }
 
 /// Adds the properties that the last element of a front may have.
-fn add_allowed(
-    text: &mut Vec<u8>,
-    refused: &Refused<'_>,
-    front: &Front<'_>,
-) -> Result<(), AllocError> {
+fn add_allowed(report: &mut Report<'_>, front: &Front<'_>) {
     let mut is_first = true;
     for (word, alone) in &PROPERTIES {
-        if is_allowed(refused, front, alone)? {
-            add_one_of(text, word, is_first)?;
+        if is_allowed(report, front, alone) {
+            add_one_of(report, word, is_first);
             is_first = false;
         }
     }
-    Ok(())
 }
 
 /// Whether the last element of a front may have these properties, without a client configuration.
-fn is_allowed(
-    refused: &Refused<'_>,
-    front: &Front<'_>,
-    properties: &str,
-) -> Result<bool, AllocError> {
+fn is_allowed(report: &mut Report<'_>, front: &Front<'_>, properties: &str) -> bool {
     let with = Kept::With("properties", properties, &["config"]);
-    Ok(!refused.has_fault_with(front, &with)?)
+    !report.has_fault_with(front, &with)
 }
 
 /// Adds a word of several, behind a comma unless it is the first.
-fn add_one_of(text: &mut Vec<u8>, word: &str, is_first: bool) -> Result<(), AllocError> {
+fn add_one_of(report: &mut Report<'_>, word: &str, is_first: bool) {
     if !is_first {
-        add_octets(text, b", ")?;
+        report.add(b", ");
     }
-    add_octets(text, word.as_bytes())
+    report.add(word.as_bytes());
 }

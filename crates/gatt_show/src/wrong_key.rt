@@ -1,11 +1,9 @@
 //! Which key of an element is at fault, and what it has to be.
 
-use crate::cells::{add_number, add_octets};
 use crate::front::{Front, Kept};
 use crate::quoted::add_quoted;
-use crate::refused::Refused;
+use crate::report::Report;
 use itoa::Buffer;
-use std::alloc::AllocError;
 use toml::Table;
 
 /// A value of each type that a key may have, and the type.
@@ -45,160 +43,145 @@ impl Others {
 }
 
 /// Adds the name of a key, behind the element that has it.
-pub fn add_name(text: &mut Vec<u8>, front: &Front<'_>, key: &str) -> Result<(), AllocError> {
+pub fn add_name(report: &mut Report<'_>, front: &Front<'_>, key: &str) {
     if front.elements > 0 {
-        add_octets(text, b", ")?;
+        report.add(b", ");
     }
     if let Some(inner) = front.inner {
-        add_octets(text, inner.as_bytes())?;
-        add_octets(text, b", ")?;
+        report.add(inner.as_bytes());
+        report.add(b", ");
     }
-    add_quoted(text, key)
+    add_quoted(report, key);
 }
 
 /// Adds the name of a key, behind the element that has it, and what is wrong with it.
-pub fn add_said(
-    text: &mut Vec<u8>,
-    front: &Front<'_>,
-    key: &str,
-    said: &[u8],
-) -> Result<(), AllocError> {
-    add_name(text, front, key)?;
-    add_octets(text, said)
-}
-
-/// Adds what the reader says of the fault, behind its place.
-pub fn add_words(text: &mut Vec<u8>, refused: &Refused<'_>) -> Result<(), AllocError> {
-    add_octets(text, b": ")?;
-    add_octets(text, refused.fault.words(refused.alloc)?.as_bytes())
+pub fn add_said(report: &mut Report<'_>, front: &Front<'_>, key: &str, said: &[u8]) {
+    add_name(report, front, key);
+    report.add(said);
 }
 
 /// Adds the first key of the last table of a front that is refused where it stands alone, and why: it
 /// is unknown, or has another type than its own, or is a number out of its range.
-pub fn add_wrong_key(
-    text: &mut Vec<u8>,
-    refused: &Refused<'_>,
-    front: &Front<'_>,
-) -> Result<(), AllocError> {
-    let mut kept = front.of(refused.alloc, refused.document)?;
+pub fn add_wrong_key(report: &mut Report<'_>, front: &Front<'_>) {
+    let mut kept = report.document(front);
     match front.last_table(&mut kept) {
-        Some(table) => add_wrong_key_of(text, refused, front, table),
-        None => add_octets(text, b": it has to be a table"),
+        Some(table) => add_wrong_key_of(report, front, table),
+        None => report.add(b": it has to be a table"),
     }
+    drop(kept);
 }
 
 /// Adds the first key of this table, the last one of a front, that is refused where it stands alone,
 /// and why.
-fn add_wrong_key_of(
-    text: &mut Vec<u8>,
-    refused: &Refused<'_>,
-    front: &Front<'_>,
-    table: &Table,
-) -> Result<(), AllocError> {
+fn add_wrong_key_of(report: &mut Report<'_>, front: &Front<'_>, table: &Table) {
     for (name, value) in table.iter() {
         let key = name.as_str();
-        if is_wrong_alone(refused, front, key)? {
-            add_name(text, front, key)?;
-            return add_wrong(text, refused, front, key, value.is_integer());
+        if is_wrong_alone(report, front, key) {
+            add_name(report, front, key);
+            return add_wrong(report, front, key, value.is_integer());
         }
     }
-    add_words(text, refused)
+    report.add_words();
 }
 
 /// Whether a key of the last table of a front has the fault where it stands alone.
-fn is_wrong_alone(refused: &Refused<'_>, front: &Front<'_>, key: &str) -> Result<bool, AllocError> {
-    refused.has_fault_with(front, &Kept::Alone(key))
+fn is_wrong_alone(report: &mut Report<'_>, front: &Front<'_>, key: &str) -> bool {
+    report.has_fault_with(front, &Kept::Alone(key))
 }
 
 /// Adds why a key is refused where it stands alone.
-fn add_wrong(
-    text: &mut Vec<u8>,
-    refused: &Refused<'_>,
-    front: &Front<'_>,
-    key: &str,
-    is_integer: bool,
-) -> Result<(), AllocError> {
+fn add_wrong(report: &mut Report<'_>, front: &Front<'_>, key: &str, is_integer: bool) {
     for (value, name) in &TYPES {
-        if !refused.has_fault_with(front, &Kept::AloneAs(key, value))? {
-            if is_integer && *name == INTEGER {
-                return add_range(text, refused, front, Others::Left, key, 16);
-            }
-            add_octets(text, b": it has to be ")?;
-            return add_octets(text, name);
+        if !report.has_fault_with(front, &Kept::AloneAs(key, value)) {
+            return add_right(report, front, key, name, is_integer);
         }
     }
-    add_octets(text, b": there is no such key")
+    report.add(b": there is no such key");
+}
+
+/// Adds which type a key has to have, or which numbers it may have where it is a number already.
+fn add_right(report: &mut Report<'_>, front: &Front<'_>, key: &str, name: &[u8], is_integer: bool) {
+    if is_integer && name == INTEGER {
+        add_range(report, front, Others::Left, key, 16);
+    } else {
+        report.add(b": it has to be ");
+        report.add(name);
+    }
 }
 
 /// Adds from which number to which one a key may have, of which this one is accepted.
 pub fn add_range(
-    text: &mut Vec<u8>,
-    refused: &Refused<'_>,
+    report: &mut Report<'_>,
     front: &Front<'_>,
     others: Others,
     key: &str,
     good: usize,
-) -> Result<(), AllocError> {
-    let least = least_number(refused, front, others, key, good)?;
-    let greatest = bound(refused, front, others, key, good, TOO_MUCH)?;
-    add_octets(text, b": it has to be ")?;
+) {
+    let least = least_number(report, front, others, key, good);
+    let greatest = bound(report, front, others, key, good, TOO_MUCH);
+    add_numbers(report, least as u64, greatest as u64);
+}
+
+/// Adds from which number to which one a key may have.
+fn add_numbers(report: &mut Report<'_>, least: u64, greatest: u64) {
+    report.add(b": it has to be ");
     if least != greatest {
-        add_octets(text, b"from ")?;
-        add_number(text, least as u64)?;
-        add_octets(text, b" to ")?;
+        report.add(b"from ");
+        report.add_number(least);
+        report.add(b" to ");
     }
-    add_number(text, greatest as u64)
+    report.add_number(greatest);
 }
 
 /// The least number that a key may have.
 fn least_number(
-    refused: &Refused<'_>,
+    report: &mut Report<'_>,
     front: &Front<'_>,
     others: Others,
     key: &str,
     good: usize,
-) -> Result<usize, AllocError> {
-    if is_accepted(refused, front, others, key, 0)? {
-        Ok(0)
+) -> usize {
+    if is_accepted(report, front, others, key, 0) {
+        0
     } else {
-        bound(refused, front, others, key, good, 0)
+        bound(report, front, others, key, good, 0)
     }
 }
 
 /// The last number that a key may have, from one that it may have to one that it may not.
 fn bound(
-    refused: &Refused<'_>,
+    report: &mut Report<'_>,
     front: &Front<'_>,
     others: Others,
     key: &str,
     good: usize,
     bad: usize,
-) -> Result<usize, AllocError> {
+) -> usize {
     let mut good = good;
     let mut bad = bad;
     for _halving in 0..usize::BITS {
         let middle = usize::midpoint(good, bad);
         if middle == good || middle == bad {
-            return Ok(good);
+            return good;
         }
-        if is_accepted(refused, front, others, key, middle)? {
+        if is_accepted(report, front, others, key, middle) {
             good = middle;
         } else {
             bad = middle;
         }
     }
-    Ok(good)
+    good
 }
 
 /// Whether the fault is gone with a number at a key.
 fn is_accepted(
-    refused: &Refused<'_>,
+    report: &mut Report<'_>,
     front: &Front<'_>,
     others: Others,
     key: &str,
     number: usize,
-) -> Result<bool, AllocError> {
+) -> bool {
     let mut digits = Buffer::new();
     let digits = digits.format(number as u64);
-    Ok(!refused.has_fault_with(front, &others.with(key, digits))?)
+    !report.has_fault_with(front, &others.with(key, digits))
 }
