@@ -1,6 +1,6 @@
 //! Who may use the attributes of a table.
 
-ghost use Rattle.std.specs.Prelude.{◌≡◌, ◌++◌, is_none, Some, IfOk, OnOk};
+ghost use Rattle.std.specs.Prelude.{◌≡◌, ◌++◌, is_none, Some, OnOk};
 ghost use Rattle.std.specs.List.{flat_map};
 ghost use Rattle.att_policy.specs.Policy.{first_broken_of};
 ghost use Rattle.gatt_show.specs.Access.{handle_text, handles_or_dash, holder_lines, left_need, permits, standing_with_key, way_line, way_lines, way_word};
@@ -73,8 +73,7 @@ fn add_way(
         ≡ text.old.items ++ way_line table.now.attributes key way) }
 {
     add_octets(text, way_word(way).as_bytes())?;
-    let handles = handles(alloc, all_attributes(table), key, way)?;
-    add_handles_or_dash(text, &handles)?;
+    add_handles_cell(alloc, text, all_attributes(table), key, way)?;
     add_octets(text, b"\n")
 }
 
@@ -88,19 +87,20 @@ fn add_handles_or_dash(text: &mut Vec<u8>, handles: &[u8]) -> Result<(), AllocEr
     }
 }
 
-/// The handles of the attributes that may be used in a way.
-fn handles(
+/// Adds the handles of the attributes that may be used in a way, or a dash for none.
+fn add_handles_cell(
     alloc: Global,
+    text: &mut Vec<u8>,
     attributes: &[Attr],
     key: Option<KeyFacts>,
     way: Way,
-) -> Result<Vec<u8>, AllocError>
-    ensures ok { IfOk result
-        (λ handles. handles.items ≡ flat_map (handle_text way key) attributes.now) }
+) -> Result<(), AllocError>
+    ensures ok { OnOk result (text.new.items ≡ text.old.items
+        ++ handles_or_dash (flat_map (handle_text way key) attributes.now)) }
 {
     let mut handles = Vec::new(alloc);
     add_handles(&mut handles, attributes, key, way)?;
-    Ok(handles)
+    add_handles_or_dash(text, &handles)
 }
 
 /// The word of a way, before the handles.

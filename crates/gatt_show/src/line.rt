@@ -1,6 +1,6 @@
 //! A line for each attribute of a table.
 
-ghost use Rattle.std.specs.Prelude.{◌≡◌, ◌++◌, [], codes, IfOk, OnOk};
+ghost use Rattle.std.specs.Prelude.{◌≡◌, ◌++◌, [], codes, OnOk};
 ghost use Rattle.std.specs.Fmt.{decimal};
 ghost use Rattle.std.specs.List.{flat_map};
 ghost use Rattle.gatt_show.specs.Cells.{left, right};
@@ -166,36 +166,43 @@ fn add_include(text: &mut Vec<u8>, table: &Table, value: &[u8]) -> Result<(), Al
 fn add_used(alloc: Global, text: &mut Vec<u8>, attr: &Attr) -> Result<(), AllocError>
     ensures ok { OnOk result (text.new.items ≡ text.old.items ++ used_text attr.now) }
 {
-    let kind = type_cell(alloc, attr.kind)?;
-    let length = length_cell(alloc, attr)?;
-    add_left(text, &kind, 40)?;
+    add_type_cell(alloc, text, attr.kind)?;
     add_octets(text, b"  ")?;
-    add_left(text, &length, 5)?;
+    add_length_cell(alloc, text, attr)?;
     add_rights(alloc, text, &attr.guard)
 }
 
-/// A type as a text.
-fn type_cell(alloc: Global, kind: u128) -> Result<Vec<u8>, AllocError>
-    ensures ok { IfOk result (λ cell. cell.items ≡ type_text (type_octets kind)) }
+/// Adds a type, as a cell.
+fn add_type_cell(alloc: Global, text: &mut Vec<u8>, kind: u128) -> Result<(), AllocError>
+    ensures ok { OnOk result (text.new.items
+        ≡ text.old.items ++ left 40 (type_text (type_octets kind))) }
 {
     let mut cell = Vec::new(alloc);
     add_type(&mut cell, type_octets(kind).as_slice())?;
-    Ok(cell)
+    add_left(text, &cell, 40)
 }
 
-/// How many octets the value of an attribute may have.
-#[tactic(auto, unfolding(crate::specs::Line::length_text))]
-fn length_cell(alloc: Global, attr: &Attr) -> Result<Vec<u8>, AllocError>
-    ensures ok { IfOk result (λ cell. cell.items ≡ length_text attr.now.role attr.now) }
+/// Adds how many octets the value of an attribute may have, as a cell.
+fn add_length_cell(alloc: Global, text: &mut Vec<u8>, attr: &Attr) -> Result<(), AllocError>
+    ensures ok { OnOk result (text.new.items
+        ≡ text.old.items ++ left 5 (length_text attr.now.role attr.now)) }
 {
     let mut cell = Vec::new(alloc);
+    add_length(&mut cell, attr)?;
+    add_left(text, &cell, 5)
+}
+
+/// Adds how many octets the value of an attribute may have.
+#[tactic(auto, unfolding(crate::specs::Line::length_text))]
+fn add_length(text: &mut Vec<u8>, attr: &Attr) -> Result<(), AllocError>
+    ensures ok { OnOk result (text.new.items
+        ≡ text.old.items ++ length_text attr.now.role attr.now) }
+{
     if attr.role == Role::Configuration {
-        add_octets(&mut cell, b"2")?;
-        return Ok(cell);
+        return add_octets(text, b"2");
     }
     if !attr.fixed {
-        add_octets(&mut cell, b"0-")?;
+        add_octets(text, b"0-")?;
     }
-    add_number(&mut cell, u64::from(attr.largest))?;
-    Ok(cell)
+    add_number(text, u64::from(attr.largest))
 }

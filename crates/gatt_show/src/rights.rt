@@ -1,6 +1,7 @@
 //! What may be done with an attribute, and what it needs, in words.
 
 ghost use Rattle.std.specs.Prelude.{◌≡◌, ◌++◌, if◌then◌else◌, IfOk, OnOk};
+ghost use Rattle.std.specs.Str.{bytes_eq};
 ghost use Rattle.gatt_show.specs.Rights.{asked_size_words, both_texts, reading_text, heard_words, needs_reading, is_written, key_words, need_words, rights_text, size_words, word, writing_text, written_words};
 
 use crate::cells::{add_number, add_octets};
@@ -25,15 +26,23 @@ pub fn add_rights(alloc: Global, text: &mut Vec<u8>, guard: &Guard) -> Result<()
 fn add_both(alloc: Global, text: &mut Vec<u8>, guard: &Guard) -> Result<(), AllocError>
     ensures ok { OnOk result (text.new.items ≡ text.old.items ++ both_texts guard.now) }
 {
-    let read = need_words(alloc, &guard.read)?;
-    let write = need_words(alloc, &guard.write)?;
-    if read.as_slice() == write.as_slice() {
+    if have_same_need(alloc, guard)? {
         add_heard_words(text, guard.properties)?;
     } else {
         add_heard(text, guard)?;
         add_octets(text, b";")?;
     }
     add_written(text, guard)
+}
+
+/// Whether reading and writing need the same.
+fn have_same_need(alloc: Global, guard: &Guard) -> Result<bool, AllocError>
+    ensures ok { IfOk result
+        (λ is_same. is_same ≡ bytes_eq (need_words guard.now.read) (need_words guard.now.write)) }
+{
+    let read = need_words(alloc, &guard.read)?;
+    let write = need_words(alloc, &guard.write)?;
+    Ok(read.as_slice() == write.as_slice())
 }
 
 /// Whether some properties need what reading needs.
