@@ -1,6 +1,6 @@
 //! Who has which key, and what he may do.
 
-ghost use Rattle.std.specs.Prelude.{◌≡◌, ◌++◌, option_map, OnOk};
+ghost use Rattle.std.specs.Prelude.{◌≡◌, ◌++◌, option_map, Some, OnOk};
 ghost use Rattle.toml.specs.View.{items_view, table_view};
 ghost use Rattle.toml_tables.specs.Reading.{text_at};
 ghost use Rattle.gatt_show.specs.Holders.{FactsAreTheServers, TellsHolders, entries_text, entry_text, facts_at, facts_words, holder_name, holder_text, holders_text, words_if, written_size, written_text};
@@ -99,9 +99,22 @@ fn add_entry(
     ensures ok { OnOk result (text.new.items ≡ text.old.items
         ++ entry_text table.now (option_map (λ members. table_view members.now) members.entry)) }
 {
-    let Some(members) = members else {
-        return Ok(());
-    };
+    match members {
+        Some(members) => add_peer(alloc, text, table, members),
+        None => Ok(()),
+    }
+}
+
+/// Adds what the peer of an entry that is a table may do.
+fn add_peer(
+    alloc: Global,
+    text: &mut Vec<u8>,
+    table: &Table,
+    members: &toml::Table,
+) -> Result<(), AllocError>
+    ensures ok { OnOk result (text.new.items
+        ≡ text.old.items ++ entry_text table.now (Some (table_view members.now))) }
+{
     let facts = facts_at(members);
     let mut name = Vec::new(alloc);
     add_name(&mut name, members, facts)?;

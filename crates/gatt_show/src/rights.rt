@@ -1,6 +1,7 @@
 //! What may be done with an attribute, and what it needs, in words.
 
-ghost use Rattle.std.specs.Prelude.{◌≡◌, ◌++◌, if◌then◌else◌, IfOk, OnOk};
+ghost use Rattle.std.specs.Prelude.{◌≡◌, ◌++◌, codes, if◌then◌else◌, IfOk, OnOk};
+ghost use Rattle.att_policy.specs.Need.{needs_authentication_of};
 ghost use Rattle.std.specs.Str.{bytes_eq};
 ghost use Rattle.gatt_show.specs.Rights.{asked_size_words, both_texts, reading_text, heard_words, needs_reading, is_written, key_words, need_words, rights_text, size_words, word, writing_text, written_words};
 
@@ -14,11 +15,24 @@ use std::alloc::{AllocError, Global};
 pub fn add_rights(alloc: Global, text: &mut Vec<u8>, guard: &Guard) -> Result<(), AllocError>
     ensures ok { OnOk result (text.new.items ≡ text.old.items ++ rights_text guard.now) }
 {
-    match (is_heard(guard.properties), is_written(guard.properties)) {
-        (true, true) => add_both(alloc, text, guard),
-        (true, false) => add_heard(text, guard),
-        (false, true) => add_written(text, guard),
-        (false, false) => add_octets(text, b" nothing"),
+    if !is_heard(guard.properties) {
+        add_unheard(text, guard)
+    } else if is_written(guard.properties) {
+        add_both(alloc, text, guard)
+    } else {
+        add_heard(text, guard)
+    }
+}
+
+/// Adds what may be done with a guarded attribute that nobody reads or hears of, and what it needs.
+fn add_unheard(text: &mut Vec<u8>, guard: &Guard) -> Result<(), AllocError>
+    ensures ok { OnOk result (text.new.items ≡ text.old.items
+        ++ (if is_written guard.now.properties then writing_text guard.now else codes " nothing")) }
+{
+    if is_written(guard.properties) {
+        add_written(text, guard)
+    } else {
+        add_octets(text, b" nothing")
     }
 }
 
@@ -151,12 +165,20 @@ fn add_key(text: &mut Vec<u8>, need: &Need) -> Result<(), AllocError>
     if need.secure {
         return add_octets(text, b" if secure connections");
     }
-    if need.needs_authentication() {
-        add_octets(text, b" if authenticated")?;
-    } else {
-        add_octets(text, b" if encrypted")?;
-    }
+    add_octets(text, protection(need).as_bytes())?;
     add_asked_size(text, need.key_size)
+}
+
+/// How the link's key has to protect the link.
+fn protection(need: &Need) -> &'static str
+    ensures { result.now ≡ (if needs_authentication_of need.now
+        then codes " if authenticated" else codes " if encrypted") }
+{
+    if need.needs_authentication() {
+        " if authenticated"
+    } else {
+        " if encrypted"
+    }
 }
 
 /// Adds how many octets a key needs, if it needs any.

@@ -117,7 +117,11 @@ pub fn add_range(
     key: &str,
     good: usize,
 ) {
-    let least = least_number(report, front, others, key, good);
+    let least = if is_accepted(report, front, others, key, 0) {
+        0
+    } else {
+        bound(report, front, others, key, good, 0)
+    };
     let greatest = bound(report, front, others, key, good, TOO_MUCH);
     add_numbers(report, least as u64, greatest as u64);
 }
@@ -131,21 +135,6 @@ fn add_numbers(report: &mut Report<'_>, least: u64, greatest: u64) {
         report.add(b" to ");
     }
     report.add_number(greatest);
-}
-
-/// The least number that a key may have.
-fn least_number(
-    report: &mut Report<'_>,
-    front: &Front<'_>,
-    others: Others,
-    key: &str,
-    good: usize,
-) -> usize {
-    if is_accepted(report, front, others, key, 0) {
-        0
-    } else {
-        bound(report, front, others, key, good, 0)
-    }
 }
 
 /// The last number that a key may have, from one that it may have to one that it may not.
