@@ -2,5 +2,4 @@ pub mod Blanks
 pub mod Entries
 pub mod Lines
 pub mod Naming
-pub mod Uuids
 pub mod Worth

@@ -26,18 +26,12 @@ pub fn add_type(text: &mut Vec<u8>, octets: &[u8]) -> Result<(), AllocError>
 }
 
 /// Adds a type of 128 bits.
-#[tactic(auto, using(crate::proofs::Uuids::sixteen))]
 fn add_long(text: &mut Vec<u8>, octets: &[u8]) -> Result<(), AllocError>
     ensures ok { OnOk result (text.new.items ≡ text.old.items ++ long_text octets.now) }
 {
-    match octets {
-        [a, b, c, d, e, f, g, h, i, j, k, l, m, n, o, p] => {
-            let octets = [
-                *a, *b, *c, *d, *e, *f, *g, *h, *i, *j, *k, *l, *m, *n, *o, *p,
-            ];
-            add_octets(text, &uuid_text(octets))
-        }
-        _ => Ok(()),
+    match <[u8; 16]>::try_from(octets) {
+        Ok(octets) => add_octets(text, &uuid_text(octets)),
+        Err(_) => Ok(()),
     }
 }
 

@@ -1,8 +1,12 @@
-use Rattle.std.proofs.Common.{refl}
+use Rattle.std.proofs.Common.{Result, Ok, Err, refl}
+use Rattle.std.specs.Prelude.{OnOk, IsOk}
 use Rattle.hex.specs.Hex.{encode_with}
 use Rattle.gatt_show.specs.TypeText.{uuid_text}
-use Rattle.gatt_show.proofs.Uuids.{on_ok_is}
 use Rattle.gatt_show.proofs.type_text.uuid_text.Goals as goal
+
+on_ok_is : {T E : Type 0} (result : Result T E) (P : Type 0) → IsOk result → OnOk result P → P
+on_ok_is (Ok x) P ok p = p
+on_ok_is (Err e) P ok p = cc ok
 
 pub returns : goal.returns
 unfolding uuid_text encode_with
