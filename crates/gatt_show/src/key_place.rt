@@ -20,16 +20,11 @@ const WANTED: [&str; 7] = [
 /// Adds where a document has its first fault, and what it is.
 pub fn add_key_place(report: &mut Report<'_>, fault: KeyFault) {
     let front = report.shortest("key", &[Level::Elements]);
-    add_entry(report, front.elements);
-    add_fault(report, &front, fault);
-}
-
-/// Adds which entry is the last one, if it is another than the root.
-fn add_entry(report: &mut Report<'_>, count: usize) {
-    if count > 0 {
+    if front.elements > 0 {
         report.add(b"key ");
-        report.add_number(count as u64);
+        report.add_number(front.elements as u64);
     }
+    add_fault(report, &front, fault);
 }
 
 /// Adds which key of the last entry of a front is at fault, and why.

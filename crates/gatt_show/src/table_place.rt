@@ -177,38 +177,21 @@ fn add_last_property(report: &mut Report<'_>, front: &Front<'_>) {
 /// Adds the last property that an element has, in quotes, if there is one.
 fn add_last_word(report: &mut Report<'_>, element: &Table) {
     if let Some(word) = toml_tables::items(element, "properties").last() {
-        add_in_quotes(report, word.as_str().unwrap_or(""));
+        report.add(b" \"");
+        add_quoted(report, word.as_str().unwrap_or(""));
+        report.add(b"\"");
     }
 }
 
-/// Adds a text of a file, in quotes.
-fn add_in_quotes(report: &mut Report<'_>, quoted: &str) {
-    report.add(b" \"");
-    add_quoted(report, quoted);
-    report.add(b"\"");
-}
-
-/// Adds the properties that the last element of a front may have.
+/// Adds the properties that the last element of a front may have, without a client configuration.
 fn add_allowed(report: &mut Report<'_>, front: &Front<'_>) {
-    let mut is_first = true;
+    let mut before: &[u8] = b"";
     for (word, alone) in &PROPERTIES {
-        if is_allowed(report, front, alone) {
-            add_one_of(report, word, is_first);
-            is_first = false;
+        let with = Kept::With("properties", alone, &["config"]);
+        if !report.has_fault_with(front, &with) {
+            report.add(before);
+            report.add(word.as_bytes());
+            before = b", ";
         }
     }
-}
-
-/// Whether the last element of a front may have these properties, without a client configuration.
-fn is_allowed(report: &mut Report<'_>, front: &Front<'_>, properties: &str) -> bool {
-    let with = Kept::With("properties", properties, &["config"]);
-    !report.has_fault_with(front, &with)
-}
-
-/// Adds a word of several, behind a comma unless it is the first.
-fn add_one_of(report: &mut Report<'_>, word: &str, is_first: bool) {
-    if !is_first {
-        report.add(b", ");
-    }
-    report.add(word.as_bytes());
 }

@@ -76,17 +76,12 @@ pub fn add_wrong_key(report: &mut Report<'_>, front: &Front<'_>) {
 fn add_wrong_key_of(report: &mut Report<'_>, front: &Front<'_>, table: &Table) {
     for (name, value) in table.iter() {
         let key = name.as_str();
-        if is_wrong_alone(report, front, key) {
+        if report.has_fault_with(front, &Kept::Alone(key)) {
             add_name(report, front, key);
             return add_wrong(report, front, key, value.is_integer());
         }
     }
     report.add_words();
-}
-
-/// Whether a key of the last table of a front has the fault where it stands alone.
-fn is_wrong_alone(report: &mut Report<'_>, front: &Front<'_>, key: &str) -> bool {
-    report.has_fault_with(front, &Kept::Alone(key))
 }
 
 /// Adds why a key is refused where it stands alone.
