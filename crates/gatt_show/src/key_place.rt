@@ -20,10 +20,7 @@ const WANTED: [&str; 7] = [
 /// Adds where a document has its first fault, and what it is.
 pub fn add_key_place(report: &mut Report<'_>, fault: KeyFault) {
     let front = report.shortest("key", &[Level::Elements]);
-    if front.elements > 0 {
-        report.add(b"key ");
-        report.add_number(front.elements as u64);
-    }
+    report.add_counted(b"key ", front.elements);
     add_fault(report, &front, fault);
 }
 

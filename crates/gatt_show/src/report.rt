@@ -51,6 +51,14 @@ impl<'a> Report<'a> {
         self.add(digits.format(number).as_bytes());
     }
 
+    /// Adds the name of an element and its number to the text, unless there is none.
+    pub fn add_counted(&mut self, name: &[u8], count: usize) {
+        if count > 0 {
+            self.add(name);
+            self.add_number(count as u64);
+        }
+    }
+
     /// Adds what the reader says of the fault, behind its place.
     pub fn add_words(&mut self) {
         self.add(b": ");

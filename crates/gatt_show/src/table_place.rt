@@ -51,24 +51,12 @@ fn add_fault(report: &mut Report<'_>, front: &Front<'_>, fault: TableFault) {
 /// Adds which element is the last one of a front, if it is another than the root. Of an include it is
 /// told only where it is no key that is at fault.
 fn add_element(report: &mut Report<'_>, front: &Front<'_>, fault: TableFault) {
-    if front.elements == 0 {
-        return;
+    report.add_counted(b"service ", front.elements);
+    report.add_counted(b", characteristic ", front.characteristics);
+    report.add_counted(b", descriptor ", front.descriptors);
+    if front.characteristics == 0 && fault != TableFault::Shape {
+        report.add_counted(b", include ", front.includes);
     }
-    add_counted(report, b"service ", front.elements);
-    if front.characteristics > 0 {
-        add_counted(report, b", characteristic ", front.characteristics);
-        if front.descriptors > 0 {
-            add_counted(report, b", descriptor ", front.descriptors);
-        }
-    } else if front.includes > 0 && fault != TableFault::Shape {
-        add_counted(report, b", include ", front.includes);
-    }
-}
-
-/// Adds the name of an element and its number.
-fn add_counted(report: &mut Report<'_>, name: &[u8], count: usize) {
-    report.add(name);
-    report.add_number(count as u64);
 }
 
 /// Adds the key that is missing.
