@@ -224,8 +224,8 @@ fn keep_keys(alloc: Global, table: &mut Table, keys: &Kept<'_>) -> Result<(), Al
         Kept::All => Ok(()),
         Kept::Alone(key) => keep_alone(alloc, table, key),
         Kept::AloneAs(key, value) => {
-            put(alloc, table, key, value)?;
-            keep_alone(alloc, table, key)
+            table.clear();
+            put(alloc, table, key, value)
         }
         Kept::Without(left_out) => {
             remove_all(table, left_out);
