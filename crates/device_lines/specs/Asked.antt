@@ -17,33 +17,31 @@ handle_of_word word = numeral_of (2 ^ 16) word
 unfoldable pub one_word : Octets → Option Asked
 one_word first = if bytes_eq first (codes "connections") then Some Connections else None
 
-unfoldable pub two_words : Octets → Octets → Option Asked
-two_words first second =
-    if bytes_eq first (codes "allow") then option_map (λ handle. Allow handle None) (handle_of_word second)
-    else if bytes_eq first (codes "deny") then option_map Deny (handle_of_word second)
-    else if bytes_eq first (codes "disconnect") then option_map Disconnect (handle_of_word second)
-    else if bytes_eq first (codes "value") then option_map Value (handle_of_word second)
+-- what a word asks of a handle
+abbrev pub handle_asked : Octets → ℕ → Option Asked
+handle_asked word handle =
+    if bytes_eq word (codes "allow") then Some (Allow handle None)
+    else if bytes_eq word (codes "deny") then Some (Deny handle)
+    else if bytes_eq word (codes "disconnect") then Some (Disconnect handle)
+    else if bytes_eq word (codes "value") then Some (Value handle)
     else None
 
--- `update HANDLE HEX`
-abbrev pub update_asked : Octets → Octets → Option Asked
-update_asked handle value = do
-  place ← handle_of_word handle
-  octets ← payload_of value
-  Some (Update place octets)
+unfoldable pub two_words : Octets → Octets → Option Asked
+two_words first second = do
+  handle ← handle_of_word second
+  handle_asked first handle
 
--- `allow HANDLE MS`
-abbrev pub allow_asked : Octets → Octets → Option Asked
-allow_asked handle lasting = do
-  connection ← handle_of_word handle
-  milliseconds ← numeral_of (2 ^ 64) lasting
-  Some (Allow connection (Some milliseconds))
+-- `update HANDLE HEX` and `allow HANDLE MS`
+abbrev pub more_asked : Octets → ℕ → Octets → Option Asked
+more_asked word handle more =
+    if bytes_eq word (codes "update") then option_map (Update handle) (payload_of more)
+    else if bytes_eq word (codes "allow") then option_map (λ lasting. Allow handle (Some lasting)) (numeral_of (2 ^ 64) more)
+    else None
 
 unfoldable pub three_words : Octets → Octets → Octets → Option Asked
-three_words first second third =
-    if bytes_eq first (codes "update") then update_asked second third
-    else if bytes_eq first (codes "allow") then allow_asked second third
-    else None
+three_words first second third = do
+  handle ← handle_of_word second
+  more_asked first handle third
 
 -- what words ask, if they ask something
 abbrev pub asked_by : List Octets → Option Asked

@@ -56,20 +56,15 @@ fn read_one(first: &str) -> Option<Asked<'_>>
 fn read_two<'a>(first: &str, second: &'a str) -> Option<Asked<'a>>
     ensures { result ≡ two_words first.now second.now }
 {
+    let handle = read_u16(second)?;
     match first {
         "allow" => Some(Asked::Allow {
-            handle: read_u16(second)?,
+            handle,
             lasting: None,
         }),
-        "deny" => Some(Asked::Deny {
-            handle: read_u16(second)?,
-        }),
-        "disconnect" => Some(Asked::Disconnect {
-            handle: read_u16(second)?,
-        }),
-        "value" => Some(Asked::Value {
-            handle: read_u16(second)?,
-        }),
+        "deny" => Some(Asked::Deny { handle }),
+        "disconnect" => Some(Asked::Disconnect { handle }),
+        "value" => Some(Asked::Value { handle }),
         _ => None,
     }
 }
@@ -79,13 +74,14 @@ fn read_two<'a>(first: &str, second: &'a str) -> Option<Asked<'a>>
 fn read_three<'a>(first: &str, second: &str, third: &'a str) -> Option<Asked<'a>>
     ensures { result ≡ three_words first.now second.now third.now }
 {
+    let handle = read_u16(second)?;
     match first {
         "update" => Some(Asked::Update {
-            handle: read_u16(second)?,
+            handle,
             value: Payload::read(third)?,
         }),
         "allow" => Some(Asked::Allow {
-            handle: read_u16(second)?,
+            handle,
             lasting: Some(read_u64(third)?),
         }),
         _ => None,
