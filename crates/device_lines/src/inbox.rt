@@ -15,7 +15,7 @@ pub const LONGEST: usize = 1_100;
 const ROOM: usize = 2_048;
 
 /// Whether there is a line.
-#[derive(Clone, Copy, Debug, PartialEq, Eq)]
+#[derive(Clone, Copy)]
 pub enum Found {
     /// There is one.
     Line,

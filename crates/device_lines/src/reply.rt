@@ -2,6 +2,7 @@
 
 ghost use Rattle.std.specs.Prelude.{◌≡◌, ◌++◌, OnOk};
 ghost use Rattle.device_lines.specs.Reply.{reply_line, reply_text};
+ghost use Rattle.device_lines.specs.declared.reply.Reply.TheVariants.{Refused, Value, Bad};
 
 use gatt_app::AppFault;
 use notice_lines::{add_number, add_value};
@@ -35,20 +36,35 @@ fn add_text(text: &mut Vec<u8>, reply: &Reply<'_>) -> Result<(), AllocError>
 {
     match reply {
         Reply::Done => text.extend_from_slice(b"ok"),
-        Reply::Refused { fault, words } => {
-            text.extend_from_slice(b"fault")?;
-            add_number(text, u64::from(fault.number()))?;
-            text.extend_from_slice(b": ")?;
-            text.extend_from_slice(words.as_bytes())
-        }
-        Reply::Value { handle, value } => {
-            text.extend_from_slice(b"value")?;
-            add_number(text, u64::from(*handle))?;
-            add_value(text, value)
-        }
-        Reply::Bad(words) => {
-            text.extend_from_slice(b"bad: ")?;
-            text.extend_from_slice(words.as_bytes())
-        }
+        Reply::Refused { fault, words } => add_refused(text, *fault, words),
+        Reply::Value { handle, value } => add_handle_value(text, *handle, value),
+        Reply::Bad(words) => add_bad(text, words),
     }
+}
+
+/// Adds that a line is refused, for this fault, which these words name.
+fn add_refused(text: &mut Vec<u8>, fault: AppFault, words: &str) -> Result<(), AllocError>
+    ensures ok { OnOk result (text.new.items ≡ text.old.items ++ reply_text (Refused fault words.entry)) }
+{
+    text.extend_from_slice(b"fault")?;
+    add_number(text, u64::from(fault.number()))?;
+    text.extend_from_slice(b": ")?;
+    text.extend_from_slice(words.as_bytes())
+}
+
+/// Adds the value at a handle.
+fn add_handle_value(text: &mut Vec<u8>, handle: u16, value: &[u8]) -> Result<(), AllocError>
+    ensures ok { OnOk result (text.new.items ≡ text.old.items ++ reply_text (Value handle value.entry)) }
+{
+    text.extend_from_slice(b"value")?;
+    add_number(text, u64::from(handle))?;
+    add_value(text, value)
+}
+
+/// Adds what is wrong with a line, in words.
+fn add_bad(text: &mut Vec<u8>, words: &str) -> Result<(), AllocError>
+    ensures ok { OnOk result (text.new.items ≡ text.old.items ++ reply_text (Bad words.entry)) }
+{
+    text.extend_from_slice(b"bad: ")?;
+    text.extend_from_slice(words.as_bytes())
 }
