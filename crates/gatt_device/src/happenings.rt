@@ -11,7 +11,7 @@ ghost use Rattle.gatt_device.specs.Happenings.{next_calls, next_entry, next_octe
 use gatt_host::{App, AppFault};
 
 /// What happens next.
-#[derive(Clone, Copy, Debug, PartialEq, Eq)]
+#[derive(Clone, Copy)]
 pub enum Next<'a> {
     /// Octets come from the controller, which may begin and end anywhere in its packets.
     Octets(&'a [u8]),

@@ -20,7 +20,7 @@ use octets::Sink;
 const ROOM: usize = 1024;
 
 /// Why a host is served no longer, although it has not stopped.
-#[derive(Clone, Copy, Debug, PartialEq, Eq)]
+#[derive(Clone, Copy, PartialEq, Eq)]
 pub enum End {
     /// The stream from its controller has ended.
     Ended,
