@@ -36,6 +36,7 @@ loop-turn-init g c =
       served = served_none old new
           (known (g.H.Happenings.octets c.args.happenings.now) (g.H.Happenings.calls c.args.happenings.now) (g.H.Happenings.history c.args.happenings.now))
           before after (g.L.Listener.heard c.args.listener.now) (going_takes [] old new before after new.fault still (c.feed.ensures.feeds none));
+      began = none;
       few = omega arith;
       none = still;
       drained = c.in_ok-feed.ensures.out refl;
@@ -158,6 +159,7 @@ loop-turn-preserved g c =
     ] in
     record {
       served = goes.served;
+      began = c.loop-turn.invariant.began;
       few = omega (arith, c.loop-turn-test.true);
       none = goes.none;
       drained = goes.drained;

@@ -11,6 +11,7 @@ invariant-loop-turn g l = record {
       (known (g.H.Happenings.octets l.fn.happenings) (g.H.Happenings.calls l.fn.happenings) (g.H.Happenings.history l.fn.happenings))
       (known (g.H.Happenings.octets l.happenings) (g.H.Happenings.calls l.happenings) (g.H.Happenings.history l.happenings))
       (g.W.Sink.contents l.fn.out) (g.W.Sink.contents l.out) (g.L.Listener.heard l.fn.listener) (g.L.Listener.heard l.listener);
+  began : l.fn.host.fault ≡ None;
   few : l._turn ≤ l.turns;
   none : l.host.fault ≡ None;
   drained : all_out l.host ≡ true;
