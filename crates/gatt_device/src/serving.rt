@@ -35,7 +35,6 @@ pub enum End {
 /// as soon as it is taken in, then what it tells is heard, and then what it brings is written. A
 /// tick that goes back is answered `AppFault::TimeWentBack`, as other calls that are refused, and
 /// changes nothing. After a fault of the host it answers that, and waits for nothing more.
-#[tactic(auto, using(crate::proofs::Time::keeps_the_time, gatt_host::proofs::Promises::keeps_the_policy, gatt_host::proofs::Promises::keeps_connections_apart))]
 pub fn serve_happenings<H: Happenings, W: Sink, L: Listener>(
     host: &mut Host,
     happenings: &mut H,
