@@ -94,14 +94,16 @@ pub fn retry_after(error: &io::Error) -> Retry {
 /// Listens at a path, where a socket that was left behind is removed first. Nobody but the owner may
 /// connect.
 pub fn bind_at_path<R: Files + Net>(rt: &R, path: &str) -> io::Result<UnixListener> {
-    if UnixStream::connect(rt, path).is_ok() {
+    if is_served(rt, path) {
         return Err(io::Error::from(ErrorKind::AddrInUse));
     }
     remove_left_socket(rt, path);
-    let listener = UnixListener::bind(rt, path)?;
-    fs::set_permissions(rt, path, Permissions::from_mode(OWNER_ALONE))?;
-    listener.set_nonblocking(true)?;
-    Ok(listener)
+    bind(rt, path)
+}
+
+/// Whether somebody listens at a path.
+fn is_served<R: Net>(rt: &R, path: &str) -> bool {
+    UnixStream::connect(rt, path).is_ok()
 }
 
 /// Removes a socket at a path, and nothing else. Where that cannot be done, whoever then binds the path
@@ -112,6 +114,14 @@ fn remove_left_socket<R: Files>(rt: &R, path: &str) {
             let _ = fs::remove_file(rt, path);
         }
     }
+}
+
+/// Listens at a path where nothing is. Nobody but the owner may connect.
+fn bind<R: Files + Net>(rt: &R, path: &str) -> io::Result<UnixListener> {
+    let listener = UnixListener::bind(rt, path)?;
+    fs::set_permissions(rt, path, Permissions::from_mode(OWNER_ALONE))?;
+    listener.set_nonblocking(true)?;
+    Ok(listener)
 }
 
 /// The next application that connects at a path, if one does.

@@ -27,10 +27,7 @@ pub enum Stream {
 impl Stream {
     /// A connection that was made: its reads and writes come to an end, and it sends at once.
     pub fn of_socket(socket: TcpStream) -> io::Result<Stream> {
-        socket.set_nonblocking(false)?;
-        socket.set_nodelay(true)?;
-        socket.set_read_timeout(Some(Duration::from_millis(READ_TIME)))?;
-        socket.set_write_timeout(Some(Duration::from_millis(WRITE_TIME)))?;
+        set_options(&socket)?;
         Ok(Stream::Socket(socket))
     }
 
@@ -83,6 +80,14 @@ impl Stream {
             _ => written,
         }
     }
+}
+
+/// Has the reads and writes of a connection come to an end, and has it send at once.
+fn set_options(socket: &TcpStream) -> io::Result<()> {
+    socket.set_nonblocking(false)?;
+    socket.set_nodelay(true)?;
+    socket.set_read_timeout(Some(Duration::from_millis(READ_TIME)))?;
+    socket.set_write_timeout(Some(Duration::from_millis(WRITE_TIME)))
 }
 
 impl AsRawFd for Stream {

@@ -14,15 +14,23 @@ pub fn unknown_peer(alloc: Global, rows: &Rows, keys: &Keys) -> Result<Option<St
     if rows.text(&mut Writer::new(&mut text)).is_err() {
         return Err(AllocError);
     }
-    for line in str::from_utf8(text.as_slice()).unwrap_or("").split('\n') {
-        if let Some((kind, address)) = unknown_in(line, keys) {
-            return match format!(in alloc; "{kind} {address}") {
-                Ok(words) => Ok(Some(words)),
-                Err(_) => Err(AllocError),
-            };
+    match first_unknown(str::from_utf8(text.as_slice()).unwrap_or(""), keys) {
+        Some((kind, address)) => match format!(in alloc; "{kind} {address}") {
+            Ok(words) => Ok(Some(words)),
+            Err(_) => Err(AllocError),
+        },
+        None => Ok(None),
+    }
+}
+
+/// The first peer of lines that keys do not know, by the kind of its address and the address.
+fn first_unknown<'a>(lines: &'a str, keys: &Keys) -> Option<(&'a str, &'a str)> {
+    for line in lines.split('\n') {
+        if let Some(peer) = unknown_in(line, keys) {
+            return Some(peer);
         }
     }
-    Ok(None)
+    None
 }
 
 /// The peer of a line, by the kind of its address and the address, where keys do not know it.

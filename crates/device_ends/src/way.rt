@@ -31,23 +31,9 @@ impl Way<'_> {
         rt: &R,
     ) -> io::Result<Option<Stream>> {
         match self {
-            Way::Listen(listener) => match listener.accept() {
-                Ok((socket, _)) => Ok(Some(Stream::of_socket(socket)?)),
-                Err(error) => nobody(error),
-            },
-            Way::Connect(address) => {
-                let timeout = Duration::from_millis(CONNECT_TIME);
-                match TcpStream::connect_timeout(rt, address, timeout) {
-                    Ok(socket) => Ok(Some(Stream::of_socket(socket)?)),
-                    Err(_) => Ok(None),
-                }
-            }
-            Way::Serial(path) => {
-                match File::options().read(true).write(true).open(rt, *path) {
-                    Ok(line) => Ok(Some(Stream::Serial(line))),
-                    Err(_) => Ok(None),
-                }
-            }
+            Way::Listen(listener) => accept(listener),
+            Way::Connect(address) => connect(rt, address),
+            Way::Serial(path) => Ok(open_line(rt, path)),
         }
     }
 
@@ -55,6 +41,32 @@ impl Way<'_> {
     pub fn is_tried(&self) -> bool {
         !matches!(self, Way::Listen(_))
     }
+}
+
+/// The stream of the next controller that connects, if one does.
+fn accept(listener: &TcpListener) -> io::Result<Option<Stream>> {
+    match listener.accept() {
+        Ok((socket, _)) => Ok(Some(Stream::of_socket(socket)?)),
+        Err(error) => nobody(error),
+    }
+}
+
+/// The stream of a controller that listens at an address, if one does.
+fn connect<R: Net<Listener = TcpListener, Stream = TcpStream>>(
+    rt: &R,
+    address: &SocketAddr,
+) -> io::Result<Option<Stream>> {
+    let timeout = Duration::from_millis(CONNECT_TIME);
+    match TcpStream::connect_timeout(rt, address, timeout) {
+        Ok(socket) => Ok(Some(Stream::of_socket(socket)?)),
+        Err(_) => Ok(None),
+    }
+}
+
+/// The stream of a controller at the end of a serial line, if that can be opened.
+fn open_line<R: Files<File = File>>(rt: &R, path: &str) -> Option<Stream> {
+    let line = File::options().read(true).write(true).open(rt, path).ok()?;
+    Some(Stream::Serial(line))
 }
 
 /// Nobody connects as yet, or it cannot be told who does.
