@@ -1,12 +1,12 @@
 //! The sides of a device are opened, as the words ask for them.
 
-use crate::application::Application;
 use device_ends::{Listener, Log, Recording, Source, Waiting, Way, bind_at_path};
 use device_words::{Door, Reached};
 use std::alloc::Global;
 use std::fs::{File, Files};
 use std::io;
 use std::net::{Net, SocketAddr, TcpListener, TcpStream};
+use std::os::unix::net::UnixListener;
 use std::time::Clock;
 
 /// The way to a controller: one that connects is listened for.
@@ -17,81 +17,77 @@ pub(crate) fn way_to<'a, R: Net<Listener = TcpListener, Stream = TcpStream> + Cl
     reached: Reached<'a>,
 ) -> io::Result<Way<'a>> {
     match reached {
-        Reached::Listen(address) => way_from(alloc, log, waiting, address),
+        Reached::Listen(address) => {
+            let words = "listening for a controller:";
+            let listener = listen(alloc, log, waiting, address, Source::Controllers, words)?;
+            Ok(Way::Listen(listener))
+        }
         Reached::Connect(address) => Ok(Way::Connect(address)),
         Reached::Serial(path) => Ok(Way::Serial(path)),
     }
 }
 
-/// The way to a controller that connects to an address.
-fn way_from<'a, R: Net<Listener = TcpListener, Stream = TcpStream> + Clock + Eprint>(
-    alloc: Global,
-    log: &Log<'_, R>,
-    waiting: &Waiting,
-    address: SocketAddr,
-) -> io::Result<Way<'a>> {
-    let listener = waiting.listen(log.rt, address, Source::Controllers)?;
-    let bound = listener.local_addr()?;
-    say_address(alloc, log, "listening for a controller:", bound)?;
-    Ok(Way::Listen(listener))
-}
-
-/// Logs an address behind words.
-fn say_address<R: Clock + Eprint>(
-    alloc: Global,
-    log: &Log<'_, R>,
-    words: &str,
-    address: SocketAddr,
-) -> io::Result<()> {
-    let text = format!(in alloc; "{address}")?;
-    log.say_of(words, text.as_str());
-    Ok(())
-}
-
-/// Waits for an application where the words say.
-pub(crate) fn open_door<
+/// Where an application connects, as the words say, if it may.
+pub(crate) fn listener_at<
     R: Net<Listener = TcpListener, Stream = TcpStream> + Files + Clock + Eprint,
 >(
     alloc: Global,
     log: &Log<'_, R>,
     waiting: &Waiting,
-    application: &mut Application,
     door: Door<'_>,
-) -> io::Result<()> {
+) -> io::Result<Option<Listener>> {
     match door {
-        Door::None => Ok(()),
-        Door::Path(path) => open_at_path(log, waiting, application, path),
-        Door::Port(address) => open_at_port(alloc, log, waiting, application, address),
+        Door::None => Ok(None),
+        Door::Path(path) => {
+            let listener = listen_at_path(log, waiting, path)?;
+            Ok(Some(Listener::Path(listener)))
+        }
+        Door::Port(address) => {
+            let words = "listening for an application:";
+            let listener = listen(alloc, log, waiting, address, Source::Applications, words)?;
+            Ok(Some(Listener::Port(listener)))
+        }
     }
 }
 
-/// Waits for an application at a path, where a socket that was left behind is removed first; another
-/// file is left alone, and nothing is waited for. Nobody but the owner may connect.
-fn open_at_path<R: Net + Files + Clock + Eprint>(
+/// Listens for an application at a path, where a socket that was left behind is removed first;
+/// another file is left alone, and nothing is listened for. Nobody but the owner may connect.
+fn listen_at_path<R: Net + Files + Clock + Eprint>(
     log: &Log<'_, R>,
     waiting: &Waiting,
-    application: &mut Application,
     path: &str,
-) -> io::Result<()> {
+) -> io::Result<UnixListener> {
     let listener = bind_at_path(log.rt, path)?;
     waiting.watch(&listener, Source::Applications)?;
-    application.listen(Listener::Path(listener));
     log.say_of("listening for an application:", path);
-    Ok(())
+    Ok(listener)
 }
 
-/// Waits for an application at an address.
-fn open_at_port<R: Net<Listener = TcpListener, Stream = TcpStream> + Clock + Eprint>(
+/// Listens at an address, and logs that behind words.
+fn listen<R: Net<Listener = TcpListener, Stream = TcpStream> + Clock + Eprint>(
     alloc: Global,
     log: &Log<'_, R>,
     waiting: &Waiting,
-    application: &mut Application,
     address: SocketAddr,
+    source: Source,
+    words: &str,
+) -> io::Result<TcpListener> {
+    let listener = waiting.listen(log.rt, address, source)?;
+    say_address(alloc, log, words, &listener)?;
+    Ok(listener)
+}
+
+/// Logs behind words at which address is listened.
+fn say_address<R: Clock + Eprint>(
+    alloc: Global,
+    log: &Log<'_, R>,
+    words: &str,
+    listener: &TcpListener,
 ) -> io::Result<()> {
-    let listener = waiting.listen(log.rt, address, Source::Applications)?;
-    let bound = listener.local_addr()?;
-    application.listen(Listener::Port(listener));
-    say_address(alloc, log, "listening for an application:", bound)
+    let address = listener.local_addr()?;
+    let text = format!(in alloc; "{address}")?;
+    log.say_of(words, text.as_str());
+    Ok(())
 }
 
 /// Begins a capture in a file at a path, or tells that this cannot be created. Where that cannot be
@@ -103,9 +99,14 @@ pub(crate) fn record_to<R: Files<File = File> + Eprint>(
 ) -> io::Result<Recording> {
     let begun = Recording::begin(rt, path);
     if begun.is_err() {
-        if let Ok(line) = format!(in alloc; "capture: cannot be created: {path}") {
-            let _ = rt.eprintln(line.as_str());
-        }
+        tell_not_created(rt, alloc, path);
     }
     begun
+}
+
+/// Tells that no file can be created at a path.
+fn tell_not_created(rt: &impl Eprint, alloc: Global, path: &str) {
+    if let Ok(line) = format!(in alloc; "capture: cannot be created: {path}") {
+        let _ = rt.eprintln(line.as_str());
+    }
 }

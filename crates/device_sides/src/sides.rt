@@ -4,7 +4,7 @@ use crate::application::Application;
 use crate::asking::Asking;
 use crate::controller_side::{ControllerSide, sooner};
 use crate::heard::Heard;
-use crate::opening::{open_door, record_to, way_to};
+use crate::opening::{listener_at, record_to, way_to};
 use crate::said::Question;
 use crate::telling::{accept, fill, reply, say_or_end, tell, tell_heard};
 use crate::turns::Turns;
@@ -184,13 +184,10 @@ impl<
 > Sides<'_, R> {
     /// Waits for an application where the words say.
     pub fn open_door(&mut self, door: Door<'_>) -> io::Result<()> {
-        open_door(
-            self.alloc,
-            &self.log,
-            &self.waiting,
-            &mut self.application,
-            door,
-        )
+        if let Some(listener) = listener_at(self.alloc, &self.log, &self.waiting, door)? {
+            self.application.listen(listener);
+        }
+        Ok(())
     }
 
     /// Writes a capture to a file at a path, if there is one, or tells that this cannot be created.
