@@ -1,5 +1,5 @@
 -- What happens is taken in, one turn after another.
-use Rattle.std.proofs.Common.{◌≡◌, ℕ, ◌+◌, ◌<◌, true, List, [], ◌∷◌, ◌++◌, length, Option, Some, None, Result, Ok, Err, refl, sym, ap, subst, ◌∙◌, arith, append_assoc, append-nil}
+use Rattle.std.proofs.Common.{◌≡◌, ℕ, ◌+◌, ◌<◌, Bool, true, false, List, [], ◌∷◌, ◌++◌, length, Option, Some, None, Result, Ok, Err, refl, sym, ap, subst, ◌∙◌, arith, append_assoc, append-nil}
 use Rattle.std.proofs.KnownBytes.{Consumes-nil, Consumes-trans}
 use Rattle.std.proofs.lemmas.List.{length-append}
 use Rattle.std.proofs.lemmas.List.Concat.{flat_map-append}
@@ -18,8 +18,9 @@ use Rattle.gatt_laws.specs.laws.Deadline.{deadline}
 use Rattle.gatt_laws.specs.machine.Input.{Run, Item, after_items, run_at_start, run}
 use Rattle.gatt_laws.specs.machine.Notice.{Notice}
 use Rattle.gatt_laws.specs.machine.Start.{Start}
+use Rattle.octets.proofs.Writing.{counts_none, counts_one}
 use Rattle.octets.specs.Number.{Octets}
-use Rattle.octets.specs.Stream.{CountsNone}
+use Rattle.octets.specs.Stream.{CountsIf, CountsNone}
 use Rattle.gatt_device.specs.declared.serving.End.{End}
 use Rattle.gatt_device.specs.declared.serving.End.TheVariants as end
 use Rattle.gatt_device.specs.Happenings.{DeviceInput, Came, Asked, HistoryEntry, Waited, Happened, Ended, Failed, Hands, Records, input_octets, octets_that_came, calls_of, calls_in, input_items_of, items_in}
@@ -309,3 +310,8 @@ goes_as count old new at come comes knows before after holds heard hears hearing
     (subst (λ (it : Option Octets). Goes count old new come comes before it heard hearing counted counting) (sym third)
     (subst (λ (it : Option (List Notice)). Goes count old new come comes before after heard it counted counting) (sym fourth)
     (subst (λ (it : Option ℕ). Goes count old new come comes before after heard hears counted it) (sym fifth) goes))))
+
+-- none was counted before what is counted at the end
+pub counts_at_end : (fails : Bool) (before mid now : Option ℕ) → CountsNone before mid → CountsIf fails mid now → CountsIf fails before now
+counts_at_end true before mid now first second = counts_one before mid now first second
+counts_at_end false before mid now first second = counts_none before mid now first second

@@ -1,6 +1,6 @@
 use Rattle.std.proofs.Common.{◌≡◌, ◌+◌, List, [], ◌∷◌, Option, None, refl, ap, arith}
 use Rattle.std.proofs.lemmas.Result.{err_from_is_err_and}
-use Rattle.gatt_device.proofs.Happened.{Goes, call_comes, ended_recorded, failed_recorded, goes_as, known_as, octets_come, served_more, served_none, serves_all, serves_ended, serves_nothing, serves_stopped}
+use Rattle.gatt_device.proofs.Happened.{Goes, call_comes, counts_at_end, ended_recorded, failed_recorded, goes_as, known_as, octets_come, served_more, served_none, serves_all, serves_ended, serves_nothing, serves_stopped}
 use Rattle.gatt_device.proofs.serving.serve_turns.Goals as goal
 use Rattle.gatt_device.proofs.serving.serve_turns.Goals.{in-Octets+in_ok-feed_to-in-Octets, in-Call+in_ok-take_call-in-Call}
 use Rattle.gatt_device.specs.declared.serving.End.TheVariants as end
@@ -57,6 +57,9 @@ returns-in_err-feed_to-in-Octets-clause-serves g c = λ none.
     c.in-Octets.ensures.octets c.in-Octets.ensures.calls c.in-Octets.ensures.history)
     (c.feed_to.ensures.feeds c.loop-turn.invariant.none) (c.feed_to.ensures.heard c.loop-turn.invariant.none)
 
+pub returns-in_err-feed_to-in-Octets-clause-failures : goal.returns-in_err-feed_to-in-Octets-clause-failures
+returns-in_err-feed_to-in-Octets-clause-failures g c = λ none. counts_at_end _ _ _ _ c.loop-turn.invariant.failures (c.feed_to.ensures.failures c.loop-turn.invariant.none)
+
 pub returns-in_err-take_call-in-Call-clause-serves : goal.returns-in_err-take_call-in-Call-clause-serves
 returns-in_err-take_call-in-Call-clause-serves g c = λ none.
     let come : Known = known (g.H.Happenings.octets c.args.happenings.now) (g.H.Happenings.calls c.args.happenings.now) (g.H.Happenings.history c.args.happenings.now) in
@@ -71,6 +74,9 @@ returns-in_err-take_call-in-Call-clause-serves g c = λ none.
     (call_comes (call_of c.in-Call.call) c.deadline.result c.loop-turn.host between asks comes c.deadline.ensures.run
     c.in-Call.ensures.octets c.in-Call.ensures.calls c.in-Call.ensures.history c.take_call.ensures.octets c.take_call.ensures.calls c.take_call.ensures.answer)
     c.take_call.ensures.feeds c.take_call.ensures.heard
+
+pub returns-in_err-take_call-in-Call-clause-failures : goal.returns-in_err-take_call-in-Call-clause-failures
+returns-in_err-take_call-in-Call-clause-failures g c = λ none. counts_at_end _ _ _ _ c.loop-turn.invariant.failures c.take_call.ensures.failures
 
 pub returns-in-Ended-clause-serves : goal.returns-in-Ended-clause-serves
 returns-in-Ended-clause-serves g c = λ none.
