@@ -90,9 +90,7 @@ fn add_with_slot(
     };
     // What follows goes in front of the end of the line.
     log.pop();
-    log.extend_from_slice(b" slot")?;
-    add_number(log, place as u64)?;
-    log.extend_from_slice(b"\n")
+    add_end(log, b" slot", place)
 }
 
 /// Adds that a connection has written `count` octets to the attribute at a handle.
@@ -105,7 +103,12 @@ fn add_written(
     log.extend_from_slice(b"+ written")?;
     add_number(log, u64::from(handle))?;
     add_number(log, u64::from(attribute))?;
-    log.extend_from_slice(b" octets:")?;
-    add_number(log, count as u64)?;
+    add_end(log, b" octets:", count)
+}
+
+/// Adds words and a number, and ends the line.
+fn add_end(log: &mut Vec<u8>, words: &[u8], number: usize) -> Result<(), AllocError> {
+    log.extend_from_slice(words)?;
+    add_number(log, number as u64)?;
     log.extend_from_slice(b"\n")
 }
