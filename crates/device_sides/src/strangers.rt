@@ -101,14 +101,19 @@ impl Strangers {
 
     /// One that has been silent for too long, which is known no more.
     pub(crate) fn next_silent(&mut self, now: u64) -> Option<u16> {
-        let limit = self.limit?;
-        let place = self
-            .known
-            .as_slice()
-            .iter()
-            .position(|stranger| stranger.since.saturating_add(limit) <= now)?;
+        let place = silent_place(self.known.as_slice(), self.limit?, now)?;
         Some(self.known.pop_at(place)?.handle)
     }
+}
+
+/// The place of the first of them who has been silent for so long, in milliseconds.
+fn silent_place(known: &[Stranger], limit: u64, now: u64) -> Option<usize> {
+    for (place, stranger) in known.iter().enumerate() {
+        if stranger.since.saturating_add(limit) <= now {
+            return Some(place);
+        }
+    }
+    None
 }
 
 /// Phones that have no key, of whom some are known.
