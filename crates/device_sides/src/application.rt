@@ -38,9 +38,9 @@ impl Application {
         }
     }
 
-    /// Applications connect here from now on.
-    pub(crate) fn listen(&mut self, listener: Listener) {
-        self.listener = Some(listener);
+    /// Applications connect here from now on, or nowhere.
+    pub(crate) fn listen(&mut self, listener: Option<Listener>) {
+        self.listener = listener;
     }
 
     /// Takes the next application that connects, if one does, in place of the one before.

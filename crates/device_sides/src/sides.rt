@@ -184,9 +184,8 @@ impl<
 > Sides<'_, R> {
     /// Waits for an application where the words say.
     pub fn open_door(&mut self, door: Door<'_>) -> io::Result<()> {
-        if let Some(listener) = listener_at(self.alloc, &self.log, &self.waiting, door)? {
-            self.application.listen(listener);
-        }
+        let listener = listener_at(self.alloc, &self.log, &self.waiting, door)?;
+        self.application.listen(listener);
         Ok(())
     }
 
