@@ -1,4 +1,4 @@
-use Rattle.std.proofs.Common.{◌≡◌, ◌+◌, List, [], ◌∷◌, Option, None, refl, ap, arith}
+use Rattle.std.proofs.Common.{◌≡◌, ◌+◌, List, [], ◌∷◌, Option, None, true, refl, ap, arith}
 use Rattle.std.proofs.lemmas.Result.{err_from_is_err_and}
 use Rattle.gatt_device.proofs.Happened.{Goes, call_comes, counts_at_end, ended_recorded, failed_recorded, goes_as, known_as, octets_come, served_more, served_none, serves_all, serves_ended, serves_nothing, serves_stopped}
 use Rattle.gatt_device.proofs.serving.serve_turns.Goals as goal
@@ -39,7 +39,7 @@ loop-turn-init g c =
       began = none;
       few = omega arith;
       none = still;
-      drained = c.in_ok-feed.ensures.out refl;
+      drained = c.in_ok-feed.ensures.out (refl {a = true});
       failures = counts_where_going new.fault _ _ still (c.feed.ensures.failures none);
     }
 
@@ -138,7 +138,7 @@ loop-turn-preserved g c =
                 (going_takes (octet_items octets) mid new written after new.fault none (w.feed_to.ensures.feeds c.loop-turn.invariant.none))
                 (going_hears (octet_items octets) mid new so_far hears new.fault none (w.feed_to.ensures.heard c.loop-turn.invariant.none));
             none = none;
-            drained = w.in_ok-feed_to-in-Octets.ensures.out refl;
+            drained = w.in_ok-feed_to-in-Octets.ensures.out (refl {a = true});
             failures = counts_none _ _ _ c.loop-turn.invariant.failures (counts_where_going new.fault _ _ none (w.feed_to.ensures.failures c.loop-turn.invariant.none));
           })
       | in-Call+in_ok-take_call-in-Call w ↦
@@ -159,7 +159,7 @@ loop-turn-preserved g c =
                 (going_takes (ACall (call_of w.in-Call.call) ∷ []) mid new written after new.fault none w.take_call.ensures.feeds)
                 (going_hears (ACall (call_of w.in-Call.call) ∷ []) mid new so_far hears new.fault none w.take_call.ensures.heard);
             none = none;
-            drained = w.in_ok-take_call-in-Call.ensures.out refl;
+            drained = w.in_ok-take_call-in-Call.ensures.out (refl {a = true});
             failures = counts_none _ _ _ c.loop-turn.invariant.failures (counts_where_going new.fault _ _ none w.take_call.ensures.failures);
           })
     ] in
