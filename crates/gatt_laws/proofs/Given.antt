@@ -8,7 +8,7 @@ use Rattle.gatt_laws.proofs.Ends.{end_keeps}
 use Rattle.gatt_laws.proofs.Silence.{gives_all_that_it_may}
 use Rattle.std.proofs.lemmas.Bool.{ltb-true, ltb-false}
 use Rattle.std.proofs.lemmas.Bool.Decides.{nat_tests}
-use Rattle.gatt_laws.proofs.Places.{HasPlace, absent_place, step_place, run_told, ready_at, none_comes, comes_only, start_absent, completed_gone, next_grows, IsAny, ComesOnlyFrom}
+use Rattle.gatt_laws.proofs.Places.{HasPlace, live-there, absent_place, step_place, run_told, ready_at, none_comes, comes_only, start_absent, completed_gone, next_grows, IsAny, ComesOnlyFrom}
 use Rattle.gatt_laws.specs.laws.Settled.{has_slot, HaveOneSlotEach, IsSettled}
 use Rattle.gatt_laws.specs.laws.Runs.{after_events, events_of, ArePossible}
 use Rattle.le_hci.specs.declared.peer.Peer.{Peer}
@@ -21,7 +21,7 @@ use Rattle.gatt_laws.specs.laws.Given.{packets_given_by_now, BringsWhatItGives, 
 use Rattle.gatt_laws.specs.machine.Input.{run}
 use Rattle.gatt_laws.specs.machine.Start.{state_at}
 use Rattle.gatt_laws.specs.laws.View.{peer_in}
-use Rattle.gatt_laws.specs.machine.ConnectionState.{Mark, Absent, Live, Ending, ConnectionState, no_connection, is_live, is_there}
+use Rattle.gatt_laws.specs.machine.ConnectionState.{ConnectionState, no_connection, is_live, is_there}
 use Rattle.gatt_laws.specs.machine.SharedState.{SharedState, quota_of, fragment_size_of}
 use Rattle.gatt_laws.specs.laws.Silence.{IsAllGiven}
 use Rattle.gatt_laws.specs.machine.State.{State, Change, after_packets_completed, connection_after_replacement, packets_given, change_of, connections_finished, step, before_commands, commands_out, out, slot_out}
@@ -134,11 +134,6 @@ unfolding step change_of
 same-slots state (Credit allowed opcode status (Some init)) = refl
 same-slots state (Credit allowed opcode status None) = refl
 same-slots state event = refl
-
-live-there : (mark : Mark) → is_live mark ≡ true → is_there mark ≡ true
-live-there Absent is = cc is
-live-there Live is = refl
-live-there Ending is = refl
 
 module _ (buffers : Option Buffers) (peer : Peer) (ordinal : Ordinal) where
   record IsCounted (state : State) (events : List Event) : Type 0 where

@@ -51,7 +51,7 @@ module _ (peer : Peer) where
   come-place : (handle : ℕ) (other : Peer) → other ≡ peer → HasPlace peer (fresh_connection handle other)
   come-place handle other same = record { of = λ there. same; absent = λ lacks. cc lacks }
 
-live-there : (mark : Mark) → is_live mark ≡ true → is_there mark ≡ true
+pub live-there : (mark : Mark) → is_live mark ≡ true → is_there mark ≡ true
 live-there Absent is = cc is
 live-there Live is = refl
 live-there Ending is = refl

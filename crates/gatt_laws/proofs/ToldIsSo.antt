@@ -1,4 +1,4 @@
--- What is told is so afterwards.
+-- What a notice says is so after its event.
 use Rattle.std.proofs.Common.{◌≡◌, ℕ, Bool, true, false, List, [], ◌∷◌, map, Option, Some, None}
 use Rattle.std.proofs.Common.{refl, ap, ◌∙◌}
 use Rattle.std.specs.Prelude.{◌++◌, All, is_some, if◌then◌else◌}
@@ -13,7 +13,8 @@ use Rattle.att_policy.specs.declared.standing.KeyFacts.{KeyFacts}
 use Rattle.att_table.specs.ConfigRow.{bits_at}
 use Rattle.gatt_conn.specs.Answer.{is_confirmation}
 use Rattle.gatt_laws.proofs.Ends.{end_keeps}
-use Rattle.gatt_laws.proofs.Named.{IsNamedAs, if-live-named, end_named}
+use Rattle.gatt_laws.proofs.Named.{IsNamedAs, if-live-named, if-live-stays, end_named}
+use Rattle.gatt_laws.proofs.Places.{live-there}
 use Rattle.gatt_laws.specs.machine.Controller.{Slots}
 use Rattle.gatt_laws.specs.machine.Event as event
 use Rattle.gatt_laws.specs.machine.Event.{Ordinal, Own, KeyAsked, Encrypted, Refreshed, Asks}
@@ -62,25 +63,27 @@ module _ (new : State) where
       (λ is. none-so))
       (slots-so state time slots)
 
-  -- a connection of a handle, its key and its row in force
-  module _ (ordinal : Ordinal) (handle : ℕ) (named : (new.connections ordinal).handle ≡ handle) where
+  -- a connection that is there and has a handle, its key and its row in force
+  module _ (ordinal : Ordinal) (handle : ℕ) (there : is_there (new.connections ordinal).mark ≡ true)
+      (named : (new.connections ordinal).handle ≡ handle) where
     link-so : (old key : Option KeyFacts) → key_of (new.connections ordinal) ≡ key
         → AreSo (link_told handle old key)
     link-so None None is = none-so
     link-so None (Some facts) is =
-        one-so (Secured handle facts) (record { ordinal = ordinal; named = named; holds = is })
+        one-so (Secured handle facts) (record { ordinal = ordinal; there = there; named = named; holds = is })
     link-so (Some old) None is =
-        one-so (Unsecured handle) (record { ordinal = ordinal; named = named; holds = is })
+        one-so (Unsecured handle) (record { ordinal = ordinal; there = there; named = named; holds = is })
     link-so (Some old) (Some facts) is =
         either-so [] (Secured handle facts ∷ []) (are_same_facts old facts) (λ same. none-so)
         (λ differs. one-so (Secured handle facts)
-        (record { ordinal = ordinal; named = named; holds = is }))
+        (record { ordinal = ordinal; there = there; named = named; holds = is }))
 
     write-so : (row : Row) (attribute : Handle) (configuration : Bool) → row_of_connection new ordinal ≡ row
         → IsSo new (if configuration then Configured handle attribute (bits_at row attribute)
         else Written handle attribute)
     write-so row attribute true is = record {
       ordinal = ordinal;
+      there = there;
       named = named;
       holds = ap (λ (of : Row). bits_at of attribute) is;
     }
@@ -107,7 +110,7 @@ module _ (new : State) where
         → AreSo (map (Ending handle) (option_to_list reason))
     reason-so None ended = none-so
     reason-so (Some reason) ended =
-        one-so (Ending handle reason) (record { ordinal = ordinal; named = named; holds = ended })
+        one-so (Ending handle reason) (record { ordinal = ordinal; there = there; named = named; holds = ended })
 
 -- What an event of a connection leaves of it.
 
@@ -159,18 +162,22 @@ module _ (state : State) (at : Ordinal) (own : Own) where
       λ i. if is_some (own-key i) then bond i else rows i
 
   -- of one that served and stays
-  module _ (kept : IsNamedAs connection effect.connection) where
+  module _ (kept : IsNamedAs connection effect.connection)
+      (stays : is_there connection.mark ≡ true → is_there effect.connection.mark ≡ true) where
+    there : is_live connection.mark ≡ true → is_there (new.connections at).mark ≡ true
+    there live = ap is_there own-mark ∙ stays (live-there connection.mark live)
+
     named : (new.connections at).handle ≡ connection.handle
     named = own-handle ∙ kept.handle
 
-    end-so : AreSo new (end_told connection.handle effect.connection)
-    end-so =
+    end-so : is_live connection.mark ≡ true → AreSo new (end_told connection.handle effect.connection)
+    end-so live =
         either-so new [] (map (Ending connection.handle) (option_to_list effect.connection.reason))
         (is_live effect.connection.mark)
         (λ is. none-so new)
-        (λ ended. reason-so new at connection.handle named effect.connection.reason (ap is_live own-mark ∙ ended))
+        (λ ended. reason-so new at connection.handle (there live) named effect.connection.reason (ap is_live own-mark ∙ ended))
 
-    told-so : AreSo new (live_told state.shared (state.bonds connection.peer) connection own effect)
+    told-so : (is_live connection.mark ≡ true → AreSo new (live_told state.shared (state.bonds connection.peer) connection own effect))
         → AreSo new (if is_live connection.mark then live_told state.shared
         (state.bonds connection.peer) connection own effect
         ++ end_told connection.handle effect.connection else [])
@@ -179,10 +186,11 @@ module _ (state : State) (at : Ordinal) (own : Own) where
         ++ end_told connection.handle effect.connection) []
         (is_live connection.mark)
         (λ live. both-so new (live_told state.shared (state.bonds connection.peer) connection own effect)
-        (end_told connection.handle effect.connection) is end-so) (λ idle. none-so new)
+        (end_told connection.handle effect.connection) (is live) (end-so live)) (λ idle. none-so new)
 
-    linked-so : AreSo new (link_told connection.handle (key_of connection) (key_of effect.connection))
-    linked-so = link-so new at connection.handle named (key_of connection) (key_of effect.connection) own-key
+    linked-so : is_live connection.mark ≡ true
+        → AreSo new (link_told connection.handle (key_of connection) (key_of effect.connection))
+    linked-so live = link-so new at connection.handle (there live) named (key_of connection) (key_of effect.connection) own-key
 
 stays-named : (state : State) (at : Ordinal) (own : Own)
     → (let connection = state.connections at in
@@ -194,6 +202,17 @@ stays-named : (state : State) (at : Ordinal) (own : Own)
 stays-named state at own =
     let connection : ConnectionState = state.connections at in
     if-live-named state.shared (state.bonds connection.peer) (state.owed connection.peer) connection own
+
+stays-there : (state : State) (at : Ordinal) (own : Own) → is_there (state.connections at).mark ≡ true
+    → (let connection = state.connections at in
+    let shared = state.shared in
+    let bond = state.bonds connection.peer in
+    let owed = state.owed connection.peer in
+    is_there (if is_live connection.mark then live_effect shared bond owed connection own
+    else effect_on_connection shared bond owed connection).connection.mark ≡ true)
+stays-there state at own =
+    let connection : ConnectionState = state.connections at in
+    if-live-stays state.shared (state.bonds connection.peer) (state.owed connection.peer) connection own
 
 comes-named : (state : State) (at : Ordinal) (handle : ℕ) (peer : Peer)
     → is_there (state.connections at).mark ≡ false
@@ -210,6 +229,8 @@ tells_what_is_so state (Of at (event.Connected handle peer)) =
     (λ there. none-so (step state (Of at own)))
     (λ away. one-so (step state (Of at own)) (Connected handle peer) (record {
       ordinal = at;
+      there = ap is_there (own-mark state at own)
+          ∙ ap (λ (of : ConnectionState). is_there of.mark) (comes-named state at handle peer away);
       named = own-handle state at own
           ∙ ap (λ (of : ConnectionState). of.handle) (comes-named state at handle peer away);
       holds = own-peer state at own
@@ -228,36 +249,39 @@ tells_what_is_so state (Of at (Asks pdu)) =
     let after : Effect = effect state at own in
     let new : State = step state (Of at own) in
     let kept = stays-named state at own in
-    told-so state at own kept
-    (both-so new (map (write_told state.shared.table.attributes
+    let stays = stays-there state at own in
+    told-so state at own kept stays
+    (λ live. both-so new (map (write_told state.shared.table.attributes
     (row_in_force after.bond after.connection) connection.handle)
     (handles_written state.shared bond connection own))
     (if is_confirmation pdu then confirmation_told connection.handle connection.pending.unconfirmed else [])
-    (writes-so new at connection.handle (named state at own kept) state.shared.table.attributes
+    (writes-so new at connection.handle (there state at own kept stays live) (named state at own kept stays) state.shared.table.attributes
     (row_in_force after.bond after.connection) (handles_written state.shared bond connection own)
     (own-row state at own kept.peer))
     (either-so new (confirmation_told connection.handle connection.pending.unconfirmed) [] (is_confirmation pdu)
-    (λ is. confirmation-so new at connection.handle (named state at own kept) connection.pending.unconfirmed)
+    (λ is. confirmation-so new at connection.handle (there state at own kept stays live) (named state at own kept stays) connection.pending.unconfirmed)
     (λ is. none-so new)))
 tells_what_is_so state (Of at (Encrypted status enabled)) =
     let own : Own = Encrypted status enabled in
     let kept = stays-named state at own in
-    told-so state at own kept (linked-so state at own kept)
+    let stays = stays-there state at own in
+    told-so state at own kept stays (linked-so state at own kept stays)
 tells_what_is_so state (Of at (Refreshed status)) =
     let own : Own = Refreshed status in
     let kept = stays-named state at own in
-    told-so state at own kept (linked-so state at own kept)
+    let stays = stays-there state at own in
+    told-so state at own kept stays (linked-so state at own kept stays)
 tells_what_is_so state (Of at (KeyAsked random_number diversifier)) =
     let own : Own = KeyAsked random_number diversifier in
-    told-so state at own (stays-named state at own) (none-so (step state (Of at own)))
+    told-so state at own (stays-named state at own) (stays-there state at own) (λ live. none-so (step state (Of at own)))
 tells_what_is_so state (Of at (OtherChannel channel payload)) =
     let own : Own = OtherChannel channel payload in
-    told-so state at own (stays-named state at own) (none-so (step state (Of at own)))
+    told-so state at own (stays-named state at own) (stays-there state at own) (λ live. none-so (step state (Of at own)))
 tells_what_is_so state (Of at (Authorized until)) =
     let own : Own = Authorized until in
-    told-so state at own (stays-named state at own) (none-so (step state (Of at own)))
+    told-so state at own (stays-named state at own) (stays-there state at own) (λ live. none-so (step state (Of at own)))
 tells_what_is_so state (Of at Ended) =
     let own : Own = Ended in
-    told-so state at own (stays-named state at own) (none-so (step state (Of at own)))
+    told-so state at own (stays-named state at own) (stays-there state at own) (λ live. none-so (step state (Of at own)))
 tells_what_is_so state (Tick time) = slots-so (step state (Tick time)) state time state.slots
 tells_what_is_so state event = none-so (step state event)

@@ -1,16 +1,19 @@
--- What is told is so afterwards.
-use Rattle.std.specs.Prelude.{◌≡◌, ℕ, false, All, Some, None}
+-- What a notice says is so after its event.
+use Rattle.std.specs.Prelude.{◌≡◌, ℕ, true, false, All, Some, None}
 use Rattle.att_table.specs.ConfigRow.{bits_at}
 use Rattle.gatt_laws.specs.machine.Event.{Ordinal, Event}
 use Rattle.gatt_laws.specs.machine.Notice.{Notice, Connected, Secured, Unsecured, Configured, Ending}
 use Rattle.gatt_laws.specs.machine.Notice.{noticed}
 use Rattle.gatt_laws.specs.laws.OwnWrites.{row_of_connection}
-use Rattle.gatt_laws.specs.machine.ConnectionState.{is_live, key_of}
+use Rattle.gatt_laws.specs.machine.ConnectionState.{is_live, is_there, key_of}
 use Rattle.gatt_laws.specs.machine.State.{State, step}
 
--- it is so of a connection of this handle
+-- It holds of a connection that is there and has this handle. Neither an ordinal that was never used
+-- nor a connection that disconnected counts: both have the handle 0, which a connection may have too. In
+-- each state that a run leads to, a connection that is there has a slot (IsAlwaysSettled).
 pub record OfOne (state : State) (handle : ℕ) (Holds : Ordinal → Type 0) : Type 0 where
   pub ordinal : Ordinal
+  pub there : is_there (state.connections ordinal).mark ≡ true
   pub named : (state.connections ordinal).handle ≡ handle
   pub holds : Holds ordinal
 
