@@ -1,5 +1,5 @@
 -- What is told was allowed.
-use Rattle.std.proofs.Common.{◌≡◌, ℕ, Bool, true, false, List, [], ◌∷◌, map, Option, Some}
+use Rattle.std.proofs.Common.{◌≡◌, ℕ, Bool, true, false, List, [], ◌∷◌, map, length, Option, Some}
 use Rattle.std.proofs.Common.{None}
 use Rattle.std.proofs.Common.{Result, Ok, Err, refl, sym, ap, subst, ◌∙◌, arith, inl, inr, ◌<◌, ◌⊎◌}
 use Rattle.std.proofs.lemmas.Bool.{eqb-true, leb-false}
@@ -18,18 +18,19 @@ use Rattle.att_pdu.specs.Request.{ReadBlobRequest, ReadMultipleRequest, ReadByGr
 use Rattle.att_pdu.specs.Request.{WriteRequest, PrepareWriteRequest, ExecuteWriteRequest}
 use Rattle.att_pdu.specs.Request.{ConfirmationPdu, WriteCommandPdu}
 use Rattle.att_pdu.specs.declared.request.ExecuteFlags.TheVariants as flags
-use Rattle.att_policy.specs.declared.policy.Access.TheVariants.{Write}
+use Rattle.att_policy.specs.declared.policy.Access.TheVariants.{Write, Command}
 use Rattle.att_policy.specs.Refusal.{Refusal}
-use Rattle.att_table.specs.Table.{Contents}
-use Rattle.att_writes.specs.Applied.{Stored, applied_to}
+use Rattle.att_table.specs.Table.{Contents, value_at}
+use Rattle.att_writes.specs.Applied.{Stored, stored_in, after_entry, unless_entry_refused, after_entries, applied_to}
 use Rattle.att_writes.specs.Entry.{Entry, whole_value}
+use Rattle.att_writes.specs.Fault.{entry_fault}
 use Rattle.att_writes.specs.Queue.{touched_by}
 use Rattle.gatt_conn.specs.Answer.{Question, handles_by}
 use Rattle.gatt_conn.specs.Answer.{answer_to, written_response, is_confirmation}
 use Rattle.gatt_conn.specs.Connection.{Bearer, mtu_between}
 use Rattle.gatt_conn.specs.Transcript.{first_exchange}
 use Rattle.gatt_laws.proofs.OwnWrites.{served_turn}
-use Rattle.gatt_laws.specs.laws.AllowedNotices.{TellsNoRefusals, TellsNothingIgnored, TellsOnlyOfTheLive}
+use Rattle.gatt_laws.specs.laws.AllowedNotices.{TellsNoRefusals, TellsNoRefusedCommands, TellsNothingIgnored, TellsOnlyOfTheLive}
 use Rattle.gatt_laws.specs.machine.Event.{Ordinal, Own, Encrypted, Refreshed, Asks}
 use Rattle.gatt_laws.specs.machine.Event.{Of, Credit, Tick}
 use Rattle.gatt_laws.specs.machine.Event as event
@@ -178,6 +179,36 @@ tells_no_refusals state ordinal pdu request handle code free is =
       | inl asks ↦ let none = sym (ap answers asks) ∙ confirms in cc none
       | inr ignored ↦ let none = sym (ap answers ignored.1) ∙ confirms in cc none
     ]) is)
+
+-- a Write Command whose one entry is refused writes nothing
+command-none : (table : Contents) (row : Row) (conn : Bearer) (handle : Handle) (value : Octets) (code : Code)
+    → entry_fault Command table.attributes conn.standing (length (value_at table.values handle))
+    (whole_value handle value) ≡ Some code
+    → handles_by table row conn (Ok (WriteCommandPdu handle value)) ≡ []
+unfolding after_entries
+command-none table row conn handle value code is =
+    let entry : Entry = whole_value handle value in
+    ap (λ (fault : Option Code). touched_by (entry ∷ [])
+    (unless_entry_refused entry fault
+    (Ok (after_entry table.attributes (stored_in table row) entry)))) is
+
+pub tells_no_refused_commands : TellsNoRefusedCommands
+unfolding noticed
+tells_no_refused_commands state ordinal pdu handle value code asks is =
+    let connection : ConnectionState = state.connections ordinal in
+    let bond : Row = state.bonds connection.peer in
+    let mtu : Mtu = connection_mtu state.shared connection in
+    let conn = bearer_of state.shared connection in
+    let row : Row = row_in_force bond connection in
+    silent state.shared bond (state.owed connection.peer) connection pdu (is_live connection.mark) refl
+    (ap (λ (of : Question). is_due of && is_full state.shared connection) asks)
+    (ap (handles_by state.shared.table row conn) asks
+    ∙ command-none state.shared.table row conn handle value code is)
+    (no-confirmation (λ (of : Octets). request_of of mtu ≡ Ok (WriteCommandPdu handle value)) pdu
+    (λ confirms. elim (confirmation-asks mtu) [
+      | inl confirmed ↦ let none = sym confirmed ∙ confirms in cc none
+      | inr ignored ↦ let none = sym ignored.1 ∙ confirms in cc none
+    ]) asks)
 
 -- an ATT_MTU has room for one octet
 one-fits : (rx_mtu : Mtu) (first : Option Mtu)

@@ -1,6 +1,6 @@
 -- What is told keeps its promise.
-use Rattle.gatt_laws.proofs.AllowedNotices.{tells_no_refusals, tells_nothing_ignored}
-use Rattle.gatt_laws.proofs.AllowedNotices.{tells_only_of_the_live}
+use Rattle.gatt_laws.proofs.AllowedNotices.{tells_no_refusals, tells_no_refused_commands}
+use Rattle.gatt_laws.proofs.AllowedNotices.{tells_nothing_ignored, tells_only_of_the_live}
 use Rattle.gatt_laws.proofs.AllowedWrites.{tells_what_was_allowed}
 use Rattle.gatt_laws.proofs.KeyNotices.{tells_each_key}
 use Rattle.gatt_laws.proofs.Knowing.{knows_the_values}
@@ -25,6 +25,7 @@ tells_the_application = record {
   handles = always_has_one_handle_each;
   allowed = tells_what_was_allowed;
   no_refusals = tells_no_refusals;
+  no_refused_commands = tells_no_refused_commands;
   nothing_ignored = tells_nothing_ignored;
   only_live = tells_only_of_the_live;
   division = tells_of_the_division;

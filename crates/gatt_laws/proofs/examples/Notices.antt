@@ -60,6 +60,12 @@ unfolding run noticed after_item packet_event step change_of live_effect after_h
     commands_due frame_at form_of pieces after_entries value_answer
 refused = refl
 
+-- a Write Command of a value that may not be written so
+refused_command : told_of door phone (stream (asks (0x52 ∷ 0x0A ∷ 0x00 ∷ 0x01 ∷ []))) ≡ []
+unfolding run noticed after_item packet_event step change_of live_effect after_hearing
+    commands_due frame_at form_of pieces after_entries value_answer
+refused_command = refl
+
 -- it is told who wrote
 another_writes : told_of door phone
     (stream (comes 0x41 tablet ++ sends 0x41 (0x52 ∷ 0x15 ∷ 0x00 ∷ 0x61 ∷ [])))

@@ -1,11 +1,15 @@
 -- What is told was allowed: no write that was not, and nothing of what is refused or ignored.
-use Rattle.std.specs.Prelude.{◌≡◌, ℕ, Bool, true, false, All, [], Some, Err}
+use Rattle.std.specs.Prelude.{◌≡◌, ℕ, Bool, true, false, All, [], length, Some, Ok, Err}
 use Rattle.att_numbers.specs.Types.{Handle, Opcode, Code}
 use Rattle.att_pdu.specs.Grammar.{request_of}
+use Rattle.att_pdu.specs.Request.{WriteCommandPdu}
 use Rattle.att_pdu.specs.Response.{ErrorResponse}
 use Rattle.att_pdu.specs.declared.grammar.PduFault.TheVariants.{Ignored}
 use Rattle.att_policy.specs.declared.policy.Access.{Access}
 use Rattle.att_policy.specs.declared.policy.Access.TheVariants.{Read, Write, Command}
+use Rattle.att_table.specs.Table.{value_at}
+use Rattle.att_writes.specs.Entry.{whole_value}
+use Rattle.att_writes.specs.Fault.{entry_fault}
 use Rattle.gatt_conn.specs.Answer.{answer_to}
 use Rattle.gatt_laws.specs.machine.Event.{Ordinal, Own, Asks, Event, Of}
 use Rattle.gatt_laws.specs.laws.Headline.{MayUse}
@@ -51,6 +55,18 @@ TellsNoRefusals = (state : State) (ordinal : Ordinal) (pdu : Octets)
     is_full state.shared connection ≡ false
     → answer_to state.shared.table (row_of_connection state ordinal) (bearer_of state.shared connection)
     (request_of pdu (connection_mtu state.shared connection)) ≡ Some (ErrorResponse request handle code)
+    → noticed state (Of ordinal (Asks pdu)) ≡ []
+
+-- nor of a Write Command that is refused, which is not answered (Core 5.0, Vol 3 Part F, 3.4.5.3): the
+-- connection breaks a rule of the policy, or the attribute takes no value of this form or length
+abbrev pub TellsNoRefusedCommands : Type 0
+TellsNoRefusedCommands = (state : State) (ordinal : Ordinal) (pdu : Octets)
+    (handle : Handle) (value : Octets) (code : Code) →
+    let connection = state.connections ordinal in
+    let table = state.shared.table in
+    request_of pdu (connection_mtu state.shared connection) ≡ Ok (WriteCommandPdu handle value)
+    → entry_fault Command table.attributes (standing_of state.shared connection)
+    (length (value_at table.values handle)) (whole_value handle value) ≡ Some code
     → noticed state (Of ordinal (Asks pdu)) ≡ []
 
 -- nor of a PDU that is ignored
