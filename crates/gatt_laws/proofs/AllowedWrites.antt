@@ -1,7 +1,7 @@
 -- What is told of writes was allowed.
 use Rattle.std.proofs.Common.{◌≡◌, ℕ, Bool, true, false, List, [], ◌∷◌, map, Option, Some}
 use Rattle.std.proofs.Common.{None}
-use Rattle.std.proofs.Common.{Ok, Err, refl}
+use Rattle.std.proofs.Common.{refl}
 use Rattle.std.specs.Prelude.{◌++◌, ◌&&◌, not, All, IfSome, if◌then◌else◌}
 use Rattle.std.specs.List.{flat_map}
 use Rattle.std.specs.Option.{option_to_list}
@@ -10,22 +10,14 @@ use Rattle.att_numbers.specs.Types.{Handle, Row}
 use Rattle.att_attributes.specs.declared.attr.Attr.{Attr}
 use Rattle.att_attributes.specs.Attributes.{is_configuration_at}
 use Rattle.att_pdu.specs.Grammar.{request_of, is_due}
-use Rattle.att_pdu.specs.Request.{ExchangeMtuRequest, FindInformationRequest}
-use Rattle.att_pdu.specs.Request.{FindByTypeValueRequest, ReadByTypeRequest, ReadRequest}
-use Rattle.att_pdu.specs.Request.{ReadBlobRequest, ReadMultipleRequest, ReadByGroupTypeRequest}
-use Rattle.att_pdu.specs.Request.{WriteRequest, PrepareWriteRequest, ExecuteWriteRequest}
-use Rattle.att_pdu.specs.Request.{ConfirmationPdu, WriteCommandPdu}
-use Rattle.att_pdu.specs.declared.request.ExecuteFlags.TheVariants as flags
-use Rattle.att_policy.specs.declared.policy.Access.{Access}
 use Rattle.att_policy.specs.declared.standing.KeyFacts.{KeyFacts}
 use Rattle.att_table.specs.ConfigRow.{bits_at}
 use Rattle.gatt_conn.specs.Answer.{Question, Writing, writing_asked, handles_after, handles_by}
 use Rattle.gatt_conn.specs.Answer.{is_confirmation}
-use Rattle.gatt_conn.specs.Connection.{Bearer}
 use Rattle.gatt_laws.proofs.Headline.{writes_what_may_be_written}
-use Rattle.gatt_laws.specs.laws.AllowedNotices.{is_writing, MayWrite, WasAllowed, TellsWhatWasAllowed}
+use Rattle.gatt_laws.specs.laws.AllowedNotices.{MayWrite, WasAllowed, TellsWhatWasAllowed}
 use Rattle.gatt_laws.specs.machine.Controller.{Slots}
-use Rattle.gatt_laws.specs.machine.Event.{Ordinal, Own, Encrypted, Refreshed, Asks}
+use Rattle.gatt_laws.specs.machine.Event.{Ordinal, Own, Event, Encrypted, Refreshed, Asks}
 use Rattle.gatt_laws.specs.machine.Event.{Of, Credit, Tick}
 use Rattle.gatt_laws.specs.machine.Event as event
 use Rattle.gatt_laws.specs.laws.Headline.{Each, MayUse}
@@ -34,42 +26,22 @@ use Rattle.gatt_laws.specs.machine.Notice.{Configured, Confirmed, TimedOut, Endi
 use Rattle.gatt_laws.specs.machine.Notice.{link_told, write_told, confirmation_told, end_told, live_told}
 use Rattle.gatt_laws.specs.machine.Notice.{own_told, late_told, slot_told, noticed}
 use Rattle.gatt_laws.specs.machine.ConnectionState.{ConnectionState, is_live, is_there, key_of, row_in_force, connection_mtu, standing_of}
-use Rattle.gatt_laws.specs.machine.ConnectionState.{bearer_of}
+use Rattle.gatt_laws.specs.machine.ConnectionState.{bearer_of, prepared_of}
 use Rattle.gatt_laws.specs.machine.State.{State}
 use Rattle.gatt_laws.specs.machine.Effect.{Effect, is_full, effect_of, handles_written}
 use Rattle.gatt_subs.specs.declared.pending.Unconfirmed.{Unconfirmed}
 use Rattle.octets.specs.Number.{Octets}
 
--- what asks to write asks so
-asks-to-write : (conn : Bearer) (asked : Question)
-    → IfSome (writing_asked conn.queue asked)
-    (λ (writing : Writing). is_writing writing.access ≡ true)
-asks-to-write conn (Ok (WriteRequest handle value)) = refl
-asks-to-write conn (Ok (ExecuteWriteRequest flags.Write)) = refl
-asks-to-write conn (Ok (ExecuteWriteRequest flags.Cancel)) = tt
-asks-to-write conn (Ok (WriteCommandPdu handle value)) = refl
-asks-to-write conn (Ok (ExchangeMtuRequest client_rx_mtu)) = tt
-asks-to-write conn (Ok (FindInformationRequest first last)) = tt
-asks-to-write conn (Ok (FindByTypeValueRequest first last kind value)) = tt
-asks-to-write conn (Ok (ReadByTypeRequest first last kind)) = tt
-asks-to-write conn (Ok (ReadRequest handle)) = tt
-asks-to-write conn (Ok (ReadBlobRequest handle offset)) = tt
-asks-to-write conn (Ok (ReadMultipleRequest handles)) = tt
-asks-to-write conn (Ok (ReadByGroupTypeRequest first last kind)) = tt
-asks-to-write conn (Ok (PrepareWriteRequest handle offset connection)) = tt
-asks-to-write conn (Ok ConfirmationPdu) = tt
-asks-to-write conn (Err fault) = tt
-
 -- of some lists of notices
-module _ (state : State) where
+module _ (state : State) (happens : Event) where
   abbrev Allowed : List Notice → Type 0
-  Allowed notices = All (WasAllowed state) notices
+  Allowed notices = All (WasAllowed state happens) notices
 
   none-allowed : Allowed []
-  none-allowed = All-nil (WasAllowed state)
+  none-allowed = All-nil (WasAllowed state happens)
 
-  one-allowed : (notice : Notice) → WasAllowed state notice → Allowed (notice ∷ [])
-  one-allowed notice was = All-cons (WasAllowed state) notice [] was none-allowed
+  one-allowed : (notice : Notice) → WasAllowed state happens notice → Allowed (notice ∷ [])
+  one-allowed notice was = All-cons (WasAllowed state happens) notice [] was none-allowed
 
   either-allowed : (one other : List Notice) (test : Bool) → Allowed one → Allowed other
       → Allowed (if test then one else other)
@@ -77,7 +49,7 @@ module _ (state : State) where
   either-allowed one other false first second = second
 
   both-allowed : (one other : List Notice) → Allowed one → Allowed other → Allowed (one ++ other)
-  both-allowed one other first second = All-append (WasAllowed state) one other first second
+  both-allowed one other first second = All-append (WasAllowed state happens) one other first second
 
   link-allowed : (handle : ℕ) (old new : Option KeyFacts) → Allowed (link_told handle old new)
   link-allowed handle None None = none-allowed
@@ -126,113 +98,120 @@ module _ (state : State) where
     abbrev attributes : List Attr
     attributes = state.shared.table.attributes
 
-    may-write : (access : Access) (attribute : Handle) → is_writing access ≡ true
-        → MayUse access attributes (standing_of state.shared its) attribute
-        → MayWrite state its.handle attribute
-    may-write access attribute writes may = record {
+    abbrev asked_by : Octets → Question
+    asked_by pdu = request_of pdu (connection_mtu state.shared its)
+
+    may-write : (pdu : Octets) (writing : Writing) (attribute : Handle) → happens ≡ Of ordinal (Asks pdu)
+        → writing_asked (prepared_of its) (asked_by pdu) ≡ Some writing
+        → MayUse writing.access attributes (standing_of state.shared its) attribute
+        → MayWrite state happens its.handle attribute
+    may-write pdu writing attribute asks asked may = record {
       ordinal = ordinal;
+      pdu = pdu;
+      asks = asks;
       serves = serves;
       named = refl;
-      access = access;
-      writes = writes;
+      writing = writing;
+      asked = asked;
       may = may;
     }
 
     write-allowed : (row : Row) (attribute : Handle) (configuration : Bool)
-        → MayWrite state its.handle attribute
-        → WasAllowed state (if configuration then Configured its.handle attribute
+        → MayWrite state happens its.handle attribute
+        → WasAllowed state happens (if configuration then Configured its.handle attribute
         (bits_at row attribute)
         else Written its.handle attribute)
     write-allowed row attribute true may = may
     write-allowed row attribute false may = may
 
-    writes-allowed : (row : Row) (access : Access) (handles : List Handle) → is_writing access
-        ≡ true
-        → Each (MayUse access attributes (standing_of state.shared its)) handles
-        → Allowed (map (write_told attributes row its.handle) handles)
-    writes-allowed row access [] writes each = none-allowed
-    writes-allowed row access (attribute ∷ handles) writes each =
-        All-cons (WasAllowed state) (write_told attributes row its.handle attribute)
-        (map (write_told attributes row its.handle) handles)
-        (write-allowed row attribute (is_configuration_at attributes attribute)
-        (may-write access attribute writes each.0))
-        (writes-allowed row access handles writes each.1)
+    -- by a PDU
+    module _ (pdu : Octets) (asks : happens ≡ Of ordinal (Asks pdu)) where
+      writes-allowed : (row : Row) (writing : Writing) (handles : List Handle)
+          → writing_asked (prepared_of its) (asked_by pdu) ≡ Some writing
+          → Each (MayUse writing.access attributes (standing_of state.shared its)) handles
+          → Allowed (map (write_told attributes row its.handle) handles)
+      writes-allowed row writing [] asked each = none-allowed
+      writes-allowed row writing (attribute ∷ handles) asked each =
+          All-cons (WasAllowed state happens) (write_told attributes row its.handle attribute)
+          (map (write_told attributes row its.handle) handles)
+          (write-allowed row attribute (is_configuration_at attributes attribute)
+          (may-write pdu writing attribute asks asked each.0))
+          (writes-allowed row writing handles asked each.1)
 
-    asked-allowed : (row old : Row) (writing : Option Writing)
-        → IfSome writing (λ (one : Writing). is_writing one.access ≡ true)
-        → IfSome writing (λ (one : Writing). Each
-        (MayUse one.access attributes (standing_of state.shared its))
-        (handles_after state.shared.table old (standing_of state.shared its) writing))
-        → Allowed (map (write_told attributes row its.handle)
-        (handles_after state.shared.table old (standing_of state.shared its) writing))
-    asked-allowed row old None writes each = none-allowed
-    asked-allowed row old
-        (Some writing) writes each = writes-allowed row writing.access _ writes each
+      asked-allowed : (row old : Row) (writing : Option Writing)
+          → writing_asked (prepared_of its) (asked_by pdu) ≡ writing
+          → IfSome writing (λ (one : Writing). Each
+          (MayUse one.access attributes (standing_of state.shared its))
+          (handles_after state.shared.table old (standing_of state.shared its) writing))
+          → Allowed (map (write_told attributes row its.handle)
+          (handles_after state.shared.table old (standing_of state.shared its) writing))
+      asked-allowed row old None asked each = none-allowed
+      asked-allowed row old (Some writing) asked each = writes-allowed row writing _ asked each
 
-    -- where there is no room for the answer, nothing is written
-    request-allowed : (bond row : Row) (asked : Question) (served : Bool)
-        → Allowed (map (write_told attributes row its.handle)
-        (if served then handles_by state.shared.table (row_in_force bond its)
-        (bearer_of state.shared its) asked
-        else []))
-    request-allowed bond row asked true =
-        let conn = bearer_of state.shared its in
-        asked-allowed row (row_in_force bond its) (writing_asked conn.queue asked)
-        (asks-to-write conn asked)
-        (writes_what_may_be_written state.shared.table (row_in_force bond its) conn asked)
-    request-allowed bond row asked false = none-allowed
+      -- where there is no room for the answer, nothing is written
+      request-allowed : (bond row : Row) (served : Bool)
+          → Allowed (map (write_told attributes row its.handle)
+          (if served then handles_by state.shared.table (row_in_force bond its)
+          (bearer_of state.shared its) (asked_by pdu)
+          else []))
+      request-allowed bond row true =
+          let conn = bearer_of state.shared its in
+          asked-allowed row (row_in_force bond its) (writing_asked conn.queue (asked_by pdu)) refl
+          (writes_what_may_be_written state.shared.table (row_in_force bond its) conn (asked_by pdu))
+      request-allowed bond row false = none-allowed
 
-    asks-allowed : (bond : Row) (pdu : Octets) (effect : Effect)
-        → Allowed (live_told state.shared bond its (Asks pdu) effect)
-    asks-allowed bond pdu effect =
-        let asked : Question = request_of pdu (connection_mtu state.shared its) in
-        let row : Row = row_in_force effect.bond effect.connection in
-        both-allowed (map (write_told attributes row its.handle)
-        (handles_written state.shared bond its (Asks pdu)))
-        (if is_confirmation pdu then confirmation_told its.handle its.pending.unconfirmed else [])
-        (request-allowed bond row asked
-        (is_live its.mark && not (is_due asked && is_full state.shared its)))
-        (either-allowed (confirmation_told its.handle its.pending.unconfirmed) []
-        (is_confirmation pdu)
-        (confirmation-allowed its.handle its.pending.unconfirmed) none-allowed)
+      asks-allowed : (bond : Row) (effect : Effect)
+          → Allowed (live_told state.shared bond its (Asks pdu) effect)
+      asks-allowed bond effect =
+          let row : Row = row_in_force effect.bond effect.connection in
+          both-allowed (map (write_told attributes row its.handle)
+          (handles_written state.shared bond its (Asks pdu)))
+          (if is_confirmation pdu then confirmation_told its.handle its.pending.unconfirmed else [])
+          (request-allowed bond row
+          (is_live its.mark && not (is_due (asked_by pdu) && is_full state.shared its)))
+          (either-allowed (confirmation_told its.handle its.pending.unconfirmed) []
+          (is_confirmation pdu)
+          (confirmation-allowed its.handle its.pending.unconfirmed) none-allowed)
 
-    live-allowed : (bond : Row) (own : Own) (effect : Effect)
+    live-allowed : (bond : Row) (own : Own) (effect : Effect) → happens ≡ Of ordinal own
         → Allowed (live_told state.shared bond its own effect)
-    live-allowed bond (Asks pdu) effect = asks-allowed bond pdu effect
-    live-allowed bond (Encrypted status enabled) effect = link-allowed its.handle (key_of its)
+    live-allowed bond (Asks pdu) effect is = asks-allowed pdu is bond effect
+    live-allowed bond (Encrypted status enabled) effect is = link-allowed its.handle (key_of its)
         (key_of effect.connection)
-    live-allowed bond (Refreshed status) effect = link-allowed its.handle (key_of its)
+    live-allowed bond (Refreshed status) effect is = link-allowed its.handle (key_of its)
         (key_of effect.connection)
-    live-allowed bond own effect = none-allowed
+    live-allowed bond own effect is = none-allowed
 
   module _ (ordinal : Ordinal) (bond : Row) (effect : Effect) where
     abbrev told-part : ConnectionState
     told-part = state.connections ordinal
 
-    if-live-allowed : (own : Own) (live : Bool) → is_live told-part.mark ≡ live
+    if-live-allowed : (own : Own) (live : Bool) → happens ≡ Of ordinal own → is_live told-part.mark ≡ live
         → Allowed (if live then live_told state.shared bond told-part own effect
         ++ end_told told-part.handle effect.connection else [])
-    if-live-allowed own true is =
+    if-live-allowed own true happened is =
         both-allowed (live_told state.shared bond told-part own effect)
         (end_told told-part.handle effect.connection)
-        (live-allowed ordinal is bond own effect) (end-allowed told-part.handle effect.connection)
-    if-live-allowed own false is = none-allowed
+        (live-allowed ordinal is bond own effect happened) (end-allowed told-part.handle effect.connection)
+    if-live-allowed own false happened is = none-allowed
 
-    own-allowed : (own : Own) → Allowed (own_told state.shared bond told-part own effect)
-    own-allowed (event.Connected handle peer) =
+    own-allowed : (own : Own) → happens ≡ Of ordinal own → Allowed (own_told state.shared bond told-part own effect)
+    own-allowed (event.Connected handle peer) is =
         either-allowed [] (Connected handle peer ∷ []) (is_there told-part.mark) none-allowed
         (one-allowed (Connected handle peer) tt)
-    own-allowed event.Disconnected =
+    own-allowed event.Disconnected is =
         either-allowed (Disconnected told-part.handle ∷ []) [] (is_there told-part.mark)
         (one-allowed (Disconnected told-part.handle) tt) none-allowed
-    own-allowed own = if-live-allowed own (is_live told-part.mark) refl
+    own-allowed own is = if-live-allowed own (is_live told-part.mark) is refl
 
 pub tells_what_was_allowed : TellsWhatWasAllowed
 unfolding noticed
 tells_what_was_allowed state (Of ordinal own) =
     let connection : ConnectionState = state.connections ordinal in
     let bond : Row = state.bonds connection.peer in
-    own-allowed state ordinal bond (effect_of state.shared bond (state.owed connection.peer) connection own) own
-tells_what_was_allowed state (Credit allowed opcode status following) = none-allowed state
-tells_what_was_allowed state (Tick time) = slots-allowed state time state.slots
-tells_what_was_allowed state event = none-allowed state
+    own-allowed state (Of ordinal own) ordinal bond
+    (effect_of state.shared bond (state.owed connection.peer) connection own) own refl
+tells_what_was_allowed state (Credit allowed opcode status following) =
+    none-allowed state (Credit allowed opcode status following)
+tells_what_was_allowed state (Tick time) = slots-allowed state (Tick time) time state.slots
+tells_what_was_allowed state event = none-allowed state event

@@ -1,51 +1,49 @@
 -- What is told was allowed: no write that was not, and nothing of what is refused or ignored.
-use Rattle.std.specs.Prelude.{◌≡◌, ℕ, Bool, true, false, All, [], length, Some, Ok, Err}
+use Rattle.std.specs.Prelude.{◌≡◌, ℕ, true, false, All, [], length, Some, Ok, Err}
 use Rattle.att_numbers.specs.Types.{Handle, Opcode, Code}
 use Rattle.att_pdu.specs.Grammar.{request_of}
 use Rattle.att_pdu.specs.Request.{WriteCommandPdu}
 use Rattle.att_pdu.specs.Response.{ErrorResponse}
 use Rattle.att_pdu.specs.declared.grammar.PduFault.TheVariants.{Ignored}
-use Rattle.att_policy.specs.declared.policy.Access.{Access}
-use Rattle.att_policy.specs.declared.policy.Access.TheVariants.{Read, Write, Command}
+use Rattle.att_policy.specs.declared.policy.Access.TheVariants.{Command}
 use Rattle.att_table.specs.Table.{value_at}
 use Rattle.att_writes.specs.Entry.{whole_value}
 use Rattle.att_writes.specs.Fault.{entry_fault}
-use Rattle.gatt_conn.specs.Answer.{answer_to}
+use Rattle.gatt_conn.specs.Answer.{Writing, answer_to, writing_asked}
 use Rattle.gatt_laws.specs.machine.Event.{Ordinal, Own, Asks, Event, Of}
 use Rattle.gatt_laws.specs.laws.Headline.{MayUse}
 use Rattle.gatt_laws.specs.machine.Notice.{Notice, Written, Configured, noticed}
 use Rattle.gatt_laws.specs.laws.OwnWrites.{row_of_connection}
-use Rattle.gatt_laws.specs.machine.ConnectionState.{is_live, connection_mtu, standing_of, bearer_of}
+use Rattle.gatt_laws.specs.machine.ConnectionState.{is_live, connection_mtu, standing_of, bearer_of, prepared_of}
 use Rattle.gatt_laws.specs.laws.Silence.{is_for_all}
 use Rattle.gatt_laws.specs.machine.State.{State}
 use Rattle.gatt_laws.specs.machine.Effect.{is_full}
 use Rattle.octets.specs.Number.{Octets}
 
--- a Write Request, an execution or a Write Command
-abbrev pub is_writing : Access → Bool
-is_writing Read = false
-is_writing Write = true
-is_writing Command = true
-
--- a connection of this handle serves, and may write there, in the way in which it asks to
-pub record MayWrite (state : State) (handle : ℕ) (attribute : Handle) : Type 0 where
+-- The event is a PDU by which a connection of this handle, which serves, asks to write, and the
+-- connection may write there by the access that this PDU asks for: as a request by a Write Request and
+-- by an Execute Write Request, as a command by a Write Command.
+pub record MayWrite (state : State) (event : Event) (handle : ℕ) (attribute : Handle) : Type 0 where
   pub ordinal : Ordinal
+  pub pdu : Octets
+  pub asks : event ≡ Of ordinal (Asks pdu)
   pub serves : is_live (state.connections ordinal).mark ≡ true
   pub named : (state.connections ordinal).handle ≡ handle
-  pub access : Access
-  pub writes : is_writing access ≡ true
-  pub may : MayUse access state.shared.table.attributes
+  pub writing : Writing
+  pub asked : writing_asked (prepared_of (state.connections ordinal))
+      (request_of pdu (connection_mtu state.shared (state.connections ordinal))) ≡ Some writing
+  pub may : MayUse writing.access state.shared.table.attributes
       (standing_of state.shared (state.connections ordinal)) attribute
 
-abbrev pub WasAllowed : State → Notice → Type 0
-WasAllowed state (Written handle attribute) = MayWrite state handle attribute
-WasAllowed state (Configured handle attribute bits) = MayWrite state handle attribute
-WasAllowed state notice = Unit
+abbrev pub WasAllowed : State → Event → Notice → Type 0
+WasAllowed state event (Written handle attribute) = MayWrite state event handle attribute
+WasAllowed state event (Configured handle attribute bits) = MayWrite state event handle attribute
+WasAllowed state event notice = Unit
 
 -- each write and each configuration that is told was allowed when it came
 abbrev pub TellsWhatWasAllowed : Type 0
 TellsWhatWasAllowed = (state : State) (event : Event) →
-    All (WasAllowed state) (noticed state event)
+    All (WasAllowed state event) (noticed state event)
 
 -- nothing is told of a request that is refused, where there is room for the refusal
 abbrev pub TellsNoRefusals : Type 0
