@@ -36,6 +36,7 @@ pub mod RowsOfTheTable
 pub mod Runs
 pub mod SameRun
 pub mod SameView
+pub mod ServiceChanged
 pub mod Settled
 pub mod Silence
 pub mod Steady

@@ -8,6 +8,7 @@ use Rattle.gatt_laws.proofs.KnowingWho.{always_has_one_handle_each, knows_who_is
 use Rattle.gatt_laws.proofs.KnowingWho.{tells_who_is_there}
 use Rattle.gatt_laws.proofs.Notices.{tells_each_value}
 use Rattle.gatt_laws.proofs.RowNotices.{tells_each_bond, tells_each_own_row}
+use Rattle.gatt_laws.proofs.ServiceChanged.{notices_service_changed_confirmed}
 use Rattle.gatt_laws.proofs.StreamNotices.{tells_of_the_division}
 use Rattle.gatt_laws.proofs.ToldIsSo.{tells_what_is_so}
 use Rattle.gatt_laws.specs.laws.Telling.{TellsTheApplication}
@@ -20,6 +21,7 @@ tells_the_application = record {
   own_rows = tells_each_own_row;
   bonds = tells_each_bond;
   keys = tells_each_key;
+  service_changed = notices_service_changed_confirmed;
   knows_who = knows_who_is_there;
   who = tells_who_is_there;
   handles = always_has_one_handle_each;

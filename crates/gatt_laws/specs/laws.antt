@@ -20,6 +20,7 @@ pub mod RowNotices
 pub mod RowsOfTheTable
 pub mod Runs
 pub mod SameView
+pub mod ServiceChanged
 pub mod Settled
 pub mod Silence
 pub mod StreamNotices

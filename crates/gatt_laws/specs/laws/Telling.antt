@@ -1,16 +1,18 @@
--- What is promised of what the application is told.
+-- What is promised of the notices that an application receives.
 use Rattle.gatt_laws.specs.laws.AllowedNotices.{TellsNoRefusals, TellsNoRefusedCommands, TellsNothingIgnored}
 use Rattle.gatt_laws.specs.laws.AllowedNotices.{TellsOnlyOfTheLive, TellsWhatWasAllowed}
 use Rattle.gatt_laws.specs.laws.Notices.{KnowsTheValues, TellsEachValue}
 use Rattle.gatt_laws.specs.laws.Present.{AlwaysHasOneHandleEach, KnowsWhoIsThere, TellsWhoIsThere}
 use Rattle.gatt_laws.specs.laws.RowNotices.{TellsEachBond, TellsEachKey, TellsEachOwnRow}
+use Rattle.gatt_laws.specs.laws.ServiceChanged.{NoticesServiceChangedConfirmed}
 use Rattle.gatt_laws.specs.laws.StreamNotices.{TellsOfTheDivision}
 use Rattle.gatt_laws.specs.laws.ToldIsSo.{TellsWhatIsSo}
 
--- a listener knows each value, and each change of it; what is told is so afterwards; what is
--- configured and what keys are worth changes by what is told alone; a listener knows who is there,
--- and no two connections have one handle; and only what was allowed is told, and nothing of what is
--- refused, be it answered or not, or ignored; and it does not matter how octets were cut
+-- What a listener knows in every run: each value, and who is there.
+-- At each event: what a notice says is so; and no value, configuration, key or pending Service Changed
+-- indication changes without a notice or a call of the application.
+-- Each write that is noticed was allowed. There is no notice of what is refused, be it answered or not, or
+-- is ignored. It does not matter how octets were cut.
 pub record TellsTheApplication : Type 0 where
   pub knows_values : KnowsTheValues
   pub so : TellsWhatIsSo
@@ -18,6 +20,7 @@ pub record TellsTheApplication : Type 0 where
   pub own_rows : TellsEachOwnRow
   pub bonds : TellsEachBond
   pub keys : TellsEachKey
+  pub service_changed : NoticesServiceChangedConfirmed
   pub knows_who : KnowsWhoIsThere
   pub who : TellsWhoIsThere
   pub handles : AlwaysHasOneHandleEach
