@@ -1,16 +1,21 @@
 -- A time tells of somebody who did not confirm from the deadline on.
 use Rattle.std.proofs.Common.{◌≡◌, ℕ, ◌<◌, Bool, true, false, List, [], ◌∷◌, Option, Some, None, refl, sym, ap, ◌∙◌, arith}
-use Rattle.std.specs.Prelude.{◌^◌, ◌||◌, min, nat_le, nat_lt, fold, filter_map, if◌then◌else◌}
+use Rattle.std.specs.Prelude.{◌^◌, ◌==◌, ◌||◌, All, min, nat_le, nat_lt, fold, filter_map, if◌then◌else◌}
 use Rattle.std.specs.List.{list_any, reduce, flat_map, cons_option}
 use Rattle.std.specs.Option.{option_and_then, option_map_or}
+use Rattle.std.proofs.lemmas.Bool.{eq-eqb}
+use Rattle.std.proofs.lemmas.List.Elements.{All-nil, All-cons, All-append}
 use Rattle.std.proofs.lemmas.List.Folds.{list_any-append}
 use Rattle.gatt_laws.specs.machine.Controller.{Slots}
 use Rattle.gatt_laws.specs.laws.Deadline.{slot_deadline, is_late_told, is_reached, TellsFromTheDeadlineOn}
+use Rattle.gatt_laws.specs.laws.Deadline.{IsNoticeOfLate, NoticesOnlyWhoIsLate}
+use Rattle.gatt_laws.specs.laws.Settled.{has_slot}
+use Rattle.gatt_laws.specs.machine.Event.{Ordinal}
 use Rattle.gatt_laws.specs.machine.Notice.{Notice, TimedOut, noticed, late_told, slot_told}
 use Rattle.gatt_laws.specs.machine.State.{State}
 use Rattle.gatt_subs.specs.declared.pending.Unconfirmed.{Unconfirmed}
 use Rattle.gatt_subs.specs.Deadline.{late_at, late_from}
-use Rattle.gatt_subs.specs.Indications.{is_late}
+use Rattle.gatt_subs.specs.Indications.{is_late, times_out}
 
 module _ (time : ℕ) where
   abbrev has-come : ℕ → Bool
@@ -72,3 +77,42 @@ pub tells_from_the_deadline_on : TellsFromTheDeadlineOn
 unfolding noticed
 tells_from_the_deadline_on state time few =
     slots-told time state state.slots few ∙ reached time (filter_map (slot_deadline state) state.slots)
+
+-- A notice of a Tick is of a connection that is late.
+
+or-first-true : (one other : Bool) → one ≡ true → (one || other) ≡ true
+or-first-true true other is = refl
+or-first-true false other is = cc is
+
+or-second-true : (one other : Bool) → other ≡ true → (one || other) ≡ true
+or-second-true true other is = refl
+or-second-true false other is = is
+
+module _ (state : State) (time : ℕ) where
+  abbrev AreLate : List Notice → Type 0
+  AreLate notices = All (IsNoticeOfLate state time) notices
+
+  late-if : (ordinal : Ordinal) (late : Bool) → has_slot ordinal state.slots ≡ true
+      → times_out (state.connections ordinal).pending time ≡ late
+      → AreLate (if late then TimedOut (state.connections ordinal).handle ∷ [] else [])
+  late-if ordinal true has is =
+      All-cons (IsNoticeOfLate state time) (TimedOut (state.connections ordinal).handle) []
+      (record { ordinal = ordinal; has = has; named = refl; late = is })
+      (All-nil (IsNoticeOfLate state time))
+  late-if ordinal false has is = All-nil (IsNoticeOfLate state time)
+
+  slots-late : (slots : Slots)
+      → ((ordinal : Ordinal) → has_slot ordinal slots ≡ true → has_slot ordinal state.slots ≡ true)
+      → AreLate (flat_map (slot_told state time) slots)
+  slots-late [] has = All-nil (IsNoticeOfLate state time)
+  slots-late (None ∷ slots) has = slots-late slots has
+  slots-late (Some ordinal ∷ slots) has =
+      All-append (IsNoticeOfLate state time) (late_told time (state.connections ordinal))
+      (flat_map (slot_told state time) slots)
+      (late-if ordinal (times_out (state.connections ordinal).pending time)
+      (has ordinal (or-first-true (ordinal == ordinal) (has_slot ordinal slots) (eq-eqb ordinal ordinal refl))) refl)
+      (slots-late slots (λ other later. has other (or-second-true (ordinal == other) (has_slot other slots) later)))
+
+pub notices_only_who_is_late : NoticesOnlyWhoIsLate
+unfolding noticed
+notices_only_who_is_late state time = slots-late state time state.slots (λ ordinal has. has)

@@ -2,6 +2,7 @@
 use Rattle.gatt_laws.proofs.AllowedNotices.{tells_no_refusals, tells_no_refused_commands}
 use Rattle.gatt_laws.proofs.AllowedNotices.{tells_nothing_ignored, tells_only_of_the_live}
 use Rattle.gatt_laws.proofs.AllowedWrites.{tells_what_was_allowed}
+use Rattle.gatt_laws.proofs.Deadline.{notices_only_who_is_late, tells_from_the_deadline_on}
 use Rattle.gatt_laws.proofs.KeyNotices.{tells_each_key}
 use Rattle.gatt_laws.proofs.Knowing.{knows_the_values}
 use Rattle.gatt_laws.proofs.KnowingWho.{always_has_one_handle_each, knows_who_is_there}
@@ -30,5 +31,7 @@ tells_the_application = record {
   no_refused_commands = tells_no_refused_commands;
   nothing_ignored = tells_nothing_ignored;
   only_live = tells_only_of_the_live;
+  deadline = tells_from_the_deadline_on;
+  only_late = notices_only_who_is_late;
   division = tells_of_the_division;
 }

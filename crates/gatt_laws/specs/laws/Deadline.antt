@@ -1,12 +1,13 @@
 -- When an indication of any connection is late: this profile's own.
-use Rattle.std.specs.Prelude.{◌≡◌, ℕ, ◌<◌, ◌^◌, min, nat_le, Bool, true, false, filter_map, Option, Some, None}
+use Rattle.std.specs.Prelude.{◌≡◌, ℕ, ◌<◌, ◌^◌, min, nat_le, All, Bool, true, false, filter_map, Option, Some, None}
 use Rattle.std.specs.List.{list_any, reduce}
 use Rattle.std.specs.Option.{option_map_or}
 use Rattle.gatt_laws.specs.machine.Event.{Ordinal, Tick}
 use Rattle.gatt_laws.specs.machine.Notice.{Notice, TimedOut, noticed}
 use Rattle.gatt_laws.specs.machine.State.{State}
 use Rattle.gatt_subs.specs.Deadline.{deadline_of}
-use Rattle.gatt_subs.specs.Indications.{Milliseconds}
+use Rattle.gatt_laws.specs.laws.Settled.{has_slot}
+use Rattle.gatt_subs.specs.Indications.{Milliseconds, times_out}
 
 -- of the connection of a slot
 abbrev pub slot_deadline : State → Option Ordinal → Option Milliseconds
@@ -28,3 +29,19 @@ is_reached deadline time = option_map_or (λ (least : ℕ). nat_le least time) d
 abbrev pub TellsFromTheDeadlineOn : Type 0
 TellsFromTheDeadlineOn = (state : State) (time : Milliseconds) → time < 2 ^ 64 →
     list_any is_late_told (noticed state (Tick time)) ≡ is_reached (deadline state) time
+
+-- a connection that has a slot and this handle did not confirm an indication in time
+pub record IsLateInASlot (state : State) (time : Milliseconds) (handle : ℕ) : Type 0 where
+  pub ordinal : Ordinal
+  pub has : has_slot ordinal state.slots ≡ true
+  pub named : (state.connections ordinal).handle ≡ handle
+  pub late : times_out (state.connections ordinal).pending time ≡ true
+
+abbrev pub IsNoticeOfLate : State → Milliseconds → Notice → Type 0
+IsNoticeOfLate state time (TimedOut handle) = IsLateInASlot state time handle
+IsNoticeOfLate state time notice = ⊥
+
+-- at a Tick the application is notified of such connections, and of nothing else
+abbrev pub NoticesOnlyWhoIsLate : Type 0
+NoticesOnlyWhoIsLate = (state : State) (time : Milliseconds) →
+    All (IsNoticeOfLate state time) (noticed state (Tick time))

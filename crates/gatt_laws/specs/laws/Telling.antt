@@ -1,6 +1,7 @@
 -- What is promised of the notices that an application receives.
 use Rattle.gatt_laws.specs.laws.AllowedNotices.{TellsNoRefusals, TellsNoRefusedCommands, TellsNothingIgnored}
 use Rattle.gatt_laws.specs.laws.AllowedNotices.{TellsOnlyOfTheLive, TellsWhatWasAllowed}
+use Rattle.gatt_laws.specs.laws.Deadline.{NoticesOnlyWhoIsLate, TellsFromTheDeadlineOn}
 use Rattle.gatt_laws.specs.laws.Notices.{KnowsTheValues, TellsEachValue}
 use Rattle.gatt_laws.specs.laws.Present.{AlwaysHasOneHandleEach, KnowsWhoIsThere, TellsWhoIsThere}
 use Rattle.gatt_laws.specs.laws.RowNotices.{TellsEachBond, TellsEachKey, TellsEachOwnRow}
@@ -12,7 +13,8 @@ use Rattle.gatt_laws.specs.laws.ToldIsSo.{TellsWhatIsSo}
 -- At each event: what a notice says is so; and no value, configuration, key or pending Service Changed
 -- indication changes without a notice or a call of the application.
 -- Each write that is noticed was allowed. There is no notice of what is refused, be it answered or not, or
--- is ignored. It does not matter how octets were cut.
+-- is ignored. A Tick causes notices from the deadline on, of late indications only. It does not matter how
+-- octets were cut.
 pub record TellsTheApplication : Type 0 where
   pub knows_values : KnowsTheValues
   pub so : TellsWhatIsSo
@@ -29,4 +31,6 @@ pub record TellsTheApplication : Type 0 where
   pub no_refused_commands : TellsNoRefusedCommands
   pub nothing_ignored : TellsNothingIgnored
   pub only_live : TellsOnlyOfTheLive
+  pub deadline : TellsFromTheDeadlineOn
+  pub only_late : NoticesOnlyWhoIsLate
   pub division : TellsOfTheDivision
