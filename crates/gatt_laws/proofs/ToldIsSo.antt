@@ -145,6 +145,12 @@ module _ (state : State) (at : Ordinal) (own : Own) where
   own-peer : (new.connections at).peer ≡ effect.connection.peer
   own-peer = (end_named state (Of at own) at).peer ∙ ap (λ (of : ConnectionState). of.peer) own-part
 
+  own-configured : (new.connections at).row ≡ effect.connection.row
+  own-configured =
+      end_keeps (λ (of : ConnectionState). of.row) (λ of pdus pending given reply reason. refl) state
+      (Of at own) at
+      ∙ ap (λ (of : ConnectionState). of.row) own-part
+
   own-bond : effect.connection.peer ≡ connection.peer → new.bonds (new.connections at).peer ≡ effect.bond
   unfolding step change_of
   own-bond same =
@@ -154,12 +160,8 @@ module _ (state : State) (at : Ordinal) (own : Own) where
 
   own-row : effect.connection.peer ≡ connection.peer → row_of_connection new at ≡ row_in_force effect.bond effect.connection
   own-row same =
-      let rows : (new.connections at).row ≡ effect.connection.row =
-      end_keeps (λ (of : ConnectionState). of.row) (λ of pdus pending given reply reason. refl) state
-      (Of at own) at
-      ∙ ap (λ (of : ConnectionState). of.row) own-part in
       let bond = own-bond same in
-      λ i. if is_some (own-key i) then bond i else rows i
+      λ i. if is_some (own-key i) then bond i else own-configured i
 
   -- of one that served and stays
   module _ (kept : IsNamedAs connection effect.connection)
@@ -233,8 +235,13 @@ tells_what_is_so state (Of at (event.Connected handle peer)) =
           ∙ ap (λ (of : ConnectionState). is_there of.mark) (comes-named state at handle peer away);
       named = own-handle state at own
           ∙ ap (λ (of : ConnectionState). of.handle) (comes-named state at handle peer away);
-      holds = own-peer state at own
-          ∙ ap (λ (of : ConnectionState). of.peer) (comes-named state at handle peer away);
+      holds = record {
+        peer = own-peer state at own
+            ∙ ap (λ (of : ConnectionState). of.peer) (comes-named state at handle peer away);
+        key = own-key state at own ∙ ap key_of (comes-named state at handle peer away);
+        row = own-configured state at own
+            ∙ ap (λ (of : ConnectionState). of.row) (comes-named state at handle peer away);
+      };
     }))
 tells_what_is_so state (Of at event.Disconnected) =
     let connection : ConnectionState = state.connections at in

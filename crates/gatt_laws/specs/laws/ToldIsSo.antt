@@ -1,12 +1,13 @@
 -- What a notice says is so after its event.
-use Rattle.std.specs.Prelude.{◌≡◌, ℕ, true, false, All, Some, None}
+use Rattle.std.specs.Prelude.{◌≡◌, ℕ, true, false, All, [], Some, None}
 use Rattle.att_table.specs.ConfigRow.{bits_at}
 use Rattle.gatt_laws.specs.machine.Event.{Ordinal, Event}
 use Rattle.gatt_laws.specs.machine.Notice.{Notice, Connected, Secured, Unsecured, Configured, Ending}
 use Rattle.gatt_laws.specs.machine.Notice.{noticed}
 use Rattle.gatt_laws.specs.laws.OwnWrites.{row_of_connection}
-use Rattle.gatt_laws.specs.machine.ConnectionState.{is_live, is_there, key_of}
+use Rattle.gatt_laws.specs.machine.ConnectionState.{ConnectionState, is_live, is_there, key_of}
 use Rattle.gatt_laws.specs.machine.State.{State, step}
+use Rattle.le_hci.specs.declared.peer.Peer.{Peer}
 
 -- It holds of a connection that is there and has this handle. Neither an ordinal that was never used
 -- nor a connection that disconnected counts: both have the handle 0, which a connection may have too. In
@@ -17,11 +18,16 @@ pub record OfOne (state : State) (handle : ℕ) (Holds : Ordinal → Type 0) : T
   pub named : (state.connections ordinal).handle ≡ handle
   pub holds : Holds ordinal
 
--- it has this peer, or a key of these facts, or none; it has configured these bits in the row that
--- is in force; or it does not serve any more
+-- a connection of this peer that has just connected: its link has no key, and it has configured nothing
+pub record IsNewOf (of : Peer) (connection : ConnectionState) : Type 0 where
+  pub peer : connection.peer ≡ of
+  pub key : key_of connection ≡ None
+  pub row : connection.row ≡ []
+
+-- it has just connected; its link has a key of these facts, or none; it has configured these bits in the
+-- row that is in force; or it does not serve any more
 abbrev pub IsSo : State → Notice → Type 0
-IsSo state (Connected handle peer) =
-    OfOne state handle (λ ordinal. (state.connections ordinal).peer ≡ peer)
+IsSo state (Connected handle peer) = OfOne state handle (λ ordinal. IsNewOf peer (state.connections ordinal))
 IsSo state (Secured handle facts) =
     OfOne state handle (λ ordinal. key_of (state.connections ordinal) ≡ Some facts)
 IsSo state (Unsecured handle) = OfOne state handle (λ ordinal. key_of (state.connections ordinal) ≡ None)
