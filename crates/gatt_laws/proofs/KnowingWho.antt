@@ -30,7 +30,7 @@ use Rattle.gatt_laws.specs.laws.Present.{Present, present_in, nobody_present, pe
 use Rattle.gatt_laws.specs.laws.Present.{AlwaysHasOneHandleEach, IsKnowing, TellsWhoIsThere}
 use Rattle.gatt_laws.specs.laws.Present.{KnowsWhoIsThere}
 use Rattle.gatt_laws.specs.laws.RowNotices.{is_connection_or_disconnection}
-use Rattle.gatt_laws.specs.laws.Settled.{has_slot}
+use Rattle.gatt_laws.specs.laws.Settled.{has_slot, IsSettled}
 use Rattle.gatt_laws.specs.machine.Start.{Start, state_at}
 use Rattle.gatt_laws.specs.machine.State.{State, change_of, step}
 use Rattle.gatt_laws.specs.machine.Effect.{effect_of}
@@ -57,14 +57,14 @@ module _ (state : State) (at : Ordinal) (handle : ℕ) (peer : Peer) (is : IsKno
   abbrev coming : Event
   coming = Of at (event.Connected handle peer)
 
-  lacks : has_slot at state.slots ≡ false
+  pub lacks : has_slot at state.slots ≡ false
   lacks = subst (λ (one : Ordinal). has_slot one state.slots ≡ false) (sym may.next)
       (none_next state.next state.next state.slots (omega arith) is.settled.slots)
 
-  away : is_there (state.connections at).mark ≡ false
+  pub away : is_there (state.connections at).mark ≡ false
   away = ap (λ (connection : ConnectionState). is_there connection.mark) (is.settled.absent at lacks)
 
-  comes : (change_of state coming).state.connections at ≡ fresh_connection handle peer
+  pub comes : (change_of state coming).state.connections at ≡ fresh_connection handle peer
   unfolding change_of
   comes =
       ap (λ (same : Bool). if same
@@ -76,7 +76,7 @@ module _ (state : State) (at : Ordinal) (handle : ℕ) (peer : Peer) (is : IsKno
   came-named = subst (λ (connection : ConnectionState). IsNamedAs connection ((step state coming).connections at)) comes
       (end_named state coming at)
 
-  others-named : (ordinal : Ordinal) → (ordinal == at) ≡ false
+  pub others-named : (ordinal : Ordinal) → (ordinal == at) ≡ false
       → IsNamedAs (state.connections ordinal) ((step state coming).connections ordinal)
   others-named ordinal differs = step_named state coming ordinal
       (ap (λ (same : Bool). same && true) differs)
@@ -91,7 +91,7 @@ module _ (state : State) (at : Ordinal) (handle : ℕ) (peer : Peer) (is : IsKno
       (step state coming).connections at handle peer came-named state.slots asked may.free unused
       (λ ordinal has. others-named ordinal (apart state at ordinal lacks has)))
 
-  old-slot : (ordinal : Ordinal) → (ordinal == at) ≡ false
+  pub old-slot : (ordinal : Ordinal) → (ordinal == at) ≡ false
       → has_slot ordinal (step state coming).slots ≡ true
       → has_slot ordinal state.slots ≡ true
   unfolding step change_of
@@ -110,7 +110,7 @@ module _ (state : State) (at : Ordinal) (handle : ℕ) (peer : Peer) (is : IsKno
       ≡ handle = sym (others-named ordinal differs).handle ∙ same in
       cc (eq-eqb (state.connections ordinal).handle handle equal, other)
 
-  its-handle : (ordinal : Ordinal) → (ordinal == at) ≡ true
+  pub its-handle : (ordinal : Ordinal) → (ordinal == at) ≡ true
       → ((step state coming).connections ordinal).handle ≡ handle
   its-handle ordinal same =
       ap (λ (one : Ordinal). ((step state coming).connections one).handle) (eqb-true ordinal at same)
@@ -237,6 +237,10 @@ tells_who_is_there state event asked is possible unused = still state event (λ 
 
 -- No two have one handle.
 
+abbrev pub is_coming : Event → Bool
+is_coming (Of at (event.Connected handle peer)) = true
+is_coming happens = false
+
 -- where each that has a slot had it, and kept its name
 stay-alone : (state : State) (happens : Event)
     → ((ordinal : Ordinal) → has_slot ordinal (step state happens).slots ≡ true
@@ -265,43 +269,37 @@ freed-back at ordinal state has = (
   ] refl,
 )
 
+-- a connection that has a slot after an event had it before, unless it is the one that comes
+pub had_slot : (state : State) (happens : Event) (ordinal : Ordinal) → IsSettled state
+    → Possible (λ table. Unit) state happens → is_coming happens ≡ false
+    → has_slot ordinal (step state happens).slots ≡ true
+    → (has_slot ordinal state.slots ≡ true) × (is_connection_or_disconnection ordinal happens ≡ false)
+unfolding step change_of
+had_slot state (Of at (event.Connected handle peer)) ordinal is possible kind has = cc kind
+had_slot state (Of at event.Disconnected) ordinal is possible kind has = freed-back at ordinal state has
+had_slot state (Of at (KeyAsked random_number diversifier)) ordinal is possible kind has =
+    (has, and-false (ordinal == at))
+had_slot state (Of at (Encrypted status enabled)) ordinal is possible kind has = (has, and-false (ordinal == at))
+had_slot state (Of at (Refreshed status)) ordinal is possible kind has = (has, and-false (ordinal == at))
+had_slot state (Of at (Asks pdu)) ordinal is possible kind has = (has, and-false (ordinal == at))
+had_slot state (Of at (OtherChannel channel payload)) ordinal is possible kind has =
+    (has, and-false (ordinal == at))
+had_slot state (Of at (Authorized until)) ordinal is possible kind has = (has, and-false (ordinal == at))
+had_slot state (Of at Ended) ordinal is possible kind has = (has, and-false (ordinal == at))
+had_slot state (Credit allowed opcode status (Some init)) ordinal is possible kind has =
+    (init-has state.shared.slots init ordinal state.slots has, refl)
+had_slot state (Credit allowed opcode status None) ordinal is possible kind has = (has, refl)
+had_slot state happens ordinal is possible kind has = (has, refl)
+
 keeps-alone : (state : State) (happens : Event) → Possible (λ table. Unit) state happens
     → ConnectsUnused state happens
     → IsKnowing state → HasOneHandleEach (step state happens)
-unfolding step change_of
 keeps-alone state (Of at (event.Connected handle peer)) possible unused is =
     coming-alone state at handle peer is possible unused
-keeps-alone state (Of at event.Disconnected) possible unused is =
-    stay-alone state (Of at event.Disconnected) (λ ordinal has. freed-back at ordinal state has) is.handles
-keeps-alone state (Of at (KeyAsked random_number diversifier)) possible unused is =
-    stay-alone state (Of at (KeyAsked random_number diversifier))
-    (λ ordinal has. (has, and-false (ordinal == at))) is.handles
-keeps-alone state (Of at (Encrypted status enabled)) possible unused is =
-    stay-alone state (Of at (Encrypted status enabled))
-    (λ ordinal has. (has, and-false (ordinal == at))) is.handles
-keeps-alone state (Of at (Refreshed status)) possible unused is =
-    stay-alone state (Of at (Refreshed status))
-    (λ ordinal has. (has, and-false (ordinal == at))) is.handles
-keeps-alone state (Of at (Asks pdu)) possible unused is =
-    stay-alone state (Of at (Asks pdu)) (λ ordinal has. (has, and-false (ordinal == at))) is.handles
-keeps-alone state (Of at (OtherChannel channel payload)) possible unused is =
-    stay-alone state (Of at (OtherChannel channel payload))
-    (λ ordinal has. (has, and-false (ordinal == at))) is.handles
-keeps-alone state (Of at (Authorized until)) possible unused is =
-    stay-alone state (Of at (Authorized until))
-    (λ ordinal has. (has, and-false (ordinal == at))) is.handles
-keeps-alone state (Of at Ended) possible unused is =
-    stay-alone state (Of at Ended)
-    (λ ordinal has. (has, and-false (ordinal == at))) is.handles
-keeps-alone state (Credit allowed opcode status (Some init)) possible unused is =
-    stay-alone state (Credit allowed opcode status (Some init))
-    (λ ordinal has. (init-has state.shared.slots init ordinal state.slots has, refl)) is.handles
-keeps-alone state (Credit allowed opcode status None) possible unused is =
-    stay-alone state (Credit allowed opcode status None) (λ ordinal has. (has, refl)) is.handles
-keeps-alone state event possible unused is = stay-alone state event
-    (λ ordinal has. (has, refl)) is.handles
+keeps-alone state happens possible unused is =
+    stay-alone state happens (λ ordinal. had_slot state happens ordinal is.settled possible refl) is.handles
 
-stays-knowing : (state : State) (happens : Event) → Possible (λ table. Unit) state happens
+pub stays-knowing : (state : State) (happens : Event) → Possible (λ table. Unit) state happens
     → ConnectsUnused state happens → IsKnowing state → IsKnowing (step state happens)
 stays-knowing state happens possible unused is = record {
   settled = stays_settled state happens possible is.settled;
@@ -309,7 +307,7 @@ stays-knowing state happens possible unused is = record {
   handles = keeps-alone state happens possible unused is;
 }
 
-knowing-at-first : (start : Start) → IsKnowing (state_at start)
+pub knowing-at-first : (start : Start) → IsKnowing (state_at start)
 knowing-at-first start = record {
   settled = settled_at_first start;
   placed = placed_at_first start;

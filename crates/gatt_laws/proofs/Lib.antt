@@ -16,6 +16,7 @@ pub mod ItemEvents
 pub mod KeyNotices
 pub mod Knowing
 pub mod KnowingWho
+pub mod KnownKeys
 pub mod MayBeHeard
 pub mod Meant
 pub mod Named

@@ -7,6 +7,7 @@ use Rattle.gatt_laws.proofs.KeyNotices.{tells_each_key}
 use Rattle.gatt_laws.proofs.Knowing.{knows_the_values}
 use Rattle.gatt_laws.proofs.KnowingWho.{always_has_one_handle_each, knows_who_is_there}
 use Rattle.gatt_laws.proofs.KnowingWho.{tells_who_is_there}
+use Rattle.gatt_laws.proofs.KnownKeys.{knows_the_keys}
 use Rattle.gatt_laws.proofs.Notices.{tells_each_value}
 use Rattle.gatt_laws.proofs.RowNotices.{tells_each_bond, tells_each_own_row}
 use Rattle.gatt_laws.proofs.ServiceChanged.{notices_service_changed_confirmed}
@@ -17,6 +18,7 @@ use Rattle.gatt_laws.specs.laws.Telling.{TellsTheApplication}
 pub tells_the_application : TellsTheApplication
 tells_the_application = record {
   knows_values = knows_the_values;
+  knows_keys = knows_the_keys;
   so = tells_what_is_so;
   values = tells_each_value;
   own_rows = tells_each_own_row;
