@@ -96,7 +96,7 @@ module _ (hidden : Handle → Bool) where
     unread-same conn (Ok (ReadByGroupTypeRequest first last kind)) is = cc is
     unread-same conn (Ok (WriteRequest handle value)) is =
         ap Some (response-same WRITE_REQUEST WriteResponse _ _ (applied-same Write conn.standing (whole_value handle value ∷ [])))
-    unread-same conn (Ok (PrepareWriteRequest handle offset connection)) is = refl
+    unread-same conn (Ok (PrepareWriteRequest handle offset part)) is = refl
     unread-same conn (Ok (ExecuteWriteRequest flags.Write)) is =
         ap Some (response-same EXECUTE_WRITE_REQUEST ExecuteWriteResponse _ _ (applied-same Write conn.standing conn.queue))
     unread-same conn (Ok (ExecuteWriteRequest flags.Cancel)) is = refl
@@ -127,7 +127,7 @@ module _ (hidden : Handle → Bool) where
     same_answer conn (Ok (ReadMultipleRequest handles)) is = alike conn.standing here there row conn.mtu (ReadMultipleRequest handles) is
     same_answer conn (Ok (ReadByGroupTypeRequest first last kind)) is = alike conn.standing here there row conn.mtu (ReadByGroupTypeRequest first last kind) is
     same_answer conn (Ok (WriteRequest handle value)) is = unread-same conn (Ok (WriteRequest handle value)) refl
-    same_answer conn (Ok (PrepareWriteRequest handle offset connection)) is = unread-same conn (Ok (PrepareWriteRequest handle offset connection)) refl
+    same_answer conn (Ok (PrepareWriteRequest handle offset part)) is = unread-same conn (Ok (PrepareWriteRequest handle offset part)) refl
     same_answer conn (Ok (ExecuteWriteRequest flags)) is = unread-same conn (Ok (ExecuteWriteRequest flags)) refl
     same_answer conn (Ok ConfirmationPdu) is = unread-same conn (Ok ConfirmationPdu) refl
     same_answer conn (Ok (WriteCommandPdu handle value)) is = unread-same conn (Ok (WriteCommandPdu handle value)) refl
@@ -145,7 +145,7 @@ exchanges-none (Ok (ReadBlobRequest handle offset)) is = refl
 exchanges-none (Ok (ReadMultipleRequest handles)) is = refl
 exchanges-none (Ok (ReadByGroupTypeRequest first last kind)) is = refl
 exchanges-none (Ok (WriteRequest handle value)) is = refl
-exchanges-none (Ok (PrepareWriteRequest handle offset connection)) is = refl
+exchanges-none (Ok (PrepareWriteRequest handle offset part)) is = refl
 exchanges-none (Ok (ExecuteWriteRequest flags)) is = refl
 exchanges-none (Ok ConfirmationPdu) is = refl
 exchanges-none (Ok (WriteCommandPdu handle value)) is = refl
@@ -161,7 +161,7 @@ prepares-none (Ok (ReadBlobRequest handle offset)) is = refl
 prepares-none (Ok (ReadMultipleRequest handles)) is = refl
 prepares-none (Ok (ReadByGroupTypeRequest first last kind)) is = refl
 prepares-none (Ok (WriteRequest handle value)) is = refl
-prepares-none (Ok (PrepareWriteRequest handle offset connection)) is = cc is
+prepares-none (Ok (PrepareWriteRequest handle offset part)) is = cc is
 prepares-none (Ok (ExecuteWriteRequest flags)) is = refl
 prepares-none (Ok ConfirmationPdu) is = refl
 prepares-none (Ok (WriteCommandPdu handle value)) is = refl

@@ -203,7 +203,7 @@ writes_what_may_be_written table row conn (Ok (ReadRequest handle)) = tt
 writes_what_may_be_written table row conn (Ok (ReadBlobRequest handle offset)) = tt
 writes_what_may_be_written table row conn (Ok (ReadMultipleRequest handles)) = tt
 writes_what_may_be_written table row conn (Ok (ReadByGroupTypeRequest first last kind)) = tt
-writes_what_may_be_written table row conn (Ok (PrepareWriteRequest handle offset connection)) = tt
+writes_what_may_be_written table row conn (Ok (PrepareWriteRequest handle offset part)) = tt
 writes_what_may_be_written table row conn (Ok ConfirmationPdu) = tt
 writes_what_may_be_written table row conn (Err fault) = tt
 
@@ -214,10 +214,10 @@ sends-none : (table : Contents) (standing : Standing) (asked : Asked) (request :
 sends-none table standing asked request granted (Ok new) none refused = none
 sends-none table standing asked request granted (Err refusal) none refused = refused refusal.handle refusal.code
 
-prepare-sends : (table : Contents) (standing : Standing) (handle : Handle) (offset : ℕ) (connection : Octets) (entry : Entry) (fault : Option Code)
-    → SentTo table standing (PrepareWriteRequest handle offset connection) (prepare_response entry fault)
-prepare-sends table standing handle offset connection entry None = tt
-prepare-sends table standing handle offset connection entry (Some code) = tt
+prepare-sends : (table : Contents) (standing : Standing) (handle : Handle) (offset : ℕ) (part : Octets) (entry : Entry) (fault : Option Code)
+    → SentTo table standing (PrepareWriteRequest handle offset part) (prepare_response entry fault)
+prepare-sends table standing handle offset part entry None = tt
+prepare-sends table standing handle offset part entry (Some code) = tt
 
 information-sends : (table : Contents) (standing : Standing) (mtu : Mtu) (first last : Handle)
     → SentTo table standing (FindInformationRequest first last) (information_answer table mtu first last)
@@ -297,8 +297,8 @@ sends_what_may_be_read table row conn (ReadMultipleRequest handles) = multiple-s
 sends_what_may_be_read table row conn (ReadByGroupTypeRequest first last kind) = groups-send table row conn.standing conn.mtu first last kind
 sends_what_may_be_read table row conn (WriteRequest handle value) =
     sends-none table conn.standing (WriteRequest handle value) WRITE_REQUEST WriteResponse (applied_to Write table row conn.standing (whole_value handle value ∷ [])) tt (λ at code. tt)
-sends_what_may_be_read table row conn (PrepareWriteRequest handle offset connection) =
-    prepare-sends table conn.standing handle offset connection (entry_at handle offset connection) (prepare_fault table.attributes conn.standing conn.queue (entry_at handle offset connection))
+sends_what_may_be_read table row conn (PrepareWriteRequest handle offset part) =
+    prepare-sends table conn.standing handle offset part (entry_at handle offset part) (prepare_fault table.attributes conn.standing conn.queue (entry_at handle offset part))
 sends_what_may_be_read table row conn (ExecuteWriteRequest flags.Cancel) = tt
 sends_what_may_be_read table row conn (ExecuteWriteRequest flags.Write) =
     sends-none table conn.standing (ExecuteWriteRequest flags.Write) EXECUTE_WRITE_REQUEST ExecuteWriteResponse (applied_to Write table row conn.standing conn.queue) tt (λ at code. tt)
@@ -332,9 +332,9 @@ refusals_change_nothing table row conn (Ok (WriteRequest at value)) request hand
   refused-write (stored_in table row) WRITE_REQUEST request handle code WriteResponse (applied_to Write table row conn.standing (whole_value at value ∷ [])) (λ e. cc e) is,
   refl,
 )
-refusals_change_nothing table row conn (Ok (PrepareWriteRequest at offset connection)) request handle code is = (
+refusals_change_nothing table row conn (Ok (PrepareWriteRequest at offset part)) request handle code is = (
   refl,
-  same-queue conn (entry_at at offset connection) (prepare_fault table.attributes conn.standing conn.queue (entry_at at offset connection)) request handle code is,
+  same-queue conn (entry_at at offset part) (prepare_fault table.attributes conn.standing conn.queue (entry_at at offset part)) request handle code is,
 )
 refusals_change_nothing table row conn (Ok (ExecuteWriteRequest flags.Cancel)) request handle code is = cc is
 refusals_change_nothing table row conn (Ok (ExecuteWriteRequest flags.Write)) request handle code is = (

@@ -72,7 +72,7 @@ executes_its_own state ordinal pdu is =
     let result : Result Stored Refusal = applied_to Write state.shared.table (row_of_connection state ordinal) (standing_of state.shared connection) (prepared_of connection) in
     let stored : Stored = stored_after (stored_in state.shared.table (row_of_connection state ordinal)) result in
     let all : result ≡ Ok stored = accepted-stored result (stored_in state.shared.table (row_of_connection state ordinal)) is.accepted in
-    let turns : effect ≡ after = served_turn state.shared bond (state.owed connection.peer) connection pdu execution is.live is.asked is.shared in
+    let turns : effect ≡ after = served_turn state.shared bond (state.owed connection.peer) connection pdu execution is.live is.asked is.has_room in
     let own : (at_ordinal ordinal effect.connection state.connections) ordinal ≡ after.connection =
     ap (λ same. if same then effect.connection else connection) (eq-eqb ordinal ordinal refl) ∙ ap (λ (of : Effect). of.connection) turns in
     let values : new.shared.table.values ≡ stored.values = ap (λ (of : Effect). of.values) turns in

@@ -44,18 +44,18 @@ use Rattle.le_acl.specs.Packets.{Pdu, fragments_of, packets_of, total, rest}
 rest-most : (given : ℕ) (queued : List (List Fragment)) → length (rest given queued) ≤ length queued
 rest-most given [] = omega arith
 rest-most given (packets ∷ queued) = elim (cases_lt given (length packets)) [
-  | inl connection ↦ rw (lt-ltb given (length packets) connection) (omega arith)
+  | inl less ↦ rw (lt-ltb given (length packets) less) (omega arith)
   | inr past ↦ rw (le-ltb given (length packets) past) (omega (arith, rest-most (given - length packets) queued))
 ]
 
 rest-fewer : (given more : ℕ) (queued : List (List Fragment)) → given ≤ more → length (rest more queued) ≤ length (rest given queued)
 rest-fewer given more [] le = omega arith
 rest-fewer given more (packets ∷ queued) le = elim (cases_lt given (length packets)) [
-  | inl connection ↦
+  | inl less ↦
       elim (cases_lt more (length packets)) [
-        | inl both ↦ rw (lt-ltb given (length packets) connection) (rw (lt-ltb more (length packets) both) (omega arith))
+        | inl both ↦ rw (lt-ltb given (length packets) less) (rw (lt-ltb more (length packets) both) (omega arith))
         | inr past ↦
-            rw (lt-ltb given (length packets) connection) (rw (le-ltb more (length packets) past) (omega (arith, rest-most (more - length packets) queued)))
+            rw (lt-ltb given (length packets) less) (rw (le-ltb more (length packets) past) (omega (arith, rest-most (more - length packets) queued)))
       ]
   | inr past ↦
       rw (le-ltb given (length packets) past) (rw (le-ltb more (length packets) (omega arith))
@@ -113,8 +113,8 @@ raised-few attributes values hearer handle few =
     (λ (tells : Bool). (hearer.live && is_notified hearer.pending attributes hearer.row hearer.standing handle hearer.backlog) ≡ tells
     → hearer.backlog + length (option_to_list (if tells then Some (notification_of values handle hearer.mtu) else None)) ≤ 16) [
       | true ↦ λ is.
-          let shared : nat_lt hearer.backlog 8 ≡ true = last-true _ _ (last-true hearer.live _ is) in
-          omega (arith, ltb-true hearer.backlog 8 shared)
+          let below_limit : nat_lt hearer.backlog 8 ≡ true = last-true _ _ (last-true hearer.live _ is) in
+          omega (arith, ltb-true hearer.backlog 8 below_limit)
       | false ↦ λ is. omega (arith, few)
     ] refl
 
@@ -128,9 +128,9 @@ released-if attributes values hearer true few =
     → hearer.backlog + length (option_to_list (option_map (λ handle. indication_of values handle hearer.mtu)
     (if may then first_handle (from_due (is_indicated attributes hearer.row hearer.standing) hearer.pending.waiting) else None))) ≤ 16) [
       | true ↦ λ is.
-          let shared : nat_lt hearer.backlog 8 ≡ true = last-true _ _ is in
+          let below_limit : nat_lt hearer.backlog 8 ≡ true = last-true _ _ is in
           one-or-none (option_map (λ handle. indication_of values handle hearer.mtu) (first_handle (from_due (is_indicated attributes hearer.row hearer.standing) hearer.pending.waiting)))
-          hearer.backlog (omega (arith, ltb-true hearer.backlog 8 shared))
+          hearer.backlog (omega (arith, ltb-true hearer.backlog 8 below_limit))
       | false ↦ λ is. omega (arith, few)
     ] refl
 

@@ -33,7 +33,7 @@ unfolding value_answer part_answer after_entries
 refuses_by_the_first_broken_rule table row conn (ReadRequest handle) rule = λ is. rw is refl
 refuses_by_the_first_broken_rule table row conn (ReadBlobRequest handle offset) rule = λ is. rw is refl
 refuses_by_the_first_broken_rule table row conn (WriteRequest handle value) rule = λ is. rw is refl
-refuses_by_the_first_broken_rule table row conn (PrepareWriteRequest handle offset connection) rule = λ is. rw is refl
+refuses_by_the_first_broken_rule table row conn (PrepareWriteRequest handle offset part) rule = λ is. rw is refl
 refuses_by_the_first_broken_rule table row conn asked rule = tt
 
 -- the first of a list

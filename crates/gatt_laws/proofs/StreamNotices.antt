@@ -111,19 +111,19 @@ told-octet old octets octet (FirstPacket packet rest) none is ends follows =
 
 follows-all : (octets : Octets) → Follows octets
 unfolding after_item
-follows-all [] old none connection =
+follows-all [] old none part =
     ap (λ (d : Division). notices_in old (map APacket d.packets))
-    (sym (division-part old.intake.unfinished connection) ∙ ap division (sym (append-nil old.intake.unfinished)))
-follows-all (octet ∷ octets) old none connection =
+    (sym (division-part old.intake.unfinished part) ∙ ap division (sym (append-nil old.intake.unfinished)))
+follows-all (octet ∷ octets) old none part =
     let all : Octets = old.intake.unfinished ++ octet ∷ [] in
     ap (λ (fault : Option Fault). option_map_or (noticed old.intake.state) (if is_some fault then None else event_taken old.intake (AnOctet octet)) []
     ++ notices_in (unless_stopped fault old (taken old (AnOctet octet))) (map AnOctet octets)) none
     ∙ told-octet old octets octet (first_of all) none refl
-    (subst (λ (first : First). EndsWithIt first (first_of all)) connection (ends_first octet old.intake.unfinished)) (follows-all octets)
+    (subst (λ (first : First). EndsWithIt first (first_of all)) part (ends_first octet old.intake.unfinished)) (follows-all octets)
     ∙ ap (λ (all : Octets). notices_in old (map APacket (division all).packets)) (append_assoc old.intake.unfinished (octet ∷ []) octets)
 
 pub tells_of_the_division : TellsOfTheDivision
-tells_of_the_division old octets none connection = follows-all octets old none connection
+tells_of_the_division old octets none part = follows-all octets old none part
 
 -- no packet of a division is too long
 abbrev pub AreKept : List Packet → Type 0

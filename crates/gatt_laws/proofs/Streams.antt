@@ -44,7 +44,7 @@ ends-none octet packet size =
     let none : Octets = [] in
     elim (cases_Bool (nat_le size (length none))) [
       | inl all ↦ rw all (drop_all size none (omega arith))
-      | inr connection ↦ rw connection tt
+      | inr part ↦ rw part tt
     ]
 
 ends-acl : (octet : ℕ) (octets : Octets) → EndsWithIt (acl_form octets) (acl_form (octets ++ octet ∷ []))
@@ -158,15 +158,15 @@ after-octet old octets octet (FirstPacket packet rest) none is ends follows =
 
 follows-all : (octets : Octets) → Follows octets
 unfolding after_item
-follows-all [] old none connection =
+follows-all [] old none part =
     ap (λ (d : Division). with_nothing_unfinished (after_division old d))
-    (sym (division-part old.intake.unfinished connection) ∙ ap division (sym (append-nil old.intake.unfinished)))
-follows-all (octet ∷ octets) old none connection =
+    (sym (division-part old.intake.unfinished part) ∙ ap division (sym (append-nil old.intake.unfinished)))
+follows-all (octet ∷ octets) old none part =
     let unfinished : Octets = old.intake.unfinished ++ octet ∷ [] in
     ap (λ (stands : Option Fault). with_nothing_unfinished (after_items (unless_stopped stands old (taken old (AnOctet octet))) (map AnOctet octets))) none
     ∙ after-octet old octets octet (first_of unfinished) none refl
-    (subst (λ (first : First). EndsWithIt first (first_of unfinished)) connection (ends_first octet old.intake.unfinished)) (follows-all octets)
+    (subst (λ (first : First). EndsWithIt first (first_of unfinished)) part (ends_first octet old.intake.unfinished)) (follows-all octets)
     ∙ ap (λ (all : Octets). with_nothing_unfinished (after_division old (division all))) (append_assoc old.intake.unfinished (octet ∷ []) octets)
 
 pub takes_the_division : TakesTheDivision
-takes_the_division old octets none connection = follows-all octets old none connection
+takes_the_division old octets none part = follows-all octets old none part

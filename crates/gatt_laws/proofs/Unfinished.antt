@@ -26,36 +26,36 @@ left-behind old packet rest false =
 
 part-first : (old : Run) (octets : Octets) (first : First) → IsPart old → first_of octets ≡ first → EndsWithIt NoneYet first
     → IsPart (run_after_first old octets first)
-part-first old octets NoneYet connection is ends = is
-part-first old octets (NoPacket indicator) connection is ends = connection
-part-first old octets (FirstPacket packet rest) connection is ends = ap first_of (left-behind old packet rest (is_long packet) ∙ ends)
+part-first old octets NoneYet partial is ends = is
+part-first old octets (NoPacket indicator) partial is ends = partial
+part-first old octets (FirstPacket packet rest) partial is ends = ap first_of (left-behind old packet rest (is_long packet) ∙ ends)
 
 part-result : {E : Type 0} (old : Run) (result : Result Event E) → IsPart old → IsPart (after_result old result)
-part-result old (Ok event) connection = connection
-part-result old (Err refused) connection = connection
+part-result old (Ok event) partial = partial
+part-result old (Err refused) partial = partial
 
 -- one octet more ends a packet, or none
 ends-next : (old : Run) (octet : ℕ) → IsPart old → EndsWithIt NoneYet (first_of (old.intake.unfinished ++ octet ∷ []))
-ends-next old octet connection =
-    subst (λ (first : First). EndsWithIt first (first_of (old.intake.unfinished ++ octet ∷ []))) connection (ends_first octet old.intake.unfinished)
+ends-next old octet partial =
+    subst (λ (first : First). EndsWithIt first (first_of (old.intake.unfinished ++ octet ∷ []))) partial (ends_first octet old.intake.unfinished)
 
 part-taken : (old : Run) (item : Item) → IsPart old → IsPart (taken old item)
-part-taken old (AnOctet octet) connection =
-    let octets : Octets = old.intake.unfinished ++ octet ∷ [] in part-first old octets (first_of octets) connection refl (ends-next old octet connection)
-part-taken old (APacket packet) connection = ap first_of (left-behind old packet old.intake.unfinished (is_long packet)) ∙ connection
-part-taken old (ACall call) connection = part-result old (call_event old.intake.state call) connection
-part-taken old (ATable table) connection = part-result old (replacement_event old.intake.state table) connection
-part-taken old TheEnd connection = refl
+part-taken old (AnOctet octet) partial =
+    let octets : Octets = old.intake.unfinished ++ octet ∷ [] in part-first old octets (first_of octets) partial refl (ends-next old octet partial)
+part-taken old (APacket packet) partial = ap first_of (left-behind old packet old.intake.unfinished (is_long packet)) ∙ partial
+part-taken old (ACall call) partial = part-result old (call_event old.intake.state call) partial
+part-taken old (ATable table) partial = part-result old (replacement_event old.intake.state table) partial
+part-taken old TheEnd partial = refl
 
 part-unless : (old new : Run) (fault : Option Fault) → IsPart old → IsPart new → IsPart (unless_stopped fault old new)
-part-unless old new (Some fault) connection then_part = connection
-part-unless old new None connection then_part = then_part
+part-unless old new (Some fault) partial then_part = partial
+part-unless old new None partial then_part = then_part
 
 part-items : (old : Run) (items : List Item) → IsPart old → IsPart (after_items old items)
 unfolding after_item
-part-items old [] connection = connection
-part-items old (item ∷ items) connection =
-    part-items (after_item old item) items (part-unless old (taken old item) old.intake.fault connection (part-taken old item connection))
+part-items old [] partial = partial
+part-items old (item ∷ items) partial =
+    part-items (after_item old item) items (part-unless old (taken old item) old.intake.fault partial (part-taken old item partial))
 
 pub leaves_less_than_a_packet : LeavesLessThanAPacket
 unfolding run
@@ -114,14 +114,14 @@ divides-octet old all (FirstPacket packet left) octets rest none is ends divides
 
 pub divides_on : (octets : Octets) → DividesOn octets
 unfolding after_item
-divides_on [] old none connection then_none rest =
+divides_on [] old none partial then_none rest =
     ap (λ (d : Division). before d.packets (division (old.intake.unfinished ++ rest)))
-    (sym (ap division (append-nil old.intake.unfinished) ∙ division-part old.intake.unfinished connection))
-divides_on (octet ∷ octets) old none connection then_none rest =
+    (sym (ap division (append-nil old.intake.unfinished) ∙ division-part old.intake.unfinished partial))
+divides_on (octet ∷ octets) old none partial then_none rest =
     let all : Octets = old.intake.unfinished ++ octet ∷ [] in
     let new : Option Fault → Run = λ fault. after_items (unless_stopped fault old (taken old (AnOctet octet))) (map AnOctet octets) in
     let stands : (new None).intake.fault ≡ None =
     subst (λ (fault : Option Fault). (new fault).intake.fault ≡ None) none then_none in
     ap division (sym (append_assoc old.intake.unfinished (octet ∷ []) (octets ++ rest)))
-    ∙ divides-octet old all (first_of all) octets rest none refl (ends-next old octet connection) (divides_on octets) stands
+    ∙ divides-octet old all (first_of all) octets rest none refl (ends-next old octet partial) (divides_on octets) stands
     ∙ (λ i. before (division (append_assoc old.intake.unfinished (octet ∷ []) octets i)).packets (division ((new (sym none i)).intake.unfinished ++ rest)))

@@ -71,23 +71,23 @@ stored-table table handle value is used fits exact = record {
         table.values table.values handle value value refl used (λ at at_used. is.fixed at) exact (suc other) (omega arith) fixed
 
 -- how long a value is once a part is written into it
-kept-length : (value : Octets) (offset : ℕ) (connection : Octets) → offset + length connection ≤ length value → length (value_with_part true value offset connection) ≡ length value
-kept-length value offset connection fits = simp (length-append, length-take, length-drop) (omega arith)
+kept-length : (value : Octets) (offset : ℕ) (part : Octets) → offset + length part ≤ length value → length (value_with_part true value offset part) ≡ length value
+kept-length value offset part fits = simp (length-append, length-take, length-drop) (omega arith)
 
-cut-length : (value : Octets) (offset : ℕ) (connection : Octets) → offset ≤ length value → length (value_with_part false value offset connection) ≡ offset + length connection
-cut-length value offset connection fits = simp (length-append, length-take, length-drop) (omega arith)
+cut-length : (value : Octets) (offset : ℕ) (part : Octets) → offset ≤ length value → length (value_with_part false value offset part) ≡ offset + length part
+cut-length value offset part fits = simp (length-append, length-take, length-drop) (omega arith)
 
 -- an entry with no fault fits
-record Fits (size offset count shared : ℕ) : Type 0 where
+record Fits (size offset count room : ℕ) : Type 0 where
   begins : offset ≤ size
-  ends : offset + count ≤ shared
+  ends : offset + count ≤ room
 
-fits-by : (size offset count shared : ℕ) (low long : Code) (before behind : Bool) → nat_lt size offset ≡ before → nat_lt shared (offset + count) ≡ behind
-    → (if before then Some low else if behind then Some long else None) ≡ None → Fits size offset count shared
-fits-by size offset count shared low long true behind is was none = cc none
-fits-by size offset count shared low long false true is was none = cc none
-fits-by size offset count shared low long false false is was none =
-    record { begins = omega (arith, ltb-false size offset is); ends = omega (arith, ltb-false shared (offset + count) was) }
+fits-by : (size offset count room : ℕ) (low long : Code) (before behind : Bool) → nat_lt size offset ≡ before → nat_lt room (offset + count) ≡ behind
+    → (if before then Some low else if behind then Some long else None) ≡ None → Fits size offset count room
+fits-by size offset count room low long true behind is was none = cc none
+fits-by size offset count room low long false true is was none = cc none
+fits-by size offset count room low long false false is was none =
+    record { begins = omega (arith, ltb-false size offset is); ends = omega (arith, ltb-false room (offset + count) was) }
 
 no-fault : (broken : Option (Rule × Code)) (fault : Option Code) → unless_broken broken fault ≡ None → fault ≡ None
 no-fault None fault none = none
@@ -125,10 +125,10 @@ entry-table access attributes standing stored entry false configuration is none 
     let value_none : value_fault attributes size entry ≡ None =
     ap (λ (test : Bool). if test then configuration_fault attributes entry else value_fault attributes size entry) (sym configuration)
     ∙ no-fault (first_broken_of access (guard_at attributes entry.handle) standing) (form_fault attributes size entry) none in
-    let shared = room_for attributes entry.handle size in
-    let fits : Fits size entry.offset (length entry.part) shared =
-    fits-by size entry.offset (length entry.part) shared INVALID_OFFSET INVALID_ATTRIBUTE_VALUE_LENGTH
-    (nat_lt size entry.offset) (nat_lt shared (entry.offset + length entry.part)) refl refl value_none in
+    let room = room_for attributes entry.handle size in
+    let fits : Fits size entry.offset (length entry.part) room =
+    fits-by size entry.offset (length entry.part) room INVALID_OFFSET INVALID_ATTRIBUTE_VALUE_LENGTH
+    (nat_lt size entry.offset) (nat_lt room (entry.offset + length entry.part)) refl refl value_none in
     rw configuration (value-table (table_with attributes stored.values) entry (is_fixed_at attributes entry.handle) refl is
     (handle-used access attributes standing entry.handle may) fits)
 

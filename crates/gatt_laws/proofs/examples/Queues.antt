@@ -72,7 +72,7 @@ its_own_part = refl
 -- and executes that
 accepted : IsAcceptedExecution (run (host door 2) phone_then_tablet).intake.state 0 executes
 unfolding run events_of after_item packet_event step change_of live_effect after_hearing commands_due frame_at form_of pieces after_entries value_answer prepares executes begun phone_then_tablet tablet_around
-accepted = record { live = refl; asked = refl; shared = refl; accepted = refl }
+accepted = record { live = refl; asked = refl; has_room = refl; accepted = refl }
 
 writes_its_own : let state : State = (run (host door 2) phone_then_tablet).intake.state in WritesItsOwn state (step state (Of 0 (Asks executes))) 0
 writes_its_own = executes_its_own (run (host door 2) phone_then_tablet).intake.state 0 executes accepted

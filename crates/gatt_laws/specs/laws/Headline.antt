@@ -41,7 +41,7 @@ handles_asked (FindByTypeValueRequest first last type value) = []
 handles_asked (ReadByTypeRequest first last type) = []
 handles_asked (ReadByGroupTypeRequest first last type) = []
 handles_asked (WriteRequest handle value) = []
-handles_asked (PrepareWriteRequest handle offset connection) = []
+handles_asked (PrepareWriteRequest handle offset part) = []
 handles_asked (ExecuteWriteRequest flags) = []
 handles_asked ConfirmationPdu = []
 handles_asked (WriteCommandPdu handle value) = []
@@ -49,7 +49,7 @@ handles_asked (WriteCommandPdu handle value) = []
 -- the handles of the values that a response has
 abbrev pub handles_sent : Asked → Response → List Handle
 handles_sent asked (ReadResponse value) = handles_asked asked
-handles_sent asked (ReadBlobResponse connection) = handles_asked asked
+handles_sent asked (ReadBlobResponse part) = handles_asked asked
 handles_sent asked (ReadMultipleResponse values) = handles_asked asked
 handles_sent asked (FindByTypeValueResponse groups) = map element_handle groups
 handles_sent asked (ReadByTypeResponse size values) = map element_handle values
@@ -58,7 +58,7 @@ handles_sent asked (ErrorResponse request handle code) = []
 handles_sent asked (ExchangeMtuResponse server_rx_mtu) = []
 handles_sent asked (FindInformationResponse format types) = []
 handles_sent asked WriteResponse = []
-handles_sent asked (PrepareWriteResponse handle offset connection) = []
+handles_sent asked (PrepareWriteResponse handle offset part) = []
 handles_sent asked ExecuteWriteResponse = []
 handles_sent asked (HandleValueNotification handle value) = []
 handles_sent asked (HandleValueIndication handle value) = []

@@ -26,7 +26,7 @@ row_of_connection state ordinal = row_in_force (state.bonds (state.connections o
 pub record IsAcceptedExecution (state : State) (ordinal : Ordinal) (pdu : Octets) : Type 0 where
   pub live : is_live (state.connections ordinal).mark ≡ true
   pub asked : request_of pdu (connection_mtu state.shared (state.connections ordinal)) ≡ Ok (ExecuteWriteRequest flags.Write)
-  pub shared : is_full state.shared (state.connections ordinal) ≡ false
+  pub has_room : is_full state.shared (state.connections ordinal) ≡ false
   pub accepted : response_to state.shared.table (row_of_connection state ordinal) (bearer_of state.shared (state.connections ordinal))
       (ExecuteWriteRequest flags.Write) ≡ Some ExecuteWriteResponse
 

@@ -33,7 +33,7 @@ abbrev pub named_by : Asked → Option Named
 named_by (ReadRequest handle) = Some (record { request = READ_REQUEST; handle = handle; access = Read })
 named_by (ReadBlobRequest handle offset) = Some (record { request = READ_BLOB_REQUEST; handle = handle; access = Read })
 named_by (WriteRequest handle value) = Some (record { request = WRITE_REQUEST; handle = handle; access = Write })
-named_by (PrepareWriteRequest handle offset connection) = Some (record { request = PREPARE_WRITE_REQUEST; handle = handle; access = Write })
+named_by (PrepareWriteRequest handle offset part) = Some (record { request = PREPARE_WRITE_REQUEST; handle = handle; access = Write })
 named_by (ExchangeMtuRequest client_rx_mtu) = None
 named_by (FindInformationRequest first last) = None
 named_by (FindByTypeValueRequest first last type value) = None

@@ -58,9 +58,9 @@ command_for connection = disconnect_or connection.handle connection.reason (repl
 
 -- the commands that connections wait for, by their slots
 abbrev pub commands_for : (Ordinal → ConnectionState) → Slots → List Commanded
-commands_for parts [] = []
-commands_for parts (None ∷ slots) = commands_for parts slots
-commands_for parts (Some ordinal ∷ slots) = option_to_list (command_for (parts ordinal)) ++ commands_for parts slots
+commands_for connections [] = []
+commands_for connections (None ∷ slots) = commands_for connections slots
+commands_for connections (Some ordinal ∷ slots) = option_to_list (command_for (connections ordinal)) ++ commands_for connections slots
 
 -- the next command of initialisation, once its turn has come
 abbrev pub command_of_init : Controller → List Commanded
@@ -73,19 +73,19 @@ enabling controller slots =
 
 -- all commands that are due, in their order
 unfoldable pub commands_due : Controller → (Ordinal → ConnectionState) → Slots → List Commanded
-commands_due controller parts slots = command_of_init controller ++ commands_for parts slots ++ enabling controller slots
+commands_due controller connections slots = command_of_init controller ++ commands_for connections slots ++ enabling controller slots
 
 -- those of them that the controller takes
 abbrev pub commands_sent : Controller → (Ordinal → ConnectionState) → Slots → List Commanded
-commands_sent controller parts slots = take controller.credit (commands_due controller parts slots)
+commands_sent controller connections slots = take controller.credit (commands_due controller connections slots)
 
 -- how many commands stand before that of a connection
 abbrev pub count_before : Ordinal → (Ordinal → ConnectionState) → Slots → ℕ
-count_before ordinal parts [] = 0
-count_before ordinal parts (None ∷ slots) = count_before ordinal parts slots
-count_before ordinal parts (Some other ∷ slots) =
+count_before ordinal connections [] = 0
+count_before ordinal connections (None ∷ slots) = count_before ordinal connections slots
+count_before ordinal connections (Some other ∷ slots) =
     if other == ordinal then 0
-    else length (option_to_list (command_for (parts other))) + count_before ordinal parts slots
+    else length (option_to_list (command_for (connections other))) + count_before ordinal connections slots
 
 -- a connection after its command was sent
 abbrev pub without_command : ConnectionState → ConnectionState
@@ -93,9 +93,9 @@ without_command connection =
     if is_some connection.reason then record connection { reason = None } else record connection { reply = None }
 
 abbrev pub after_sending : Controller → (Ordinal → ConnectionState) → Slots → Ordinal → ConnectionState
-after_sending controller parts slots ordinal =
-    if nat_lt (length (command_of_init controller) + count_before ordinal parts slots) controller.credit
-    then without_command (parts ordinal) else parts ordinal
+after_sending controller connections slots ordinal =
+    if nat_lt (length (command_of_init controller) + count_before ordinal connections slots) controller.credit
+    then without_command (connections ordinal) else connections ordinal
 
 abbrev pub is_enabling : Commanded → Bool
 is_enabling command = opcode_of command == opcode_of LeSetAdvertiseEnable
