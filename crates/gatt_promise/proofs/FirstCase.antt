@@ -157,7 +157,7 @@ refuses_by_the_first_case table row conn (Ok (ReadMultipleRequest handles)) = mu
 refuses_by_the_first_case table row conn (Ok (ReadByGroupTypeRequest first last kind)) = groups-refused table row conn.standing conn.mtu first last (uuid_number kind)
 refuses_by_the_first_case table row conn (Ok (WriteRequest handle value)) =
     write-refused table row conn.standing (whole_value handle value ∷ []) WRITE_REQUEST WriteResponse refl
-refuses_by_the_first_case table row conn (Ok (PrepareWriteRequest handle offset connection)) = prepare-refused table.attributes conn (entry_at handle offset connection)
+refuses_by_the_first_case table row conn (Ok (PrepareWriteRequest handle offset part)) = prepare-refused table.attributes conn (entry_at handle offset part)
 refuses_by_the_first_case table row conn (Ok (ExecuteWriteRequest flags.Cancel)) = refl
 refuses_by_the_first_case table row conn (Ok (ExecuteWriteRequest flags.Write)) =
     write-refused table row conn.standing conn.queue EXECUTE_WRITE_REQUEST ExecuteWriteResponse refl
@@ -216,13 +216,13 @@ refused_changes_nothing table row conn (Ok (WriteRequest handle value)) refusal 
       written = heard-of-nothing Write table row conn.standing (whole_value handle value ∷ []) refusal is;
       kept = refl;
     }
-refused_changes_nothing table row conn (Ok (PrepareWriteRequest handle offset connection)) refusal is =
-    let entry : Entry = entry_at handle offset connection in
+refused_changes_nothing table row conn (Ok (PrepareWriteRequest handle offset part)) refusal is =
+    let entry : Entry = entry_at handle offset part in
     record {
       stored = refl;
       written = refl;
       kept =
-          prepared-nothing conn entry refusal (first_broken_of Write (guard_at table.attributes handle) conn.standing) (has_queue_room conn.queue connection) is;
+          prepared-nothing conn entry refusal (first_broken_of Write (guard_at table.attributes handle) conn.standing) (has_queue_room conn.queue part) is;
     }
 refused_changes_nothing table row conn (Ok (ExecuteWriteRequest flags.Cancel)) refusal is = cc is
 refused_changes_nothing table row conn (Ok (ExecuteWriteRequest flags.Write)) refusal is =

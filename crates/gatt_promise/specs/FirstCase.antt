@@ -106,8 +106,8 @@ bad_offset table row question = None
 
 -- a write that is to be prepared: the policy, and then the room
 abbrev pub unprepared : Contents → Bearer → Question → Option Refusal
-unprepared table conn (Ok (PrepareWriteRequest handle offset connection)) =
-    first_there (broken_at Write table.attributes conn.standing handle ∷ case_if (not (has_queue_room conn.queue connection)) handle PREPARE_QUEUE_FULL ∷ [])
+unprepared table conn (Ok (PrepareWriteRequest handle offset part)) =
+    first_there (broken_at Write table.attributes conn.standing handle ∷ case_if (not (has_queue_room conn.queue part)) handle PREPARE_QUEUE_FULL ∷ [])
 unprepared table conn question = None
 
 -- a write against the values that stand: from behind the end, past the largest length, or bits that are none. A configuration
@@ -171,7 +171,7 @@ request_opcode (Ok (ReadBlobRequest handle offset)) = READ_BLOB_REQUEST
 request_opcode (Ok (ReadMultipleRequest handles)) = READ_MULTIPLE_REQUEST
 request_opcode (Ok (ReadByGroupTypeRequest first last type)) = READ_BY_GROUP_TYPE_REQUEST
 request_opcode (Ok (WriteRequest handle value)) = WRITE_REQUEST
-request_opcode (Ok (PrepareWriteRequest handle offset connection)) = PREPARE_WRITE_REQUEST
+request_opcode (Ok (PrepareWriteRequest handle offset part)) = PREPARE_WRITE_REQUEST
 request_opcode (Ok (ExecuteWriteRequest flags)) = EXECUTE_WRITE_REQUEST
 request_opcode (Ok ConfirmationPdu) = HANDLE_VALUE_CONFIRMATION
 request_opcode (Ok (WriteCommandPdu handle value)) = WRITE_COMMAND

@@ -1,6 +1,6 @@
 -- What the host promises. A start (a table, keys, rows and a configuration) and an input (octets, packets, calls and tables) lead to a
--- run: a state, and all packets that go out on the way. gatt_laws defines it, in specs/machine; a connection is a Part there, and
--- what all connections share is the SharedState. Of each call of the host its contract says what it takes in, and that what goes out are the
+-- run: a state, and all packets that go out on the way. gatt_laws defines it, in specs/machine; a connection is a ConnectionState
+-- there, and what all connections share is the SharedState. Of each call of the host its contract says what it takes in, and that what goes out are the
 -- packets of the run. These records say what holds of each run, for every start and every input, however connections
 -- interleave: that the order of octets alone decides it, what each connection is sent and what it may change, what it may not learn,
 -- and what the application is told. Each field is proved.
