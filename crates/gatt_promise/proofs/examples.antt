@@ -1,2 +1,5 @@
 pub mod Refusals
-pub mod Crossing
+pub mod Laws
+pub mod Answering
+pub mod Disclosing
+pub mod Sharing

@@ -27,7 +27,7 @@ use Rattle.le_acl.specs.Packets.{Pdu, pieces}
 use Rattle.gatt_promise.specs.Gained.{Gains, TellsOnly, answers_at, kept_queue, picked}
 use Rattle.gatt_promise.specs.FirstCase.{IsByTheFirstCase}
 
-abbrev Answering : Type 0
+abbrev pub Answering : Type 0
 Answering = Contents → Row → Bearer → Question → Option Response
 
 -- a client that nobody knows, and one that is authorized up to a moment that is past
@@ -94,7 +94,8 @@ ended = refl
 
 -- One PDU more at each request.
 
-abbrev two : State
+-- two connections at the door lock
+abbrev pub two : State
 two = record (state_at (host door 2)) { connections = λ ordinal. fresh_connection ordinal phone; slots = Some 0 ∷ Some 1 ∷ [] }
 
 reads : Event
