@@ -11,7 +11,7 @@ use Rattle.gatt_laws.proofs.KnownKeys.{knows_the_keys}
 use Rattle.gatt_laws.proofs.Notices.{tells_each_value}
 use Rattle.gatt_laws.proofs.RowNotices.{tells_each_bond, tells_each_own_row}
 use Rattle.gatt_laws.proofs.ServiceChanged.{notices_service_changed_confirmed}
-use Rattle.gatt_laws.proofs.StreamNotices.{tells_of_the_division}
+use Rattle.gatt_laws.proofs.StreamNotices.{receives_of_the_division, tells_of_the_division}
 use Rattle.gatt_laws.proofs.ToldIsSo.{tells_what_is_so}
 use Rattle.gatt_laws.specs.laws.Telling.{TellsTheApplication}
 
@@ -36,4 +36,5 @@ tells_the_application = record {
   deadline = tells_from_the_deadline_on;
   only_late = notices_only_who_is_late;
   division = tells_of_the_division;
+  values_of_division = receives_of_the_division;
 }

@@ -1,14 +1,23 @@
 -- What is told of octets: what is told of the packets that they divide into.
-use Rattle.std.specs.Prelude.{◌≡◌, map, ◌++◌, None}
+use Rattle.std.specs.Prelude.{◌≡◌, List, map, ◌++◌, None}
+use Rattle.gatt_laws.specs.machine.Event.{Event}
 use Rattle.gatt_laws.specs.machine.Input.{AnOctet, APacket, Run}
-use Rattle.gatt_laws.specs.machine.Notice.{notices_in}
+use Rattle.gatt_laws.specs.machine.Notice.{noticed, of_items, received_of_event}
+use Rattle.gatt_laws.specs.machine.State.{State}
 use Rattle.le_h4.specs.Division.{division}
 use Rattle.le_h4.specs.Packet.{NoneYet, first_of}
 use Rattle.octets.specs.Number.{Octets}
 
 -- with those that were unfinished before them; so it does not matter how they were cut
-abbrev pub TellsOfTheDivision : Type 0
-TellsOfTheDivision = (old : Run) (octets : Octets) → old.intake.fault ≡ None
+abbrev pub IsOfTheDivision : {A : Type 0} → (State → Event → List A) → Type 0
+IsOfTheDivision of_event = (old : Run) (octets : Octets) → old.intake.fault ≡ None
     → first_of old.intake.unfinished ≡ NoneYet
-    → notices_in old (map AnOctet octets)
-    ≡ notices_in old (map APacket (division (old.intake.unfinished ++ octets)).packets)
+    → of_items of_event old (map AnOctet octets)
+    ≡ of_items of_event old (map APacket (division (old.intake.unfinished ++ octets)).packets)
+
+abbrev pub TellsOfTheDivision : Type 0
+TellsOfTheDivision = IsOfTheDivision noticed
+
+-- and so a listener receives the same values
+abbrev pub ReceivesOfTheDivision : Type 0
+ReceivesOfTheDivision = IsOfTheDivision received_of_event

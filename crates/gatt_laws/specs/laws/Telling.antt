@@ -7,7 +7,7 @@ use Rattle.gatt_laws.specs.laws.Notices.{KnowsTheValues, TellsEachValue}
 use Rattle.gatt_laws.specs.laws.Present.{AlwaysHasOneHandleEach, KnowsWhoIsThere, TellsWhoIsThere}
 use Rattle.gatt_laws.specs.laws.RowNotices.{TellsEachBond, TellsEachKey, TellsEachOwnRow}
 use Rattle.gatt_laws.specs.laws.ServiceChanged.{NoticesServiceChangedConfirmed}
-use Rattle.gatt_laws.specs.laws.StreamNotices.{TellsOfTheDivision}
+use Rattle.gatt_laws.specs.laws.StreamNotices.{ReceivesOfTheDivision, TellsOfTheDivision}
 use Rattle.gatt_laws.specs.laws.ToldIsSo.{TellsWhatIsSo}
 
 -- What a listener knows in every run: each value, the key of each link, and who is there.
@@ -36,3 +36,4 @@ pub record TellsTheApplication : Type 0 where
   pub deadline : TellsFromTheDeadlineOn
   pub only_late : NoticesOnlyWhoIsLate
   pub division : TellsOfTheDivision
+  pub values_of_division : ReceivesOfTheDivision

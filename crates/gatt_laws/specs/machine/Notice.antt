@@ -1,14 +1,15 @@
 -- What the application is told: this profile's own. The reasons are those of Core 5.0, Vol 2
 -- Part D, 2: 05 (Authentication Failure), and 13 (Remote User Terminated Connection).
-use Rattle.std.specs.Prelude.{ℕ, ◌==◌, Bool, false, ◌&&◌, not, if◌then◌else◌}
+use Rattle.std.specs.Prelude.{ℕ, ◌==◌, Bool, false, ◌&&◌, not, is_some, if◌then◌else◌}
 use Rattle.std.specs.Prelude.{List, [], ◌∷◌, ◌++◌, map, Option, Some, None}
 use Rattle.std.specs.List.{flat_map}
 use Rattle.std.specs.Option.{option_map_or, option_to_list}
 use Rattle.att_numbers.specs.Types.{Handle, Row}
 use Rattle.att_policy.specs.declared.standing.KeyFacts.{KeyFacts}
 use Rattle.att_attributes.specs.declared.attr.Attr.{Attr}
-use Rattle.att_attributes.specs.Attributes.{is_configuration_at}
+use Rattle.att_attributes.specs.Attributes.{attribute_at, is_configuration_at}
 use Rattle.att_table.specs.ConfigRow.{bits_at}
+use Rattle.att_table.specs.Table.{Contents, value_at}
 use Rattle.gatt_conn.specs.Answer.{is_confirmation}
 use Rattle.gatt_laws.specs.machine.Event as event
 use Rattle.gatt_laws.specs.machine.Event.{Ordinal, Own, Encrypted, Refreshed, Asks, Event, Of, Tick}
@@ -17,11 +18,12 @@ use Rattle.gatt_laws.specs.machine.ItemEvents.{event_at}
 use Rattle.gatt_laws.specs.machine.ConnectionState.{ConnectionState, is_live, is_there, key_of, row_in_force}
 use Rattle.gatt_laws.specs.machine.SharedState.{SharedState}
 use Rattle.gatt_laws.specs.machine.Start.{Start}
-use Rattle.gatt_laws.specs.machine.State.{State}
+use Rattle.gatt_laws.specs.machine.State.{State, step}
 use Rattle.gatt_laws.specs.machine.Effect.{Effect, effect_of, handles_written}
 use Rattle.gatt_subs.specs.declared.pending.Unconfirmed.{Unconfirmed}
 use Rattle.gatt_subs.specs.Indications.{is_late}
 use Rattle.le_hci.specs.declared.peer.Peer.{Peer}
+use Rattle.octets.specs.Number.{Octets}
 
 -- Of a connection, by the handle that it has in HCI: it comes with its peer, or is gone, also one
 -- that was ending; its link has a key that is worth another thing than before, or no key any more;
@@ -116,16 +118,48 @@ noticed state (Of ordinal own) =
 noticed state (Tick time) = flat_map (slot_told state time) state.slots
 noticed state event = []
 
--- what is told of an item of the input: what its event tells, and nothing where it means none
-abbrev pub notices_of : Run → Item → List Notice
-notices_of run item =
-    option_map_or (noticed run.intake.state) (event_at run.intake item) []
+-- what is read of an item of the input by its event: nothing if it means none
+abbrev pub of_item : {A : Type 0} → (State → Event → List A) → Run → Item → List A
+of_item of_event run item = option_map_or (of_event run.intake.state) (event_at run.intake item) []
 
 -- and of items, in their order
+abbrev pub of_items : {A : Type 0} → (State → Event → List A) → Run → List Item → List A
+of_items of_event run [] = []
+of_items of_event run (item ∷ items) = of_item of_event run item ++ of_items of_event (after_item run item) items
+
+-- the notices of an item, and of items
+abbrev pub notices_of : Run → Item → List Notice
+notices_of = of_item noticed
+
 abbrev pub notices_in : Run → List Item → List Notice
-notices_in run [] = []
-notices_in run (item ∷ items) =
-    notices_of run item ++ notices_in (after_item run item) items
+notices_in = of_items noticed
 
 abbrev pub all_notices : Start → List Item → List Notice
 all_notices start input = notices_in (run_at_start start) input
+
+-- a notice as a listener receives it: with the octets of the value that was written, and with none if
+-- it is of anything else
+pub record Received : Type 0 where
+  pub notice : Notice
+  pub value : Octets
+
+-- the octets of a notice by the values of a table: none if it has no such attribute
+abbrev pub octets_of_notice : Contents → Notice → Octets
+octets_of_notice table (Written handle attribute) =
+    if is_some (attribute_at table.attributes attribute) then value_at table.values attribute else []
+octets_of_notice table notice = []
+
+abbrev pub received_with : Contents → Notice → Received
+received_with table notice = record { notice = notice; value = octets_of_notice table notice }
+
+-- what a listener receives of an event: its notices, with the values that the event leaves
+abbrev pub received_of_event : State → Event → List Received
+received_of_event state event =
+    map (received_with (step state event).shared.table) (noticed state event)
+
+-- of an item, and of items
+abbrev pub received_of : Run → Item → List Received
+received_of = of_item received_of_event
+
+abbrev pub received_in : Run → List Item → List Received
+received_in = of_items received_of_event
