@@ -17,8 +17,10 @@ pub mod Calling
 pub mod Serving
 pub mod Owed
 pub mod Silence
+pub mod Unchanged
 pub mod Told
 pub mod StreamTold
+pub mod Received
 pub mod Hearing
 pub mod HearingTurns
 pub mod Rows

@@ -1,5 +1,5 @@
 -- What the application is told of the last event, by what is held after it.
-use Rattle.std.specs.Prelude.{◌≡◌, ℕ, List, [], ◌∷◌, ◌++◌, map, if◌then◌else◌, Option, IsSome}
+use Rattle.std.specs.Prelude.{◌≡◌, ℕ, List, [], ◌∷◌, ◌++◌, map, if◌then◌else◌, Option}
 use Rattle.std.specs.Option.{option_to_list}
 use Rattle.att_numbers.specs.Types.{Row}
 use Rattle.att_policy.specs.declared.standing.KeyFacts.{KeyFacts}
@@ -8,12 +8,12 @@ use Rattle.gatt_host.specs.declared.last_event.LastEvent.TheVariants as last
 use Rattle.gatt_app.specs.declared.notice.Notice.{Notice as Lent}
 use Rattle.gatt_app.specs.declared.notice.Notice.TheVariants as lent
 use Rattle.gatt_host.specs.ServerState.{ServerState}
-use Rattle.gatt_laws.specs.machine.Notice.{Notice, Connected, Disconnected, Secured, Unsecured, Written, Configured, Confirmed, TimedOut, Ending, link_told, write_told}
-use Rattle.att_attributes.specs.Attributes.{attribute_at}
-use Rattle.att_table.specs.Table.{Contents, value_at}
+use Rattle.gatt_laws.specs.machine.Notice.{Notice, Connected, Disconnected, Secured, Unsecured, Written, Configured, Confirmed, TimedOut, Ending, Received, link_told, octets_of_notice, write_told}
+use Rattle.att_table.specs.Table.{Contents}
 use Rattle.gatt_laws.specs.machine.Effect.{authentication_failure, lost_encryption, remote_user_terminated}
 use Rattle.gatt_slots.specs.declared.request.Brought.{Brought}
 use Rattle.gatt_slots.specs.Slots.{slot_row_at}
+use Rattle.octets.specs.Number.{Octets}
 
 -- the row in force of the connection of a slot
 abbrev pub row_at_place : ServerState → ℕ → Row
@@ -56,8 +56,17 @@ notice_of (lent.Confirmed handle attribute) = Confirmed handle attribute
 notice_of (lent.TimedOut handle) = TimedOut handle
 notice_of (lent.Ending handle reason) = Ending handle reason
 
--- and these are the octets of the table
+-- the octets that it lends
+abbrev pub octets_lent : Lent → Octets
+octets_lent (lent.Written handle attribute value) = value.now
+octets_lent notice = []
+
+-- a notice as a listener receives it
+abbrev pub received_from : Lent → Received
+received_from notice = record { notice = notice_of notice; value = octets_lent notice }
+
+-- and its octets are those of the table
 abbrev pub HasTheValue : Contents → Lent → Type 0
 HasTheValue table (lent.Written handle attribute value) =
-    IsSome (attribute_at table.attributes attribute) → value.now ≡ value_at table.values attribute
+    value.now ≡ octets_of_notice table (Written handle attribute)
 HasTheValue table notice = Unit

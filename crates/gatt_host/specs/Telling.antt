@@ -1,5 +1,5 @@
 -- What the application is told of what was taken in last, wherever a host was.
-use Rattle.std.specs.Prelude.{◌≡◌, is_some, if◌then◌else◌, List, [], ◌∷◌, Option, Some, None, Result, Ok, Err}
+use Rattle.std.specs.Prelude.{◌≡◌, is_some, if◌then◌else◌, List, [], ◌∷◌, map, Option, Some, None, Result, Ok, Err}
 use Rattle.gatt_host.specs.declared.host_fault.HostFault.{HostFault}
 use Rattle.gatt_host.specs.declared.last_event.LastEvent.TheVariants as last
 use Rattle.gatt_host.specs.ServerState.{ServerState, with_last}
@@ -11,7 +11,7 @@ use Rattle.gatt_host.specs.HostModel.{RefinesRun, HostModel}
 use Rattle.att_table.specs.Table.{Contents}
 use Rattle.gatt_laws.specs.machine.Event.{Event}
 use Rattle.gatt_laws.specs.machine.Input.{Run, Item, run}
-use Rattle.gatt_laws.specs.machine.Notice.{Notice, noticed, notices_in, notices_of}
+use Rattle.gatt_laws.specs.machine.Notice.{Notice, Received, noticed, notices_in, notices_of, received_with}
 use Rattle.gatt_laws.specs.machine.Packets.{packet_event}
 use Rattle.gatt_laws.specs.machine.Start.{Start}
 use Rattle.gatt_laws.specs.machine.State.{State}
@@ -21,6 +21,10 @@ use Rattle.octets.specs.Number.{Octets}
 -- after a fault nothing is told
 abbrev pub notices_told : HostModel → List Notice
 notices_told host = if is_some host.fault then [] else last_notices host.server
+
+-- what a listener receives of it, by the values of the table
+abbrev pub received_told : HostModel → List Received
+received_told host = map (received_with host.server.table) (notices_told host)
 
 -- of a call that is refused nothing is told, and it changes nothing else. Of a host that has stopped nothing is told anyway
 abbrev pub silent_unless : Option HostFault → HostModel → HostModel

@@ -15,7 +15,7 @@ use crate::fault::Fault;
 use crate::feeding::{feed, write_out};
 use crate::host::Host;
 use crate::host_fault::HostFault;
-use crate::listener::{Listener, Nobody, tell};
+use crate::listener::{Listener, Nobody, deliver_notices};
 use gatt_app::{App, AppFault};
 use octets::Sink;
 
@@ -101,7 +101,7 @@ pub(crate) fn do_call<W: Sink, L: Listener>(
         (λ answer. IsCallRefusedAs (call_of call.entry) host.old answer) }
 {
     let answer = host.app(call);
-    tell(host, listener);
+    deliver_notices(host, listener);
     write_out(host, out)?;
     Ok(answer)
 }

@@ -15,7 +15,7 @@ ghost use Rattle.octets.specs.Stream.{CountsIf};
 use crate::host::Host;
 use crate::host_fault::HostFault;
 use crate::host_state::HostState;
-use crate::listener::{Listener, Nobody, tell};
+use crate::listener::{Listener, Nobody, deliver_notices};
 use crate::taking::take;
 use le_h4::PacketBuf;
 use octets::{Sink, write_all};
@@ -108,7 +108,7 @@ fn feed_all<W: Sink, L: Listener>(
             Err(_) => return outcome(host),
         };
         rest = rest.split_at(used).1;
-        tell(host, listener);
+        deliver_notices(host, listener);
         write_out(host, out)?;
     }
     Ok(())

@@ -101,6 +101,9 @@ impl Host {
         // Calls without anything else between them come to an end.
         ensures fewer { OnTrue result (most_out self.new.server < most_out self.old.server) }
         ensures no_fault { OnTrue result (self.new.fault ≡ None) }
+        // The notices of what was taken in last stay until the next is taken in.
+        ensures notices { notices_told self.new ≡ notices_told self.old }
+        ensures table { self.new.server.table ≡ self.old.server.table }
         ensures unchanged { OnFalse result (self.new ≡ self.old) }
         ensures out_unchanged { OnFalse result (out.new.items ≡ out.old.items) }
     {
@@ -122,6 +125,9 @@ impl Host {
         // Calls without anything else between them come to an end.
         ensures fewer { IsSome result → most_out self.new.server < most_out self.old.server }
         ensures no_fault { IsSome result → self.new.fault ≡ None }
+        // The notices of what was taken in last stay until the next is taken in.
+        ensures notices { notices_told self.new ≡ notices_told self.old }
+        ensures table { self.new.server.table ≡ self.old.server.table }
         ensures unchanged { result ≡ None → self.new ≡ self.old }
         ensures out_unchanged { result ≡ None → out.new ≡ out.old }
     {

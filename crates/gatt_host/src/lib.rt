@@ -45,7 +45,7 @@ pub use iter::Notices;
 pub use le_h4::{MAX_PACKET_OUT, PacketOctets, PacketRef};
 pub use le_hci::{InitFault, MAX_ADVERTISING_DATA, Peer};
 pub use le_security::{KeyFault, Keys};
-pub use listener::Listener;
+pub use listener::{Listener, deliver_notices};
 pub use octets::{ArraySink, Failed, Reader, Sink, SliceSource, Source, Writer};
 pub use serving::{End, serve, serve_to};
 pub use taking::lost_fault;

@@ -1,25 +1,25 @@
-//! Who hears what the application is told.
+//! Listeners, which receive the notices of a host.
 
 ghost use Rattle.std.specs.Prelude.{◌≡◌, List, Option, None, [], ◌∷◌};
 ghost use Rattle.std.specs.Bool.{OnFalse};
-ghost use Rattle.gatt_laws.specs.machine.Notice.{Notice as Told};
+ghost use Rattle.gatt_laws.specs.machine.Notice.{Received};
 ghost use Rattle.gatt_host.specs.Listening.{Hears};
-ghost use Rattle.gatt_host.specs.Notices.{notice_of};
-ghost use Rattle.gatt_host.specs.Telling.{notices_told};
+ghost use Rattle.gatt_host.specs.Notices.{received_from};
+ghost use Rattle.gatt_host.specs.Telling.{received_told};
 
 use crate::host::Host;
 use gatt_app::Notice;
 
-/// Hears what the application is told, one notice after another.
+/// Receives the notices of a host, one after another.
 pub trait Listener {
-    /// What it has heard so far, where that is known.
-    ghost heard: { Self → Option (List Told) } = { λ listener. None };
+    /// The notices that it has received so far, with their octets, if they are known.
+    ghost heard: { Self → Option (List Received) } = { λ listener. None };
 
-    /// Hears one notice more.
+    /// Receives one more notice.
     fn hear(&mut self, notice: Notice<'_>)
-        ensures heard { Hears (notice_of notice.entry ∷ []) (heard self.old) (heard self.new) };
+        ensures heard { Hears (received_from notice.entry ∷ []) (heard self.old) (heard self.new) };
 
-    /// Whether it hears anything: one that does not is told nothing.
+    /// Returns whether it receives notices; one that does not is given none.
     #[inline(always)]
     fn listens(&self) -> bool
         ensures deaf { OnFalse result (heard self.now ≡ None) }
@@ -28,7 +28,7 @@ pub trait Listener {
     }
 }
 
-/// Hears nothing.
+/// A listener that receives nothing.
 #[derive(Clone, Copy, Debug, Drop)]
 pub(crate) struct Nobody;
 
@@ -41,19 +41,19 @@ impl Listener for Nobody {
     }
 }
 
-/// Tells a listener what was told of what a host took in last.
+/// Delivers to a listener the notices of what a host took in last, each with its octets.
 #[inline(always)]
-pub(crate) fn tell<L: Listener>(host: &Host, listener: &mut L)
-    ensures hears { Hears (notices_told host.now) (L.heard listener.old) (L.heard listener.new) }
+pub fn deliver_notices<L: Listener>(host: &Host, listener: &mut L)
+    ensures hears { Hears (received_told host.now) (L.heard listener.old) (L.heard listener.new) }
 {
     if listener.listens() {
-        tell_each(host, listener);
+        deliver_each(host, listener);
     }
 }
 
-/// Tells each notice to a listener that hears.
-fn tell_each<L: Listener>(host: &Host, listener: &mut L)
-    ensures hears { Hears (notices_told host.now) (L.heard listener.old) (L.heard listener.new) }
+/// Delivers each notice to a listener that receives any.
+fn deliver_each<L: Listener>(host: &Host, listener: &mut L)
+    ensures hears { Hears (received_told host.now) (L.heard listener.old) (L.heard listener.new) }
 {
     for notice in host.notices() {
         listener.hear(notice);

@@ -1,6 +1,6 @@
 //! The notices of the last event, read from what is held.
 
-ghost use Rattle.std.specs.Prelude.{◌≡◌, ◌<◌, ◌==◌, [], ◌∷◌, ◌++◌, map, if◌then◌else◌, slice_get, IfSome, IsSome, Some, None};
+ghost use Rattle.std.specs.Prelude.{◌≡◌, ◌<◌, ◌==◌, [], ◌∷◌, ◌++◌, map, if◌then◌else◌, slice_get, is_some, IfSome, IsSome, Some, None};
 ghost use Rattle.std.specs.Option.{option_map, option_to_list};
 ghost use Rattle.att_numbers.specs.Types.{Handle};
 ghost use Rattle.att_attributes.specs.Attributes.{attribute_at};
@@ -98,10 +98,10 @@ impl HostState {
     }
 }
 
-/// The value at a handle: no octets where there is no attribute.
+/// Returns the value at a handle, or no octets if there is no attribute.
 fn value_at(table: &Table, handle: u16) -> &[u8]
-    ensures { IsSome (attribute_at table.now.attributes handle)
-        → result.now ≡ value_at table.now.values handle }
+    ensures { result.now ≡ (if is_some (attribute_at table.now.attributes handle)
+        then value_at table.now.values handle else []) }
 {
     match table.get(handle) {
         Some(_) => table.value(handle),

@@ -15,7 +15,7 @@ use Rattle.gatt_host.specs.Listening.{Listens}
 use Rattle.gatt_host.specs.HostModel.{HostModel}
 use Rattle.gatt_laws.specs.machine.Calls.{Call}
 use Rattle.gatt_laws.specs.machine.Input.{Item, ACall, call_refusal, run}
-use Rattle.gatt_laws.specs.machine.Notice.{Notice}
+use Rattle.gatt_laws.specs.machine.Notice.{Received}
 use Rattle.octets.specs.Number.{Octets}
 
 -- what an error is made of
@@ -52,7 +52,7 @@ module _ (call : Call) (old mid new : HostModel) (before between after : Option 
   pub call_behind : (fault : Option HostFault) → Feeds (ACall call ∷ []) mid new between after fault → Feeds (ACall call ∷ []) old new before after fault
   call_behind fault then_feeds = feeds_then [] (ACall call ∷ []) old mid new before between after fault takes then_feeds
 
-  pub call_listens : (fault : Option HostFault) (known heard : Option (List Notice)) → Listens (ACall call ∷ []) mid new fault known heard
+  pub call_listens : (fault : Option HostFault) (known heard : Option (List Received)) → Listens (ACall call ∷ []) mid new fault known heard
       → Listens (ACall call ∷ []) old new fault known heard
   call_listens fault known heard listens =
       listens_then [] (ACall call ∷ []) takes.packets old mid new known known heard fault takes.refines (hears_nothing old known) listens

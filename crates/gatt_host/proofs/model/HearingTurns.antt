@@ -14,11 +14,11 @@ use Rattle.gatt_host.specs.Feeding.{CountsRefused, Feeds, TakesAll, is_of_feedin
 use Rattle.gatt_host.specs.Listening.{HearsOf, Listens, ListensServing}
 use Rattle.gatt_host.specs.HostModel.{HostModel}
 use Rattle.gatt_laws.specs.machine.Input.{Item}
-use Rattle.gatt_laws.specs.machine.Notice.{Notice}
+use Rattle.gatt_laws.specs.machine.Notice.{Received}
 use Rattle.octets.specs.Number.{Octets}
 
 -- what is owed is written, and nothing is taken in
-pub nothing_heard : (old new : HostModel) (server holds : Option Octets) (known : Option (List Notice)) (found : Option HostFault) → Feeds [] old new server holds found
+pub nothing_heard : (old new : HostModel) (server holds : Option Octets) (known : Option (List Received)) (found : Option HostFault) → Feeds [] old new server holds found
     → Listens [] old new found known known
 nothing_heard old new server holds known None feeds = hears_nothing old known
 nothing_heard old new server holds known (Some (stop.Desync indicator)) feeds = hears_nothing old known
@@ -37,12 +37,12 @@ nothing_heard old new server holds known (Some stop.Write) feeds = record {
 }
 
 -- of the inputs all but the rest are taken in and heard of
-pub record HasDrivenTo (count : ℕ) (inputs rest : List Input) (old new : HostModel) (server holds : Option Octets) (before after : Option (List Notice)) : Type 0 where
+pub record HasDrivenTo (count : ℕ) (inputs rest : List Input) (old new : HostModel) (server holds : Option Octets) (before after : Option (List Received)) : Type 0 where
   pub driven : HasDriven count inputs rest old new server holds
   pub heard : HearsOf driven.items old before after
 
 module _ (inputs : List Input) (index : ℕ) (last : Input) (within : index < length inputs) (count : ℕ) (old mid new : HostModel) (server between holds : Option Octets)
-    (before heard after : Option (List Notice)) (so_far : HasDrivenTo count inputs (drop index inputs) old mid server between before heard) where
+    (before heard after : Option (List Received)) (so_far : HasDrivenTo count inputs (drop index inputs) old mid server between before heard) where
   pub driven_to_more : (next : ℕ) → TakesAll (input_items (get_or inputs index last)) mid new between holds → CountsRefused next (input_items (get_or inputs index last)) mid
       → HearsOf (input_items (get_or inputs index last)) mid heard after → HasDrivenTo (count + next) inputs (drop (index + 1) inputs) old new server holds before after
   driven_to_more next takes counts hears = record {
@@ -63,7 +63,7 @@ module _ (inputs : List Input) (index : ℕ) (last : Input) (within : index < le
       (listens_then items (input_items input) so_far.driven.takes.packets old mid new before heard after new.fault so_far.driven.takes.refines so_far.heard listens))
 
 -- all are taken in
-pub driven_to_all : (count : ℕ) (inputs rest : List Input) (old new : HostModel) (server holds : Option Octets) (before after : Option (List Notice)) (found : Option HostFault)
+pub driven_to_all : (count : ℕ) (inputs rest : List Input) (old new : HostModel) (server holds : Option Octets) (before after : Option (List Received)) (found : Option HostFault)
     → rest ≡ [] → found ≡ None → HasDrivenTo count inputs rest old new server holds before after → Listens (items_of inputs) old new found before after
 driven_to_all count inputs rest old new server holds before after found nothing none so_far =
     listens_going (items_of inputs) old new before after found none
@@ -71,18 +71,18 @@ driven_to_all count inputs rest old new server holds before after found nothing 
     (sym (so_far.driven.parts ∙ ap (λ (left : List Input). so_far.driven.items ++ items_of left) nothing ∙ append-nil so_far.driven.items)) so_far.heard)
 
 -- so many turns gave octets that are taken in and heard of
-pub record HasServedTo (turns : ℕ) (old new : HostModel) (remaining left server holds : Option Octets) (before after : Option (List Notice)) : Type 0 where
+pub record HasServedTo (turns : ℕ) (old new : HostModel) (remaining left server holds : Option Octets) (before after : Option (List Received)) : Type 0 where
   pub served : HasServed turns old new remaining left server holds
   pub heard : HearsOf (octet_items served.read) old before after
 
-pub served_to_none : (old new : HostModel) (remaining server holds : Option Octets) (known : Option (List Notice)) → TakesAll [] old new server holds
+pub served_to_none : (old new : HostModel) (remaining server holds : Option Octets) (known : Option (List Received)) → TakesAll [] old new server holds
     → HasServedTo 0 old new remaining remaining server holds known known
 served_to_none old new remaining server holds known takes = record {
   served = served_none old new remaining server holds takes;
   heard = hears_nothing old known;
 }
 
-module _ (turns : ℕ) (octets : Octets) (old mid new : HostModel) (remaining between left server middle holds : Option Octets) (before heard after : Option (List Notice))
+module _ (turns : ℕ) (octets : Octets) (old mid new : HostModel) (remaining between left server middle holds : Option Octets) (before heard after : Option (List Received))
     (so_far : HasServedTo turns old mid remaining between server middle before heard) (consumed : Consumes between left octets) where
   pub served_to_more : 1 ≤ length octets → length octets ≤ 512 → TakesAll (octet_items octets) mid new middle holds → HearsOf (octet_items octets) mid heard after
       → HasServedTo (turns + 1) old new remaining left server holds before after
@@ -103,7 +103,7 @@ module _ (turns : ℕ) (octets : Octets) (old mid new : HostModel) (remaining be
   }
 
 -- where the writer has not failed
-not-broken : (items : List Item) (old new : HostModel) (before after : Option (List Notice)) (found : Option HostFault) → is_write_fault found ≡ false
+not-broken : (items : List Item) (old new : HostModel) (before after : Option (List Received)) (found : Option HostFault) → is_write_fault found ≡ false
     → HearsOf items old before after → Listens items old new found before after
 not-broken items old new before after None other hears = hears
 not-broken items old new before after (Some (stop.Desync indicator)) other hears = hears
@@ -114,7 +114,7 @@ not-broken items old new before after (Some stop.Read) other hears = hears
 not-broken items old new before after (Some stop.Turns) other hears = hears
 not-broken items old new before after (Some stop.Write) other hears = absurd (clash (sym other))
 
-module _ (turns : ℕ) (old mid new : HostModel) (remaining between left server holds : Option Octets) (before after : Option (List Notice)) (found : Option HostFault)
+module _ (turns : ℕ) (old mid new : HostModel) (remaining between left server holds : Option Octets) (before after : Option (List Received)) (found : Option HostFault)
     (refines : new.fault ≡ found) (other : is_write_fault found ≡ false) (so_far : HasServedTo turns old mid remaining between server holds before after) where
   stopped-serving : Consumes remaining left so_far.served.read → ListensServing old new remaining left before after
   stopped-serving consumed = record {

@@ -86,7 +86,7 @@ stop-told run packet packets why none short (Ok event) same is = cc (none, is)
 stop-told run packet packets why none short (Err fault) same is =
     (λ i. option_map_or (noticed run.intake.state) (if is_some (none i) then None else if (short i) then None else event_if (same i)) []
     ++ notices_in (unless_stopped (none i) run (cond (short i) run (packet_taken run packet (same i)))) (map APacket packets))
-    ∙ stopped_silent (stopped run fault) fault (map APacket packets) refl
+    ∙ stopped_silent noticed (stopped run fault) fault (map APacket packets) refl
 
 pub stopped_told : (old new : HostModel) (octets rest : Octets) (packet : Packet) (fault : HostFault)
     → ((rest : Octets) → still old.stream (octets ++ rest) ≡ before (packet ∷ []) (still new.stream rest))

@@ -13,7 +13,7 @@ use Rattle.gatt_host.specs.declared.fault.Fault.TheVariants as told
 use Rattle.gatt_host.specs.declared.host_fault.HostFault.{HostFault}
 use Rattle.gatt_host.specs.HostModel.{HostModel}
 use Rattle.gatt_laws.specs.machine.Input.{ACall}
-use Rattle.gatt_laws.specs.machine.Notice.{Notice}
+use Rattle.gatt_laws.specs.machine.Notice.{Received}
 
 pub returns-in_err-feed-clause-feeds : goal.returns-in_err-feed-clause-feeds
 returns-in_err-feed-clause-feeds g c = λ none.
@@ -24,7 +24,7 @@ returns-in_err-feed-clause-feeds g c = λ none.
 pub returns-in_err-feed-clause-heard : goal.returns-in_err-feed-clause-heard
 returns-in_err-feed-clause-heard g c = λ none.
     let new : HostModel = c.feed.new.host in
-    let known : Option (List Notice) = g.L.Listener.heard c.args.listener.now in
+    let known : Option (List Received) = g.L.Listener.heard c.args.listener.now in
     past_heard [] (ACall (call_of c.args.call) ∷ []) c.args.host.now new (g.W.Sink.contents c.args.out.now) (g.W.Sink.contents c.feed.new.out) known known c.in_err-feed.field-0.0
     (fault_answered new.fault c.in_err-feed.field-0.0 c.in_err-feed.ensures.outcome) (c.in_err-feed.ensures.feeding none) (c.feed.ensures.feeds none)
     (nothing_heard c.args.host.now new (g.W.Sink.contents c.args.out.now) (g.W.Sink.contents c.feed.new.out) known new.fault (c.feed.ensures.feeds none))

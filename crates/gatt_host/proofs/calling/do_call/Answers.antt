@@ -1,6 +1,7 @@
 use Rattle.std.proofs.Common.{[], ◌∷◌, Some, ap, ◌∙◌}
 use Rattle.gatt_host.proofs.model.Feeds.{fault_answered, none_answered}
-use Rattle.gatt_host.proofs.model.Hearing.{breaks_heard, call_heard, listens_going}
+use Rattle.gatt_host.proofs.model.Hearing.{breaks_heard, hears_received, listens_going}
+use Rattle.gatt_host.proofs.model.Received.{call_received}
 use Rattle.gatt_host.specs.declared.host_fault.HostFault.{HostFault}
 use Rattle.gatt_host.proofs.model.Driving.{call_feeds}
 use Rattle.gatt_host.specs.Calls.{call_of}
@@ -27,17 +28,19 @@ pub returns-in_err-write_out-clause-heard : goal.returns-in_err-write_out-clause
 returns-in_err-write_out-clause-heard g c =
     let new : HostModel = c.write_out.new.host in
     breaks_heard (ACall (call_of c.args.call) ∷ []) [] [] c.args.host.now c.app-answer.new.self new (g.W.Sink.contents c.args.out.now) (g.W.Sink.contents c.write_out.new.out)
-    (g.L.Listener.heard c.args.listener.now) (g.L.Listener.heard c.tell.new.listener) new.fault
+    (g.L.Listener.heard c.args.listener.now) (g.L.Listener.heard c.deliver_notices.new.listener) new.fault
     (fault_answered new.fault c.in_err-write_out.field-0.0 c.in_err-write_out.ensures.fault ∙ ap (λ (why : HostFault). Some why) c.in_err-write_out.ensures.write)
     (c.app-answer.ensures.takes c.requires.none)
-    (call_heard (ACall (call_of c.args.call)) c.args.host.now c.app-answer.new.self (g.L.Listener.heard c.args.listener.now) (g.L.Listener.heard c.tell.new.listener)
-    c.requires.none (c.app-answer.ensures.fault ∙ c.requires.none) c.app-answer.ensures.told c.tell.ensures.hears)
+    (hears_received (ACall (call_of c.args.call) ∷ []) c.args.host.now c.app-answer.new.self (g.L.Listener.heard c.args.listener.now) (g.L.Listener.heard c.deliver_notices.new.listener)
+    (call_received (ACall (call_of c.args.call)) [] c.args.host.now c.app-answer.new.self c.requires.none (c.app-answer.ensures.fault ∙ c.requires.none)
+    (c.app-answer.ensures.takes c.requires.none) c.app-answer.ensures.told) c.deliver_notices.ensures.hears)
     c.write_out.ensures.feeds
 
 pub returns-clause-heard : goal.returns-clause-heard
 returns-clause-heard g c =
     let new : HostModel = c.write_out.new.host in
-    listens_going (ACall (call_of c.args.call) ∷ []) c.args.host.now new (g.L.Listener.heard c.args.listener.now) (g.L.Listener.heard c.tell.new.listener) new.fault
+    listens_going (ACall (call_of c.args.call) ∷ []) c.args.host.now new (g.L.Listener.heard c.args.listener.now) (g.L.Listener.heard c.deliver_notices.new.listener) new.fault
     (none_answered new.fault c.in_ok-write_out.ensures.fault)
-    (call_heard (ACall (call_of c.args.call)) c.args.host.now c.app-answer.new.self (g.L.Listener.heard c.args.listener.now) (g.L.Listener.heard c.tell.new.listener)
-    c.requires.none (c.app-answer.ensures.fault ∙ c.requires.none) c.app-answer.ensures.told c.tell.ensures.hears)
+    (hears_received (ACall (call_of c.args.call) ∷ []) c.args.host.now c.app-answer.new.self (g.L.Listener.heard c.args.listener.now) (g.L.Listener.heard c.deliver_notices.new.listener)
+    (call_received (ACall (call_of c.args.call)) [] c.args.host.now c.app-answer.new.self c.requires.none (c.app-answer.ensures.fault ∙ c.requires.none)
+    (c.app-answer.ensures.takes c.requires.none) c.app-answer.ensures.told) c.deliver_notices.ensures.hears)

@@ -8,7 +8,7 @@ use Rattle.gatt_host.proofs.model.HearingTurns.{HasDrivenTo, driven_to_all, driv
 use Rattle.gatt_host.proofs.model.Feeds.{counts_where_going, fault_answered, going_takes, none_answered}
 use Rattle.gatt_host.specs.Feeding.{is_of_feeding, TakesAll, items_of}
 use Rattle.gatt_host.specs.HostModel.{HostModel}
-use Rattle.gatt_laws.specs.machine.Notice.{Notice}
+use Rattle.gatt_laws.specs.machine.Notice.{Received}
 use Rattle.octets.proofs.Writing.{counts_none}
 use Rattle.octets.specs.Number.{Octets}
 use Rattle.gatt_host.proofs.driving.drive_all.Goals as goal
@@ -46,9 +46,9 @@ loop-input-preserved g c =
     let before : Option Octets = g.W.Sink.contents c.args.out.now in
     let between : Option Octets = g.W.Sink.contents c.loop-input.out in
     let after : Option Octets = g.W.Sink.contents c.take_input.new.out in
-    let first : Option (List Notice) = g.L.Listener.heard c.args.listener.now in
-    let so_far : Option (List Notice) = g.L.Listener.heard c.loop-input.listener in
-    let then_heard : Option (List Notice) = g.L.Listener.heard c.take_input.new.listener in
+    let first : Option (List Received) = g.L.Listener.heard c.args.listener.now in
+    let so_far : Option (List Received) = g.L.Listener.heard c.loop-input.listener in
+    let then_heard : Option (List Received) = g.L.Listener.heard c.take_input.new.listener in
     record {
       driven = subst (λ (count : ℕ). HasDriven count c.args.inputs.now (drop (c.loop-input.input-index + 1) c.args.inputs.now) c.args.host.now new before after) (sym counted)
           (driven_more c.args.inputs.now c.loop-input.input-index _ c.loop-input-test.true count c.args.host.now mid new before between after c.loop-input.invariant.driven
@@ -74,7 +74,7 @@ returns-clause-due g c = due_where_out c.loop-input.host c.loop-input.invariant.
 pub returns-in_err-write_out-clause-heard : goal.returns-in_err-write_out-clause-heard
 returns-in_err-write_out-clause-heard g c =
     let new : HostModel = c.write_out.new.host in
-    let known : Option (List Notice) = g.L.Listener.heard c.args.listener.now in
+    let known : Option (List Received) = g.L.Listener.heard c.args.listener.now in
     past_heard [] (items_of c.args.inputs.now) c.args.host.now new (g.W.Sink.contents c.args.out.now) (g.W.Sink.contents c.write_out.new.out) known known c.in_err-write_out.field-0.0
     (fault_answered new.fault c.in_err-write_out.field-0.0 c.in_err-write_out.ensures.fault) (ap is_of_feeding c.in_err-write_out.ensures.write) c.write_out.ensures.feeds
     (nothing_heard c.args.host.now new (g.W.Sink.contents c.args.out.now) (g.W.Sink.contents c.write_out.new.out) known new.fault c.write_out.ensures.feeds)
@@ -98,7 +98,7 @@ loop-input-init g c =
     let new : HostModel = c.write_out.new.host in
     let before : Option Octets = g.W.Sink.contents c.args.out.now in
     let after : Option Octets = g.W.Sink.contents c.write_out.new.out in
-    let known : Option (List Notice) = g.L.Listener.heard c.args.listener.now in
+    let known : Option (List Received) = g.L.Listener.heard c.args.listener.now in
     let still : new.fault ≡ None = none_answered new.fault c.in_ok-write_out.ensures.fault in
     let none : old.fault ≡ None = c.requires.none in
     let takes : TakesAll [] old new before after = going_takes [] old new before after new.fault still c.write_out.ensures.feeds in

@@ -7,7 +7,7 @@ use Rattle.gatt_host.specs.declared.host_fault.HostFault.{HostFault}
 use Rattle.gatt_host.proofs.model.Serving.{empty_where}
 use Rattle.gatt_host.specs.Feeding.{TakesAll, octet_items}
 use Rattle.gatt_host.specs.HostModel.{HostModel}
-use Rattle.gatt_laws.specs.machine.Notice.{Notice}
+use Rattle.gatt_laws.specs.machine.Notice.{Received}
 use Rattle.octets.proofs.Writing.{counts_none}
 use Rattle.octets.specs.Number.{Octets}
 use Rattle.gatt_host.proofs.feeding.feed_all.Goals as goal
@@ -43,9 +43,9 @@ loop-rest-preserved g c =
       none = none;
       drained = c.in_ok-write_out-2.ensures.out (refl {a = true});
       failures = counts_none _ _ _ c.loop-rest.invariant.failures (counts_where_going new.fault _ _ none c.write_out-in-loop-rest.ensures.failures);
-      heard = subst (λ (left : Octets). HasHeard c.args.octets.now left old new before after (g.L.Listener.heard c.args.listener.now) (g.L.Listener.heard c.tell.new.listener)) (sym c.split_at.ensures.back)
+      heard = subst (λ (left : Octets). HasHeard c.args.octets.now left old new before after (g.L.Listener.heard c.args.listener.now) (g.L.Listener.heard c.deliver_notices.new.listener)) (sym c.split_at.ensures.back)
           (heard_then c.args.octets.now rest used old at mid new before between after (g.L.Listener.heard c.args.listener.now) (g.L.Listener.heard c.loop-rest.listener)
-          (g.L.Listener.heard c.tell.new.listener) c.loop-rest.invariant.heard c.loop-rest.invariant.none c.in-Ok.ensures.refines c.in-Ok.ensures.told c.tell.ensures.hears
+          (g.L.Listener.heard c.deliver_notices.new.listener) c.loop-rest.invariant.heard c.loop-rest.invariant.none c.in-Ok.ensures.refines c.in-Ok.ensures.told c.in-Ok.ensures.up_to c.deliver_notices.ensures.hears
           (going_takes [] mid new between after new.fault none c.write_out-in-loop-rest.ensures.feeds));
     }
 
@@ -73,7 +73,7 @@ returns-clause-due g c = due_where_out c.loop-rest.host c.loop-rest.invariant.no
 
 pub returns-in_err-write_out-clause-heard : goal.returns-in_err-write_out-clause-heard
 returns-in_err-write_out-clause-heard g c =
-    let known : Option (List Notice) = g.L.Listener.heard c.args.listener.now in
+    let known : Option (List Received) = g.L.Listener.heard c.args.listener.now in
     breaks_heard [] (octet_items c.args.octets.now) [] c.args.host.now c.args.host.now c.write_out.new.host (g.W.Sink.contents c.args.out.now) (g.W.Sink.contents c.write_out.new.out)
     known known c.write_out.new.host.fault
     (fault_answered c.write_out.new.host.fault c.in_err-write_out.field-0.0 c.in_err-write_out.ensures.fault ∙ ap (λ (why : HostFault). Some why) c.in_err-write_out.ensures.write)
@@ -90,8 +90,8 @@ returns-in_err-write_out-2-clause-heard g c =
     let new : HostModel = c.write_out-in-loop-rest.new.host in
     heard_breaks c.args.octets.now c.loop-rest.rest.now c.in-Ok.used c.args.host.now c.loop-rest.host c.take.new.host new
     (g.W.Sink.contents c.args.out.now) (g.W.Sink.contents c.loop-rest.out) (g.W.Sink.contents c.write_out-in-loop-rest.new.out)
-    (g.L.Listener.heard c.args.listener.now) (g.L.Listener.heard c.loop-rest.listener) (g.L.Listener.heard c.tell.new.listener)
-    c.loop-rest.invariant.heard c.loop-rest.invariant.none c.in-Ok.ensures.refines c.in-Ok.ensures.told c.tell.ensures.hears
+    (g.L.Listener.heard c.args.listener.now) (g.L.Listener.heard c.loop-rest.listener) (g.L.Listener.heard c.deliver_notices.new.listener)
+    c.loop-rest.invariant.heard c.loop-rest.invariant.none c.in-Ok.ensures.refines c.in-Ok.ensures.told c.in-Ok.ensures.up_to c.deliver_notices.ensures.hears
     new.fault (fault_answered new.fault c.in_err-write_out-2.field-0.0 c.in_err-write_out-2.ensures.fault ∙ ap (λ (why : HostFault). Some why) c.in_err-write_out-2.ensures.write)
     c.write_out-in-loop-rest.ensures.feeds
 

@@ -10,7 +10,7 @@ use Rattle.gatt_host.proofs.model.Serving.{counts_where_none, counts_where_some,
 use Rattle.gatt_host.specs.declared.host_fault.HostFault.{HostFault}
 use Rattle.gatt_host.specs.declared.host_fault.HostFault.TheVariants as stop
 use Rattle.gatt_host.specs.Feeding.{is_of_feeding, TakesAll, octet_items}
-use Rattle.gatt_laws.specs.machine.Notice.{Notice}
+use Rattle.gatt_laws.specs.machine.Notice.{Received}
 use Rattle.octets.specs.Number.{Octets}
 use Rattle.gatt_host.specs.HostModel.{HostModel}
 use Rattle.octets.proofs.Writing.{counts_none, counts_one, counts_same, many_more, many_none}
@@ -162,7 +162,7 @@ loop-turn-init g c =
     let remaining : Option Octets = g.R.Source.remaining c.args.reader.now in
     let before : Option Octets = g.W.Sink.contents c.args.writer.now in
     let after : Option Octets = g.W.Sink.contents c.write_out.new.out in
-    let known : Option (List Notice) = g.L.Listener.heard c.args.listener.now in
+    let known : Option (List Received) = g.L.Listener.heard c.args.listener.now in
     let still : new.fault ≡ None = none_answered new.fault c.in_ok-write_out.ensures.fault in
     let none : old.fault ≡ None = c.requires.none in
     let takes : TakesAll [] old new before after = going_takes [] old new before after new.fault still c.write_out.ensures.feeds in

@@ -3,10 +3,12 @@ use Rattle.std.specs.Prelude.{is_some, not}
 use Rattle.gatt_host.proofs.owing.Nexts.{is_none_where}
 use Rattle.gatt_host.proofs.model.Fewer.{fewer_into}
 use Rattle.gatt_host.proofs.model.Out.{goes_into, goes_where_not_out, reached_into}
+use Rattle.gatt_host.proofs.model.Unchanged.{table_after_out, told_after_out}
 use Rattle.gatt_host.specs.contracts.host.Host.{the_view}
 use Rattle.gatt_host.specs.Credits.{most_out}
 use Rattle.gatt_host.specs.ServerState.{ServerState}
 use Rattle.gatt_host.specs.HostModel.{Refines, HostModel, all_out}
+use Rattle.gatt_host.specs.Telling.{notices_told}
 use Rattle.gatt_host.proofs.host.Host.next_into.Goals as goal
 
 pub invariant_of-self : goal.invariant_of-self
@@ -34,3 +36,14 @@ returns-clause-fewer c = λ some.
     subst (λ (host : HostModel). most_out c.next_into.new.state < most_out host.server) c.self.view_is
     (subst (λ (server : ServerState). most_out server < most_out old.server) (sym c.next_into.ensures.after)
     (fewer_into old.server c.next_into.result c.next_into.new.out c.next_into.ensures.octets some))
+
+pub returns-clause-notices : goal.returns-clause-notices
+returns-clause-notices c =
+    let old : HostModel = the_view c.self.inside in
+    subst (λ (host : HostModel). notices_told (record old { server = c.next_into.new.state }) ≡ notices_told host) c.self.view_is
+    (told_after_out old c.next_into.new.state c.next_into.ensures.after)
+
+pub returns-clause-table : goal.returns-clause-table
+returns-clause-table c =
+    subst (λ (host : HostModel). c.next_into.new.state.table ≡ host.server.table) c.self.view_is
+    (table_after_out (the_view c.self.inside).server c.next_into.new.state c.next_into.ensures.after)

@@ -4,10 +4,12 @@ use Rattle.std.proofs.lemmas.Bool.{OnTrue_at, OnTrue_from}
 use Rattle.gatt_host.proofs.owing.Nexts.{is_none_where}
 use Rattle.gatt_host.proofs.model.Fewer.{fewer_out}
 use Rattle.gatt_host.proofs.model.Out.{goes_out, goes_where_not_out, reached_out}
+use Rattle.gatt_host.proofs.model.Unchanged.{table_after_out, told_after_out}
 use Rattle.gatt_host.specs.contracts.host.Host.{the_view}
 use Rattle.gatt_host.specs.Credits.{most_out}
 use Rattle.gatt_host.specs.ServerState.{ServerState}
 use Rattle.gatt_host.specs.HostModel.{Refines, HostModel, all_out}
+use Rattle.gatt_host.specs.Telling.{notices_told}
 use Rattle.gatt_host.proofs.host.Host.next_out.Goals as goal
 
 pub invariant_of-self : goal.invariant_of-self
@@ -35,3 +37,14 @@ returns-clause-fewer c = OnTrue_from _ _ (λ goes.
     subst (λ (host : HostModel). most_out c.copy_next.new.state < most_out host.server) c.self.view_is
     (subst (λ (server : ServerState). most_out server < most_out old.server) (sym c.copy_next.ensures.after)
     (fewer_out old.server c.copy_next.new.out.items (OnTrue_at goes c.copy_next.ensures.octets))))
+
+pub returns-clause-notices : goal.returns-clause-notices
+returns-clause-notices c =
+    let old : HostModel = the_view c.self.inside in
+    subst (λ (host : HostModel). notices_told (record old { server = c.copy_next.new.state }) ≡ notices_told host) c.self.view_is
+    (told_after_out old c.copy_next.new.state c.copy_next.ensures.after)
+
+pub returns-clause-table : goal.returns-clause-table
+returns-clause-table c =
+    subst (λ (host : HostModel). c.copy_next.new.state.table ≡ host.server.table) c.self.view_is
+    (table_after_out (the_view c.self.inside).server c.copy_next.new.state c.copy_next.ensures.after)
