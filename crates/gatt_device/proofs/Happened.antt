@@ -16,7 +16,7 @@ use Rattle.gatt_laws.proofs.Inputs.{items_append}
 use Rattle.gatt_laws.specs.machine.Calls.{Call}
 use Rattle.gatt_laws.specs.laws.Deadline.{deadline}
 use Rattle.gatt_laws.specs.machine.Input.{Run, Item, after_items, run_at_start, run}
-use Rattle.gatt_laws.specs.machine.Notice.{Notice}
+use Rattle.gatt_laws.specs.machine.Notice.{Received}
 use Rattle.gatt_laws.specs.machine.Start.{Start}
 use Rattle.octets.proofs.Writing.{counts_none, counts_one}
 use Rattle.octets.specs.Number.{Octets}
@@ -109,7 +109,7 @@ pub record HasCome (count : ℕ) (happened : List DeviceInput) (old : HostModel)
   pub records : RecordsTurns happened old come.history comes.history
 
 -- and it is taken in and heard of, and what it brought is written
-pub record HasServed (count : ℕ) (old new : HostModel) (come comes : Known) (before after : Option Octets) (heard hears : Option (List Notice)) : Type 0 where
+pub record HasServed (count : ℕ) (old new : HostModel) (come comes : Known) (before after : Option Octets) (heard hears : Option (List Received)) : Type 0 where
   pub happened : List DeviceInput
   pub has_come : HasCome count happened old come comes
   pub takes : TakesAll (items_in happened) old new before after
@@ -129,7 +129,7 @@ come-none old come = record {
   records = λ start input sent is. records_none come.history;
 }
 
-pub served_none : (old new : HostModel) (come : Known) (before after : Option Octets) (heard : Option (List Notice)) → TakesAll [] old new before after
+pub served_none : (old new : HostModel) (come : Known) (before after : Option Octets) (heard : Option (List Received)) → TakesAll [] old new before after
     → HasServed 0 old new come come before after heard heard
 served_none old new come before after heard takes = record {
   happened = [];
@@ -138,7 +138,7 @@ served_none old new come before after heard takes = record {
   hearing = hears_nothing old heard;
 }
 
-module _ (count : ℕ) (old mid : HostModel) (come between : Known) (before written : Option Octets) (heard known : Option (List Notice))
+module _ (count : ℕ) (old mid : HostModel) (come between : Known) (before written : Option Octets) (heard known : Option (List Received))
     (so_far : HasServed count old mid come between before written heard known) where
   records-more : (more : DeviceInput) (after : Option (List HistoryEntry)) → RecordsTurn more mid between.history after
       → RecordsTurns (so_far.happened ++ more ∷ []) old come.history after
@@ -162,7 +162,7 @@ module _ (count : ℕ) (old mid : HostModel) (come between : Known) (before writ
     records = records-more more comes.history next.records;
   }
 
-  pub served_more : (more : DeviceInput) (new : HostModel) (comes : Known) (after : Option Octets) (hears : Option (List Notice)) → Comes more mid between comes
+  pub served_more : (more : DeviceInput) (new : HostModel) (comes : Known) (after : Option Octets) (hears : Option (List Received)) → Comes more mid between comes
       → TakesAll (input_items_of more) mid new written after → HearsOf (input_items_of more) mid known hears → HasServed (count + 1) old new come comes before after heard hears
   served_more more new comes after hears next takes hearing = record {
     happened = so_far.happened ++ more ∷ [];
@@ -174,7 +174,7 @@ module _ (count : ℕ) (old mid : HostModel) (come between : Known) (before writ
   }
 
   -- the host stops at it
-  stops-at : (turns : ℕ) (fault : HostFault) (more : DeviceInput) (new : HostModel) (comes : Known) (after : Option Octets) (hears : Option (List Notice)) → count < turns
+  stops-at : (turns : ℕ) (fault : HostFault) (more : DeviceInput) (new : HostModel) (comes : Known) (after : Option Octets) (hears : Option (List Received)) → count < turns
       → mid.fault ≡ None → Comes more mid between comes → Feeds (input_items_of more) mid new written after new.fault → Listens (input_items_of more) mid new new.fault known hears
       → ServesDevice (Err fault) turns old new come comes before after heard hears
   stops-at turns fault more new comes after hears few none next feeds listens =
@@ -204,7 +204,7 @@ module _ (count : ℕ) (old mid : HostModel) (come between : Known) (before writ
         };
       }
 
-  pub serves_stopped : (result : Result End HostFault) (turns : ℕ) (fault : HostFault) (more : DeviceInput) (new : HostModel) (comes : Known) (after : Option Octets) (hears : Option (List Notice))
+  pub serves_stopped : (result : Result End HostFault) (turns : ℕ) (fault : HostFault) (more : DeviceInput) (new : HostModel) (comes : Known) (after : Option Octets) (hears : Option (List Received))
       → result ≡ Err fault → count < turns → mid.fault ≡ None → Comes more mid between comes → Feeds (input_items_of more) mid new written after new.fault
       → Listens (input_items_of more) mid new new.fault known hears → ServesDevice result turns old new come comes before after heard hears
   serves_stopped result turns fault more new comes after hears is few none next feeds listens =
@@ -242,7 +242,7 @@ module _ (count : ℕ) (old mid : HostModel) (come between : Known) (before writ
       serves_ended turns end.Turns between none over (Consumes-nil between.octets) (hands-none between.calls) (λ start input sent is. records_none between.history)
 
 -- the host stops before anything happens
-nothing-happens : (turns : ℕ) (fault : HostFault) (old new : HostModel) (come : Known) (before after : Option Octets) (heard : Option (List Notice)) → old.fault ≡ None
+nothing-happens : (turns : ℕ) (fault : HostFault) (old new : HostModel) (come : Known) (before after : Option Octets) (heard : Option (List Received)) → old.fault ≡ None
     → Feeds [] old new before after new.fault → ServesDevice (Err fault) turns old new come come before after heard heard
 nothing-happens turns fault old new come before after heard none feeds = record {
   happened = [];
@@ -265,7 +265,7 @@ nothing-happens turns fault old new come before after heard none feeds = record 
   };
 }
 
-pub serves_nothing : (result : Result End HostFault) (turns : ℕ) (fault : HostFault) (old new : HostModel) (come : Known) (before after : Option Octets) (heard : Option (List Notice))
+pub serves_nothing : (result : Result End HostFault) (turns : ℕ) (fault : HostFault) (old new : HostModel) (come : Known) (before after : Option Octets) (heard : Option (List Received))
     → result ≡ Err fault → old.fault ≡ None → Feeds [] old new before after new.fault → ServesDevice result turns old new come come before after heard heard
 serves_nothing result turns fault old new come before after heard is none feeds =
     subst (λ (result : Result End HostFault). ServesDevice result turns old new come come before after heard heard) (sym is)
@@ -290,7 +290,7 @@ call_comes call until whole come asks comes is_deadline consumes hands records s
 }
 
 -- what a turn leads to, under other names
-pub record Goes (count : ℕ) (old new : HostModel) (come comes : Known) (before after : Option Octets) (heard hears : Option (List Notice)) (counted counts : Option ℕ) : Type 0 where
+pub record Goes (count : ℕ) (old new : HostModel) (come comes : Known) (before after : Option Octets) (heard hears : Option (List Received)) (counted counts : Option ℕ) : Type 0 where
   pub served : HasServed count old new come comes before after heard hears
   pub none : new.fault ≡ None
   pub drained : all_out new ≡ true
@@ -301,14 +301,14 @@ pub known_as : (octets other_octets : Option Octets) (calls other_calls : Option
 known_as octets other_octets calls other_calls history other_history same_octets same_calls same_history =
     λ i. known (same_octets i) (same_calls i) (same_history i)
 
-pub goes_as : (count : ℕ) (old new at : HostModel) (come comes knows : Known) (before after holds : Option Octets) (heard hears hearing : Option (List Notice))
+pub goes_as : (count : ℕ) (old new at : HostModel) (come comes knows : Known) (before after holds : Option Octets) (heard hears hearing : Option (List Received))
     (counted counts counting : Option ℕ) → at ≡ new → knows ≡ comes → holds ≡ after → hearing ≡ hears → counting ≡ counts
     → Goes count old new come comes before after heard hears counted counts → Goes count old at come knows before holds heard hearing counted counting
 goes_as count old new at come comes knows before after holds heard hears hearing counted counts counting first second third fourth fifth goes =
     subst (λ (it : HostModel). Goes count old it come knows before holds heard hearing counted counting) (sym first)
     (subst (λ (it : Known). Goes count old new come it before holds heard hearing counted counting) (sym second)
     (subst (λ (it : Option Octets). Goes count old new come comes before it heard hearing counted counting) (sym third)
-    (subst (λ (it : Option (List Notice)). Goes count old new come comes before after heard it counted counting) (sym fourth)
+    (subst (λ (it : Option (List Received)). Goes count old new come comes before after heard it counted counting) (sym fourth)
     (subst (λ (it : Option ℕ). Goes count old new come comes before after heard hears counted it) (sym fifth) goes))))
 
 -- none was counted before what is counted at the end

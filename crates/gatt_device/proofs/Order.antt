@@ -15,7 +15,7 @@ use Rattle.gatt_device.specs.Turn.{EndsKept, KeepsTheOrder, KeptBeforeSent, Stay
 use Rattle.gatt_host.specs.declared.host_fault.HostFault.{HostFault}
 use Rattle.gatt_host.specs.HostModel.{RefinesRun, HostModel}
 use Rattle.gatt_laws.specs.machine.Input.{Run, Item, after_items, run}
-use Rattle.gatt_laws.specs.machine.Notice.{Notice}
+use Rattle.gatt_laws.specs.machine.Notice.{Received}
 use Rattle.gatt_laws.specs.machine.Start.{Start}
 use Rattle.gatt_subs.specs.Rows.{Subscriptions}
 use Rattle.octets.specs.Number.{Octets}
@@ -159,7 +159,7 @@ module _ (rows : Subscriptions) (turn : Turn) (entries : List HistoryEntry) (non
   in_order sending.Failed waiting after sends = sent_in_order sends.sent (Broken sends.left ∷ []) after refl sends.records
 
 -- a turn keeps the order, whether the host had stopped or not
-keeps_order : (turn : Turn) (old new : HostModel) (come comes : Known) (before after : Option Octets) (heard hears : Option (List Notice)) (start : Start) (input : List Item) (gone : List Octets)
+keeps_order : (turn : Turn) (old new : HostModel) (come comes : Known) (before after : Option Octets) (heard hears : Option (List Received)) (start : Start) (input : List Item) (gone : List Octets)
     → RefinesRun (run start input) gone old → TakesATurn turn old new come comes before after heard hears → (found : Option HostFault) → old.fault ≡ found
     → KeepsTheOrder come.history comes.history
 keeps_order turn old new come comes before after heard hears start input gone is takes None refines =
@@ -173,7 +173,7 @@ keeps_order turn old new come comes before after heard hears start input gone is
     (subst (λ (it : Option (List HistoryEntry)). Records [] come.history it) (sym (ap (λ (it : Known). it.history) nothing.happens)) (records_none come.history))
     takes.settles.keeps turn.sending takes.settles.sends.waiting comes.history takes.settles.sends.sends
 
-pub stays_ordered : (turn : Turn) (old new : HostModel) (come comes : Known) (before after : Option Octets) (heard hears : Option (List Notice))
+pub stays_ordered : (turn : Turn) (old new : HostModel) (come comes : Known) (before after : Option Octets) (heard hears : Option (List Received))
     → TakesATurn turn old new come comes before after heard hears → StaysInOrder old come.history comes.history
 stays_ordered turn old new come comes before after heard hears takes start input gone is =
     keeps_order turn old new come comes before after heard hears start input gone is takes old.fault refl

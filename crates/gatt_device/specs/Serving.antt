@@ -8,7 +8,7 @@ use Rattle.gatt_host.specs.HostModel.{RefinesRun, HostModel}
 use Rattle.gatt_laws.specs.machine.Calls.{Call}
 use Rattle.gatt_laws.specs.laws.Deadline.{deadline}
 use Rattle.gatt_laws.specs.machine.Input.{Run, Item, after_items, call_refusal, run}
-use Rattle.gatt_laws.specs.machine.Notice.{Notice}
+use Rattle.gatt_laws.specs.machine.Notice.{Received}
 use Rattle.gatt_laws.specs.machine.Start.{Start}
 use Rattle.octets.specs.Number.{Octets}
 use Rattle.gatt_device.specs.declared.serving.End.{End}
@@ -75,7 +75,7 @@ pub record StopsAtTheLast (happened : List DeviceInput) (old new : HostModel) (b
 
 -- this happened: its octets and its calls are those that came, each in their order. What is written is what the state machine
 -- gives of it, and what is heard is what it tells. It is recorded with its answers, and it is over for this reason
-pub record ServesDevice (result : Result End HostFault) (turns : ℕ) (old new : HostModel) (come comes : Known) (before after : Option Octets) (heard hears : Option (List Notice)) : Type 0 where
+pub record ServesDevice (result : Result End HostFault) (turns : ℕ) (old new : HostModel) (come comes : Known) (before after : Option Octets) (heard hears : Option (List Received)) : Type 0 where
   pub happened : List DeviceInput
   pub octets : Consumes come.octets comes.octets (octets_that_came happened)
   pub calls : Hands come.calls comes.calls (calls_in happened)

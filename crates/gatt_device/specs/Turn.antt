@@ -2,7 +2,7 @@
 use Rattle.std.specs.Prelude.{◌≡◌, IsSome, Bool, List, [], ◌∷◌, ◌++◌, Option, Some, None}
 use Rattle.gatt_host.specs.HostModel.{RefinesRun, HostModel}
 use Rattle.gatt_laws.specs.machine.Input.{Item, run}
-use Rattle.gatt_laws.specs.machine.Notice.{Notice}
+use Rattle.gatt_laws.specs.machine.Notice.{Received}
 use Rattle.gatt_laws.specs.machine.Start.{Start}
 use Rattle.gatt_subs.specs.Rows.{Subscriptions}
 use Rattle.octets.specs.Number.{Octets}
@@ -26,14 +26,14 @@ pub record KeepsThenSends (turn : Turn) (rows : Subscriptions) (before after : O
   pub sends : SendsWhatWaits turn.sending before after kept records
 
 -- nothing happens, nothing is written, and nothing is heard
-pub record NothingHappens (come comes : Known) (before after : Option Octets) (heard hears : Option (List Notice)) : Type 0 where
+pub record NothingHappens (come comes : Known) (before after : Option Octets) (heard hears : Option (List Received)) : Type 0 where
   pub happens : comes ≡ come
   pub writes : after ≡ before
   pub hearing : hears ≡ heard
 
 -- a host is served in one turn, or has stopped before. What it writes waits behind what waited already, until the rows are kept
 -- that the host has by then
-pub record TakesATurn (turn : Turn) (old new : HostModel) (come comes : Known) (before after : Option Octets) (heard hears : Option (List Notice)) : Type 0 where
+pub record TakesATurn (turn : Turn) (old new : HostModel) (come comes : Known) (before after : Option Octets) (heard hears : Option (List Received)) : Type 0 where
   pub written : Option Octets
   pub recorded : Option (List HistoryEntry)
   pub serves : old.fault ≡ None → ServesDevice turn.served 1 old new come (known comes.octets comes.calls recorded) before written heard hears

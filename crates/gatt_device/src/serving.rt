@@ -3,9 +3,8 @@
 ghost use Rattle.std.specs.Prelude.{◌≡◌, ◌∷◌, [], true, None, Some, IsSome, IsOk, IfErr};
 ghost use Rattle.gatt_host.specs.Calls.{call_of};
 ghost use Rattle.gatt_host.specs.Feeding.{is_of_feeding, is_write_fault, Feeds, WritesAllThatIsDue};
-ghost use Rattle.gatt_host.specs.Listening.{Hears, Listens};
+ghost use Rattle.gatt_host.specs.Listening.{Listens};
 ghost use Rattle.gatt_host.specs.Promises.{KeepsConnectionsApart, KeepsThePolicy};
-ghost use Rattle.gatt_host.specs.Telling.{notices_told};
 ghost use Rattle.gatt_host.specs.HostModel.{all_out, fault_outcome};
 ghost use Rattle.gatt_laws.specs.machine.Input.{ACall};
 ghost use Rattle.octets.specs.Stream.{CountsIf};
@@ -13,7 +12,7 @@ ghost use Rattle.gatt_device.specs.Serving.{known, RecordsTheAnswer, ServesDevic
 ghost use Rattle.gatt_device.specs.Time.{KeepsTheTime};
 
 use crate::happenings::{Happenings, Next};
-use gatt_host::{App, Host, HostFault, Listener, feed, feed_to};
+use gatt_host::{App, Host, HostFault, Listener, deliver_notices, feed, feed_to};
 use octets::Sink;
 
 /// As much room as there is for octets that come at once, or for a value.
@@ -133,15 +132,6 @@ fn take_call<H: Happenings, W: Sink, L: Listener>(
 {
     let answer = host.app(call);
     happenings.answered(answer);
-    tell(host, listener);
+    deliver_notices(host, listener);
     feed(host, &[], out)
-}
-
-/// Tells a listener what is told of what a host took in last.
-fn tell<L: Listener>(host: &Host, listener: &mut L)
-    ensures hears { Hears (notices_told host.now) (L.heard listener.old) (L.heard listener.new) }
-{
-    for notice in host.notices() {
-        listener.hear(notice);
-    }
 }

@@ -13,7 +13,7 @@ use Rattle.gatt_host.specs.Calls.{call_of}
 use Rattle.gatt_host.specs.Feeding.{octet_items}
 use Rattle.gatt_host.specs.HostModel.{HostModel}
 use Rattle.gatt_laws.specs.machine.Input.{ACall}
-use Rattle.gatt_laws.specs.machine.Notice.{Notice}
+use Rattle.gatt_laws.specs.machine.Notice.{Received}
 use Rattle.octets.proofs.Writing.{counts_none}
 use Rattle.octets.specs.Number.{Octets}
 
@@ -115,16 +115,16 @@ loop-turn-preserved g c =
     let before : Option Octets = g.W.Sink.contents c.args.out.now in
     let written : Option Octets = g.W.Sink.contents c.loop-turn.out in
     let holds : Option Octets = g.W.Sink.contents c.match-next.out in
-    let heard : Option (List Notice) = g.L.Listener.heard c.args.listener.now in
-    let so_far : Option (List Notice) = g.L.Listener.heard c.loop-turn.listener in
-    let hearing : Option (List Notice) = g.L.Listener.heard c.match-next.listener in
+    let heard : Option (List Received) = g.L.Listener.heard c.args.listener.now in
+    let so_far : Option (List Received) = g.L.Listener.heard c.loop-turn.listener in
+    let hearing : Option (List Received) = g.L.Listener.heard c.match-next.listener in
     let goes : Goes (c.loop-turn._turn + 1) old c.match-next.host come knows before holds heard hearing (g.W.Sink.failures c.args.out.now) (g.W.Sink.failures c.match-next.out) =
     elim c.match-next.branch [
       | in-Octets+in_ok-feed_to-in-Octets w ↦
           let octets : Octets = w.in-Octets.octets.now in
           let new : HostModel = w.feed_to.new.host in
           let after : Option Octets = g.W.Sink.contents w.feed_to.new.out in
-          let hears : Option (List Notice) = g.L.Listener.heard w.feed_to.new.listener in
+          let hears : Option (List Received) = g.L.Listener.heard w.feed_to.new.listener in
           let none : new.fault ≡ None = none_answered new.fault w.in_ok-feed_to-in-Octets.ensures.outcome in
           goes_as (c.loop-turn._turn + 1) old new c.match-next.host come asks knows before after holds heard hears hearing
           (g.W.Sink.failures c.args.out.now) (g.W.Sink.failures w.feed_to.new.out) (g.W.Sink.failures c.match-next.out)
@@ -145,7 +145,7 @@ loop-turn-preserved g c =
           let new : HostModel = w.take_call.new.host in
           let comes : Known = known (g.H.Happenings.octets w.take_call.new.happenings) (g.H.Happenings.calls w.take_call.new.happenings) (g.H.Happenings.history w.take_call.new.happenings) in
           let after : Option Octets = g.W.Sink.contents w.take_call.new.out in
-          let hears : Option (List Notice) = g.L.Listener.heard w.take_call.new.listener in
+          let hears : Option (List Received) = g.L.Listener.heard w.take_call.new.listener in
           let none : new.fault ≡ None = none_answered new.fault w.in_ok-take_call-in-Call.ensures.outcome in
           goes_as (c.loop-turn._turn + 1) old new c.match-next.host come comes knows before after holds heard hears hearing
           (g.W.Sink.failures c.args.out.now) (g.W.Sink.failures w.take_call.new.out) (g.W.Sink.failures c.match-next.out)
