@@ -9,7 +9,7 @@ use Rattle.octets.specs.Number.{Octets}
 use Rattle.gatt_files.specs.declared.fault.ShellFault.{ShellFault}
 use Rattle.gatt_files.specs.declared.fault.ShellFault.TheVariants.{Host, Unwritten}
 use Rattle.gatt_files.specs.Saving.{Save, Saves, SavesAfter}
-use Rattle.gatt_commands.specs.Serving.{fault_told_of, SavesBy}
+use Rattle.gatt_commands.specs.Serving.{fault_told_of, IsOutcomeOf, SavesBy}
 
 module _ (text : Octets) (saves saves_then : Option (List Save)) where
   by-answer : (ran result : Result (Unit {0}) ShellFault) → ran ≡ Ok tt → IfErr result (λ fault. fault ≡ Unwritten)
@@ -34,3 +34,10 @@ pub saves_rows : (rows held : Subscriptions) (saves saves_then : Option (List Sa
 saves_rows rows held saves saves_then refines ran result same told failed unwritten saved =
     by-fault (rows_text held) saves saves_then refines ran result told failed unwritten
     (subst (λ (rows : Subscriptions). SavesAfter ran result (rows_text rows) saves saves_then) same saved)
+
+-- a fault of the host comes before one of the store
+pub is_outcome : (fault : Option HostFault) (ran result : Result (Unit {0}) ShellFault) → ran ≡ fault_told_of fault
+    → ((why : ShellFault) → ran ≡ Err why → result ≡ Err why) → (ran ≡ Ok tt → IfErr result (λ why. why ≡ Unwritten))
+    → IsOutcomeOf fault result
+is_outcome None ran result told failed unwritten = unwritten told
+is_outcome (Some fault) ran result told failed unwritten = failed (Host (number_of_fault fault)) told

@@ -1,5 +1,5 @@
 -- What the serving of a controller does, and what may end it: this profile's own.
-use Rattle.std.specs.Prelude.{◌≡◌, Bool, true, false, List, Option, Some, None, Result, Ok, Err}
+use Rattle.std.specs.Prelude.{◌≡◌, Bool, true, false, IfErr, List, Option, Some, None, Result, Ok, Err}
 use Rattle.std.specs.Result.{result_err}
 use Rattle.gatt_host.specs.declared.host_fault.HostFault.{HostFault}
 use Rattle.gatt_host.specs.declared.serving.End.{End}
@@ -28,6 +28,11 @@ pub record ServesBy {R W : Type 0} (remaining : R → Option Octets) (contents :
 abbrev pub fault_told_of : Option HostFault → Result (Unit {0}) ShellFault
 fault_told_of None = Ok tt
 fault_told_of (Some fault) = Err (Host (number_of_fault fault))
+
+-- once the rows were to be saved: a fault of the host is reported, and without one only a failed saving
+abbrev pub IsOutcomeOf : Option HostFault → Result (Unit {0}) ShellFault → Type 0
+IsOutcomeOf (Some fault) result = result ≡ Err (Host (number_of_fault fault))
+IsOutcomeOf None result = IfErr result (λ fault. fault ≡ Unwritten)
 
 -- then a store was asked to save this text: it did where all ends well, and did not where that ends unwritten; where the host
 -- stopped with a fault, that is told, whether it did or not

@@ -1,12 +1,11 @@
 //! The command `serve`.
 
-ghost use Rattle.std.specs.Prelude.{◌≡◌, ◌≢◌, ℕ, None, Err, IfErr, IfOk, IfSome, OnOk};
-ghost use Rattle.gatt_host.specs.Numbers.{number_of_fault};
+ghost use Rattle.std.specs.Prelude.{◌≡◌, ◌≢◌, ℕ, None, Err, IfErr, IfOk, IfSome};
 ghost use Rattle.gatt_subs.specs.RowsText.{rows_text};
 ghost use Rattle.gatt_files.specs.KeyFile.{keys_in, KeysAreRefusedAs};
 ghost use Rattle.gatt_commands.specs.Opening.{IsOpenedWithFiles};
 ghost use Rattle.gatt_files.specs.RowsFile.{rows_in, RowsAreRefusedAs};
-ghost use Rattle.gatt_commands.specs.Serving.{fault_told_of, IsOpeningFault, IsServeFault, IsServedFault, SavesBy, ServesBy, ServesStream};
+ghost use Rattle.gatt_commands.specs.Serving.{fault_told_of, IsOpeningFault, IsOutcomeOf, IsServeFault, IsServedFault, SavesBy, ServesBy, ServesStream};
 ghost use Rattle.gatt_files.specs.TableFile.{table_in, TableIsRefusedAs};
 
 use crate::opening::open_host;
@@ -37,9 +36,8 @@ pub fn serve_on<V: RowsStore>(
     // Once one was, the host was served to the end of the stream, or to the fault that stands then.
     ensures served { result ≢ Err ShellFault.Listen → host.old.fault ≡ None
         → ServesStream host.old host.new None None None None }
-    ensures ended { OnOk result (host.new.fault ≡ None) }
-    ensures fault { (number : ℕ) → result ≡ Err (ShellFault.Host number)
-        → IfSome host.new.fault (λ fault. number ≡ number_of_fault fault) }
+    // A fault of the host is reported by its number; without one only the saving may fail.
+    ensures outcome { result ≢ Err ShellFault.Listen → IsOutcomeOf host.new.fault result }
     // Then the rows that stood at its end were saved.
     ensures saved { result ≢ Err ShellFault.Listen
         → SavesBy result (rows_text host.new.server.rows) (V.saves store.old)
