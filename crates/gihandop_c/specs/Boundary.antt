@@ -47,6 +47,11 @@ HostTellsItems items = OfTheHost (TellsItems items)
 abbrev pub HostTellsItem : Item → Option Opened → Option Opened → Type 0
 HostTellsItem item = OfTheHost (TellsItem item)
 
+-- the notices that have not been handed out stay, and so does the table with their values
+pub record KeepsNotices (old new : Opened) : Type 0 where
+  pub notices : untold new ≡ untold old
+  pub table : new.host.server.table ≡ old.host.server.table
+
 -- the host stays as it is, and so does how many notices were handed out
 pub record Stays (old new : Opened) : Type 0 where
   pub host : new.host ≡ old.host

@@ -3,7 +3,7 @@
 ghost use Rattle.std.specs.Prelude.{◌≡◌, ◌≢◌, ◌<◌, ◌≤◌, ◌∷◌, [], length, take, true, if◌then◌else◌};
 ghost use Rattle.gatt_host.specs.Feeding.{octet_items, TakesUpToAPacket};
 ghost use Rattle.gatt_host.specs.HostModel.{all_out};
-ghost use Rattle.gihandop_c.specs.Boundary.{OpenedRefines, StaysIfStopped, TellsItems};
+ghost use Rattle.gihandop_c.specs.Boundary.{KeepsNotices, OpenedRefines, StaysIfStopped, TellsItems};
 ghost use Rattle.gihandop_c.specs.Statuses.{out_status, room_status, take_status};
 ghost use Rattle.gihandop_c.specs.declared.status.TheConstants.{DONE, NOTHING, OUTPUT_OWED, SHORT_BUFFER};
 
@@ -57,6 +57,7 @@ pub(crate) fn nothing(opened: &mut Opened, count: &mut usize) -> u32
     ensures count { count.new ≡ 0 }
     ensures unchanged { opened.new.host ≡ opened.old.host }
     ensures told { opened.new.told ≡ opened.old.told }
+    ensures notices { KeepsNotices opened.old opened.new }
 {
     *count = 0;
     opened.drained = true;
@@ -75,6 +76,7 @@ pub(crate) fn next_out(opened: &mut Opened, out: &mut [u8], count: &mut usize) -
     ensures none { result ≢ DONE → result ≢ SHORT_BUFFER → count.new ≡ 0 }
     ensures unchanged { result ≢ DONE → opened.new.host ≡ opened.old.host }
     ensures told { opened.new.told ≡ opened.old.told }
+    ensures notices { KeepsNotices opened.old opened.new }
     ensures untouched { result ≢ DONE → out.new ≡ out.old }
 {
     if out.len() < LONGEST_PACKET {

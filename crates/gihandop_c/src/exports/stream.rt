@@ -2,7 +2,7 @@
 
 ghost use Rattle.std.specs.Prelude.{◌≡◌, ◌≢◌, ◌<◌, ◌≤◌, ◌∷◌, [], length, take, IfSome, Some, None};
 ghost use Rattle.gatt_host.specs.Feeding.{octet_items, TakesUpToAPacket};
-ghost use Rattle.gihandop_c.specs.Boundary.{HostRefines, HostStays, HostStaysIfStopped, HostTellsItems, OfTheHost};
+ghost use Rattle.gihandop_c.specs.Boundary.{HostRefines, HostStays, HostStaysIfStopped, HostTellsItems, KeepsNotices, OfTheHost};
 ghost use Rattle.gihandop_c.specs.Statuses.{if_open, notice_status, out_status, take_status};
 ghost use Rattle.gihandop_c.specs.Telling.{HandsOut};
 ghost use Rattle.gihandop_c.specs.declared.status.TheConstants.{CLOSED, DONE, OUTPUT_OWED, SHORT_BUFFER};
@@ -54,6 +54,7 @@ pub extern "C" fn gh_next_out(host: &mut HostPointer, out: &mut [u8], count: &mu
     ensures needs { result ≡ SHORT_BUFFER → count.new ≡ LONGEST_PACKET }
     ensures none { result ≢ DONE → result ≢ SHORT_BUFFER → count.new ≡ 0 }
     ensures unchanged { result ≢ DONE → HostStays host.old.host host.new.host }
+    ensures notices { OfTheHost KeepsNotices host.old.host host.new.host }
     ensures untouched { result ≢ DONE → out.new ≡ out.old }
 {
     let Some(open) = host.as_mut() else {

@@ -1,7 +1,8 @@
-use Rattle.std.proofs.Common.{◌≡◌, ℕ, ◌≤◌, Bool, true, false, length, refl, arith}
+use Rattle.std.proofs.Common.{◌≡◌, ℕ, ◌≤◌, Bool, true, false, List, ap, drop, length, refl, arith}
 use Rattle.std.specs.Prelude.{nat_lt, not, if◌then◌else◌}
 use Rattle.std.proofs.lemmas.Bool.{ltb-true}
 use Rattle.gatt_host.specs.HostModel.{all_out}
+use Rattle.gatt_laws.specs.machine.Notice.{Notice}
 use Rattle.gihandop_c.specs.declared.status.TheConstants.{DONE, NOTHING, SHORT_BUFFER}
 use Rattle.gihandop_c.proofs.stream.next_out.Goals as goal
 
@@ -22,3 +23,9 @@ pub returns-in-Some-clause-status : goal.returns-in-Some-clause-status
 returns-in-Some-clause-status c =
     done (all_out c.args.opened.now.host) (nat_lt (length c.args.out.now) 260) c.in-Some.ensures.some
     (fits (length c.args.out.now) c.if-out-lt-LONGEST_PACKET.false)
+
+pub returns-in-Some-clause-notices : goal.returns-in-Some-clause-notices
+returns-in-Some-clause-notices c = record {
+  notices = ap (λ (notices : List Notice). drop c.args.opened.now.told notices) c.next_into.ensures.notices;
+  table = c.next_into.ensures.table;
+}
