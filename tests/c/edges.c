@@ -194,19 +194,91 @@ static void short_buffers(void)
     gh_close(&host);
 }
 
+/* The texts of the statuses, from the first of each group on. */
+static const struct {
+    uint32_t first;
+    const char *texts[12];
+} groups[] = {
+    {0, {
+        "done",
+        "there is nothing to hand out",
+        "no host is open",
+        "a host is open already",
+        "packets have to go out first",
+        "the buffer is too short",
+        "memory was refused",
+        "the configuration is out of its limits",
+    }},
+    {21, {
+        "host: an octet stands where a packet begins, and begins none",
+        "host: an event is too short for its fields, or has another length than it states",
+        "host: the controller could not be initialised",
+        "host: the controller reports an error of its own",
+    }},
+    {41, {
+        "there is no attribute with the handle",
+        "it is no characteristic value",
+        "the value is longer than its largest length, or a fixed one has another length",
+        "no connection with the handle serves",
+        "the time is before the one that stands",
+        "the host has stopped",
+        "a table has no value that tells of changes, or they have it at different handles",
+    }},
+    {101, {
+        "table: it is not TOML",
+        "table: a key that has to be there is not",
+        "table: a uuid is none, or is one that may not stand there",
+        "table: a value is not an even number of hexadecimal digits",
+        "table: a value of more than 512 octets, or a max out of its range",
+        "table: a need with a key_size out of its range, or with another key",
+        "table: a property that is unknown or not allowed there, or a config with "
+        "nothing to configure",
+        "table: more attributes, configurations or octets than a table may have",
+        "table: an include of a service that does not stand before",
+        "table: memory was refused",
+        "table: a key that is unknown, or of another TOML type than its own",
+    }},
+    {201, {
+        "keys: it is not TOML",
+        "keys: a key that each entry has to have is not there",
+        "keys: an address or a kind is none",
+        "keys: a rand or an ltk is not that many hexadecimal digits",
+        "keys: a size is out of its range",
+        "keys: an earlier entry has the same peer, rand and ediv",
+        "keys: more than 64 entries",
+        "keys: memory was refused",
+        "keys: a key that is unknown, or of another TOML type than its own",
+        "keys: a secure key with another rand or ediv than 0",
+    }},
+    {301, {
+        "rows: a line says nothing that a rows file may say",
+        "rows: a line says what an earlier one has said",
+        "rows: more of them than a rows file may have",
+        "rows: memory was refused",
+    }},
+};
+
+/* The text of a status, or NULL if no function answers it. */
+static const char *text_of(uint32_t status)
+{
+    for (size_t at = 0; at < sizeof groups / sizeof groups[0]; at++) {
+        uint32_t place = status - groups[at].first;
+        if (status >= groups[at].first && place < 12 && groups[at].texts[place])
+            return groups[at].texts[place];
+    }
+    return NULL;
+}
+
 static void texts(void)
 {
     uint8_t text[128];
     size_t count, said = 0;
     for (uint32_t status = 0; status < 1000; status++) {
-        bool has_one = status <= 7 || (status >= 21 && status <= 24)
-            || (status >= 41 && status <= 47) || (status >= 101 && status <= 111)
-            || (status >= 201 && status <= 210) || (status >= 301 && status <= 304);
-        CHECK(gh_text(status, text, sizeof text, &count) == (has_one ? GH_DONE : GH_NOTHING));
-        CHECK((count > 0) == has_one);
-        for (size_t at = 0; at < count; at++)
-            CHECK(text[at] >= ' ' && text[at] <= '~');
-        said += has_one;
+        const char *wanted = text_of(status);
+        CHECK(gh_text(status, text, sizeof text, &count) == (wanted ? GH_DONE : GH_NOTHING));
+        CHECK(count == (wanted ? strlen(wanted) : 0));
+        CHECK(!wanted || memcmp(text, wanted, count) == 0);
+        said += wanted != NULL;
     }
     CHECK(said == 8 + 4 + 7 + 11 + 10 + 4);
     CHECK(gh_text(UINT32_MAX, text, sizeof text, &count) == GH_NOTHING);

@@ -40,8 +40,32 @@ const WORDS: &[(Fault, &str)] = &[
         "the controller reports an error of its own, 42",
     ),
     (
+        Fault::Call(AppFault::NoSuchHandle),
+        "there is no attribute with the handle",
+    ),
+    (
+        Fault::Call(AppFault::NotAValue),
+        "it is no characteristic value",
+    ),
+    (
+        Fault::Call(AppFault::BadLength),
+        "the value is longer than its largest length, or a fixed one has another length",
+    ),
+    (
         Fault::Call(AppFault::NoSuchConnection),
         "no connection with the handle serves",
+    ),
+    (
+        Fault::Call(AppFault::TimeWentBack),
+        "the time is before the one that stands",
+    ),
+    (
+        Fault::Call(AppFault::Stopped),
+        "the host has stopped",
+    ),
+    (
+        Fault::Call(AppFault::NoServiceChanged),
+        "a table has no value that tells of changes, or they have it at different handles",
     ),
 ];
 
