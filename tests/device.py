@@ -19,7 +19,7 @@ import time
 
 sys.dont_write_bytecode = True
 from parties import (
-    ADVERTISE_ENABLE, ADVERTISING_DATA, DISCONNECT, OWNER, PATIENCE, RANDOM_ADDRESS, ROOT, STRANGER,
+    ADVERTISE_ENABLE, ADVERTISING_DATA, DISCONNECT, GUEST, GUEST_KEY, OWNER, PATIENCE, RANDOM_ADDRESS, ROOT, STRANGER,
     COUNT, Application, Controller, Device, SerialLine, captured, check, controller_at, end_all, is_one_packet,
 )
 
@@ -450,6 +450,60 @@ def a_full_disk(folder):
     controller.close()
 
 
+def a_long_value(folder):
+    """An update of 512 octets arrives whole."""
+    path, value = f"{folder}/long.socket", bytes(it % 251 for it in range(512)).hex()
+    device = Device(*DOOR, "--listen", "127.0.0.1:0", "--application", path)
+    device.said("ready")
+    application = Application(path)
+    application.line()
+    check("a long update", "ok", application.ask(f"update 21 {value}"))
+    check("is stored whole", f"value 21 {value}", application.ask("value 21"))
+    device.end()
+
+
+def a_second_device(folder):
+    """A second device at the socket of one that serves ends, and takes nothing from the first."""
+    path, capture = f"{folder}/first.socket", f"{folder}/first.btsnoop"
+    first = Device(*DOOR, "--listen", "127.0.0.1:0", "--application", path, "--capture", capture)
+    controller = controller_at(first)
+    controller.is_advertised()
+    controller.connect(64, STRANGER)
+    controller.ask(64, "0a0300")
+    address = "%s:%d" % first.port()
+    size = os.stat(capture).st_size
+    second = Device(*DOOR, "--listen", "127.0.0.1:0", "--application", path)
+    check("a socket that is served", 2, second.process.wait(PATIENCE))
+    second = Device(*DOOR, "--listen", address, "--capture", capture)
+    check("an address that is served", 2, second.process.wait(PATIENCE))
+    check("the capture stays", True, os.stat(capture).st_size >= size > 16)
+    application = Application(path)
+    check("the socket stays", "+ serving", application.line())
+    check("the phone stays", "0b4c6f636b", controller.ask(64, "0a0300"))
+    first.end()
+    controller.close()
+
+
+def a_confirmation(folder):
+    """The rows file keeps its permission, and a peer that has confirmed Service Changed waits no more."""
+    rows, owner = f"{folder}/confirmed.rows", "1 c0:00:00:00:00:01"
+    with open(rows, "w") as file:
+        file.write(f"{owner} 4 2\n! {owner}\n")
+    os.chmod(rows, 0o640)
+    device = Device(f"{ROOT}/examples/porch.toml", DOOR[1], "--listen", "127.0.0.1:0", "--rows", rows)
+    controller = controller_at(device)
+    controller.is_advertised()
+    controller.connect(64, GUEST)
+    check("its key", True, controller.encrypt(64, GUEST_KEY))
+    check("Service Changed", "1d030000000000", controller.hears(64))
+    check("is pending", f"{owner} 4 2\n! {owner}\n", text_of(rows))
+    controller.say(64, "1e")
+    check("until it is confirmed", f"{owner} 4 2\n", soon(lambda: "!" not in text_of(rows) and text_of(rows)))
+    check("its permission", 0o640, os.stat(rows).st_mode & 0o777)
+    device.end()
+    controller.close()
+
+
 def rows_without_a_folder(folder):
     """Rows that cannot be written are told of, phones are served, and the next ones are written again."""
     place = f"{folder}/rows"
@@ -467,6 +521,14 @@ def rows_without_a_folder(folder):
     os.mkdir(place)
     check("the next rows", "13", controller.ask(65, "1207000000"))
     check("are written again", "0 00:11:22:33:44:55 11 1\n", text_of(f"{place}/door.rows"))
+    shutil.rmtree(place)
+    check("another configuration", "13", controller.ask(65, "1207000100"))
+    device.said("rows: not saved", 2)
+    os.mkdir(place)
+    check("the same once more", "13", controller.ask(65, "1207000100"))
+    # In the order in which the phone configured them first.
+    both = "0 00:11:22:33:44:55 7 1\n0 00:11:22:33:44:55 11 1\n"
+    check("is written too", both, text_of(f"{place}/door.rows"))
     device.end()
     controller.close()
 
@@ -567,10 +629,16 @@ def idle(folder):
         lines = text_of(f"/proc/{device.process.pid}/status").splitlines()
         return [line for line in lines if line.startswith("voluntary_ctxt_switches")]
 
+    def ticks():
+        """The processor time that it took, in clock ticks: one that spins is never woken."""
+        fields = text_of(f"/proc/{device.process.pid}/stat").rpartition(")")[2].split()
+        return int(fields[11]) + int(fields[12])
+
     time.sleep(0.5)
-    before = wakes()
+    before, spent = wakes(), ticks()
     time.sleep(10)
     check("no wake-up in 10 seconds", before, wakes())
+    check("nor any processor time", True, ticks() - spent <= 1)
     device.end()
     controller.close()
 
@@ -611,7 +679,7 @@ def main():
         later = a_bell(folder)
         plays = (
             a_day, a_stranger, a_listener, a_serial_line, a_lock, a_visit, a_file_in_the_way, once, words, unknown, values, slots,
-            a_full_disk, rows_without_a_folder, floods, a_busy_controller, idle,
+            a_full_disk, a_long_value, a_second_device, a_confirmation, rows_without_a_folder, floods, a_busy_controller, idle,
         )
         for play in plays:
             try:

@@ -16,11 +16,13 @@ ROOT = os.path.dirname(os.path.dirname(os.path.realpath(__file__)))
 PROGRAM = os.path.realpath(sys.argv[1]) if len(sys.argv) > 1 else f"{ROOT}/gatt_shell"
 # How long is waited for what has to come, in seconds.
 PATIENCE = 20
-# The peers of phones: one without a key, and one with an authenticated key, of which these are the
-# random number, the diversifier and the value.
+# The peers of phones: one without a key, one with an authenticated key, and one with a key that is not
+# authenticated. A key has a random number, a diversifier and a value.
 STRANGER = bytes.fromhex("010a00000000c0")
 OWNER = bytes.fromhex("00554433221100")
+GUEST = bytes.fromhex("010100000000c0")
 KEY = (bytes.fromhex("0202020202020202"), 514, bytes.fromhex("ffeeddccbbaa99887766554433221100"))
+GUEST_KEY = (bytes.fromhex("0101010101010101"), 257, bytes.fromhex("00112233445566778899aabbccddeeff"))
 # What a controller returns beside the status, by the command.
 RETURNED = {0x1005: bytes.fromhex("fb000008000000"), 0x2002: bytes.fromhex("fb0008")}
 DISCONNECT, KEY_REPLY, KEY_REFUSAL = 0x0406, 0x201A, 0x201B
@@ -164,8 +166,8 @@ class Controller:
     def connect(self, handle, peer):
         self.event(0x3E, b"\1\0" + handle.to_bytes(2, "little") + b"\1" + peer + b"\x18\0\0\0\x48\0\0")
 
-    def encrypt(self, handle):
-        random_number, diversifier, key = KEY
+    def encrypt(self, handle, key=KEY):
+        random_number, diversifier, key = key
         before = len([it for it in self.commands if it[0] == KEY_REPLY])
         spelled = handle.to_bytes(2, "little")
         self.event(0x3E, b"\5" + spelled + random_number + diversifier.to_bytes(2, "little"))
