@@ -81,7 +81,7 @@ unsafe impl Send for Host {}
 
 impl Host {
     /// Opens a host. Of files with faults the first is told, in the order table, keys, rows. This
-    /// needs 32 KiB of stack, and [`Host::replace`] somewhat less; no other call needs much.
+    /// needs 40 KiB of stack, and [`Host::replace`] somewhat less; no other call needs much.
     pub fn open(files: Files<'_>, config: &Config) -> Result<Host, Error> {
         let host = Host {
             raw: UnsafeCell::new(ffi::gh_host {

@@ -46,7 +46,8 @@ pub fn call<W: Sink>(host: &mut Host, call: App<'_>, out: &mut W) -> Result<(), 
 /// Does what the application asks, and writes what goes back to the controller: first what was owed,
 /// and then what the call brings, so that another may follow at once. Answers `Fault::Call` where the
 /// call is refused, which changes nothing, and `Fault::Host` where the writer fails, or had the host
-/// stopped before. What the call tells is heard before what it brings is written.
+/// stopped before. The listener receives the notices of the call, also if the writer fails at what it
+/// brings.
 pub fn call_to<W: Sink, L: Listener>(
     host: &mut Host,
     call: App<'_>,

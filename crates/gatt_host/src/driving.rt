@@ -56,8 +56,8 @@ pub fn drive<W: Sink>(
 
 /// Takes in octets and calls in their order, and writes what goes back: first what was owed, and then
 /// what each packet and each call brings, before the next. Says how many of the calls were refused.
-/// After a fault it answers that, and changes nothing. What each packet and each call tells is heard
-/// before what it brings is written.
+/// After a fault it answers that, and changes nothing. The listener receives the notices of each packet
+/// and call that was taken in, also if the writer fails at what it brings.
 pub fn drive_to<W: Sink, L: Listener>(
     host: &mut Host,
     inputs: &[Input<'_>],

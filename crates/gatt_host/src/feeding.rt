@@ -46,8 +46,8 @@ pub fn feed<W: Sink>(host: &mut Host, octets: &[u8], out: &mut W) -> Result<(), 
 
 /// Takes in octets of the stream from the controller, which may begin and end anywhere in its packets,
 /// and writes what goes back: first what was owed, and then what each packet brings, before the next is
-/// taken in. After a fault it answers that, and changes nothing. What each packet tells is heard before
-/// what it brings is written.
+/// taken in. After a fault it answers that, and changes nothing. The listener receives the notices of
+/// each packet that was taken in, also if the writer fails at what it brings.
 pub fn feed_to<W: Sink, L: Listener>(
     host: &mut Host,
     octets: &[u8],

@@ -68,7 +68,7 @@ pub fn serve<R: Source, W: Sink>(
 /// Serves a controller: writes what is owed, and then reads at most 512 octets a turn and writes what
 /// goes back, until the reader is at its end or as many turns are over as there may be. The octets of a
 /// packet that is unfinished at the end are dropped. After a fault it answers that, and changes
-/// nothing. What each packet tells is heard before what it brings is written.
+/// nothing. The listener receives the notices of each packet that was taken in, also if the writer fails.
 pub fn serve_to<R: Source, W: Sink, L: Listener>(
     host: &mut Host,
     reader: &mut R,
