@@ -5,7 +5,7 @@ and requests without end.
 usage: tests/hardships.py [PROGRAM] [--sessions N] [--requests N] [--seed N]
 
 PROGRAM stands in place of ./gatt_shell. So many sessions of controllers and so many of applications
-are changed at random, 1,000 each where no other number is given, and so many requests, 100,000, are
+are changed at random, 1,000 each where no other number is given, and so many requests, 20,000, are
 asked of one device. The last line is 'N passed, M failed'.
 """
 
@@ -201,7 +201,7 @@ def main():
     words = argparse.ArgumentParser(description=__doc__, formatter_class=argparse.RawDescriptionHelpFormatter)
     words.add_argument("program", nargs="?")
     words.add_argument("--sessions", type=int, default=1_000)
-    words.add_argument("--requests", type=int, default=100_000)
+    words.add_argument("--requests", type=int, default=20_000)
     words.add_argument("--seed", type=int, default=1)
     given = words.parse_args()
     random.seed(given.seed)
