@@ -36,7 +36,7 @@ use Rattle.gatt_laws.specs.machine.State.{State, change_of, step}
 use Rattle.gatt_laws.specs.machine.Effect.{effect_of}
 use Rattle.le_hci.specs.declared.peer.Peer.{Peer}
 
-and-false : (test : Bool) → (test && false) ≡ false
+pub and-false : (test : Bool) → (test && false) ≡ false
 and-false true = refl
 and-false false = refl
 

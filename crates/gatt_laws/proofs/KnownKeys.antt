@@ -65,6 +65,11 @@ sets-changes handle (Secured other facts) none = none
 sets-changes handle (Unsecured other) none = none
 sets-changes handle notice none = refl
 
+pub set-or-kept : {A : Type 0} (found old right : A) (same later : Bool) → (same ≡ true → found ≡ right)
+    → ((same || later) ≡ false → old ≡ right) → later ≡ false → (if same then found else old) ≡ right
+set-or-kept found old right true later is keeps none = is refl
+set-or-kept found old right false later is keeps none = keeps none
+
 -- and since it is so afterwards, the last of some leaves it right
 module _ (new : State) (ordinal : Ordinal) (alone : IsAlone new ordinal) where
   abbrev handle : ℕ
@@ -80,12 +85,6 @@ module _ (new : State) (ordinal : Ordinal) (alone : IsAlone new ordinal) where
       ∙ ap (λ (one : Ordinal). key_of (new.connections one))
       (alone of.ordinal of.there (of.named ∙ eqb-true other handle same))
 
-  set-or-kept : (known : KnownKeys) (found : Option KeyFacts) (same later : Bool) → (same ≡ true → found ≡ key)
-      → ((same || later) ≡ false → known handle ≡ key) → later ≡ false
-      → (if same then found else known handle) ≡ key
-  set-or-kept known found true later is keeps none = is refl
-  set-or-kept known found false later is keeps none = keeps none
-
   pub right-after : (notices : List Notice) (known : KnownKeys) → All (IsSo new) notices
       → (list_any (sets_key handle) notices ≡ false → known handle ≡ key)
       → fold known_keys_after known notices handle ≡ key
@@ -93,7 +92,7 @@ module _ (new : State) (ordinal : Ordinal) (alone : IsAlone new ordinal) where
   right-after (Connected other peer ∷ rest) known are keeps =
       let is = All-head (IsSo new) (Connected other peer) rest are in
       right-after rest (with_key other None known) (All-tail (IsSo new) (Connected other peer) rest are)
-      (set-or-kept known None (other == handle) (list_any (sets_key handle) rest)
+      (set-or-kept None (known handle) key (other == handle) (list_any (sets_key handle) rest)
       (λ same. its-key other None same (record {
         ordinal = is.ordinal;
         there = is.there;
@@ -103,12 +102,12 @@ module _ (new : State) (ordinal : Ordinal) (alone : IsAlone new ordinal) where
   right-after (Secured other facts ∷ rest) known are keeps =
       let is = All-head (IsSo new) (Secured other facts) rest are in
       right-after rest (with_key other (Some facts) known) (All-tail (IsSo new) (Secured other facts) rest are)
-      (set-or-kept known (Some facts) (other == handle) (list_any (sets_key handle) rest)
+      (set-or-kept (Some facts) (known handle) key (other == handle) (list_any (sets_key handle) rest)
       (λ same. its-key other (Some facts) same is) keeps)
   right-after (Unsecured other ∷ rest) known are keeps =
       let is = All-head (IsSo new) (Unsecured other) rest are in
       right-after rest (with_key other None known) (All-tail (IsSo new) (Unsecured other) rest are)
-      (set-or-kept known None (other == handle) (list_any (sets_key handle) rest)
+      (set-or-kept None (known handle) key (other == handle) (list_any (sets_key handle) rest)
       (λ same. its-key other None same is) keeps)
   right-after (notice ∷ rest) known are keeps =
       right-after rest known (All-tail (IsSo new) notice rest are) keeps
@@ -134,21 +133,30 @@ module _ (state : State) (happens : Event) (known : KnownKeys) (ordinal : Ordina
       (none-stricter (changes_key (state.connections ordinal).handle) (sets_key (state.connections ordinal).handle)
       (sets-changes (state.connections ordinal).handle) (noticed state happens) unset))
 
-key-kept : (state : State) (happens : Event) (known : KnownKeys) (ordinal : Ordinal) → IsKnowing state
-    → AreKeysKnown state known → Possible (λ table. Unit) state happens → ConnectsUnused state happens
+-- a connection that is there afterwards was there, unless it is noticed to connect
+abbrev pub connects : ℕ → Notice → Bool
+connects named (Connected other peer) = other == named
+connects named notice = false
+
+sets-connects : (handle : ℕ) (notice : Notice) → sets_key handle notice ≡ false → connects handle notice ≡ false
+sets-connects named (Connected other peer) none = none
+sets-connects named notice none = refl
+
+pub was-there : (state : State) (happens : Event) (ordinal : Ordinal) → IsKnowing state
+    → Possible (λ table. Unit) state happens → ConnectsUnused state happens
     → has_slot ordinal (step state happens).slots ≡ true
-    → list_any (sets_key ((step state happens).connections ordinal).handle) (noticed state happens) ≡ false
-    → known ((step state happens).connections ordinal).handle ≡ key_of ((step state happens).connections ordinal)
+    → list_any (connects ((step state happens).connections ordinal).handle) (noticed state happens) ≡ false
+    → (has_slot ordinal state.slots ≡ true) × (is_connection_or_disconnection ordinal happens ≡ false)
 unfolding noticed
-key-kept state (Of at (event.Connected handle peer)) known ordinal is right possible unused has none =
+was-there state (Of at (event.Connected handle peer)) ordinal is possible unused has none =
     let happens : Event = Of at (event.Connected handle peer) in
     elim (ordinal == at) as (λ (same : Bool). (ordinal == at) ≡ same
-    → known ((step state happens).connections ordinal).handle ≡ key_of ((step state happens).connections ordinal)) [
+    → (has_slot ordinal state.slots ≡ true) × ((same && true) ≡ false)) [
       | true ↦ λ same.
           let its : ((step state happens).connections ordinal).handle ≡ handle =
           its-handle state at handle peer is possible unused ordinal same in
           let missing : ((handle == ((step state happens).connections ordinal).handle) || false) ≡ false =
-          ap (λ (there : Bool). list_any (sets_key ((step state happens).connections ordinal).handle)
+          ap (λ (there : Bool). list_any (connects ((step state happens).connections ordinal).handle)
           (if there then [] else Connected handle peer ∷ []))
           (sym (away state at handle peer is possible unused)) ∙ none in
           let found : (handle == ((step state happens).connections ordinal).handle) ≡ true =
@@ -156,16 +164,22 @@ key-kept state (Of at (event.Connected handle peer)) known ordinal is right poss
           let lacks : (handle == ((step state happens).connections ordinal).handle) ≡ false =
           or-first (handle == ((step state happens).connections ordinal).handle) false missing in
           absurd (cc (found, lacks))
-      | false ↦ λ differs.
-          kept-key state happens known ordinal is right
-          (old-slot state at handle peer is possible unused ordinal differs has)
-          (ap (λ (same : Bool). same && true) differs) none
+      | false ↦ λ differs. (old-slot state at handle peer is possible unused ordinal differs has, refl)
     ] refl
+was-there state happens ordinal is possible unused has none = had_slot state happens ordinal is.settled possible refl has
+
+key-kept : (state : State) (happens : Event) (known : KnownKeys) (ordinal : Ordinal) → IsKnowing state
+    → AreKeysKnown state known → Possible (λ table. Unit) state happens → ConnectsUnused state happens
+    → has_slot ordinal (step state happens).slots ≡ true
+    → list_any (sets_key ((step state happens).connections ordinal).handle) (noticed state happens) ≡ false
+    → known ((step state happens).connections ordinal).handle ≡ key_of ((step state happens).connections ordinal)
 key-kept state happens known ordinal is right possible unused has none =
-    let had = had_slot state happens ordinal is.settled possible refl has in
+    let handle : ℕ = ((step state happens).connections ordinal).handle in
+    let had = was-there state happens ordinal is possible unused has
+    (none-stricter (connects handle) (sets_key handle) (sets-connects handle) (noticed state happens) none) in
     kept-key state happens known ordinal is right had.0 had.1 none
 
-keys-known : (state : State) (happens : Event) (known : KnownKeys) → IsKnowing state
+pub keys-known : (state : State) (happens : Event) (known : KnownKeys) → IsKnowing state
     → Possible (λ table. Unit) state happens → ConnectsUnused state happens → AreKeysKnown state known
     → AreKeysKnown (step state happens) (fold known_keys_after known (noticed state happens))
 keys-known state happens known is possible unused right ordinal there =

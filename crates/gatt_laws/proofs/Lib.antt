@@ -15,7 +15,10 @@ pub mod HiddenItems
 pub mod ItemEvents
 pub mod KeyNotices
 pub mod Knowing
+pub mod KnowingConfigurations
 pub mod KnowingWho
+pub mod ConfiguringNotices
+pub mod KnownConfigurations
 pub mod KnownKeys
 pub mod MayBeHeard
 pub mod Meant

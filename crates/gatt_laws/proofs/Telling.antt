@@ -5,6 +5,7 @@ use Rattle.gatt_laws.proofs.AllowedWrites.{tells_what_was_allowed}
 use Rattle.gatt_laws.proofs.Deadline.{notices_only_who_is_late, tells_from_the_deadline_on}
 use Rattle.gatt_laws.proofs.KeyNotices.{tells_each_key}
 use Rattle.gatt_laws.proofs.Knowing.{knows_the_values}
+use Rattle.gatt_laws.proofs.KnowingConfigurations.{knows_the_configurations}
 use Rattle.gatt_laws.proofs.KnowingWho.{always_has_one_handle_each, knows_who_is_there}
 use Rattle.gatt_laws.proofs.KnowingWho.{tells_who_is_there}
 use Rattle.gatt_laws.proofs.KnownKeys.{knows_the_keys}
@@ -19,6 +20,7 @@ pub tells_the_application : TellsTheApplication
 tells_the_application = record {
   knows_values = knows_the_values;
   knows_keys = knows_the_keys;
+  knows_configurations = knows_the_configurations;
   so = tells_what_is_so;
   values = tells_each_value;
   own_rows = tells_each_own_row;

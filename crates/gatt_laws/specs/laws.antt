@@ -3,6 +3,7 @@ pub mod AllowedNotices
 pub mod Deadline
 pub mod Given
 pub mod Headline
+pub mod KnownConfigurations
 pub mod KnownKeys
 pub mod Laws
 pub mod MayBeHeard

@@ -2,6 +2,7 @@
 use Rattle.gatt_laws.specs.laws.AllowedNotices.{TellsNoRefusals, TellsNoRefusedCommands, TellsNothingIgnored}
 use Rattle.gatt_laws.specs.laws.AllowedNotices.{TellsOnlyOfTheLive, TellsWhatWasAllowed}
 use Rattle.gatt_laws.specs.laws.Deadline.{NoticesOnlyWhoIsLate, TellsFromTheDeadlineOn}
+use Rattle.gatt_laws.specs.laws.KnownConfigurations.{KnowsTheConfigurations}
 use Rattle.gatt_laws.specs.laws.KnownKeys.{KnowsTheKeys}
 use Rattle.gatt_laws.specs.laws.Notices.{KnowsTheValues, TellsEachValue}
 use Rattle.gatt_laws.specs.laws.Present.{AlwaysHasOneHandleEach, KnowsWhoIsThere, TellsWhoIsThere}
@@ -10,7 +11,7 @@ use Rattle.gatt_laws.specs.laws.ServiceChanged.{NoticesServiceChangedConfirmed}
 use Rattle.gatt_laws.specs.laws.StreamNotices.{ReceivesOfTheDivision, TellsOfTheDivision}
 use Rattle.gatt_laws.specs.laws.ToldIsSo.{TellsWhatIsSo}
 
--- What a listener knows in every run: each value, the key of each link, and who is there.
+-- What a listener knows in every run: each value, the key of each link, each configuration, and who is there.
 -- At each event: what a notice says is so; and no value, configuration, key or pending Service Changed
 -- indication changes without a notice or a call of the application.
 -- Each write that is noticed was allowed. There is no notice of what is refused, be it answered or not, or
@@ -19,6 +20,7 @@ use Rattle.gatt_laws.specs.laws.ToldIsSo.{TellsWhatIsSo}
 pub record TellsTheApplication : Type 0 where
   pub knows_values : KnowsTheValues
   pub knows_keys : KnowsTheKeys
+  pub knows_configurations : KnowsTheConfigurations
   pub so : TellsWhatIsSo
   pub values : TellsEachValue
   pub own_rows : TellsEachOwnRow
