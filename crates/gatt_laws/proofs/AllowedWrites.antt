@@ -1,10 +1,11 @@
 -- What is told of writes was allowed.
 use Rattle.std.proofs.Common.{◌≡◌, ℕ, Bool, true, false, List, [], ◌∷◌, map, Option, Some}
 use Rattle.std.proofs.Common.{None}
-use Rattle.std.proofs.Common.{refl}
-use Rattle.std.specs.Prelude.{◌++◌, ◌&&◌, not, All, IfSome, if◌then◌else◌}
+use Rattle.std.proofs.Common.{Result, Ok, Err, refl}
+use Rattle.std.specs.Prelude.{◌++◌, ◌==◌, ◌&&◌, ◌||◌, not, All, IfSome, if◌then◌else◌}
 use Rattle.std.specs.List.{flat_map}
 use Rattle.std.specs.Option.{option_to_list}
+use Rattle.std.proofs.lemmas.Bool.{eq-eqb}
 use Rattle.std.proofs.lemmas.List.Elements.{All-nil, All-cons, All-append}
 use Rattle.att_numbers.specs.Types.{Handle, Row}
 use Rattle.att_attributes.specs.declared.attr.Attr.{Attr}
@@ -12,9 +13,14 @@ use Rattle.att_attributes.specs.Attributes.{is_configuration_at}
 use Rattle.att_pdu.specs.Grammar.{request_of, is_due}
 use Rattle.att_policy.specs.declared.standing.KeyFacts.{KeyFacts}
 use Rattle.att_table.specs.ConfigRow.{bits_at}
+use Rattle.att_policy.specs.Refusal.{Refusal}
+use Rattle.att_writes.specs.Applied.{Stored, applied_to}
+use Rattle.att_writes.specs.Entry.{Entry}
+use Rattle.att_writes.specs.Queue.{touched_by}
+use Rattle.att_writes.specs.SameBut.{is_touched}
 use Rattle.gatt_conn.specs.Answer.{Question, Writing, writing_asked, handles_after, handles_by}
 use Rattle.gatt_conn.specs.Answer.{is_confirmation}
-use Rattle.gatt_laws.proofs.Headline.{writes_what_may_be_written}
+use Rattle.gatt_laws.proofs.Headline.{each-once, writes_what_may_be_written}
 use Rattle.gatt_laws.specs.laws.AllowedNotices.{MayWrite, WasAllowed, TellsWhatWasAllowed}
 use Rattle.gatt_laws.specs.machine.Controller.{Slots}
 use Rattle.gatt_laws.specs.machine.Event.{Ordinal, Own, Event, Encrypted, Refreshed, Asks}
@@ -31,6 +37,32 @@ use Rattle.gatt_laws.specs.machine.State.{State}
 use Rattle.gatt_laws.specs.machine.Effect.{Effect, is_full, effect_of, handles_written}
 use Rattle.gatt_subs.specs.declared.pending.Unconfirmed.{Unconfirmed}
 use Rattle.octets.specs.Number.{Octets}
+
+-- each handle that is written is one that an entry names
+abbrev IsTouched : List Entry → Handle → Type 0
+IsTouched entries handle = is_touched entries handle ≡ true
+
+or-touched : (one other : Bool) → other ≡ true → (one || other) ≡ true
+or-touched true other is = refl
+or-touched false other is = is
+
+also-touched : (entry : Entry) (entries : List Entry) (handles : List Handle) → Each (IsTouched entries) handles
+    → Each (IsTouched (entry ∷ entries)) handles
+also-touched entry entries [] each = tt
+also-touched entry entries (handle ∷ handles) each =
+    (or-touched (entry.handle == handle) (is_touched entries handle) each.0, also-touched entry entries handles each.1)
+
+each-touched : (entries : List Entry) → Each (IsTouched entries) (map (λ (entry : Entry). entry.handle) entries)
+each-touched [] = tt
+each-touched (entry ∷ entries) = (
+  (λ i. eq-eqb entry.handle entry.handle refl i || is_touched entries entry.handle),
+  also-touched entry entries (map (λ (one : Entry). one.handle) entries) (each-touched entries),
+)
+
+touched-there : (entries : List Entry) (result : Result Stored Refusal) → Each (IsTouched entries) (touched_by entries result)
+touched-there entries (Ok stored) =
+    each-once (IsTouched entries) (map (λ (entry : Entry). entry.handle) entries) (each-touched entries)
+touched-there entries (Err refusal) = tt
 
 -- of some lists of notices
 module _ (state : State) (happens : Event) where
@@ -103,9 +135,10 @@ module _ (state : State) (happens : Event) where
 
     may-write : (pdu : Octets) (writing : Writing) (attribute : Handle) → happens ≡ Of ordinal (Asks pdu)
         → writing_asked (prepared_of its) (asked_by pdu) ≡ Some writing
+        → is_touched writing.entries attribute ≡ true
         → MayUse writing.access attributes (standing_of state.shared its) attribute
         → MayWrite state happens its.handle attribute
-    may-write pdu writing attribute asks asked may = record {
+    may-write pdu writing attribute asks asked there may = record {
       ordinal = ordinal;
       pdu = pdu;
       asks = asks;
@@ -113,6 +146,7 @@ module _ (state : State) (happens : Event) where
       named = refl;
       writing = writing;
       asked = asked;
+      named_there = there;
       may = may;
     }
 
@@ -129,14 +163,15 @@ module _ (state : State) (happens : Event) where
       writes-allowed : (row : Row) (writing : Writing) (handles : List Handle)
           → writing_asked (prepared_of its) (asked_by pdu) ≡ Some writing
           → Each (MayUse writing.access attributes (standing_of state.shared its)) handles
+          → Each (IsTouched writing.entries) handles
           → Allowed (map (write_told attributes row its.handle) handles)
-      writes-allowed row writing [] asked each = none-allowed
-      writes-allowed row writing (attribute ∷ handles) asked each =
+      writes-allowed row writing [] asked each there = none-allowed
+      writes-allowed row writing (attribute ∷ handles) asked each there =
           All-cons (WasAllowed state happens) (write_told attributes row its.handle attribute)
           (map (write_told attributes row its.handle) handles)
           (write-allowed row attribute (is_configuration_at attributes attribute)
-          (may-write pdu writing attribute asks asked each.0))
-          (writes-allowed row writing handles asked each.1)
+          (may-write pdu writing attribute asks asked there.0 each.0))
+          (writes-allowed row writing handles asked each.1 there.1)
 
       asked-allowed : (row old : Row) (writing : Option Writing)
           → writing_asked (prepared_of its) (asked_by pdu) ≡ writing
@@ -146,7 +181,9 @@ module _ (state : State) (happens : Event) where
           → Allowed (map (write_told attributes row its.handle)
           (handles_after state.shared.table old (standing_of state.shared its) writing))
       asked-allowed row old None asked each = none-allowed
-      asked-allowed row old (Some writing) asked each = writes-allowed row writing _ asked each
+      asked-allowed row old (Some writing) asked each =
+          writes-allowed row writing _ asked each (touched-there writing.entries
+          (applied_to writing.access state.shared.table old (standing_of state.shared its) writing.entries))
 
       -- where there is no room for the answer, nothing is written
       request-allowed : (bond row : Row) (served : Bool)

@@ -174,7 +174,7 @@ each-filtered P test [] each = tt
 each-filtered P test (handle ∷ handles) each =
     each-next P handle (filter test handles) (test handle) each.0 (each-filtered P test handles each.1)
 
-each-once : (P : Handle → Type 0) (handles : List Handle) → Each P handles → Each P (once_each handles)
+pub each-once : (P : Handle → Type 0) (handles : List Handle) → Each P handles → Each P (once_each handles)
 each-once P [] each = tt
 each-once P (handle ∷ handles) each = (each.0, each-filtered P _ (once_each handles) (each-once P handles each.1))
 

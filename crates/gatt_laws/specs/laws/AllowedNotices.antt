@@ -9,6 +9,7 @@ use Rattle.att_policy.specs.declared.policy.Access.TheVariants.{Command}
 use Rattle.att_table.specs.Table.{value_at}
 use Rattle.att_writes.specs.Entry.{whole_value}
 use Rattle.att_writes.specs.Fault.{entry_fault}
+use Rattle.att_writes.specs.SameBut.{is_touched}
 use Rattle.gatt_conn.specs.Answer.{Writing, answer_to, writing_asked}
 use Rattle.gatt_laws.specs.machine.Event.{Ordinal, Own, Asks, Event, Of}
 use Rattle.gatt_laws.specs.laws.Headline.{MayUse}
@@ -20,9 +21,9 @@ use Rattle.gatt_laws.specs.machine.State.{State}
 use Rattle.gatt_laws.specs.machine.Effect.{is_full}
 use Rattle.octets.specs.Number.{Octets}
 
--- The event is a PDU by which a connection of this handle, which serves, asks to write, and the
--- connection may write there by the access that this PDU asks for: as a request by a Write Request and
--- by an Execute Write Request, as a command by a Write Command.
+-- The event is a PDU by which a connection of this handle, which serves, asks to write there, and it may
+-- write there by the access that this PDU asks for: as a request by a Write Request and by an Execute Write
+-- Request, as a command by a Write Command.
 pub record MayWrite (state : State) (event : Event) (handle : ℕ) (attribute : Handle) : Type 0 where
   pub ordinal : Ordinal
   pub pdu : Octets
@@ -32,6 +33,7 @@ pub record MayWrite (state : State) (event : Event) (handle : ℕ) (attribute : 
   pub writing : Writing
   pub asked : writing_asked (prepared_of (state.connections ordinal))
       (request_of pdu (connection_mtu state.shared (state.connections ordinal))) ≡ Some writing
+  pub named_there : is_touched writing.entries attribute ≡ true
   pub may : MayUse writing.access state.shared.table.attributes
       (standing_of state.shared (state.connections ordinal)) attribute
 
