@@ -57,8 +57,8 @@ TellsNoRefusals = (state : State) (ordinal : Ordinal) (pdu : Octets)
     (request_of pdu (connection_mtu state.shared connection)) ≡ Some (ErrorResponse request handle code)
     → noticed state (Of ordinal (Asks pdu)) ≡ []
 
--- nor of a Write Command that is refused, which is not answered (Core 5.0, Vol 3 Part F, 3.4.5.3): the
--- connection breaks a rule of the policy, or the attribute takes no value of this form or length
+-- A Write Command that is refused causes no notice; it has no answer (Core 5.0, Vol 3 Part F, 3.4.5.3). It
+-- is refused if the connection breaks a rule of the policy, or if the value does not fit the attribute.
 abbrev pub TellsNoRefusedCommands : Type 0
 TellsNoRefusedCommands = (state : State) (ordinal : Ordinal) (pdu : Octets)
     (handle : Handle) (value : Octets) (code : Code) →
@@ -69,7 +69,7 @@ TellsNoRefusedCommands = (state : State) (ordinal : Ordinal) (pdu : Octets)
     (length (value_at table.values handle)) (whole_value handle value) ≡ Some code
     → noticed state (Of ordinal (Asks pdu)) ≡ []
 
--- nor of a PDU that is ignored
+-- a PDU that is ignored causes no notice
 abbrev pub TellsNothingIgnored : Type 0
 TellsNothingIgnored = (state : State) (ordinal : Ordinal) (pdu : Octets) →
     request_of pdu (connection_mtu state.shared (state.connections ordinal)) ≡ Err Ignored

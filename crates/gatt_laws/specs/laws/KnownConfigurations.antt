@@ -92,7 +92,7 @@ bits_known_of known handle attribute =
     then option_map_or (λ peer. known.bonds peer attribute) (known.present handle) 0
     else known.own handle attribute
 
--- they are those of the state, for each connection that is there
+-- what is known is what the state has: own bits and bits in force of each connection that is there, and bonds
 pub record AreConfigurationsKnown (state : State) (known : Known) : Type 0 where
   pub own : (ordinal : Ordinal) (attribute : Handle) → is_there (state.connections ordinal).mark ≡ true
       → known.own (state.connections ordinal).handle attribute ≡ bits_at (state.connections ordinal).row attribute

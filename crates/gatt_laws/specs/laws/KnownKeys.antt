@@ -15,7 +15,7 @@ KnownKeys = ℕ → Option KeyFacts
 abbrev pub with_key : ℕ → Option KeyFacts → KnownKeys → KnownKeys
 with_key handle key known other = if handle == other then key else known other
 
--- the link of a connection has no key when it connects, and then what it is noticed to have
+-- a link has no key when its connection connects, and then the key of the last notice of it
 abbrev pub known_keys_after : KnownKeys → Notice → KnownKeys
 known_keys_after known (Connected handle peer) = with_key handle None known
 known_keys_after known (Secured handle facts) = with_key handle (Some facts) known
@@ -25,7 +25,7 @@ known_keys_after known notice = known
 abbrev pub no_keys_known : KnownKeys
 no_keys_known handle = None
 
--- it is so of each connection that is there
+-- for each connection that is there, these are the facts of the key of its link
 abbrev pub AreKeysKnown : State → KnownKeys → Type 0
 AreKeysKnown state known = (ordinal : Ordinal) → is_there (state.connections ordinal).mark ≡ true
     → known (state.connections ordinal).handle ≡ key_of (state.connections ordinal)

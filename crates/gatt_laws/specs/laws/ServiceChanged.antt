@@ -10,13 +10,14 @@ use Rattle.gatt_laws.specs.machine.State.{State, step}
 use Rattle.le_hci.specs.declared.peer.Peer.{Peer}
 use Rattle.le_security.specs.Entry.{same_peer}
 
--- a notice that the connection of this handle confirmed an indication of this value
+-- a notice tells that the connection of this handle confirmed an indication of this value
 abbrev pub is_confirmed_notice : ℕ → Handle → Notice → Bool
 is_confirmed_notice handle attribute (Confirmed other at) = (other == handle) && (at == attribute)
 is_confirmed_notice handle attribute notice = false
 
--- An event that does not replace the table leaves a peer's indication pending or not pending, unless a
--- connection of this peer whose link has a key is noticed to confirm the Service Changed value.
+-- An event changes only in two cases whether the indication of a peer is pending. Either it replaces the
+-- table, or the application is notified that a connection of this peer confirmed the Service Changed value.
+-- The link of this connection has a key.
 abbrev pub NoticesServiceChangedConfirmed : Type 0
 NoticesServiceChangedConfirmed = (state : State) (event : Event) (peer : Peer) →
     is_replacement event ≡ false
