@@ -3,12 +3,12 @@ use Rattle.std.proofs.Common.{◌≡◌, ℕ, ◌<◌, Bool, true, false, List, 
 use Rattle.std.specs.Prelude.{◌^◌, ◌==◌, ◌||◌, All, min, nat_le, nat_lt, fold, filter_map, if◌then◌else◌}
 use Rattle.std.specs.List.{list_any, reduce, flat_map, cons_option}
 use Rattle.std.specs.Option.{option_and_then, option_map_or}
-use Rattle.std.proofs.lemmas.Bool.{eq-eqb}
+use Rattle.std.proofs.lemmas.Bool.{eqb-true, eq-eqb}
 use Rattle.std.proofs.lemmas.List.Elements.{All-nil, All-cons, All-append}
 use Rattle.std.proofs.lemmas.List.Folds.{list_any-append}
 use Rattle.gatt_laws.specs.machine.Controller.{Slots}
 use Rattle.gatt_laws.specs.laws.Deadline.{slot_deadline, is_late_told, is_reached, TellsFromTheDeadlineOn}
-use Rattle.gatt_laws.specs.laws.Deadline.{IsNoticeOfLate, NoticesOnlyWhoIsLate}
+use Rattle.gatt_laws.specs.laws.Deadline.{IsNoticeOfLate, NoticesOnlyWhoIsLate, is_late_notice_of, NoticesEachWhoIsLate}
 use Rattle.gatt_laws.specs.laws.Settled.{has_slot}
 use Rattle.gatt_laws.specs.machine.Event.{Ordinal}
 use Rattle.gatt_laws.specs.machine.Notice.{Notice, TimedOut, noticed, late_told, slot_told}
@@ -116,3 +116,35 @@ module _ (state : State) (time : ℕ) where
 pub notices_only_who_is_late : NoticesOnlyWhoIsLate
 unfolding noticed
 notices_only_who_is_late state time = slots-late state time state.slots (λ ordinal has. has)
+
+-- And each connection that is late is one of them.
+
+module _ (state : State) (time : ℕ) (ordinal : Ordinal)
+    (late : times_out (state.connections ordinal).pending time ≡ true) where
+  abbrev its : Notice → Bool
+  its = is_late_notice_of (state.connections ordinal).handle
+
+  own-late : (one : Ordinal) → (one == ordinal) ≡ true → list_any its (late_told time (state.connections one)) ≡ true
+  own-late one same =
+      ap (λ (of : Ordinal). list_any its (late_told time (state.connections of))) (eqb-true one ordinal same)
+      ∙ ap (λ (is : Bool). list_any its (if is then TimedOut (state.connections ordinal).handle ∷ [] else [])) late
+      ∙ ap (λ (is : Bool). is || false)
+      (eq-eqb (state.connections ordinal).handle (state.connections ordinal).handle refl)
+
+  one-late : (slots : Slots) → has_slot ordinal slots ≡ true → list_any its (flat_map (slot_told state time) slots) ≡ true
+  one-late [] has = cc has
+  one-late (None ∷ slots) has = one-late slots has
+  one-late (Some one ∷ slots) has =
+      list_any-append its (late_told time (state.connections one)) (flat_map (slot_told state time) slots)
+      ∙ first-or-later (one == ordinal) refl has (one-late slots)
+    where
+      first-or-later : (same : Bool) → (one == ordinal) ≡ same → (same || has_slot ordinal slots) ≡ true
+          → (has_slot ordinal slots ≡ true → list_any its (flat_map (slot_told state time) slots) ≡ true)
+          → (list_any its (late_told time (state.connections one))
+          || list_any its (flat_map (slot_told state time) slots)) ≡ true
+      first-or-later true same there later = or-first-true _ _ (own-late one same)
+      first-or-later false differs there later = or-second-true _ _ (later there)
+
+pub notices_each_who_is_late : NoticesEachWhoIsLate
+unfolding noticed
+notices_each_who_is_late state time ordinal has late = one-late state time ordinal late state.slots has

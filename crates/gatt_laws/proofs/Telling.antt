@@ -2,7 +2,7 @@
 use Rattle.gatt_laws.proofs.AllowedNotices.{tells_no_refusals, tells_no_refused_commands}
 use Rattle.gatt_laws.proofs.AllowedNotices.{tells_nothing_ignored, tells_only_of_the_live}
 use Rattle.gatt_laws.proofs.AllowedWrites.{tells_what_was_allowed}
-use Rattle.gatt_laws.proofs.Deadline.{notices_only_who_is_late, tells_from_the_deadline_on}
+use Rattle.gatt_laws.proofs.Deadline.{notices_each_who_is_late, notices_only_who_is_late, tells_from_the_deadline_on}
 use Rattle.gatt_laws.proofs.KeyNotices.{tells_each_key}
 use Rattle.gatt_laws.proofs.Knowing.{knows_the_values}
 use Rattle.gatt_laws.proofs.KnowingConfigurations.{knows_the_configurations}
@@ -37,6 +37,7 @@ tells_the_application = record {
   only_live = tells_only_of_the_live;
   deadline = tells_from_the_deadline_on;
   only_late = notices_only_who_is_late;
+  each_late = notices_each_who_is_late;
   division = tells_of_the_division;
   values_of_division = receives_of_the_division;
 }

@@ -1,5 +1,5 @@
 -- When an indication of any connection is late: this profile's own.
-use Rattle.std.specs.Prelude.{◌≡◌, ℕ, ◌<◌, ◌^◌, min, nat_le, All, Bool, true, false, filter_map, Option, Some, None}
+use Rattle.std.specs.Prelude.{◌≡◌, ℕ, ◌<◌, ◌==◌, ◌^◌, min, nat_le, All, Bool, true, false, filter_map, Option, Some, None}
 use Rattle.std.specs.List.{list_any, reduce}
 use Rattle.std.specs.Option.{option_map_or}
 use Rattle.gatt_laws.specs.machine.Event.{Ordinal, Tick}
@@ -45,3 +45,13 @@ IsNoticeOfLate state time notice = ⊥
 abbrev pub NoticesOnlyWhoIsLate : Type 0
 NoticesOnlyWhoIsLate = (state : State) (time : Milliseconds) →
     All (IsNoticeOfLate state time) (noticed state (Tick time))
+
+-- and of each of them
+abbrev pub is_late_notice_of : ℕ → Notice → Bool
+is_late_notice_of handle (TimedOut other) = other == handle
+is_late_notice_of handle other = false
+
+abbrev pub NoticesEachWhoIsLate : Type 0
+NoticesEachWhoIsLate = (state : State) (time : Milliseconds) (ordinal : Ordinal) →
+    has_slot ordinal state.slots ≡ true → times_out (state.connections ordinal).pending time ≡ true
+    → list_any (is_late_notice_of (state.connections ordinal).handle) (noticed state (Tick time)) ≡ true

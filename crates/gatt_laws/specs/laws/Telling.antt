@@ -1,7 +1,7 @@
 -- What is promised of the notices that an application receives.
 use Rattle.gatt_laws.specs.laws.AllowedNotices.{TellsNoRefusals, TellsNoRefusedCommands, TellsNothingIgnored}
 use Rattle.gatt_laws.specs.laws.AllowedNotices.{TellsOnlyOfTheLive, TellsWhatWasAllowed}
-use Rattle.gatt_laws.specs.laws.Deadline.{NoticesOnlyWhoIsLate, TellsFromTheDeadlineOn}
+use Rattle.gatt_laws.specs.laws.Deadline.{NoticesEachWhoIsLate, NoticesOnlyWhoIsLate, TellsFromTheDeadlineOn}
 use Rattle.gatt_laws.specs.laws.KnownConfigurations.{KnowsTheConfigurations}
 use Rattle.gatt_laws.specs.laws.KnownKeys.{KnowsTheKeys}
 use Rattle.gatt_laws.specs.laws.Notices.{KnowsTheValues, TellsEachValue}
@@ -14,9 +14,9 @@ use Rattle.gatt_laws.specs.laws.ToldIsSo.{TellsWhatIsSo}
 -- What a listener knows in every run: each value, the key of each link, each configuration, and who is there.
 -- At each event: what a notice says is so; and no value, configuration, key or pending Service Changed
 -- indication changes without a notice or a call of the application.
--- Each write that is noticed was allowed. There is no notice of what is refused, be it answered or not, or
--- is ignored. A Tick causes notices from the deadline on, of late indications only. It does not matter how
--- octets were cut.
+-- Each write that the application is notified of was allowed. What is refused or ignored causes no notice.
+-- A Tick causes notices of late indications, of each and of nothing else. The cuts of the octets do not
+-- matter.
 pub record TellsTheApplication : Type 0 where
   pub knows_values : KnowsTheValues
   pub knows_keys : KnowsTheKeys
@@ -37,5 +37,6 @@ pub record TellsTheApplication : Type 0 where
   pub only_live : TellsOnlyOfTheLive
   pub deadline : TellsFromTheDeadlineOn
   pub only_late : NoticesOnlyWhoIsLate
+  pub each_late : NoticesEachWhoIsLate
   pub division : TellsOfTheDivision
   pub values_of_division : ReceivesOfTheDivision
