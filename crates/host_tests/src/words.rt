@@ -59,10 +59,7 @@ const WORDS: &[(Fault, &str)] = &[
         Fault::Call(AppFault::TimeWentBack),
         "the time is before the one that stands",
     ),
-    (
-        Fault::Call(AppFault::Stopped),
-        "the host has stopped",
-    ),
+    (Fault::Call(AppFault::Stopped), "the host has stopped"),
     (
         Fault::Call(AppFault::NoServiceChanged),
         "a table has no value that tells of changes, or they have it at different handles",
