@@ -4,12 +4,15 @@ use crate::cut_streams::{SETTING, all_told, due_after};
 use crate::player::opened;
 use crate::wire::Written;
 use arrayvec::ArrayVec;
-use gatt_host::{End, Host, HostFault, feed, serve};
-use octets::{Reader, Writer};
+use gatt_host::{App, End, Host, HostFault, Input, PacketRef, drive, feed, serve};
+use octets::{Reader, SliceSource, Source, Writer};
 use std::alloc::Global;
 use std::io;
 use std::io::{ErrorKind, Read, Write};
 use std::process::Abort;
+
+/// A command is complete: the controller takes one more.
+const READY: &[u8] = &[0x0E, 0x03, 0x01, 0x00, 0x00];
 
 /// A reader in memory that gives 16 octets at a time, and fails after so many reads.
 #[derive(Drop)]
@@ -59,13 +62,28 @@ impl Write for Room {
     }
 }
 
-/// Whether a host has stopped for good, for this fault.
+/// Whether a host has stopped for good, for this fault: each later call answers it and writes nothing.
 fn has_stopped(host: &mut Host, fault: HostFault) -> bool {
     let mut written = Written::new();
-    if feed(host, &[0x04], &mut written) != Err(fault) {
-        return false;
-    }
-    host.drained() && written.octets().is_empty() && !host.next_out(&mut ArrayVec::new())
+    feed(host, &[0x04], &mut written) == Err(fault)
+        && drive(host, &[Input::Call(App::Tick(1))], &mut written) == Err(fault)
+        && serves_no_more(host, fault, &mut written)
+        && written.octets().is_empty()
+        && gives_no_more(host, fault)
+}
+
+/// Whether a host that is to serve a reader answers this fault before it reads.
+fn serves_no_more(host: &mut Host, fault: HostFault, written: &mut Written) -> bool {
+    let mut source = SliceSource::new(&[0x04]);
+    serve(host, &mut source, written, 1) == Err(fault) && source.read(&mut [0; 2]).ok() == Some(1)
+}
+
+/// Whether a host takes no packet and has nothing to send.
+fn gives_no_more(host: &mut Host, fault: HostFault) -> bool {
+    host.drained()
+        && host.packet(PacketRef::Event(READY)) == Err(fault)
+        && host.drained()
+        && !host.next_out(&mut ArrayVec::new())
 }
 
 /// Serves a reader that fails after so many reads.
