@@ -1,5 +1,6 @@
-//! What a phone hears is its own: however the lines of another phone fall between its own, it hears
-//! the same.
+//! Two phones send their lines in several orders, and each phone is sent the same in all of them. In the
+//! first test no phone writes a value that the other reads or is notified of. In the second test the
+//! writes that a phone sees stay at the same place among its own lines.
 
 use crate::run_files::{Inputs, run};
 use le_security::examples::KEYS;
