@@ -112,6 +112,8 @@ def a_day(folder):
     check("the battery", "ok", one.ask("update 6 32"))
     check("the owner hears", "1b060032", controller.hears(65))
     check("the code is kept", "010a0d0008", controller.ask(65, "0a0d00"))
+    # A while counts from now, and not from the start of the device.
+    time.sleep(max(0, since + 3.2 - time.time()))
     check("for a while", "ok", one.ask("allow 65 3000"))
     check("the code", "0b31323334", controller.ask(65, "0a0d00"))
     time.sleep(3.2)
