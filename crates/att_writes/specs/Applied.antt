@@ -35,8 +35,8 @@ after_entry attributes stored entry =
 
 -- one entry is refused, with its handle, or leads to what follows it
 abbrev pub unless_entry_refused : Entry → Option Code → Result Stored Refusal → Result Stored Refusal
-unless_entry_refused entry (Some code) after_entries = Err (record { handle = entry.handle; code = code })
-unless_entry_refused entry None after_entries = after_entries
+unless_entry_refused entry (Some code) result = Err (record { handle = entry.handle; code = code })
+unless_entry_refused entry None result = result
 
 -- entries in their order, each against what stands by then
 unfoldable pub after_entries : Access → List Attr → Standing → Stored → List Entry → Result Stored Refusal

@@ -162,8 +162,8 @@ pub record ClosesTheLoop : Type 0 where
       → IsJoined (start_of table keys rows command_configuration) host (simulated_at_start simulated) nothing_yet
   pub does_line : (start : Start) (so_far : SoFar) (act : Act) (told : Option Refused) (old new : Stage) → DoesLine act told old new
       → IsJoined start old.host old.sim so_far → IsJoined start new.host new.sim (after_line_done old act so_far)
-  pub exchanges : (start : Start) (so_far : SoFar) (count : ℕ) (before after_calls : Pair) → Exchanges count before after_calls
-      → IsJoined start before.host before.sim so_far → IsJoined start after_calls.host after_calls.sim so_far
+  pub exchanges : (start : Start) (so_far : SoFar) (count : ℕ) (before after : Pair) → Exchanges count before after
+      → IsJoined start before.host before.sim so_far → IsJoined start after.host after.sim so_far
   pub all_sent : (start : Start) (so_far : SoFar) (host : HostModel) (sim : Simulated) (joined : IsJoined start host sim so_far)
       → host.fault ≡ None → all_out host ≡ true → (run start joined.input).sent ≡ packets_taken simulated joined.calls
   pub each_line : (start : Start) (so_far : SoFar) (shows : Bool) (names : List Octets) (act : Act) (old new : Stage) (held holds : Option Octets)

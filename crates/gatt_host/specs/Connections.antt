@@ -8,13 +8,13 @@ use Rattle.gatt_app.specs.declared.connection.Connection.{Connection}
 
 -- one connection: it is ending where it does not serve any more
 abbrev pub connection_seen : SharedState → ConnectionState → Connection
-connection_seen shared part = record {
-  handle = part.handle;
-  peer = part.peer;
-  mtu = connection_mtu shared part;
-  key = key_of part;
-  authorized_until = part.until;
-  ending = not (is_live part.mark);
+connection_seen shared connection = record {
+  handle = connection.handle;
+  peer = connection.peer;
+  mtu = connection_mtu shared connection;
+  key = key_of connection;
+  authorized_until = connection.until;
+  ending = not (is_live connection.mark);
 }
 
 abbrev pub ordinal_seen : State → Option Ordinal → Option Connection

@@ -22,7 +22,7 @@ pub record IsPutTogether (state : State) (fragments : Fragments) (frames : Frame
   pub there : (place : ℕ) (ordinal : Ordinal) → slice_get state.slots place ≡ Some (Some ordinal)
       → get_or frames place no_assembly ≡ once_heard (assembly_after (fragments ordinal))
   pub fresh : (ordinal : Ordinal) → state.next ≤ ordinal → fragments ordinal ≡ []
-  pub shared : state.shared.slots ≤ length frames
+  pub enough : state.shared.slots ≤ length frames
 
 -- these packets have gone out, and what the run has beyond them is owed
 pub record ServerRefinesRun (run : Run) (sent : List Octets) (server : ServerState) (frames : Frames) : Type 0 where

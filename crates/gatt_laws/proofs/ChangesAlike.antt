@@ -9,7 +9,7 @@ use Rattle.att_table.specs.Table.{Contents, with_value}
 use Rattle.att_writes.proofs.Lengths.{stored_both}
 use Rattle.att_writes.specs.SameBut.{SameBut}
 use Rattle.gatt_conn.specs.Transcript.{Dropped}
-use Rattle.gatt_laws.proofs.EffectsAlike.{both_choices, either_choice, SameTurn, OwnTurn, OtherTurn, own_turn, other_turn}
+use Rattle.gatt_laws.proofs.EffectsAlike.{both_choices, either_choice, SameEffect, OwnEffect, OtherEffect, own_effect, other_effect}
 use Rattle.gatt_laws.specs.laws.Alike.{erased, is_of, Alike, HidesFrom}
 use Rattle.gatt_laws.specs.machine.Event.{Ordinal, Own, Of, Completed, Credit, Update, Tick, Replaced, Nothing}
 use Rattle.gatt_laws.specs.machine.ConnectionState.{ConnectionState, is_live, row_in_force, standing_of}
@@ -30,7 +30,7 @@ use Rattle.octets.specs.Number.{Octets}
 use Rattle.gatt_laws.proofs.AlikeHearing.{readable-there}
 
 abbrev pub moved : State → Values → ServiceChangedPending → (Ordinal → ConnectionState) → State
-moved state values owed parts = record state { shared = with_values state.shared values; owed = owed; connections = parts }
+moved state values owed connections = record state { shared = with_values state.shared values; owed = owed; connections = connections }
 
 pub record SameChange (peer : Peer) (hidden : Handle → Bool) (one other : Change) : Type 0 where
   pub state : Alike peer hidden one.state other.state
@@ -52,7 +52,7 @@ module _ (peer : Peer) (hidden : Handle → Bool) (state : State) (ys : Values) 
   far = moved state ys owing others
 
   -- what happens to one connection
-  after-turns : (at : Ordinal) (act : Own) (effect its : Effect) → SameTurn hidden effect its
+  after-turns : (at : Ordinal) (act : Own) (effect its : Effect) → SameEffect hidden effect its
       → (if same_peer peer (state.connections at).peer then effect.owed else state.owed peer) ≡ (if same_peer peer (others at).peer then its.owed else owing peer)
       → (is_of peer effect.connection ≡ true → effect.connection ≡ its.connection) → erased effect.connection ≡ erased its.connection
       → (is_of peer effect.connection ≡ true → effect.to_notify_here ≡ its.to_notify_here)
@@ -89,35 +89,35 @@ module _ (peer : Peer) (hidden : Handle → Bool) (state : State) (ys : Values) 
   own-change at act hides mine =
       let connection : ConnectionState = state.connections at in
       let bond : Row = state.bonds connection.peer in
-      let parts : connection ≡ others at = own at mine in
+      let alike : connection ≡ others at = own at mine in
       let named : connection.peer ≡ peer = equal_peers connection.peer peer mine in
-      let named_too : (others at).peer ≡ peer = sym (ap (λ (p : ConnectionState). p.peer) parts) ∙ named in
+      let named_too : (others at).peer ≡ peer = sym (ap (λ (p : ConnectionState). p.peer) alike) ∙ named in
       let owed : state.owed connection.peer ≡ owing (others at).peer = ap state.owed named ∙ owes ∙ sym (ap owing named_too) in
       let its : Effect = effect_of (with_values state.shared ys) (state.bonds (others at).peer) (owing (others at).peer) (others at) act in
-      let turns : OwnTurn hidden (effect_of state.shared bond (state.owed connection.peer) connection act) its =
-      subst (λ (t : Effect). OwnTurn hidden (effect_of state.shared bond (state.owed connection.peer) connection act) t)
-      (λ i. effect_of (with_values state.shared ys) (state.bonds (parts i).peer) (owed i) (parts i) act)
-      (own_turn hidden state.shared ys same bond (state.owed connection.peer) connection act
+      let turns : OwnEffect hidden (effect_of state.shared bond (state.owed connection.peer) connection act) its =
+      subst (λ (t : Effect). OwnEffect hidden (effect_of state.shared bond (state.owed connection.peer) connection act) t)
+      (λ i. effect_of (with_values state.shared ys) (state.bonds (alike i).peer) (owed i) (alike i) act)
+      (own_effect hidden state.shared ys same bond (state.owed connection.peer) connection act
       (λ live. record {
         attributes = refl;
         readable = readable-there hidden state.shared.table.attributes (row_in_force bond connection) (standing_of state.shared connection) state.shared.table.values ys same (hides live mine);
       })) in
       let owes_then = turns.owed in
       after-turns at act (effect_of state.shared bond (state.owed connection.peer) connection act) its turns.turn
-      (λ i. if same_peer peer (parts i).peer then owes_then i else owes i) (λ is. turns.connection) (λ i. erased (turns.connection i)) (λ is. turns.to_notify_here)
+      (λ i. if same_peer peer (alike i).peer then owes_then i else owes i) (λ is. turns.connection) (λ i. erased (turns.connection i)) (λ is. turns.to_notify_here)
 
   other-change : (at : Ordinal) (act : Own) → is_of peer (state.connections at) ≡ false → finds_no_room state.shared (state.connections at) act ≡ false
       → finds_no_room (with_values state.shared ys) (others at) act ≡ false → SameChange peer hidden (own_change state at act) (own_change far at act)
   other-change at act foreign spared spared_too =
       let connection : ConnectionState = state.connections at in
       let bond : Row = state.bonds connection.peer in
-      let parts : erased connection ≡ erased (others at) = rest at in
-      let foreign_too : is_of peer (others at) ≡ false = sym (λ i. is_of peer (parts i)) ∙ foreign in
+      let same_rest : erased connection ≡ erased (others at) = rest at in
+      let foreign_too : is_of peer (others at) ≡ false = sym (λ i. is_of peer (same_rest i)) ∙ foreign in
       let its : Effect = effect_of (with_values state.shared ys) (state.bonds (others at).peer) (owing (others at).peer) (others at) act in
-      let turns : OtherTurn peer hidden (effect_of state.shared bond (state.owed connection.peer) connection act) its =
-      subst (λ (t : Effect). OtherTurn peer hidden (effect_of state.shared bond (state.owed connection.peer) connection act) t)
-      (λ i. effect_of (with_values state.shared ys) (state.bonds (parts i).peer) (owing (others at).peer) (others at) act)
-      (other_turn hidden state.shared ys same peer bond (state.owed connection.peer) (owing (others at).peer) connection (others at) parts foreign act spared spared_too) in
+      let turns : OtherEffect peer hidden (effect_of state.shared bond (state.owed connection.peer) connection act) its =
+      subst (λ (t : Effect). OtherEffect peer hidden (effect_of state.shared bond (state.owed connection.peer) connection act) t)
+      (λ i. effect_of (with_values state.shared ys) (state.bonds (same_rest i).peer) (owing (others at).peer) (others at) act)
+      (other_effect hidden state.shared ys same peer bond (state.owed connection.peer) (owing (others at).peer) connection (others at) same_rest foreign act spared spared_too) in
       let kept : (effect : Effect) (q : Peer) (test : Bool) (left : Bool) → test ≡ false → (if test then effect.owed else left) ≡ left =
       λ effect q test left is. ap (λ (b : Bool). if b then effect.owed else left) is in
       after-turns at act (effect_of state.shared bond (state.owed connection.peer) connection act) its turns.turn
@@ -128,10 +128,10 @@ module _ (peer : Peer) (hidden : Handle → Bool) (state : State) (ys : Values) 
   pub of-change : (at : Ordinal) (act : Own) → HidesFrom peer hidden state.shared state.bonds (state.connections at) → Spared peer state (Of at act) → Spared peer far (Of at act)
       → SameChange peer hidden (own_change state at act) (own_change far at act)
   of-change at act hides spared spared_too =
-      let parts : erased (state.connections at) ≡ erased (others at) = rest at in
+      let same_rest : erased (state.connections at) ≡ erased (others at) = rest at in
       elim (is_of peer (state.connections at)) as (λ (mine : Bool). is_of peer (state.connections at) ≡ mine → SameChange peer hidden (own_change state at act) (own_change far at act)) [
         | true ↦ λ is. own-change at act hides is
-        | false ↦ λ is. other-change at act is (spared is) (spared_too (sym (λ i. is_of peer (parts i)) ∙ is))
+        | false ↦ λ is. other-change at act is (spared is) (spared_too (sym (λ i. is_of peer (same_rest i)) ∙ is))
       ] refl
 
   -- packets are completed
@@ -238,13 +238,13 @@ module _ (peer : Peer) (hidden : Handle → Bool) (state : State) (ys : Values) 
       rw (is, is_too) (stored-too following table.values its.values handle all_changed tables.values, tables.attributes)
 
   replaced-erased : (old new : Contents) (connection other : ConnectionState) → erased connection ≡ erased other → erased (connection_after_replacement old new connection) ≡ erased (connection_after_replacement old new other)
-  replaced-erased old new connection other parts =
+  replaced-erased old new connection other same_rest =
       let dropped : erased (connection_dropped connection) ≡ erased (connection_dropped other) =
       both_choices (λ (a b : ConnectionState). erased a ≡ erased b) (is_live connection.mark) (is_live other.mark)
       (record connection { said = Dropped ∷ connection.said; pending = after_replacement connection.pending }) connection
       (record other { said = Dropped ∷ other.said; pending = after_replacement other.pending }) other
-      (λ i. is_live (parts i).mark) (λ is i. record (parts i) { said = Dropped ∷ (parts i).said }) (λ is. parts) in
-      λ i. record (dropped i) { row = kept_row old.attributes new.attributes (parts i).row }
+      (λ i. is_live (same_rest i).mark) (λ is i. record (same_rest i) { said = Dropped ∷ (same_rest i).said }) (λ is. same_rest) in
+      λ i. record (dropped i) { row = kept_row old.attributes new.attributes (same_rest i).row }
 
   replaced-peer : (old new : Contents) (connection : ConnectionState) → is_of peer (connection_after_replacement old new connection) ≡ is_of peer connection
   replaced-peer old new connection =

@@ -36,21 +36,21 @@ either_choice P true a b first second = first
 either_choice P false a b first second = second
 
 -- what both kinds of effect share
-pub record SameTurn (hidden : Handle → Bool) (one other : Effect) : Type 0 where
+pub record SameEffect (hidden : Handle → Bool) (one other : Effect) : Type 0 where
   pub values : SameBut hidden one.values other.values
   pub bond : one.bond ≡ other.bond
   pub to_notify : one.to_notify ≡ other.to_notify
 
 -- that of a connection of the peer
-pub record OwnTurn (hidden : Handle → Bool) (one other : Effect) : Type 0 where
-  pub turn : SameTurn hidden one other
+pub record OwnEffect (hidden : Handle → Bool) (one other : Effect) : Type 0 where
+  pub turn : SameEffect hidden one other
   pub owed : one.owed ≡ other.owed
   pub to_notify_here : one.to_notify_here ≡ other.to_notify_here
   pub connection : one.connection ≡ other.connection
 
 -- and that of a connection of another peer, which only a connection that comes in its place may make one of the peer's
-pub record OtherTurn (peer : Peer) (hidden : Handle → Bool) (one other : Effect) : Type 0 where
-  pub turn : SameTurn hidden one other
+pub record OtherEffect (peer : Peer) (hidden : Handle → Bool) (one other : Effect) : Type 0 where
+  pub turn : SameEffect hidden one other
   pub connection : erased one.connection ≡ erased other.connection
   pub own : is_of peer one.connection ≡ true → one.connection ≡ other.connection
   pub to_notify_here : is_of peer one.connection ≡ true → one.to_notify_here ≡ other.to_notify_here
@@ -85,7 +85,7 @@ module _ (hidden : Handle → Bool) (shared : SharedState) (ys : Values) (same :
   abbrev there : SharedState
   there = with_values shared ys
 
-  nothing-changed : (bond : Row) (owed : Bool) (connection : ConnectionState) → OwnTurn hidden (effect_on_connection shared bond owed connection) (effect_on_connection there bond owed connection)
+  nothing-changed : (bond : Row) (owed : Bool) (connection : ConnectionState) → OwnEffect hidden (effect_on_connection shared bond owed connection) (effect_on_connection there bond owed connection)
   nothing-changed bond owed connection = record {
     turn = record { values = same; bond = refl; to_notify = refl };
     owed = refl;
@@ -94,7 +94,7 @@ module _ (hidden : Handle → Bool) (shared : SharedState) (ys : Values) (same :
   }
 
   served-own : (bond : Row) (owed : Bool) (connection : ConnectionState) (pdu : Octets) (asked : Question) → IsAlike (standing_of shared connection) shared.table there.table
-      → OwnTurn hidden (served shared bond owed connection pdu asked) (served there bond owed connection pdu asked)
+      → OwnEffect hidden (served shared bond owed connection pdu asked) (served there bond owed connection pdu asked)
   served-own bond owed connection pdu asked readable =
       let conn : Bearer = bearer_of shared connection in
       let row : Row = row_in_force bond connection in
@@ -114,15 +114,15 @@ module _ (hidden : Handle → Bool) (shared : SharedState) (ys : Values) (same :
       }
 
   request-own : (bond : Row) (owed : Bool) (connection : ConnectionState) (pdu : Octets) → IsAlike (standing_of shared connection) shared.table there.table
-      → OwnTurn hidden (request_effect shared bond owed connection pdu) (request_effect there bond owed connection pdu)
+      → OwnEffect hidden (request_effect shared bond owed connection pdu) (request_effect there bond owed connection pdu)
   request-own bond owed connection pdu readable =
       let asked : Question = request_of pdu (connection_mtu shared connection) in
-      both_choices (OwnTurn hidden) (is_due asked && is_full shared connection) (is_due asked && is_full there connection)
+      both_choices (OwnEffect hidden) (is_due asked && is_full shared connection) (is_due asked && is_full there connection)
       (effect_on_connection shared bond owed (after_ending connection remote_user_terminated)) (served shared bond owed connection pdu asked)
       (effect_on_connection there bond owed (after_ending connection remote_user_terminated)) (served there bond owed connection pdu asked)
       refl (λ is. nothing-changed bond owed (after_ending connection remote_user_terminated)) (λ is. served-own bond owed connection pdu asked readable)
 
-  link-own : (bond : Row) (owed : Bool) (connection : ConnectionState) (step : Step) → OwnTurn hidden (link_effect shared bond owed connection step) (link_effect there bond owed connection step)
+  link-own : (bond : Row) (owed : Bool) (connection : ConnectionState) (step : Step) → OwnEffect hidden (link_effect shared bond owed connection step) (link_effect there bond owed connection step)
   link-own bond owed connection step = record {
     turn = record { values = same; bond = refl; to_notify = refl };
     owed = refl;
@@ -131,7 +131,7 @@ module _ (hidden : Handle → Bool) (shared : SharedState) (ys : Values) (same :
   }
 
   live-own : (bond : Row) (owed : Bool) (connection : ConnectionState) (own : Own) → IsAlike (standing_of shared connection) shared.table there.table
-      → OwnTurn hidden (live_effect shared bond owed connection own) (live_effect there bond owed connection own)
+      → OwnEffect hidden (live_effect shared bond owed connection own) (live_effect there bond owed connection own)
   unfolding live_effect
   live-own bond owed connection (Asks pdu) readable = request-own bond owed connection pdu readable
   live-own bond owed connection (OtherChannel channel payload) readable =
@@ -154,18 +154,18 @@ module _ (hidden : Handle → Bool) (shared : SharedState) (ys : Values) (same :
   live-own bond owed connection Disconnected readable = nothing-changed bond owed connection
 
   live-or-not : (bond : Row) (owed : Bool) (connection : ConnectionState) (own : Own) → (is_live connection.mark ≡ true → IsAlike (standing_of shared connection) shared.table there.table)
-      → OwnTurn hidden (if is_live connection.mark then live_effect shared bond owed connection own else effect_on_connection shared bond owed connection)
+      → OwnEffect hidden (if is_live connection.mark then live_effect shared bond owed connection own else effect_on_connection shared bond owed connection)
       (if is_live connection.mark then live_effect there bond owed connection own else effect_on_connection there bond owed connection)
   live-or-not bond owed connection own readable =
-      both_choices (OwnTurn hidden) (is_live connection.mark) (is_live connection.mark) (live_effect shared bond owed connection own) (effect_on_connection shared bond owed connection)
+      both_choices (OwnEffect hidden) (is_live connection.mark) (is_live connection.mark) (live_effect shared bond owed connection own) (effect_on_connection shared bond owed connection)
       (live_effect there bond owed connection own) (effect_on_connection there bond owed connection) refl (λ is. live-own bond owed connection own (readable is)) (λ is. nothing-changed bond owed connection)
 
   -- a connection of the peer, which may read what differs nowhere
-  pub own_turn : (bond : Row) (owed : Bool) (connection : ConnectionState) (own : Own) → (is_live connection.mark ≡ true → IsAlike (standing_of shared connection) shared.table there.table)
-      → OwnTurn hidden (effect_of shared bond owed connection own) (effect_of there bond owed connection own)
-  own_turn bond owed connection (Connected handle peer) readable = nothing-changed bond owed (if is_there connection.mark then connection else fresh_connection handle peer)
-  own_turn bond owed connection Disconnected readable = nothing-changed bond owed no_connection
-  own_turn bond owed connection own readable = live-or-not bond owed connection own readable
+  pub own_effect : (bond : Row) (owed : Bool) (connection : ConnectionState) (own : Own) → (is_live connection.mark ≡ true → IsAlike (standing_of shared connection) shared.table there.table)
+      → OwnEffect hidden (effect_of shared bond owed connection own) (effect_of there bond owed connection own)
+  own_effect bond owed connection (Connected handle peer) readable = nothing-changed bond owed (if is_there connection.mark then connection else fresh_connection handle peer)
+  own_effect bond owed connection Disconnected readable = nothing-changed bond owed no_connection
+  own_effect bond owed connection own readable = live-or-not bond owed connection own readable
 
   -- Connections of other peers.
   module _ (peer : Peer) (bond : Row) (owed its : Bool) (connection other : ConnectionState) (parts : erased connection ≡ erased other) (foreign : is_of peer connection ≡ false) where
@@ -173,7 +173,7 @@ module _ (hidden : Handle → Bool) (shared : SharedState) (ys : Values) (same :
     never is = cc (is, foreign)
 
     -- the connection alone is changed
-    to-part : (new too : ConnectionState) → erased new ≡ erased too → is_of peer new ≡ false → OtherTurn peer hidden (effect_on_connection shared bond owed new) (effect_on_connection there bond its too)
+    to-part : (new too : ConnectionState) → erased new ≡ erased too → is_of peer new ≡ false → OtherEffect peer hidden (effect_on_connection shared bond owed new) (effect_on_connection there bond its too)
     to-part new too alike stays = record {
       turn = record { values = same; bond = refl; to_notify = refl };
       connection = alike;
@@ -181,10 +181,10 @@ module _ (hidden : Handle → Bool) (shared : SharedState) (ys : Values) (same :
       to_notify_here = λ is. refl;
     }
 
-    kept : OtherTurn peer hidden (effect_on_connection shared bond owed connection) (effect_on_connection there bond its other)
+    kept : OtherEffect peer hidden (effect_on_connection shared bond owed connection) (effect_on_connection there bond its other)
     kept = to-part connection other parts foreign
 
-    served-asked : (pdu : Octets) (asked : Question) → OtherTurn peer hidden (served shared bond owed connection pdu asked) (served there bond its other pdu asked)
+    served-asked : (pdu : Octets) (asked : Question) → OtherEffect peer hidden (served shared bond owed connection pdu asked) (served there bond its other pdu asked)
     served-asked pdu asked =
         let conn : Bearer = bearer_of shared connection in
         let row : Row = row_in_force bond connection in
@@ -214,17 +214,17 @@ module _ (hidden : Handle → Bool) (shared : SharedState) (ys : Values) (same :
           to_notify_here = λ is. refl;
         }
 
-    served-other : (pdu : Octets) (asked too : Question) → asked ≡ too → OtherTurn peer hidden (served shared bond owed connection pdu asked) (served there bond its other pdu too)
+    served-other : (pdu : Octets) (asked too : Question) → asked ≡ too → OtherEffect peer hidden (served shared bond owed connection pdu asked) (served there bond its other pdu too)
     served-other pdu asked too equal =
-        subst (λ (q : Question). OtherTurn peer hidden (served shared bond owed connection pdu asked) (served there bond its other pdu q)) equal (served-asked pdu asked)
+        subst (λ (q : Question). OtherEffect peer hidden (served shared bond owed connection pdu asked) (served there bond its other pdu q)) equal (served-asked pdu asked)
 
     request-other : (pdu : Octets) → (is_due (request_of pdu (connection_mtu shared connection)) && is_full shared connection) ≡ false
         → (is_due (request_of pdu (connection_mtu there other)) && is_full there other) ≡ false
-        → OtherTurn peer hidden (request_effect shared bond owed connection pdu) (request_effect there bond its other pdu)
+        → OtherEffect peer hidden (request_effect shared bond owed connection pdu) (request_effect there bond its other pdu)
     request-other pdu spared spared_too =
         let asked : Question = request_of pdu (connection_mtu shared connection) in
         let too : Question = request_of pdu (connection_mtu there other) in
-        both_choices (OtherTurn peer hidden) (is_due asked && is_full shared connection) (is_due too && is_full there other)
+        both_choices (OtherEffect peer hidden) (is_due asked && is_full shared connection) (is_due too && is_full there other)
         (effect_on_connection shared bond owed (after_ending connection remote_user_terminated)) (served shared bond owed connection pdu asked)
         (effect_on_connection there bond its (after_ending other remote_user_terminated)) (served there bond its other pdu too)
         (spared ∙ sym spared_too) (λ is. cc (is, spared)) (λ is. served-other pdu asked too (ap (request_of pdu) (mtu_erased shared connection other parts)))
@@ -239,7 +239,7 @@ module _ (hidden : Handle → Bool) (shared : SharedState) (ys : Values) (same :
     channel-peer place one channel (Some answer) =
         either_choice (λ (p : ConnectionState). p.peer ≡ one.peer) (is_full place one) (after_ending one remote_user_terminated) (with_pdus one ((channel, answer) ∷ [])) refl refl
 
-    link-other : (step : Step) → OtherTurn peer hidden (link_effect shared bond owed connection step) (link_effect there bond its other step)
+    link-other : (step : Step) → OtherEffect peer hidden (link_effect shared bond owed connection step) (link_effect there bond its other step)
     link-other step =
         let new : ConnectionState = with_step connection step in
         let too : ConnectionState = with_step other step in
@@ -256,7 +256,7 @@ module _ (hidden : Handle → Bool) (shared : SharedState) (ys : Values) (same :
         }
 
     live-other : (own : Own) → (is_answer_due shared connection own && is_full shared connection) ≡ false → (is_answer_due there other own && is_full there other) ≡ false
-        → OtherTurn peer hidden (live_effect shared bond owed connection own) (live_effect there bond its other own)
+        → OtherEffect peer hidden (live_effect shared bond owed connection own) (live_effect there bond its other own)
     unfolding live_effect
     live-other (Asks pdu) spared spared_too = request-other pdu spared spared_too
     live-other (OtherChannel channel payload) spared spared_too =
@@ -281,15 +281,15 @@ module _ (hidden : Handle → Bool) (shared : SharedState) (ys : Values) (same :
     not-live false more is spared = cc is
 
     live-or-kept : (own : Own) → finds_no_room shared connection own ≡ false → finds_no_room there other own ≡ false
-        → OtherTurn peer hidden (if is_live connection.mark then live_effect shared bond owed connection own else effect_on_connection shared bond owed connection)
+        → OtherEffect peer hidden (if is_live connection.mark then live_effect shared bond owed connection own else effect_on_connection shared bond owed connection)
         (if is_live other.mark then live_effect there bond its other own else effect_on_connection there bond its other)
     live-or-kept own spared spared_too =
         let marks : is_live connection.mark ≡ is_live other.mark = λ i. is_live (parts i).mark in
-        both_choices (OtherTurn peer hidden) (is_live connection.mark) (is_live other.mark) (live_effect shared bond owed connection own) (effect_on_connection shared bond owed connection)
+        both_choices (OtherEffect peer hidden) (is_live connection.mark) (is_live other.mark) (live_effect shared bond owed connection own) (effect_on_connection shared bond owed connection)
         (live_effect there bond its other own) (effect_on_connection there bond its other) marks
         (λ is. live-other own (not-live (is_live connection.mark) _ is spared) (not-live (is_live other.mark) _ (sym marks ∙ is) spared_too)) (λ is. kept)
 
-    came : (handle : ℕ) (of : Peer) → OtherTurn peer hidden (effect_of shared bond owed connection (Connected handle of)) (effect_of there bond its other (Connected handle of))
+    came : (handle : ℕ) (of : Peer) → OtherEffect peer hidden (effect_of shared bond owed connection (Connected handle of)) (effect_of there bond its other (Connected handle of))
     came handle of =
         let there_too : is_there connection.mark ≡ is_there other.mark = λ i. is_there (parts i).mark in
         record {
@@ -301,19 +301,19 @@ module _ (hidden : Handle → Bool) (shared : SharedState) (ys : Values) (same :
           to_notify_here = λ is. refl;
         }
 
-    pub other_turn : (own : Own) → finds_no_room shared connection own ≡ false → finds_no_room there other own ≡ false
-        → OtherTurn peer hidden (effect_of shared bond owed connection own) (effect_of there bond its other own)
-    other_turn (Connected handle of) spared spared_too = came handle of
-    other_turn Disconnected spared spared_too = record {
+    pub other_effect : (own : Own) → finds_no_room shared connection own ≡ false → finds_no_room there other own ≡ false
+        → OtherEffect peer hidden (effect_of shared bond owed connection own) (effect_of there bond its other own)
+    other_effect (Connected handle of) spared spared_too = came handle of
+    other_effect Disconnected spared spared_too = record {
       turn = record { values = same; bond = refl; to_notify = refl };
       connection = refl;
       own = λ is. refl;
       to_notify_here = λ is. refl;
     }
-    other_turn (KeyAsked random_number diversifier) spared spared_too = live-or-kept (KeyAsked random_number diversifier) spared spared_too
-    other_turn (Encrypted status enabled) spared spared_too = live-or-kept (Encrypted status enabled) spared spared_too
-    other_turn (Refreshed status) spared spared_too = live-or-kept (Refreshed status) spared spared_too
-    other_turn (Asks pdu) spared spared_too = live-or-kept (Asks pdu) spared spared_too
-    other_turn (OtherChannel channel payload) spared spared_too = live-or-kept (OtherChannel channel payload) spared spared_too
-    other_turn (Authorized until) spared spared_too = live-or-kept (Authorized until) spared spared_too
-    other_turn Ended spared spared_too = live-or-kept Ended spared spared_too
+    other_effect (KeyAsked random_number diversifier) spared spared_too = live-or-kept (KeyAsked random_number diversifier) spared spared_too
+    other_effect (Encrypted status enabled) spared spared_too = live-or-kept (Encrypted status enabled) spared spared_too
+    other_effect (Refreshed status) spared spared_too = live-or-kept (Refreshed status) spared spared_too
+    other_effect (Asks pdu) spared spared_too = live-or-kept (Asks pdu) spared spared_too
+    other_effect (OtherChannel channel payload) spared spared_too = live-or-kept (OtherChannel channel payload) spared spared_too
+    other_effect (Authorized until) spared spared_too = live-or-kept (Authorized until) spared spared_too
+    other_effect Ended spared spared_too = live-or-kept Ended spared spared_too

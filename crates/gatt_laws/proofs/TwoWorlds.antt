@@ -165,7 +165,7 @@ gives_the_same peer hidden one other event its alike agrees ordinal belongs =
 pub given_alike : (peer : Peer) (hidden : Handle → Bool) (one other : State) (event its : Event) → Alike peer hidden one other
     → Agrees peer hidden one other event its → (ordinal : Ordinal) → packets_given_at peer ordinal one event ≡ packets_given_at peer ordinal other its
 given_alike peer hidden one other event its alike agrees ordinal =
-    let parts = alike.others ordinal in
+    let same = alike.others ordinal in
     both_choices (λ (a b : List Octets). a ≡ b) (is_of peer (one.connections ordinal)) (is_of peer (other.connections ordinal)) (packets_at ordinal one event) []
-    (packets_at ordinal other its) [] (λ i. is_of peer (parts i)) (λ mine. gives_the_same peer hidden one other event its alike agrees ordinal (λ there. mine))
+    (packets_at ordinal other its) [] (λ i. is_of peer (same i)) (λ mine. gives_the_same peer hidden one other event its alike agrees ordinal (λ there. mine))
     (λ is. refl)

@@ -209,14 +209,14 @@ unfolding silent
 if-live-silent shared bond owed connection own true = live-silent shared bond owed connection own
 if-live-silent shared bond owed connection own false = refl
 
-turn-silent : (shared : SharedState) (bond : Row) (owed : Bool) (connection : ConnectionState) (own : Own)
+effect-silent : (shared : SharedState) (bond : Row) (owed : Bool) (connection : ConnectionState) (own : Own)
     → silent (effect_of shared bond owed (without_commands connection) own) ≡ silent (effect_of shared bond owed connection own)
 unfolding silent
-turn-silent shared bond owed connection (Connected handle peer) =
+effect-silent shared bond owed connection (Connected handle peer) =
     elim (is_there connection.mark) as (λ (there : Bool). silent (effect_on_connection shared bond owed (if there then without_commands connection else fresh_connection handle peer))
     ≡ silent (effect_on_connection shared bond owed (if there then connection else fresh_connection handle peer))) [ true ↦ refl | false ↦ refl ]
-turn-silent shared bond owed connection Disconnected = refl
-turn-silent shared bond owed connection own = if-live-silent shared bond owed connection own (is_live connection.mark)
+effect-silent shared bond owed connection Disconnected = refl
+effect-silent shared bond owed connection own = if-live-silent shared bond owed connection own (is_live connection.mark)
 
 -- who does not serve comes or goes, and else stays
 idle_part : ConnectionState → Own → ConnectionState
@@ -224,19 +224,19 @@ idle_part connection (Connected handle peer) = if is_there connection.mark then 
 idle_part connection Disconnected = no_connection
 idle_part connection own = connection
 
-turn-idle : (shared : SharedState) (bond : Row) (owed : Bool) (connection : ConnectionState) (own : Own) → is_live connection.mark ≡ false
+effect-idle : (shared : SharedState) (bond : Row) (owed : Bool) (connection : ConnectionState) (own : Own) → is_live connection.mark ≡ false
     → effect_of shared bond owed connection own ≡ effect_on_connection shared bond owed (idle_part connection own)
 unfolding idle_part
-turn-idle shared bond owed connection (Connected handle peer) is = refl
-turn-idle shared bond owed connection Disconnected is = refl
-turn-idle shared bond owed connection own is = rw is refl
+effect-idle shared bond owed connection (Connected handle peer) is = refl
+effect-idle shared bond owed connection Disconnected is = refl
+effect-idle shared bond owed connection own is = rw is refl
 
 -- what a turn leaves to be seen, where it is the connection's own
-seen_turn : SharedState → Effect → Seen
-seen_turn shared effect = seen_end (with_values shared effect.values) effect.bond effect.owed effect.to_notify_here (without_commands effect.connection)
+seen_effect : SharedState → Effect → Seen
+seen_effect shared effect = seen_end (with_values shared effect.values) effect.bond effect.owed effect.to_notify_here (without_commands effect.connection)
 
-seen-silent : (shared : SharedState) (effect : Effect) → seen_turn shared (silent effect) ≡ seen_turn shared effect
-unfolding silent seen_turn
+seen-silent : (shared : SharedState) (effect : Effect) → seen_effect shared (silent effect) ≡ seen_effect shared effect
+unfolding silent seen_effect
 seen-silent shared effect = refl
 
 -- where its peer is another one, what is set is what is there
@@ -254,8 +254,8 @@ own-at : (buffers : Option Buffers) (peer : Peer) (ordinal : Ordinal) (state : S
     → let connection : ConnectionState = state.connections ordinal in
     let effect : Effect = effect_of state.shared (state.bonds connection.peer) (state.owed connection.peer) connection own in
     seen_end (with_buffers (with_values state.shared effect.values) buffers) (at_peer connection.peer effect.bond state.bonds peer) (at_peer connection.peer effect.owed state.owed peer) effect.to_notify_here (without_commands effect.connection)
-    ≡ seen_turn (with_buffers state.shared buffers) (effect_of (with_buffers state.shared buffers) (state.bonds peer) (state.owed peer) connection own)
-unfolding seen_turn
+    ≡ seen_effect (with_buffers state.shared buffers) (effect_of (with_buffers state.shared buffers) (state.bonds peer) (state.owed peer) connection own)
+unfolding seen_effect
 own-at buffers peer ordinal state own true is known =
     let connection : ConnectionState = state.connections ordinal in
     let there : is_there connection.mark ≡ true = there-if-live connection.mark is in
@@ -265,7 +265,7 @@ own-at buffers peer ordinal state own true is known =
     let bonds = changed-at peer connection.peer effect.bond state.bonds (known.peers there) in
     let owed = changed-at peer connection.peer effect.owed state.owed (known.peers there) in
     (λ i. seen_end (with_buffers (with_values state.shared effect.values) buffers) (bonds i) (owed i) effect.to_notify_here (without_commands effect.connection))
-    ∙ ap (seen_turn (with_buffers state.shared buffers)) same
+    ∙ ap (seen_effect (with_buffers state.shared buffers)) same
 own-at buffers peer ordinal state own false is known =
     let connection : ConnectionState = state.connections ordinal in
     let effect : Effect = effect_of state.shared (state.bonds connection.peer) (state.owed connection.peer) connection own in
@@ -273,12 +273,12 @@ own-at buffers peer ordinal state own false is known =
     let bonds = unchanged-at connection.peer state.bonds peer in
     let owed = unchanged-at connection.peer state.owed peer in
     ap (λ (of : Effect). seen_end (with_buffers (with_values state.shared of.values) buffers) (at_peer connection.peer of.bond state.bonds peer) (at_peer connection.peer of.owed state.owed peer) of.to_notify_here (without_commands of.connection))
-    (turn-idle state.shared (state.bonds connection.peer) (state.owed connection.peer) connection own is)
+    (effect-idle state.shared (state.bonds connection.peer) (state.owed connection.peer) connection own is)
     ∙ (λ i. seen_end (with_buffers state.shared buffers) (bonds i) (owed i) [] (without_commands new))
-    ∙ ap (seen_turn (with_buffers state.shared buffers)) (sym (turn-idle (with_buffers state.shared buffers) (state.bonds peer) (state.owed peer) connection own is))
+    ∙ ap (seen_effect (with_buffers state.shared buffers)) (sym (effect-idle (with_buffers state.shared buffers) (state.bonds peer) (state.owed peer) connection own is))
 
 pub own-next : Seen → Own → Seen
-own-next old own = seen_turn old.shared (effect_of old.shared old.bond old.owed old.connection own)
+own-next old own = seen_effect old.shared (effect_of old.shared old.bond old.owed old.connection own)
 
 pub own-seen : (buffers : Option Buffers) (peer : Peer) (ordinal : Ordinal) (state : State) (own : Own) → IsKnown buffers peer ordinal state
     → seen_change buffers peer ordinal (own_change state ordinal own) ≡ own-next (seen_of buffers peer ordinal state) own
@@ -293,5 +293,5 @@ own-seen buffers peer ordinal state own known =
     (if same then effect.to_notify_here else effect.to_notify) (without_commands (if same then effect.connection else connection))) itself
     ∙ own-at buffers peer ordinal state own (is_live connection.mark) refl known
     ∙ sym (seen-silent shared (effect_of shared (state.bonds peer) (state.owed peer) connection own))
-    ∙ ap (seen_turn shared) (sym (turn-silent shared (state.bonds peer) (state.owed peer) connection own))
+    ∙ ap (seen_effect shared) (sym (effect-silent shared (state.bonds peer) (state.owed peer) connection own))
     ∙ seen-silent shared (effect_of shared (state.bonds peer) (state.owed peer) (without_commands connection) own)

@@ -8,7 +8,7 @@ use Rattle.att_pdu.specs.Grammar.{request_of, is_due}
 use Rattle.att_table.specs.Table.{with_value}
 use Rattle.att_writes.proofs.Lengths.{stored_both}
 use Rattle.att_writes.specs.SameBut.{SameBut}
-use Rattle.gatt_laws.proofs.EffectsAlike.{both_choices, either_choice, SameTurn, OwnTurn, OtherTurn, own_turn, other_turn}
+use Rattle.gatt_laws.proofs.EffectsAlike.{both_choices, either_choice, SameEffect, OwnEffect, OtherEffect, own_effect, other_effect}
 use Rattle.gatt_laws.specs.laws.Alike.{erased}
 use Rattle.gatt_laws.specs.laws.RowNotices.{is_replacement}
 use Rattle.gatt_laws.specs.laws.TwoWorlds.{finds_no_room, is_answer_due}
@@ -117,7 +117,7 @@ module _ (ordinal : Ordinal) (peer : Peer) (hidden : Handle → Bool) (state : S
   abbrev turn_far : Ordinal → Own → Effect
   turn_far at act = effect_of (with_values state.shared ys) (state.bonds (others at).peer) (owing (others at).peer) (others at) act
 
-  after-turns : (at : Ordinal) (act : Own) → SameTurn hidden (turn_at at act) (turn_far at act)
+  after-turns : (at : Ordinal) (act : Own) → SameEffect hidden (turn_at at act) (turn_far at act)
       → (if ordinal == at then (turn_at at act).connection else state.connections ordinal) ≡ (if ordinal == at then (turn_far at act).connection else others ordinal)
       → erased (turn_at at act).connection ≡ erased (turn_far at act).connection
       → (if ordinal == at then (turn_at at act).to_notify_here else (turn_at at act).to_notify)
@@ -146,13 +146,13 @@ module _ (ordinal : Ordinal) (peer : Peer) (hidden : Handle → Bool) (state : S
 
   -- what happens to the connection itself
   own-turns : (act : Own) → KnowsNone hidden state.shared state.bonds (state.connections ordinal) → state.owed (state.connections ordinal).peer ≡ owing (others ordinal).peer
-      → OwnTurn hidden (turn_at ordinal act) (turn_far ordinal act)
+      → OwnEffect hidden (turn_at ordinal act) (turn_far ordinal act)
   own-turns act hides owed =
       let connection : ConnectionState = state.connections ordinal in
       let bond : Row = state.bonds connection.peer in
-      subst (λ (t : Effect). OwnTurn hidden (turn_at ordinal act) t)
+      subst (λ (t : Effect). OwnEffect hidden (turn_at ordinal act) t)
       (λ i. effect_of (with_values state.shared ys) (state.bonds (own i).peer) (owed i) (own i) act)
-      (own_turn hidden state.shared ys same bond (state.owed connection.peer) connection act
+      (own_effect hidden state.shared ys same bond (state.owed connection.peer) connection act
       (λ live. record {
         attributes = refl;
         readable = readable-there hidden state.shared.table.attributes (row_in_force bond connection) (standing_of state.shared connection) state.shared.table.values ys same (hides live);
@@ -161,15 +161,15 @@ module _ (ordinal : Ordinal) (peer : Peer) (hidden : Handle → Bool) (state : S
   -- what happens to any connection, as that of another peer
   other-turns : (at : Ordinal) (act : Own) → finds_no_room state.shared (state.connections at) act ≡ false
       → finds_no_room (with_values state.shared ys) (others at) act ≡ false
-      → OtherTurn (other-peer (state.connections at).peer) hidden (turn_at at act) (turn_far at act)
+      → OtherEffect (other-peer (state.connections at).peer) hidden (turn_at at act) (turn_far at act)
   other-turns at act spared spared_too =
       let connection : ConnectionState = state.connections at in
       let bond : Row = state.bonds connection.peer in
       let parts : erased connection ≡ erased (others at) = rest at in
       let peer_there : Peer = other-peer connection.peer in
-      subst (λ (t : Effect). OtherTurn peer_there hidden (turn_at at act) t)
+      subst (λ (t : Effect). OtherEffect peer_there hidden (turn_at at act) t)
       (λ i. effect_of (with_values state.shared ys) (state.bonds (parts i).peer) (owing (others at).peer) (others at) act)
-      (other_turn hidden state.shared ys same peer_there bond (state.owed connection.peer) (owing (others at).peer) connection (others at) parts (is-other connection.peer) act spared spared_too)
+      (other_effect hidden state.shared ys same peer_there bond (state.owed connection.peer) (owing (others at).peer) connection (others at) parts (is-other connection.peer) act spared spared_too)
 
   no-room-away : (shared : SharedState) (connection : ConnectionState) (act : Own) → is_there connection.mark ≡ false → finds_no_room shared connection act ≡ false
   no-room-away shared connection act away =

@@ -15,7 +15,7 @@ none-there place ordinal slots none there = cc (none, there)
 pub stands_in_at_the_start : (start : Start) (server : ServerState) (frames : Frames) → IsOpenedAs start server → start.slots ≤ length frames
     → ServerRefinesRun (run_at_start start) [] server frames
 unfolding run
-stands_in_at_the_start start server frames opened shared = record {
+stands_in_at_the_start start server frames opened enough = record {
   owed = first_out start;
   all = refl;
   sound = is_always_sound start [];
@@ -23,6 +23,6 @@ stands_in_at_the_start start server frames opened shared = record {
   together = record {
     there = λ place ordinal there. absurd (none-there place ordinal (state_at start).slots refl there);
     fresh = λ ordinal later. refl;
-    shared = shared;
+    enough = enough;
   };
 }

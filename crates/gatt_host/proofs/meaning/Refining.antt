@@ -239,7 +239,7 @@ module _ (run : Run) (server : ServerState) (frames : Frames) (is : IsDrainedIn 
         let found : Finds state.slots (serving state handle) (place_serving server.slots handle) =
         finds state server is.sound is.refines handle in
         let shared : length state.slots ≤ length frames =
-        omega (arith, few_slots state server is.sound is.refines, is.together.shared) in
+        omega (arith, few_slots state server is.sound is.refines, is.together.enough) in
         record {
           there = frames_follow state server fragments frames handle boundary broadcast octets is.sound
               is.refines shared is.together.there;
@@ -247,9 +247,9 @@ module _ (run : Run) (server : ServerState) (frames : Frames) (is : IsDrainedIn 
               still-fresh state fragments (serving state handle) (place_serving server.slots handle)
               (fragment_of boundary broadcast octets)
               ordinal is.sound found later (is.together.fresh ordinal later);
-          shared = subst (λ (count : ℕ). state.shared.slots ≤ count)
+          enough = subst (λ (count : ℕ). state.shared.slots ≤ count)
               (sym (as-many (place_serving server.slots handle) (fragment_of boundary broadcast octets)
-              frames)) is.together.shared;
+              frames)) is.together.enough;
         }
     packet-joined (EventPacket octets) = is.together
     packet-joined ScoPacket = is.together

@@ -105,7 +105,7 @@ together_then state event fragments frames other is =
     record {
       there = λ place ordinal at. is.there place ordinal (keeps.there place ordinal at);
       fresh = λ ordinal later. is.fresh ordinal (subst (λ (next : Ordinal). next ≤ ordinal) keeps.next later);
-      shared = subst (λ (count : ℕ). count ≤ length frames) (sym (rooms_stay state event)) is.shared;
+      enough = subst (λ (count : ℕ). count ≤ length frames) (sym (rooms_stay state event)) is.enough;
     }
 
 -- the first slot that is free
@@ -186,11 +186,11 @@ unfolding step change_of
 together_coming state server fragments frames handle peer sound refines free is = record {
   there = λ place ordinal there. read place ordinal (came-or-was state.next state.slots place ordinal there);
   fresh = λ ordinal later. is.fresh ordinal (omega (arith, later));
-  shared = omega (arith, is.shared, length-set frames (first_free state.slots) no_assembly);
+  enough = omega (arith, is.enough, length-set frames (first_free state.slots) no_assembly);
 }
   where
     inside : first_free state.slots < length frames
-    inside = omega (arith, free-within state.slots free, few_slots state server sound refines, is.shared)
+    inside = omega (arith, free-within state.slots free, few_slots state server sound refines, is.enough)
 
     read : (place : ℕ) (ordinal : Ordinal) → CameOrWas state.next state.slots place ordinal
         → get_or (set frames (first_free state.slots) no_assembly) place no_assembly ≡ once_heard (assembly_after (fragments ordinal))

@@ -76,11 +76,11 @@ module _ (state : State) (server : ServerState) (place : ℕ) (ordinal : Ordinal
   abbrev live : Own → Effect
   live own = live_effect state.shared (state.bonds connection.peer) (state.owed connection.peer) connection own
 
-  turn-is : (own : Own) → (if is_live connection.mark then live own else effect_on_connection state.shared (state.bonds connection.peer) (state.owed connection.peer) connection) ≡ live own
-  turn-is own = live_turned state.shared (state.bonds connection.peer) (state.owed connection.peer) connection serving.live own
+  effect-is : (own : Own) → (if is_live connection.mark then live own else effect_on_connection state.shared (state.bonds connection.peer) (state.owed connection.peer) connection) ≡ live own
+  effect-is own = live_turned state.shared (state.bonds connection.peer) (state.owed connection.peer) connection serving.live own
 
   keyed-by : (own : Own) → HasKeysOfItsPeer state.shared.keys (live own).connection → HasKeysOfItsPeer state.shared.keys (if is_live connection.mark then live own else effect_on_connection state.shared (state.bonds connection.peer) (state.owed connection.peer) connection).connection
-  keyed-by own keyed = subst (λ (effect : Effect). HasKeysOfItsPeer state.shared.keys effect.connection) (sym (turn-is own)) keyed
+  keyed-by own keyed = subst (λ (effect : Effect). HasKeysOfItsPeer state.shared.keys effect.connection) (sym (effect-is own)) keyed
 
   is-keyed : HasKeysOfItsPeer state.shared.keys connection
   is-keyed = (holds state server refines).keyed ordinal
@@ -125,7 +125,7 @@ module _ (state : State) (server : ServerState) (place : ℕ) (ordinal : Ordinal
       let own : Own = Encrypted status enabled in
       let step : Step = Encryption status enabled in
       holds_alone state server (holds state server refines) sound.settled place ordinal serving.there (effect own) (after_link_step step)
-      (ap (λ (effect : Effect). effect.values) (turn-is own)) (ap (λ (effect : Effect). effect.bond) (turn-is own)) (ap (λ (effect : Effect). effect.owed) (turn-is own))
+      (ap (λ (effect : Effect). effect.values) (effect-is own)) (ap (λ (effect : Effect). effect.bond) (effect-is own)) (ap (λ (effect : Effect). effect.owed) (effect-is own))
       (keyed-by own (or-ended state.shared.keys (with_step connection step) (lost_encryption (key_of connection) (key_of (with_step connection step)))
       (encryption-keyed state.shared.keys connection status enabled is-keyed)))
       (encrypted_kept state.shared (state.bonds connection.peer) (state.owed connection.peer) connection serving.live status enabled)
@@ -140,7 +140,7 @@ module _ (state : State) (server : ServerState) (place : ℕ) (ordinal : Ordinal
       (Some place) (told_here step) []
       (link-raised own step (encryption-keyed state.shared.keys connection status enabled is-keyed)
       (encrypted_raised state.shared (state.bonds connection.peer) (state.owed connection.peer) connection serving.live status enabled)
-      (ap (λ (effect : Effect). effect.to_notify) (turn-is own)))
+      (ap (λ (effect : Effect). effect.to_notify) (effect-is own)))
       (option_map_or (link_event step) (server_slot_at server place) last.Quiet) (encrypted_told state server place ordinal sound refines serving status enabled (after_link place step server))
 
   -- its key is refreshed
@@ -151,7 +151,7 @@ module _ (state : State) (server : ServerState) (place : ℕ) (ordinal : Ordinal
       let own : Own = Refreshed status in
       let step : Step = Refresh status in
       holds_alone state server (holds state server refines) sound.settled place ordinal serving.there (effect own) (after_link_step step)
-      (ap (λ (effect : Effect). effect.values) (turn-is own)) (ap (λ (effect : Effect). effect.bond) (turn-is own)) (ap (λ (effect : Effect). effect.owed) (turn-is own))
+      (ap (λ (effect : Effect). effect.values) (effect-is own)) (ap (λ (effect : Effect). effect.bond) (effect-is own)) (ap (λ (effect : Effect). effect.owed) (effect-is own))
       (keyed-by own (or-ended state.shared.keys (with_step connection step) (lost_encryption (key_of connection) (key_of (with_step connection step)))
       (refresh-keyed state.shared.keys connection status is-keyed)))
       (refreshed_kept state.shared (state.bonds connection.peer) (state.owed connection.peer) connection serving.live status)
@@ -165,5 +165,5 @@ module _ (state : State) (server : ServerState) (place : ℕ) (ordinal : Ordinal
       (Some place) (told_here step) []
       (link-raised own step (refresh-keyed state.shared.keys connection status is-keyed)
       (refreshed_raised state.shared (state.bonds connection.peer) (state.owed connection.peer) connection serving.live status)
-      (ap (λ (effect : Effect). effect.to_notify) (turn-is own)))
+      (ap (λ (effect : Effect). effect.to_notify) (effect-is own)))
       (option_map_or (link_event step) (server_slot_at server place) last.Quiet) (refreshed_told state server place ordinal sound refines serving status (after_link place step server))

@@ -68,8 +68,8 @@ module _ (state : State) (server : ServerState) (place : ℕ) (ordinal : Ordinal
       subst (λ (effect : Effect). HasKeysOfItsPeer state.shared.keys effect.connection)
       (sym (live_turned state.shared (state.bonds connection.peer) (state.owed connection.peer) connection serving.live own)) keyed
 
-  turn-is : (own : Own) → (if is_live connection.mark then live own else effect_on_connection state.shared (state.bonds connection.peer) (state.owed connection.peer) connection) ≡ live own
-  turn-is own = live_turned state.shared (state.bonds connection.peer) (state.owed connection.peer) connection serving.live own
+  effect-is : (own : Own) → (if is_live connection.mark then live own else effect_on_connection state.shared (state.bonds connection.peer) (state.owed connection.peer) connection) ≡ live own
+  effect-is own = live_turned state.shared (state.bonds connection.peer) (state.owed connection.peer) connection serving.live own
 
   is-keyed : HasKeysOfItsPeer state.shared.keys connection
   is-keyed = (holds state server refines).keyed ordinal
@@ -80,7 +80,7 @@ module _ (state : State) (server : ServerState) (place : ℕ) (ordinal : Ordinal
   authorized-holds until =
       let own : Own = Authorized until in
       holds_alone state server (holds state server refines) sound.settled place ordinal serving.there (effect own) (after_authorizing until)
-      (ap (λ (effect : Effect). effect.values) (turn-is own)) (ap (λ (effect : Effect). effect.bond) (turn-is own)) (ap (λ (effect : Effect). effect.owed) (turn-is own))
+      (ap (λ (effect : Effect). effect.values) (effect-is own)) (ap (λ (effect : Effect). effect.bond) (effect-is own)) (ap (λ (effect : Effect). effect.owed) (effect-is own))
       (keyed-by own (keyed_alike state.shared.keys connection (live own).connection (refl, refl) is-keyed))
       (authorized_kept state.shared (state.bonds connection.peer) (state.owed connection.peer) connection serving.live until)
 
@@ -90,7 +90,7 @@ module _ (state : State) (server : ServerState) (place : ℕ) (ordinal : Ordinal
       let own : Own = Authorized until in
       ends state (Of ordinal own) sound tt (record server { slots = slots_at place (after_authorizing until) server.slots }) (authorized-holds until) None [] []
       (none_raised_at (record state.shared.table { values = (effect own).values }) state.shared.time state.slots ordinal (effect own).to_notify_here (effect own).to_notify
-      (ap (λ (effect : Effect). effect.to_notify_here) (turn-is own)) (ap (λ (effect : Effect). effect.to_notify) (turn-is own))) (authorized_told state server place ordinal sound refines serving until)
+      (ap (λ (effect : Effect). effect.to_notify_here) (effect-is own)) (ap (λ (effect : Effect). effect.to_notify) (effect-is own))) (authorized_told state server place ordinal sound refines serving until)
 
   -- the application ends it
   disconnected-holds : Holds (change_of state (Of ordinal Ended)).state (all_given state)
@@ -99,7 +99,7 @@ module _ (state : State) (server : ServerState) (place : ℕ) (ordinal : Ordinal
   disconnected-holds =
       let own : Own = Ended in
       holds_alone state server (holds state server refines) sound.settled place ordinal serving.there (effect own) (slot_after_ending remote_user_terminated)
-      (ap (λ (effect : Effect). effect.values) (turn-is own)) (ap (λ (effect : Effect). effect.bond) (turn-is own)) (ap (λ (effect : Effect). effect.owed) (turn-is own))
+      (ap (λ (effect : Effect). effect.values) (effect-is own)) (ap (λ (effect : Effect). effect.bond) (effect-is own)) (ap (λ (effect : Effect). effect.owed) (effect-is own))
       (keyed-by own (keyed_alike state.shared.keys connection (live own).connection (refl, refl) is-keyed))
       (disconnected_kept state.shared (state.bonds connection.peer) (state.owed connection.peer) connection serving.live)
 
@@ -109,7 +109,7 @@ module _ (state : State) (server : ServerState) (place : ℕ) (ordinal : Ordinal
       let own : Own = Ended in
       ends_with state (Of ordinal own) sound tt (record server { slots = slots_at place (slot_after_ending remote_user_terminated) server.slots }) disconnected-holds None [] []
       (none_raised_at (record state.shared.table { values = (effect own).values }) state.shared.time state.slots ordinal (effect own).to_notify_here (effect own).to_notify
-      (ap (λ (effect : Effect). effect.to_notify_here) (turn-is own)) (ap (λ (effect : Effect). effect.to_notify) (turn-is own)))
+      (ap (λ (effect : Effect). effect.to_notify_here) (effect-is own)) (ap (λ (effect : Effect). effect.to_notify) (effect-is own)))
       (option_map_or end_event (server_slot_at server place) last.Quiet) (disconnected_told state server place ordinal sound refines serving (after_disconnect place server))
 
   -- its key is asked for
@@ -141,7 +141,7 @@ module _ (state : State) (server : ServerState) (place : ℕ) (ordinal : Ordinal
   key-asked-holds random_number diversifier =
       let own : Own = KeyAsked random_number diversifier in
       holds_alone state server (holds state server refines) sound.settled place ordinal serving.there (effect own) (asked_of server.keys random_number diversifier)
-      (ap (λ (effect : Effect). effect.values) (turn-is own)) (ap (λ (effect : Effect). effect.bond) (turn-is own)) (ap (λ (effect : Effect). effect.owed) (turn-is own))
+      (ap (λ (effect : Effect). effect.values) (effect-is own)) (ap (λ (effect : Effect). effect.bond) (effect-is own)) (ap (λ (effect : Effect). effect.owed) (effect-is own))
       (keyed-by own (asked-keyed random_number diversifier))
       (key_asked_kept state.shared (state.bonds connection.peer) (state.owed connection.peer) connection serving.live random_number diversifier
       ∙ asked-kept random_number diversifier server.keys refines.keys)
@@ -155,7 +155,7 @@ module _ (state : State) (server : ServerState) (place : ℕ) (ordinal : Ordinal
       ends state (Of ordinal own) sound tt (record server { slots = slots_at place (asked_of server.keys random_number diversifier) server.slots })
       (key-asked-holds random_number diversifier) None [] []
       (none_raised_at (record state.shared.table { values = (effect own).values }) state.shared.time state.slots ordinal (effect own).to_notify_here (effect own).to_notify
-      (ap (λ (effect : Effect). effect.to_notify_here) (turn-is own)) (ap (λ (effect : Effect). effect.to_notify) (turn-is own))) (key_asked_told state server place ordinal sound refines serving random_number diversifier)
+      (ap (λ (effect : Effect). effect.to_notify_here) (effect-is own)) (ap (λ (effect : Effect). effect.to_notify) (effect-is own))) (key_asked_told state server place ordinal sound refines serving random_number diversifier)
 
   -- a PDU of another channel comes
   channel-link : (channel : ℕ) (answer : Option Octets) → SameLink connection (after_other_channel state.shared connection channel answer)
@@ -172,7 +172,7 @@ module _ (state : State) (server : ServerState) (place : ℕ) (ordinal : Ordinal
   other_channel-holds channel payload =
       let own : Own = OtherChannel channel payload in
       holds_alone state server (holds state server refines) sound.settled place ordinal serving.there (effect own) (slot_after_other_channel channel payload)
-      (ap (λ (effect : Effect). effect.values) (turn-is own)) (ap (λ (effect : Effect). effect.bond) (turn-is own)) (ap (λ (effect : Effect). effect.owed) (turn-is own))
+      (ap (λ (effect : Effect). effect.values) (effect-is own)) (ap (λ (effect : Effect). effect.bond) (effect-is own)) (ap (λ (effect : Effect). effect.owed) (effect-is own))
       (keyed-by own (keyed_alike state.shared.keys connection (live own).connection (channel-link channel (channel_answer channel payload)) is-keyed))
       (other_channel_kept state.shared (state.bonds connection.peer) (state.owed connection.peer) connection serving.live (sound.queued ordinal) channel payload)
 
@@ -183,5 +183,5 @@ module _ (state : State) (server : ServerState) (place : ℕ) (ordinal : Ordinal
       let own : Own = OtherChannel channel payload in
       ends_with state (Of ordinal own) sound tt (record server { slots = slots_at place (slot_after_other_channel channel payload) server.slots }) (other_channel-holds channel payload) None [] []
       (none_raised_at (record state.shared.table { values = (effect own).values }) state.shared.time state.slots ordinal (effect own).to_notify_here (effect own).to_notify
-      (ap (λ (effect : Effect). effect.to_notify_here) (turn-is own)) (ap (λ (effect : Effect). effect.to_notify) (turn-is own)))
+      (ap (λ (effect : Effect). effect.to_notify_here) (effect-is own)) (ap (λ (effect : Effect). effect.to_notify) (effect-is own)))
       (option_map_or (other_channel_event channel payload) (server_slot_at server place) last.Quiet) (other_channel_told state server place ordinal sound refines serving channel payload (server_after_other_channel place channel payload server))

@@ -137,8 +137,8 @@ module _ (state : State) (server new : ServerState) (place : ℕ) (ordinal : Ord
   is : Holds state (all_given state) server
   is = holds state server refines
 
-  turn-is : (if is_live connection.mark then live else effect_on_connection state.shared (state.bonds peer) (state.owed peer) connection) ≡ live
-  turn-is = live_turned state.shared (state.bonds peer) (state.owed peer) connection serving.live (Asks pdu)
+  effect-is : (if is_live connection.mark then live else effect_on_connection state.shared (state.bonds peer) (state.owed peer) connection) ≡ live
+  effect-is = live_turned state.shared (state.bonds peer) (state.owed peer) connection serving.live (Asks pdu)
 
   has : is_some (key_of connection) ≡ true → found ≡ Some (state.bonds peer)
   has = has_row state.shared.keys server.rows state.bonds state.owed connection is.rows (is.keyed ordinal)
@@ -156,7 +156,7 @@ module _ (state : State) (server new : ServerState) (place : ℕ) (ordinal : Ord
 
   request-keyed : HasKeysOfItsPeer state.shared.keys (if is_live connection.mark then live else effect_on_connection state.shared (state.bonds peer) (state.owed peer) connection).connection
   request-keyed =
-      subst (λ (effect : Effect). HasKeysOfItsPeer state.shared.keys effect.connection) (sym turn-is)
+      subst (λ (effect : Effect). HasKeysOfItsPeer state.shared.keys effect.connection) (sym effect-is)
       (keyed_alike state.shared.keys connection live.connection request-link (is.keyed ordinal))
 
   -- the table
@@ -216,8 +216,8 @@ module _ (state : State) (server new : ServerState) (place : ℕ) (ordinal : Ord
       ∙ owed-without-key (overflows pdu slot_state) (confirms_changes server.changer pdu slot_state) (stored_of server.table server.time found pdu slot_state).row bonded (is.rows.owing peer unknown)
 
   -- what its slot keeps
-  kept-is : slot_state_if_there state.shared effect.connection connection.given ≡ option_map (slot_after_request server.table server.time found pdu) (slot_state_if_there state.shared connection connection.given)
-  kept-is =
+  slot-is : slot_state_if_there state.shared effect.connection connection.given ≡ option_map (slot_after_request server.table server.time found pdu) (slot_state_if_there state.shared connection connection.given)
+  slot-is =
       served_kept state.shared found (state.bonds peer) (state.owed peer) connection pdu serving.live (sound.queued ordinal) has
       ∙ λ i. option_map (slot_after_request (sym is.table i) (sym is.time i) found pdu) (slot_state_if_there state.shared connection connection.given)
 
@@ -235,7 +235,7 @@ module _ (state : State) (server new : ServerState) (place : ℕ) (ordinal : Ord
       holds_with_written (turned state ordinal effect) (all_given state) _ (handles_written_by server.table server.time found pdu slot_state)
       (holds_turned state server is sound.settled place ordinal serving.there effect (slot_after_request server.table server.time found pdu) table rows table-is
       (bonds_changed state.shared.keys change peer server.rows rows state.bonds state.owed effect.bond effect.owed is.rows changes change-is row-stays owed-stays)
-      request-keyed kept-is)
+      request-keyed slot-is)
 
   -- there is no room for an answer that is due
   same-full : (is_due (request_of pdu (connection_mtu state.shared connection)) && is_full state.shared connection) ≡ overflows pdu slot_state
@@ -280,7 +280,7 @@ module _ (state : State) (server new : ServerState) (place : ℕ) (ordinal : Ord
   stays-there : is_there effect.connection.mark ≡ true
   unfolding live_effect
   stays-there =
-      ap (λ (effect : Effect). is_there effect.connection.mark) turn-is
+      ap (λ (effect : Effect). is_there effect.connection.mark) effect-is
       ∙ elim (is_due (request_of pdu (connection_mtu state.shared connection)) && is_full state.shared connection) as (λ (full : Bool). is_there
       (if full then effect_on_connection state.shared (state.bonds peer) (state.owed peer) (after_ending connection remote_user_terminated)
       else served state.shared (state.bonds peer) (state.owed peer) connection pdu (request_of pdu (connection_mtu state.shared connection))).connection.mark ≡ true) [
@@ -289,25 +289,25 @@ module _ (state : State) (server new : ServerState) (place : ℕ) (ordinal : Ord
       ]
 
   same-peer : effect.connection.peer ≡ peer
-  same-peer = ap (λ (effect : Effect). effect.connection.peer) turn-is ∙ request-link.1
+  same-peer = ap (λ (effect : Effect). effect.connection.peer) effect-is ∙ request-link.1
 
   module _ (rows : Subscriptions) (changes : ChangesBond change peer server.rows rows) where
     abbrev served_held : ServerState
     served_held = after_serving place pdu server rows slot_state
 
-    abbrev room_then : SharedState
-    room_then = with_values state.shared effect.values
+    abbrev shared_then : SharedState
+    shared_then = with_values state.shared effect.values
 
     abbrev bonds_then : Bonds
     bonds_then = at_peer peer effect.bond state.bonds
 
-    abbrev part_then : ConnectionState
-    part_then = finished room_then bonds_then (at_ordinal ordinal effect.to_notify_here (all_to_notify effect.to_notify) ordinal) (at_ordinal ordinal effect.connection state.connections ordinal)
+    abbrev connection_then : ConnectionState
+    connection_then = finished shared_then bonds_then (at_ordinal ordinal effect.to_notify_here (all_to_notify effect.to_notify) ordinal) (at_ordinal ordinal effect.connection state.connections ordinal)
 
-    part-is : Stays effect.connection part_then
-    part-is =
-        subst (λ (connection : ConnectionState). Stays connection part_then) (ap (λ (same : Bool). if same then effect.connection else connection) (eq-eqb ordinal ordinal refl))
-        (finished_stays room_then bonds_then (at_ordinal ordinal effect.to_notify_here (all_to_notify effect.to_notify) ordinal) (at_ordinal ordinal effect.connection state.connections ordinal))
+    connection-is : Stays effect.connection connection_then
+    connection-is =
+        subst (λ (connection : ConnectionState). Stays connection connection_then) (ap (λ (same : Bool). if same then effect.connection else connection) (eq-eqb ordinal ordinal refl))
+        (finished_stays shared_then bonds_then (at_ordinal ordinal effect.to_notify_here (all_to_notify effect.to_notify) ordinal) (at_ordinal ordinal effect.connection state.connections ordinal))
 
     -- what its slot keeps then
     slots-then : served_held.slots ≡ slot_states_handed (before_commands state (Of ordinal (Asks pdu))) (all_given state)
@@ -316,32 +316,32 @@ module _ (state : State) (server new : ServerState) (place : ℕ) (ordinal : Ord
         sym (ap (λ (open_now : Bool). if open_now then served_held.slots else []) (ap is_ready is.controller ∙ ready_where state sound.settled place ordinal serving.there))
         ∙ slots_heard state (Of ordinal (Asks pdu)) sound tt (serving_it rows) (request-holds rows changes) (Some place) [] handles request-raised
 
-    kept-then : server_slot_at served_held place ≡ Some (slot_state_of room_then part_then connection.given)
+    kept-then : server_slot_at served_held place ≡ Some (slot_state_of shared_then connection_then connection.given)
     unfolding change_of
     kept-then =
         let keep : Option Ordinal → Option SlotState = slot_state_handed (before_commands state (Of ordinal (Asks pdu))) (all_given state) in
         ap (λ (slots : List (Option SlotState)). option_map_or (λ (slot : Option SlotState). slot) (slice_get slots place) None) slots-then
         ∙ ap (λ found. option_map_or (λ (slot : Option SlotState). slot) found None)
         (slice_get-map keep state.slots place ∙ ap (λ found. option_map keep found) serving.there)
-        ∙ ap (λ (there : Bool). if there then Some (slot_state_of room_then part_then connection.given) else None) (ap is_there part-is.mark ∙ stays-there)
+        ∙ ap (λ (there : Bool). if there then Some (slot_state_of shared_then connection_then connection.given) else None) (ap is_there connection-is.mark ∙ stays-there)
 
     -- the row in force then
     bonds-held : HoldsBonds state.shared.keys rows bonds_then (at_peer peer effect.owed state.owed)
     bonds-held = bonds_changed state.shared.keys change peer server.rows rows state.bonds state.owed effect.bond effect.owed is.rows changes change-is row-stays owed-stays
 
-    has-then : is_some (key_of part_then) ≡ true → row_of rows part_then.peer ≡ Some (bonds_then part_then.peer)
-    has-then = has_row state.shared.keys rows bonds_then (at_peer peer effect.owed state.owed) part_then bonds-held
-        (keyed_alike state.shared.keys effect.connection part_then (part-is.steps, part-is.peer) request-keyed)
+    has-then : is_some (key_of connection_then) ≡ true → row_of rows connection_then.peer ≡ Some (bonds_then connection_then.peer)
+    has-then = has_row state.shared.keys rows bonds_then (at_peer peer effect.owed state.owed) connection_then bonds-held
+        (keyed_alike state.shared.keys effect.connection connection_then (connection-is.steps, connection-is.peer) request-keyed)
 
-    bond-then : bonds_then part_then.peer ≡ effect.bond
+    bond-then : bonds_then connection_then.peer ≡ effect.bond
     bond-then =
-        ap bonds_then (part-is.peer ∙ same-peer) ∙ ap (λ (same : Bool). if same then effect.bond else state.bonds peer) (same_as_itself peer)
+        ap bonds_then (connection-is.peer ∙ same-peer) ∙ ap (λ (same : Bool). if same then effect.bond else state.bonds peer) (same_as_itself peer)
 
     row-then : row_at_place served_held place ≡ row_in_force effect.bond effect.connection
     row-then =
         ap (λ (slot : Option SlotState). option_map_or (λ (slot_state : SlotState). slot_row_in_force (row_at served_held slot_state) slot_state) slot []) kept-then
-        ∙ row_kept room_then part_then connection.given (row_of rows part_then.peer) (bonds_then part_then.peer) has-then
-        ∙ λ i. if is_some (key_after (part-is.steps i)) then bond-then i else part-is.row i
+        ∙ row_kept shared_then connection_then connection.given (row_of rows connection_then.peer) (bonds_then connection_then.peer) has-then
+        ∙ λ i. if is_some (key_after (connection-is.steps i)) then bond-then i else connection-is.row i
 
     -- what it confirmed, and that it is ended
     confirmed-told : map (Confirmed connection.handle) (option_to_list (confirmed_of pdu slot_state))
@@ -364,7 +364,7 @@ module _ (state : State) (server new : ServerState) (place : ℕ) (ordinal : Ord
           | true ↦ refl
           | false ↦ sym (ap (λ (live : Bool). if live then [] else map (Ending connection.handle) (option_to_list connection.reason)) serving.live)
         ]
-        ∙ sym (ap (λ (effect : Effect). end_told connection.handle effect.connection) turn-is)
+        ∙ sym (ap (λ (effect : Effect). end_told connection.handle effect.connection) effect-is)
 
     request-told : notices_by served_held (last.Served place connection.handle (brought_by pdu slot_state)) ≡ noticed state (Of ordinal (Asks pdu))
     unfolding noticed

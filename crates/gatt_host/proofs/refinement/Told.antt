@@ -47,17 +47,17 @@ module _ (state : State) (server : ServerState) (place : ℕ) (ordinal : Ordinal
   abbrev live : Own → Effect
   live own = live_effect state.shared (state.bonds connection.peer) (state.owed connection.peer) connection own
 
-  turn-is : (own : Own) → (if is_live connection.mark then live own else effect_on_connection state.shared (state.bonds connection.peer) (state.owed connection.peer) connection) ≡ live own
-  turn-is own = live_turned state.shared (state.bonds connection.peer) (state.owed connection.peer) connection serving.live own
+  effect-is : (own : Own) → (if is_live connection.mark then live own else effect_on_connection state.shared (state.bonds connection.peer) (state.owed connection.peer) connection) ≡ live own
+  effect-is own = live_turned state.shared (state.bonds connection.peer) (state.owed connection.peer) connection serving.live own
 
   -- what its slot keeps
-  kept-is : server_slot_at server place ≡ Some slot_state
-  kept-is =
+  slot-is : server_slot_at server place ≡ Some slot_state
+  slot-is =
       kept_at_place state server (holds state server refines) sound.settled place ordinal serving.there (effect (Authorized 0)) (λ slot_state. slot_state)
       (live_there connection.mark serving.live)
 
   event-is : (event : SlotState → LastEvent) → option_map_or event (server_slot_at server place) last.Quiet ≡ event slot_state
-  event-is event = ap (λ (slot : Option SlotState). option_map_or event slot last.Quiet) kept-is
+  event-is event = ap (λ (slot : Option SlotState). option_map_or event slot last.Quiet) slot-is
 
   -- what is told of it where it serves
   if-live : (told : List Notice) → (if is_live connection.mark then told else []) ≡ told
@@ -70,20 +70,20 @@ module _ (state : State) (server : ServerState) (place : ℕ) (ordinal : Ordinal
   unfolding noticed live_effect
   authorized_told until =
       let own : Own = Authorized until in
-      sym (if-live (end_told connection.handle (effect own).connection) ∙ end-is (effect own) (live own) (turn-is own) ∙ serves-on connection.handle (live own).connection serving.live)
+      sym (if-live (end_told connection.handle (effect own).connection) ∙ end-is (effect own) (live own) (effect-is own) ∙ serves-on connection.handle (live own).connection serving.live)
 
   pub disconnected_told : (any : ServerState)
       → notices_by any (option_map_or end_event (server_slot_at server place) last.Quiet) ≡ noticed state (Of ordinal Ended)
   unfolding noticed live_effect
   disconnected_told any =
       ap (notices_by any) (event-is end_event)
-      ∙ sym (if-live (end_told connection.handle (effect Ended).connection) ∙ end-is (effect Ended) (live Ended) (turn-is Ended))
+      ∙ sym (if-live (end_told connection.handle (effect Ended).connection) ∙ end-is (effect Ended) (live Ended) (effect-is Ended))
 
   pub key_asked_told : (random_number : Octets) (diversifier : ℕ) → [] ≡ noticed state (Of ordinal (KeyAsked random_number diversifier))
   unfolding noticed live_effect
   key_asked_told random_number diversifier =
       let own : Own = KeyAsked random_number diversifier in
-      sym (if-live (end_told connection.handle (effect own).connection) ∙ end-is (effect own) (live own) (turn-is own) ∙ serves-on connection.handle (live own).connection serving.live)
+      sym (if-live (end_told connection.handle (effect own).connection) ∙ end-is (effect own) (live own) (effect-is own) ∙ serves-on connection.handle (live own).connection serving.live)
 
   -- a payload of another channel
   abbrev full_event : Bool → LastEvent
@@ -109,7 +109,7 @@ module _ (state : State) (server : ServerState) (place : ℕ) (ordinal : Ordinal
       let own : Own = OtherChannel channel payload in
       ap (notices_by any) (event-is (other_channel_event channel payload))
       ∙ channel-told any channel (channel_answer channel payload)
-      ∙ sym (if-live (end_told connection.handle (effect own).connection) ∙ end-is (effect own) (live own) (turn-is own))
+      ∙ sym (if-live (end_told connection.handle (effect own).connection) ∙ end-is (effect own) (live own) (effect-is own))
 
   -- a step of its link
   abbrev stepped : Step → ConnectionState
@@ -146,7 +146,7 @@ module _ (state : State) (server : ServerState) (place : ℕ) (ordinal : Ordinal
       let own : Own = Encrypted status enabled in
       link-told (Encryption status enabled) any
       ∙ sym (if-live (link_told connection.handle (key_of connection) (key_of (effect own).connection) ++ end_told connection.handle (effect own).connection)
-      ∙ ap (λ (effect : Effect). link_told connection.handle (key_of connection) (key_of effect.connection) ++ end_told connection.handle effect.connection) (turn-is own))
+      ∙ ap (λ (effect : Effect). link_told connection.handle (key_of connection) (key_of effect.connection) ++ end_told connection.handle effect.connection) (effect-is own))
 
   pub refreshed_told : (status : ℕ) (any : ServerState)
       → notices_by any (option_map_or (link_event (Refresh status)) (server_slot_at server place) last.Quiet) ≡ noticed state (Of ordinal (Refreshed status))
@@ -155,7 +155,7 @@ module _ (state : State) (server : ServerState) (place : ℕ) (ordinal : Ordinal
       let own : Own = Refreshed status in
       link-told (Refresh status) any
       ∙ sym (if-live (link_told connection.handle (key_of connection) (key_of (effect own).connection) ++ end_told connection.handle (effect own).connection)
-      ∙ ap (λ (effect : Effect). link_told connection.handle (key_of connection) (key_of effect.connection) ++ end_told connection.handle effect.connection) (turn-is own))
+      ∙ ap (λ (effect : Effect). link_told connection.handle (key_of connection) (key_of effect.connection) ++ end_told connection.handle effect.connection) (effect-is own))
 
 -- a connection is gone
 pub gone_told : (state : State) (server : ServerState) (place : ℕ) (ordinal : Ordinal) → IsSound state → RefinesState state [] server
