@@ -474,11 +474,10 @@ def a_second_device(folder):
     controller.ask(64, "0a0300")
     address = "%s:%d" % first.port()
     size = os.stat(capture).st_size
-    second = Device(*DOOR, "--listen", "127.0.0.1:0", "--application", path)
-    check("a socket that is served", 2, second.process.wait(PATIENCE))
-    second = Device(*DOOR, "--listen", address, "--capture", capture)
-    check("an address that is served", 2, second.process.wait(PATIENCE))
-    check("the capture stays", True, os.stat(capture).st_size >= size > 16)
+    for words in (["--listen", "127.0.0.1:0", "--application", path], ["--listen", address]):
+        second = Device(*DOOR, *words, "--capture", capture)
+        check(f"{words[0]} {words[-1]}", 2, second.process.wait(PATIENCE))
+        check("the capture stays", True, os.stat(capture).st_size >= size > 16)
     application = Application(path)
     check("the socket stays", "+ serving", application.line())
     check("the phone stays", "0b4c6f636b", controller.ask(64, "0a0300"))
