@@ -1,4 +1,7 @@
 /*
+ * SPDX-License-Identifier: Apache-2.0 OR MIT
+ * Copyright 2026 The Gihandop authors
+ *
  * Gihandop: the host half of a Bluetooth Low Energy peripheral, an ATT and GATT server over the octets
  * of a controller (H4: Core 5.0, Vol 4 Part A). A static library, which this header declares:
  *
