@@ -173,7 +173,7 @@ def try_new(room):
         check(f"new: each {field} is another", len(many), len({it[field] for it in many}))
     status, printed, told = keys("new", "7f:00:00:00:00:01", "random")
     check("new, a private address: is made", (0, True), (status, printed.startswith("[[key]]")))
-    check("new, a private address: a note", True, told.startswith("note: 7f:00:00:00:00:01 is no static random address"))
+    check("new, a private address: a note", True, told.startswith("note: 7f:00:00:00:00:01 is a private address"))
     refused("new, another size", "from 7 to 16", "new", CENTRAL, "public", "--size", "6", status=64)
     refused("new, another address", "is no address", "new", CENTRAL[1:], "public", status=64)
     refused("new, another kind", "'static'", "new", CENTRAL, "static", status=64)
@@ -224,6 +224,9 @@ def try_refused_info(room):
     legacy = text_of(f"{INFO}/legacy-central.info")
     received = legacy[: legacy.index("[PeripheralLongTermKey]")]
     handed_out = legacy.replace("[LongTermKey]", "[Other]")
+    # A key that to-bluez made, and a bond after it.
+    secure = text_of(f"{INFO}/secure-central.info")
+    both = secure.replace("[PeripheralLongTermKey]\nKey=39B1", "[LongTermKey]\nKey=0000")
     changes = [
         ("a key of the opposite role", "did a peripheral write it?", handed_out, "central"),
         ("a key of the opposite role, as peripheral", "did a central write it?", received, "peripheral"),
@@ -236,6 +239,7 @@ def try_refused_info(room):
         ("a small key", "EncSize has to be from 7 to 16", received.replace("EncSize=16", "EncSize=6"), "central"),
         ("a debug key", "Authenticated=4", received.replace("Authenticated=0\nEnc", "Authenticated=4\nEnc"), "central"),
         ("a key of LE Secure Connections with EDiv", "have to be 0", received.replace("Authenticated=0\nEnc", "Authenticated=2\nEnc"), "central"),
+        ("two keys of LE Secure Connections", "[SlaveLongTermKey] and [LongTermKey] have different keys", both, "central"),
         ("another file", "line 1 is none", "key = 1\n", "central"),
     ]
     for name, why, text, role in changes:
