@@ -29,6 +29,7 @@ import subprocess
 import sys
 import tempfile
 
+sys.dont_write_bytecode = True
 ROOT = os.path.dirname(os.path.dirname(os.path.realpath(__file__)))
 TOOL = f"{ROOT}/tools/keys"
 INFO = f"{ROOT}/tests/keys"
@@ -153,6 +154,15 @@ def mode_of(path):
     return stat.S_IMODE(os.stat(path).st_mode)
 
 
+def try_help():
+    """Asks for help, and says words that are none."""
+    for words in (["--help"], ["new", "--help"], ["from-bluez", "--help"], ["to-bluez", "-h"]):
+        status, printed, told = keys(*words)
+        check(f"{' '.join(words)}", (0, "", True), (status, told, "usage: tools/keys" in printed))
+    refused("no words", "COMMAND", status=64)
+    refused("another command", "'make'", "make", status=64)
+
+
 def try_new(room):
     """Makes keys of each kind, and takes each to BlueZ and back."""
     for worth in ([], ["--authenticated"], ["--secure"], ["--secure", "--authenticated"]):
@@ -249,7 +259,9 @@ def try_refused_info(room):
     refused("another kind", "AddressType", *from_info(f"{INFO}/legacy-peripheral.info", "peripheral", "random"))
     folders = put(f"{room}/{CENTRAL.upper()}/{DEVICE.upper()}/info", legacy)
     check("the folders of the central", LEGACY, accepted("the folders of the central", *from_info(folders, "central")))
-    refused("the folders of the other side", f"the central is {DEVICE}", *from_info(folders, "peripheral"))
+    refused("the folders of the other side", f"the central is {DEVICE}, and ADDRESS is {CENTRAL}: use --role central", *from_info(folders, "peripheral"))
+    others = put(f"{room}/{DEVICE.upper()}/00:00:00:00:00:01/info", legacy)
+    refused("the folders of others", f"and ADDRESS is {CENTRAL}\n", *from_info(others, "central"))
 
 
 def changed_entry(old, new):
@@ -402,6 +414,7 @@ def main():
         return 0 if sys.argv[1] in ("-h", "--help") else 64
     program = os.path.realpath(sys.argv[1]) if sys.argv[1:] else None
     with tempfile.TemporaryDirectory() as room:
+        try_help()
         try_new(room)
         try_samples(room)
         try_changed(room)
