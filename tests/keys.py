@@ -10,10 +10,10 @@ them. Two simulated controllers of one machine bonded: 00:AA:01:00:00:00 as the 
     legacy       legacy pairing without confirmation: an unauthenticated key
     secure       LE Secure Connections without confirmation: an unauthenticated key
     confirmed    LE Secure Connections with a number that both sides compared: an authenticated key
+    short        as legacy, with kernels that allow keys of at most 7 bytes
 
-BlueZ wrote none of them with an authenticated key of legacy pairing, with another size than 16, or with a
-static random address. For these the tests change a file, in the form in which BlueZ 5.66 reads it
-(src/adapter.c, get_ltk).
+BlueZ wrote none of them with an authenticated key of legacy pairing, or with a static random address. For
+these the tests change a file, in the form in which BlueZ 5.66 reads it (src/adapter.c, get_ltk).
 
 The last line is 'N passed, M failed, K skipped'.
 """
@@ -57,6 +57,15 @@ size = 16
 authenticated = false
 """
 CONFIRMED = SECURE.replace("39b1d0615459de97b92445105423c671", "442128a6f1b5cbf5733690abfe18124c").replace("= false", "= true")
+SHORT = f"""[[key]]
+address = "{CENTRAL}"
+kind = "public"
+rand = "35628315c677d8bb"
+ediv = 50322
+ltk = "88723d2da4e9eb000000000000000000"
+size = 7
+authenticated = false
+"""
 # What must not be in a message: a key or a random number of the samples, in the form of either file.
 SECRETS = re.compile(r"[0-9A-Fa-f]{16}|\b[0-9]{8,20}\b")
 # The file `info` for LEGACY, whose Rand is 6bca4147af59bbb6 with the least significant byte first.
@@ -191,7 +200,7 @@ def try_new(room):
 
 def try_samples(room):
     """Takes the keys of the bonds from both sides' files, and back to BlueZ."""
-    for bond, due in (("secure", SECURE), ("legacy", LEGACY), ("confirmed", CONFIRMED)):
+    for bond, due in (("secure", SECURE), ("legacy", LEGACY), ("confirmed", CONFIRMED), ("short", SHORT)):
         for role in ("central", "peripheral"):
             found = accepted(f"{bond} bond, {role}", *from_info(f"{INFO}/{bond}-{role}.info", role))
             check(f"{bond} bond, {role}: the key", due, found)
