@@ -28,7 +28,7 @@ $(ARCHIVE):
 	@echo 'there is no $@: `rt lib` in crates/gihandop_c proves the host and makes it' >&2; exit 1
 
 $(PROGRAM):
-	@echo 'there is no $@: `./gatt_shell --version` proves the program and makes it' >&2; exit 1
+	@echo 'there is no $@: `tools/prove gatt_shell` proves the program and makes it' >&2; exit 1
 
 # The memory over malloc. A program that has heap.o with a pool of its own takes none from here.
 $(BUILD)/libgihandop_heap.a: c/heap.c
