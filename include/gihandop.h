@@ -167,8 +167,9 @@ uint32_t gh_authorize(struct gh_host *host, uint16_t connection, uint64_t until)
 uint32_t gh_disconnect(struct gh_host *host, uint16_t connection);
 
 /*
- * Takes in the time, in milliseconds from any moment on. 45 where it goes back. It is wanted when
- * gh_deadline says, and before a call that looks at the time: gh_authorize is one.
+ * Takes in the time, in milliseconds from any moment on. 45 where it goes back. Call it before each
+ * gh_take, since an authorization ends only when the host is told a time past its end; before
+ * gh_authorize; and when gh_deadline says.
  */
 uint32_t gh_tick(struct gh_host *host, uint64_t time);
 
@@ -205,8 +206,8 @@ uint32_t gh_find(struct gh_host *host, const uint8_t *service, size_t service_le
 uint32_t gh_rows_text(struct gh_host *host, uint8_t *out, size_t room, size_t *count);
 
 /*
- * Puts the least time, in milliseconds, at which an indication that is not confirmed is late into *time:
- * until then no time has to be told. GH_NOTHING where every one is confirmed.
+ * Puts the least time, in milliseconds, at which an indication that is not confirmed is late into *time.
+ * GH_NOTHING where every one is confirmed. It says nothing of when an authorization ends.
  */
 uint32_t gh_deadline(struct gh_host *host, uint64_t *time);
 

@@ -206,8 +206,9 @@ impl Host {
         judged(unsafe { ffi::gh_disconnect(self.raw(), connection) })
     }
 
-    /// Takes in the time, in milliseconds from any moment on. It is wanted when
-    /// [`Host::deadline`] says, and before whatever looks at the time.
+    /// Takes in the time, in milliseconds from any moment on. Call it before each packet, since
+    /// an authorization ends only when the host is told a time past its end, and when
+    /// [`Host::deadline`] says.
     pub fn tick(&mut self, time: u64) -> Result<(), Error> {
         judged(unsafe { ffi::gh_tick(self.raw(), time) })
     }
@@ -255,7 +256,7 @@ impl Host {
     }
 
     /// The least time, in milliseconds, at which an indication that is not confirmed is late.
-    /// Until then no time has to be told.
+    /// It says nothing of when an authorization ends.
     pub fn deadline(&self) -> Option<u64> {
         let mut time = 0;
         let status = unsafe { ffi::gh_deadline(self.raw(), &mut time) };
