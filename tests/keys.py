@@ -268,7 +268,7 @@ def try_refused_info(room):
     refused("another kind", "AddressType", *from_info(f"{INFO}/legacy-peripheral.info", "peripheral", "random"))
     folders = put(f"{room}/{CENTRAL.upper()}/{DEVICE.upper()}/info", legacy)
     check("the folders of the central", LEGACY, accepted("the folders of the central", *from_info(folders, "central")))
-    refused("the folders of the other side", f"the central is {DEVICE}, and ADDRESS is {CENTRAL}: use --role central", *from_info(folders, "peripheral"))
+    refused("the folders of the other side", f"the central is {DEVICE}, and ADDRESS is {CENTRAL}: if ADDRESS is right, use --role central", *from_info(folders, "peripheral"))
     others = put(f"{room}/{DEVICE.upper()}/00:00:00:00:00:01/info", legacy)
     refused("the folders of others", f"and ADDRESS is {CENTRAL}\n", *from_info(others, "central"))
 
