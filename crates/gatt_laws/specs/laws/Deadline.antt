@@ -18,7 +18,7 @@ slot_deadline state (Some ordinal) = deadline_of (state.connections ordinal).pen
 abbrev pub deadline : State → Option Milliseconds
 deadline state = reduce min (filter_map (slot_deadline state) state.slots)
 
--- it is what a caller may wait for: a time below it tells of nobody who did not confirm in time, and one from it on does
+-- A caller may wait until it: a time below it tells of nobody who did not confirm in time, and one from it on does.
 abbrev pub is_late_told : Notice → Bool
 is_late_told (TimedOut handle) = true
 is_late_told other = false
@@ -30,7 +30,7 @@ abbrev pub TellsFromTheDeadlineOn : Type 0
 TellsFromTheDeadlineOn = (state : State) (time : Milliseconds) → time < 2 ^ 64 →
     list_any is_late_told (noticed state (Tick time)) ≡ is_reached (deadline state) time
 
--- a connection that has a slot and this handle did not confirm an indication in time
+-- A connection that has a slot and this handle did not confirm an indication in time.
 pub record IsLateInASlot (state : State) (time : Milliseconds) (handle : ℕ) : Type 0 where
   pub ordinal : Ordinal
   pub has : has_slot ordinal state.slots ≡ true
@@ -41,12 +41,12 @@ abbrev pub IsNoticeOfLate : State → Milliseconds → Notice → Type 0
 IsNoticeOfLate state time (TimedOut handle) = IsLateInASlot state time handle
 IsNoticeOfLate state time notice = ⊥
 
--- at a Tick the application is notified of such connections, and of nothing else
+-- At a Tick the application is notified of such connections, and of nothing else,
 abbrev pub NoticesOnlyWhoIsLate : Type 0
 NoticesOnlyWhoIsLate = (state : State) (time : Milliseconds) →
     All (IsNoticeOfLate state time) (noticed state (Tick time))
 
--- and of each of them
+-- and of each of them.
 abbrev pub is_late_notice_of : ℕ → Notice → Bool
 is_late_notice_of handle (TimedOut other) = other == handle
 is_late_notice_of handle other = false

@@ -31,8 +31,8 @@ abbrev pub is_peer_of : Peer → Option Peer → Bool
 is_peer_of peer None = false
 is_peer_of peer (Some other) = same_peer peer other
 
--- A connection has configured nothing when it connects. What it configures is its own while its link has
--- no key, and of its peer's bond while it has one.
+-- A connection has configured nothing when it connects. Its configurations are its own while its link
+-- has no key, and of its peer's bond while it has one.
 abbrev pub own_bits_after : Known → Notice → ℕ → Handle → ℕ
 own_bits_after known (Connected handle peer) other attribute =
     if handle == other then 0 else known.own other attribute
@@ -55,7 +55,7 @@ known_after_notice known notice = record {
   bonds = bond_bits_after known notice;
 }
 
--- at first nobody is connected, and the bonds are those that the host is opened with
+-- At first nobody is connected, and the bonds are those that the host is opened with.
 abbrev pub known_at_start : Start → Known
 known_at_start start = record {
   present = nobody_present;
@@ -64,7 +64,7 @@ known_at_start start = record {
   bonds = λ peer attribute. bits_at (start.bonds peer) attribute;
 }
 
--- the configurations are read again after the application has replaced the table
+-- The configurations are read again after the application has replaced the table.
 abbrev pub with_bits_read : State → Known → Known
 with_bits_read state known = record known {
   own = λ handle attribute.

@@ -11,10 +11,10 @@ use Rattle.gatt_laws.specs.laws.ServiceChanged.{NoticesServiceChangedConfirmed}
 use Rattle.gatt_laws.specs.laws.StreamNotices.{ReceivesOfTheDivision, TellsOfTheDivision}
 use Rattle.gatt_laws.specs.laws.ToldIsSo.{TellsWhatIsSo}
 
--- What a listener knows in every run: each value, the key of each link, each configuration, and who is there.
+-- In every run a listener knows each value, the key of each link, each configuration, and who is there.
 -- At each event: what a notice says is so; and no value, configuration, key or pending Service Changed
 -- indication changes without a notice or a call of the application.
--- Each write that the application is notified of was allowed. What is refused or ignored causes no notice.
+-- Each write that the application is notified of was allowed. Nothing refused or ignored causes a notice.
 -- A Tick causes notices of late indications, of each and of nothing else. The cuts of the octets do not
 -- matter.
 pub record TellsTheApplication : Type 0 where
