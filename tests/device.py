@@ -304,7 +304,7 @@ def a_lock(folder):
     controller.is_advertised()
     lock = subprocess.Popen(
         [f"{ROOT}/examples/device/lock.py", path],
-        stdin=subprocess.PIPE, stdout=subprocess.PIPE, stderr=subprocess.DEVNULL, text=True,
+        stdin=subprocess.PIPE, stdout=subprocess.PIPE, stderr=subprocess.PIPE, text=True,
     )
     check("the door", "the door is closed\n", lock.stdout.readline())
     controller.connect(65, OWNER)
@@ -318,6 +318,7 @@ def a_lock(folder):
     check("is told", "1b0a0000", controller.hears(65))
     device.end()
     check("the device is gone", 1, lock.wait(PATIENCE))
+    check("it says so", f"lock.py: {path}: the device closed the connection\n", lock.stderr.read())
     controller.close()
 
 
@@ -341,6 +342,37 @@ def a_visit(folder):
     check("the application hears", ["+ waiting", "+ serving", "+ connected 64 0 00:11:22:33:44:55"], lines[:3])
     check("of the phone", ["+ secured 64 16 1 0", "+ written 64 10 01", "+ unsecured 64"], lines[3:])
     device.end()
+
+
+def an_example_ends(folder):
+    """The examples end by one line on standard error if the device, its file or a line of a script fails."""
+    gone, script, faulty = f"{folder}/gone", f"{ROOT}/examples/bonded.script", f"{folder}/faulty.script"
+    device = Device(*DOOR, "--listen", "127.0.0.1:0")
+    address = "{}:{}".format(*device.port())
+    with open(faulty, "w") as file:
+        file.write("# A phone that never connected.\nQ < 0a0300\n")
+    cases = [
+        ("no words", "phones.py", [], "usage: phones.py HOST:PORT SCRIPT"),
+        ("no port", "phones.py", ["localhost", script], "usage: phones.py HOST:PORT SCRIPT"),
+        ("no script", "phones.py", [address, gone], f"phones.py: the script {gone}: "),
+        ("no device", "phones.py", ["127.0.0.1:1", script], "phones.py: the device at 127.0.0.1:1: "),
+        ("a line that cannot be played", "phones.py", [address, faulty], f"phones.py: {faulty}, line 2: Q is not connected"),
+        ("no socket named", "lock.py", [], "usage: lock.py SOCKET"),
+        ("no socket", "lock.py", [gone], f"lock.py: {gone}: "),
+    ]
+    for what, name, words, line in cases:
+        ran = subprocess.run(
+            [f"{ROOT}/examples/device/{name}", *words], stdin=subprocess.DEVNULL, capture_output=True, text=True, timeout=2 * PATIENCE
+        )
+        check(f"{name}, {what}", (1, line, 1), (ran.returncode, ran.stderr[: len(line)], ran.stderr.count("\n")))
+    device.end()
+    with socket.create_server(("127.0.0.1", 0)) as leaving:
+        address = "{}:{}".format(*leaving.getsockname())
+        visit = subprocess.Popen([f"{ROOT}/examples/device/phones.py", address, script], stderr=subprocess.PIPE, text=True)
+        leaving.accept()[0].close()
+        told = visit.communicate(timeout=PATIENCE)[1]
+    line = f"phones.py: the device at {address}: the device closed the connection\n"
+    check("phones.py, a device that leaves", (1, line), (visit.returncode, told))
 
 
 def once(folder):
@@ -679,8 +711,8 @@ def main():
     with tempfile.TemporaryDirectory() as folder:
         later = a_bell(folder)
         plays = (
-            a_day, a_stranger, a_listener, a_serial_line, a_lock, a_visit, a_file_in_the_way, once, words, unknown, values, slots,
-            a_full_disk, a_long_value, a_second_device, a_confirmation, rows_without_a_folder, floods, a_busy_controller, idle,
+            a_day, a_stranger, a_listener, a_serial_line, a_lock, a_visit, an_example_ends, a_file_in_the_way, once, words, unknown, values,
+            slots, a_full_disk, a_long_value, a_second_device, a_confirmation, rows_without_a_folder, floods, a_busy_controller, idle,
         )
         for play in plays:
             try:

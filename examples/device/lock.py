@@ -3,8 +3,9 @@
 
 usage: lock.py SOCKET      where `gatt_shell host .. --application SOCKET` listens
 
-It prints what the motor does. Each line that it reads is a press of the button beside the door,
-which opens or closes it by hand.
+It prints what the motor does. Each line that it reads is a press of the button next to the door,
+which opens or closes it by hand. If there is no device, or once it has ended, one line on standard
+error says so, and the status is 1.
 """
 
 import select
@@ -22,7 +23,7 @@ def turned(state):
 
 
 def heard(words, state):
-    """What the door is after a line of the device."""
+    """Returns the state of the door after a line of the device."""
     if words[:2] == ["value", STATE]:
         print("the door is open" if words[2] == "01" else "the door is closed", flush=True)
         return words[2]
@@ -31,9 +32,8 @@ def heard(words, state):
     return state
 
 
-def main():
-    link = socket.socket(socket.AF_UNIX)
-    link.connect(sys.argv[1])
+def run(link):
+    """Serves the button and the device until the device ends."""
     link.sendall(f"value {STATE}\nupdate {BATTERY} 5a\n".encode())
     state, rest, sources = None, "", [link, sys.stdin]
     while True:
@@ -46,11 +46,24 @@ def main():
         if link in ready:
             octets = link.recv(4096)
             if not octets:
-                return "the device is gone"
+                raise ConnectionError("the device closed the connection")
             *lines, rest = (rest + octets.decode()).split("\n")
             for line in lines:
                 state = heard(line.split(), state)
 
 
+def main():
+    if len(sys.argv) != 2:
+        sys.exit("usage: lock.py SOCKET")
+    try:
+        with socket.socket(socket.AF_UNIX) as link:
+            link.connect(sys.argv[1])
+            run(link)
+    except OSError as error:
+        sys.exit(f"lock.py: {sys.argv[1]}: {error}")
+    except KeyboardInterrupt:
+        sys.exit(1)
+
+
 if __name__ == "__main__":
-    sys.exit(main())
+    main()

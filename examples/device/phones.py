@@ -1,11 +1,12 @@
 #!/usr/bin/env python3
 """A controller with phones, for those who have neither: it plays a script against a device.
 
-usage: phones.py ADDRESS SCRIPT      where `gatt_shell host .. --listen ADDRESS` listens
+usage: phones.py HOST:PORT SCRIPT      where `gatt_shell host .. --listen HOST:PORT` listens
 
 The script is one of `gatt_shell run`. Of its lines those of phones are played: `connect`, `drop`,
-`encrypt`, `clear`, and what a phone sends. What each phone hears is printed as `run` prints it. The
-other lines are an application's, and are passed over.
+`encrypt`, `clear`, and what a phone sends. What each phone receives is printed as `run` prints it.
+The other lines are an application's, and are skipped. If the device or the script fails, one line
+on standard error says why, and the status is 1.
 """
 
 import select
@@ -20,7 +21,7 @@ QUIET = 0.3
 
 
 class Controller:
-    """Answers each command of the host, and prints what its phones hear."""
+    """Answers each command of the host, and prints what its phones receive."""
 
     def __init__(self, address):
         host, port = address.rsplit(":", 1)
@@ -51,11 +52,11 @@ class Controller:
             self.event(0x08, b"\0" + handle + b"\1")
 
     def until_quiet(self):
-        """Takes in what comes until nothing more does."""
+        """Processes the packets of the device until no more come."""
         while select.select([self.stream], [], [], QUIET)[0]:
             more = self.stream.recv(4096)
             if not more:
-                sys.exit("the device is gone")
+                raise ConnectionError("the device closed the connection")
             self.octets += more
             while packet := self.next_packet():
                 self.take(packet)
@@ -73,42 +74,69 @@ class Controller:
     def name(self, handle):
         return next((name for name, it in self.phones.items() if it == handle), str(handle))
 
+    def spelled(self, name):
+        """Returns the handle of a phone's connection as its two bytes."""
+        if name not in self.phones:
+            raise ValueError(f"{name} is not connected")
+        return self.phones[name].to_bytes(2, "little")
+
     def play(self, words):
-        """Plays a line of a phone, and answers whether it is one."""
+        """Plays a line of a phone. Returns whether it is one."""
         match words:
             case ["connect", name, kind, address]:
                 handle = self.phones[name] = next(it for it in range(64, 128) if it not in self.phones.values())
                 peer = bytes([int(kind)]) + bytes.fromhex(address.replace(":", ""))[::-1]
                 self.event(0x3E, b"\1\0" + handle.to_bytes(2, "little") + b"\1" + peer + b"\x18\0\0\0\x48\0\0")
             case ["drop", name]:
-                self.event(0x05, b"\0" + self.phones.pop(name).to_bytes(2, "little") + b"\x13")
+                self.event(0x05, b"\0" + self.spelled(name) + b"\x13")
+                del self.phones[name]
             case ["encrypt", name, random_number, diversifier]:
                 asked = bytes.fromhex(random_number) + int(diversifier).to_bytes(2, "little")
-                self.event(0x3E, b"\5" + self.phones[name].to_bytes(2, "little") + asked)
+                self.event(0x3E, b"\5" + self.spelled(name) + asked)
             case ["clear", name]:
-                self.event(0x08, b"\0" + self.phones[name].to_bytes(2, "little") + b"\0")
+                self.event(0x08, b"\0" + self.spelled(name) + b"\0")
             case [name, "<", pdu]:
                 pdu = bytes.fromhex(pdu.strip("-"))
                 frame = len(pdu).to_bytes(2, "little") + b"\4\0" + pdu
-                head = (0x2000 | self.phones[name]).to_bytes(2, "little") + len(frame).to_bytes(2, "little")
+                low, high = self.spelled(name)
+                head = bytes([low, high | 0x20]) + len(frame).to_bytes(2, "little")
                 self.stream.sendall(b"\2" + head + frame)
             case _:
                 return False
         return True
 
 
-def main():
-    controller = Controller(sys.argv[1])
+def visit(address, script, lines):
+    """Plays the lines of a script against the device at an address."""
+    controller = Controller(address)
     controller.until_quiet()
-    with open(sys.argv[2], encoding="utf-8") as script:
-        for line in script:
-            words = line.split()
-            if not words or line.startswith("#"):
-                continue
-            print(f"  {line.rstrip()}", flush=True)
-            if not controller.play(words):
-                print("  (an application's line, passed over)", flush=True)
-            controller.until_quiet()
+    for number, line in enumerate(lines, 1):
+        words = line.split()
+        if not words or line.startswith("#"):
+            continue
+        print(f"  {line.rstrip()}", flush=True)
+        try:
+            is_of_a_phone = controller.play(words)
+        except (ValueError, OverflowError) as error:
+            sys.exit(f"phones.py: {script}, line {number}: {error}")
+        if not is_of_a_phone:
+            print("  (an application's line, passed over)", flush=True)
+        controller.until_quiet()
+
+
+def main():
+    if len(sys.argv) != 3 or not sys.argv[1].rpartition(":")[2].isdigit():
+        sys.exit("usage: phones.py HOST:PORT SCRIPT")
+    address, script = sys.argv[1:]
+    try:
+        with open(script, encoding="utf-8") as file:
+            lines = file.readlines()
+    except (OSError, ValueError) as error:
+        sys.exit(f"phones.py: the script {script}: {error}")
+    try:
+        visit(address, script, lines)
+    except OSError as error:
+        sys.exit(f"phones.py: the device at {address}: {error}")
 
 
 if __name__ == "__main__":
