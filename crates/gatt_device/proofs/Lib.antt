@@ -1,5 +1,6 @@
 pub mod Happened
 pub mod Order
+pub mod Packets
 pub mod Time
 pub mod Turns
 pub mod Unknown

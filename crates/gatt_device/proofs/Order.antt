@@ -1,23 +1,25 @@
--- Whatever is recorded of a turn, rows were kept right before anything was sent, or could not be.
+-- Whatever is recorded of a turn, the state was saved right before anything was sent, or nothing was sent that has to be withheld.
 use Rattle.std.specs.Prelude.{◌||◌, IsSome}
 use Rattle.std.proofs.Common.{◌≡◌, Bool, true, false, List, [], ◌∷◌, ◌++◌, Option, Some, None, Result, Ok, Err, refl, sym, ap, subst, ◌∙◌, ◌⊎◌, inl, inr, append-nil, append_assoc}
 use Rattle.std.proofs.lemmas.Bool.{false≢true}
 use Rattle.gatt_device.proofs.Happened.{records_none, records_then}
+use Rattle.gatt_device.proofs.Packets.{no_data_left}
+use Rattle.gatt_device.specs.declared.outside.Saving.{Saving}
+use Rattle.gatt_device.specs.declared.outside.Saving.TheVariants as saving
 use Rattle.gatt_device.specs.declared.outside.Sending.{Sending}
 use Rattle.gatt_device.specs.declared.outside.Sending.TheVariants as sending
 use Rattle.gatt_device.specs.declared.serving.End.{End}
 use Rattle.gatt_device.specs.declared.serving.End.TheVariants as end
 use Rattle.gatt_device.specs.declared.turn.Turn.{Turn}
-use Rattle.gatt_device.specs.Happenings.{DeviceInput, Came, Asked, HistoryEntry, Waited, Happened, Answered, Ended, Failed, Kept, Unkept, Sent, Unsent, Broken, Records, items_in, input_items_of}
-use Rattle.gatt_device.specs.Outside.{Sends, kept_entry, sent_entries}
+use Rattle.gatt_device.specs.Happenings.{DeviceInput, Came, Asked, HistoryEntry, Waited, Happened, Answered, Ended, Failed, Saved, Unsaved, SavedState, Sent, Unsent, Broken, Records, items_in, input_items_of, saved_state}
+use Rattle.gatt_device.specs.Outside.{Sends, octets_to_send, saving_entry, sent_entries}
 use Rattle.gatt_device.specs.Serving.{Known, all_entries, entries_recorded, entries_recorded_of, last_entries}
-use Rattle.gatt_device.specs.Turn.{EndsKept, KeepsTheOrder, KeptBeforeSent, StaysInOrder, TakesATurn}
+use Rattle.gatt_device.specs.Turn.{AllowsSending, EndsSaved, KeepsTheOrder, SavedBeforeSent, StaysInOrder, TakesATurn}
 use Rattle.gatt_host.specs.declared.host_fault.HostFault.{HostFault}
 use Rattle.gatt_host.specs.HostModel.{RefinesRun, HostModel}
 use Rattle.gatt_laws.specs.machine.Input.{Run, Item, after_items, run}
 use Rattle.gatt_laws.specs.machine.Notice.{Received}
 use Rattle.gatt_laws.specs.machine.Start.{Start}
-use Rattle.gatt_subs.specs.Rows.{Subscriptions}
 use Rattle.octets.specs.Number.{Octets}
 
 -- one place in two lists, one behind the other, is in the first or in the second
@@ -48,8 +50,8 @@ is_sent (Happened happening) = false
 is_sent (Answered refusal) = false
 is_sent Ended = false
 is_sent Failed = false
-is_sent (Kept rows) = false
-is_sent (Unkept rows) = false
+is_sent (Saved state) = false
+is_sent (Unsaved state connections) = false
 is_sent (Unsent octets) = false
 is_sent (Broken left) = false
 
@@ -87,76 +89,87 @@ all_unsent : (at : Run) (happened : List DeviceInput) (result : Result End HostF
 all_unsent at happened result =
     turns_unsent at happened (last_entries (after_items at (items_in happened)) result) (last_unsent (after_items at (items_in happened)) result)
 
-kept_unsent : (is_kept : Bool) (rows : Subscriptions) → is_sent (kept_entry is_kept rows) ≡ false
-kept_unsent true rows = refl
-kept_unsent false rows = refl
+saving_unsent : (saving : Saving) (state : SavedState) → is_sent (saving_entry saving state) ≡ false
+saving_unsent saving.Saved state = refl
+saving_unsent (saving.Unsaved connections) state = refl
 
--- behind that rows were kept, octets were sent once, or not at all
+-- behind that the state was saved, or was not, octets were sent once, or not at all
 never_there : (tail between : List HistoryEntry) (octets : Octets) (rest : List HistoryEntry) → has_sent tail ≡ false → tail ≡ between ++ Sent octets ∷ rest → ⊥
 never_there tail between octets rest none is = false≢true (sym none ∙ ap has_sent is ∙ sent_there between octets rest)
 
-right_behind : (kept : HistoryEntry) (sent : Octets) (tail between : List HistoryEntry) (octets : Octets) (rest : List HistoryEntry) → is_sent kept ≡ false → has_sent tail ≡ false
-    → kept ∷ (sent_entries sent ++ tail) ≡ between ++ Sent octets ∷ rest → between ≡ kept ∷ []
-right_behind kept sent tail [] octets rest none silent is =
-    let same : kept ≡ Sent octets = cc in
+right_behind : (saving : HistoryEntry) (sent : Octets) (tail between : List HistoryEntry) (octets : Octets) (rest : List HistoryEntry) → is_sent saving ≡ false → has_sent tail ≡ false
+    → saving ∷ (sent_entries sent ++ tail) ≡ between ++ Sent octets ∷ rest → (between ≡ saving ∷ []) × (sent ≡ octets)
+right_behind saving sent tail [] octets rest none silent is =
+    let same : saving ≡ Sent octets = cc in
     absurd (false≢true (sym none ∙ ap is_sent same))
-right_behind kept [] tail (entry ∷ between) octets rest none silent is =
+right_behind saving [] tail (entry ∷ between) octets rest none silent is =
     let behind : tail ≡ between ++ Sent octets ∷ rest = cc in
     absurd (never_there tail between octets rest silent behind)
-right_behind kept (octet ∷ sent) tail (entry ∷ []) octets rest none silent is =
-    let same : kept ≡ entry = cc in
-    λ i. sym same i ∷ []
-right_behind kept (octet ∷ sent) tail (entry ∷ other ∷ between) octets rest none silent is =
+right_behind saving (octet ∷ sent) tail (entry ∷ []) octets rest none silent is =
+    let same : saving ≡ entry = cc in
+    let sends : octet ∷ sent ≡ octets = cc in
+    (λ i. sym same i ∷ [], sends)
+right_behind saving (octet ∷ sent) tail (entry ∷ other ∷ between) octets rest none silent is =
     let behind : tail ≡ between ++ Sent octets ∷ rest = cc in
     absurd (never_there tail between octets rest silent behind)
 
-module _ (before turn : List HistoryEntry) (is_kept : Bool) (rows : Subscriptions) (sent : Octets) (tail : List HistoryEntry) (none : has_sent turn ≡ false)
-    (silent : has_sent tail ≡ false) (order : KeptBeforeSent before) where
+module _ (before turn : List HistoryEntry) (saving : Saving) (state : SavedState) (sent : Octets) (tail : List HistoryEntry) (none : has_sent turn ≡ false)
+    (silent : has_sent tail ≡ false) (allowed : AllowsSending (saving_entry saving state) sent) (order : SavedBeforeSent before) where
   abbrev behind : List HistoryEntry
-  behind = kept_entry is_kept rows ∷ (sent_entries sent ++ tail)
+  behind = saving_entry saving state ∷ (sent_entries sent ++ tail)
 
-  in_turn : (first between rest : List HistoryEntry) (octets : Octets) → first ≡ before ++ between → SplitsAt turn behind between (Sent octets) rest → EndsKept first
+  in_turn : (first between rest : List HistoryEntry) (octets : Octets) → first ≡ before ++ between → SplitsAt turn behind between (Sent octets) rest → EndsSaved first octets
   in_turn first between rest octets at (inl found) = absurd (false≢true (sym none ∙ (ap has_sent found.1 ∙ sent_there between octets found.0)))
-  in_turn first between rest octets at (inr found) = record {
-    earlier = before ++ turn;
-    is_kept = is_kept;
-    rows = rows;
-    parts = at
-        ∙ ap (λ (it : List HistoryEntry). before ++ it) (found.1 ∙ ap (λ (it : List HistoryEntry). turn ++ it)
-        (right_behind (kept_entry is_kept rows) sent tail found.0 octets rest (kept_unsent is_kept rows) silent found.2))
-        ∙ sym (append_assoc before turn (kept_entry is_kept rows ∷ []));
-  }
+  in_turn first between rest octets at (inr found) =
+      let placed = right_behind (saving_entry saving state) sent tail found.0 octets rest (saving_unsent saving state) silent found.2 in
+      record {
+        earlier = before ++ turn;
+        last = saving_entry saving state;
+        parts = at
+            ∙ ap (λ (it : List HistoryEntry). before ++ it) (found.1 ∙ ap (λ (it : List HistoryEntry). turn ++ it) placed.0)
+            ∙ sym (append_assoc before turn (saving_entry saving state ∷ []));
+        allows = subst (AllowsSending (saving_entry saving state)) placed.1 allowed;
+      }
 
-  in_all : (first rest : List HistoryEntry) (octets : Octets) → SplitsAt before (turn ++ behind) first (Sent octets) rest → EndsKept first
+  in_all : (first rest : List HistoryEntry) (octets : Octets) → SplitsAt before (turn ++ behind) first (Sent octets) rest → EndsSaved first octets
   in_all first rest octets (inl found) = order first found.0 octets found.1
   in_all first rest octets (inr found) = in_turn first found.0 rest octets found.1 (splits_at turn behind found.0 (Sent octets) rest found.2)
 
-  stays : KeptBeforeSent (before ++ (turn ++ behind))
+  stays : SavedBeforeSent (before ++ (turn ++ behind))
   stays first rest octets is = in_all first rest octets (splits_at before (turn ++ behind) first (Sent octets) rest is)
 
-stays_in_order : (turn : List HistoryEntry) (is_kept : Bool) (rows : Subscriptions) (sent : Octets) (tail : List HistoryEntry) (before after : Option (List HistoryEntry))
-    → has_sent turn ≡ false → has_sent tail ≡ false
-    → Records (turn ++ (kept_entry is_kept rows ∷ (sent_entries sent ++ tail))) before after → KeepsTheOrder before after
-stays_in_order turn is_kept rows sent tail None after none silent records = tt
-stays_in_order turn is_kept rows sent tail (Some before) None none silent records = records
-stays_in_order turn is_kept rows sent tail (Some before) (Some after) none silent records = λ order.
-    subst KeptBeforeSent (sym records) (stays before turn is_kept rows sent tail none silent order)
+stays_in_order : (turn : List HistoryEntry) (saving : Saving) (state : SavedState) (sent : Octets) (tail : List HistoryEntry) (before after : Option (List HistoryEntry))
+    → has_sent turn ≡ false → has_sent tail ≡ false → AllowsSending (saving_entry saving state) sent
+    → Records (turn ++ (saving_entry saving state ∷ (sent_entries sent ++ tail))) before after → KeepsTheOrder before after
+stays_in_order turn saving state sent tail None after none silent allowed records = tt
+stays_in_order turn saving state sent tail (Some before) None none silent allowed records = records
+stays_in_order turn saving state sent tail (Some before) (Some after) none silent allowed records = λ order.
+    subst SavedBeforeSent (sym records) (stays before turn saving state sent tail none silent allowed order)
+
+-- a front of what is to be sent has no data that has to be withheld
+allows_front : (saving : Saving) (state : SavedState) (waiting sent left : Octets) → octets_to_send saving waiting ≡ sent ++ left → AllowsSending (saving_entry saving state) sent
+allows_front saving.Saved state waiting sent left parts = tt
+allows_front (saving.Unsaved connections) state waiting sent left parts = λ handle among. no_data_left connections.items handle waiting sent left among parts
 
 -- and so for each way in which octets are sent
-module _ (rows : Subscriptions) (turn : Turn) (entries : List HistoryEntry) (none : has_sent entries ≡ false) (before recorded kept : Option (List HistoryEntry))
-    (served : Records entries before recorded) (keeps : Records (kept_entry turn.is_kept rows ∷ []) recorded kept) where
-  sent_in_order : (sent : Octets) (tail : List HistoryEntry) (after : Option (List HistoryEntry)) → has_sent tail ≡ false → Records (sent_entries sent ++ tail) kept after
-      → KeepsTheOrder before after
-  sent_in_order sent tail after silent sends =
-      stays_in_order entries turn.is_kept rows sent tail before after none silent
-      (records_then entries (kept_entry turn.is_kept rows ∷ (sent_entries sent ++ tail)) before recorded after served
-      (records_then (kept_entry turn.is_kept rows ∷ []) (sent_entries sent ++ tail) recorded kept after keeps sends))
+module _ (state : SavedState) (turn : Turn) (entries : List HistoryEntry) (none : has_sent entries ≡ false) (before recorded saved : Option (List HistoryEntry))
+    (served : Records entries before recorded) (saves : Records (saving_entry turn.saving state ∷ []) recorded saved) (waiting : Octets) where
+  sent_in_order : (sent left : Octets) (tail : List HistoryEntry) (after : Option (List HistoryEntry)) → octets_to_send turn.saving waiting ≡ sent ++ left → has_sent tail ≡ false
+      → Records (sent_entries sent ++ tail) saved after → KeepsTheOrder before after
+  sent_in_order sent left tail after parts silent sends =
+      stays_in_order entries turn.saving state sent tail before after none silent (allows_front turn.saving state waiting sent left parts)
+      (records_then entries (saving_entry turn.saving state ∷ (sent_entries sent ++ tail)) before recorded after served
+      (records_then (saving_entry turn.saving state ∷ []) (sent_entries sent ++ tail) recorded saved after saves sends))
 
-  in_order : (sending : Sending) (waiting : Octets) (after : Option (List HistoryEntry)) → Sends sending waiting kept after → KeepsTheOrder before after
-  in_order sending.Done waiting after sends =
-      sent_in_order waiting [] after refl (subst (λ (it : List HistoryEntry). Records it kept after) (sym (append-nil (sent_entries waiting))) sends)
-  in_order sending.Waits waiting after sends = sent_in_order [] (Unsent waiting ∷ []) after refl sends
-  in_order sending.Failed waiting after sends = sent_in_order sends.sent (Broken sends.left ∷ []) after refl sends.records
+  in_order : (sending : Sending) (after : Option (List HistoryEntry)) → Sends sending (octets_to_send turn.saving waiting) saved after → KeepsTheOrder before after
+  in_order sending.Done after sends =
+      let octets : Octets = octets_to_send turn.saving waiting in
+      sent_in_order octets [] [] after (sym (append-nil octets)) refl
+      (subst (λ (it : List HistoryEntry). Records it saved after) (sym (append-nil (sent_entries octets))) sends)
+  in_order sending.Waits after sends =
+      let octets : Octets = octets_to_send turn.saving waiting in
+      sent_in_order [] octets (Unsent octets ∷ []) after refl refl sends
+  in_order sending.Failed after sends = sent_in_order sends.sent sends.left (Broken sends.left ∷ []) after sends.parts refl sends.records
 
 -- a turn keeps the order, whether the host had stopped or not
 keeps_order : (turn : Turn) (old new : HostModel) (come comes : Known) (before after : Option Octets) (heard hears : Option (List Received)) (start : Start) (input : List Item) (gone : List Octets)
@@ -164,14 +177,14 @@ keeps_order : (turn : Turn) (old new : HostModel) (come comes : Known) (before a
     → KeepsTheOrder come.history comes.history
 keeps_order turn old new come comes before after heard hears start input gone is takes None refines =
     let serves = takes.serves refines in
-    in_order new.server.rows turn (all_entries (run start input) serves.happened turn.served) (all_unsent (run start input) serves.happened turn.served)
-    come.history takes.recorded takes.settles.kept (serves.records start input gone is) takes.settles.keeps
-    turn.sending takes.settles.sends.waiting comes.history takes.settles.sends.sends
+    in_order (saved_state new.server) turn (all_entries (run start input) serves.happened turn.served) (all_unsent (run start input) serves.happened turn.served)
+    come.history takes.recorded takes.settles.saved (serves.records start input gone is) takes.settles.saves
+    takes.settles.sends.waiting turn.sending comes.history takes.settles.sends.sends
 keeps_order turn old new come comes before after heard hears start input gone is takes (Some fault) refines =
     let nothing = takes.stopped (subst IsSome (sym refines) refl) in
-    in_order new.server.rows turn [] refl come.history takes.recorded takes.settles.kept
+    in_order (saved_state new.server) turn [] refl come.history takes.recorded takes.settles.saved
     (subst (λ (it : Option (List HistoryEntry)). Records [] come.history it) (sym (ap (λ (it : Known). it.history) nothing.happens)) (records_none come.history))
-    takes.settles.keeps turn.sending takes.settles.sends.waiting comes.history takes.settles.sends.sends
+    takes.settles.saves takes.settles.sends.waiting turn.sending comes.history takes.settles.sends.sends
 
 pub stays_ordered : (turn : Turn) (old new : HostModel) (come comes : Known) (before after : Option Octets) (heard hears : Option (List Received))
     → TakesATurn turn old new come comes before after heard hears → StaysInOrder old come.history comes.history

@@ -1,7 +1,10 @@
--- What a turn is served, under other names.
-use Rattle.std.proofs.Common.{◌≡◌, ℕ, List, Option, Result, sym, subst}
+-- What a turn is served, under other names, and what waits then.
+use Rattle.std.proofs.Common.{◌≡◌, ℕ, List, Option, Some, None, Result, refl, sym, subst, ◌∙◌}
+use Rattle.std.specs.Option.{option_map}
+use Rattle.gatt_device.specs.declared.outside.Saving.{Saving}
 use Rattle.gatt_device.specs.declared.serving.End.{End}
 use Rattle.gatt_device.specs.Happenings.{HistoryEntry}
+use Rattle.gatt_device.specs.Outside.{octets_to_send}
 use Rattle.gatt_device.specs.Serving.{Known, ServesDevice, known}
 use Rattle.gatt_host.specs.declared.host_fault.HostFault.{HostFault}
 use Rattle.gatt_host.specs.HostModel.{HostModel}
@@ -17,3 +20,12 @@ serves_as result turns old new come octets other_octets calls other_calls histor
     subst (λ (it : Option Octets). ServesDevice result turns old new come (known it other_calls history) before after heard hearing) (sym same_octets)
     (subst (λ (it : Option (List Call)). ServesDevice result turns old new come (known octets it history) before after heard hearing) (sym same_calls)
     (subst (λ (it : Option (List Received)). ServesDevice result turns old new come (known octets calls history) before after heard it) (sym same_hearing) serves))
+
+-- what waits once some of it is withheld is what waited before, without that
+pub waits_unsaved : (saving : Saving) (before : Option Octets) (waiting : Octets) (after : Option Octets) → after ≡ option_map (octets_to_send saving) before → after ≡ Some waiting
+    → (octets : Octets) × (before ≡ Some octets) × (waiting ≡ octets_to_send saving octets)
+waits_unsaved saving None waiting after withheld waits = absurd (cc (withheld, waits))
+waits_unsaved saving (Some octets) waiting after withheld waits =
+    let same : Some (octets_to_send saving octets) ≡ Some waiting = sym withheld ∙ waits in
+    let is : waiting ≡ octets_to_send saving octets = cc same in
+    (octets, refl, is)

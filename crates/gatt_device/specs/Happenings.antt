@@ -1,8 +1,10 @@
 -- What happens to a host, and what is recorded of it: this profile's own.
 use Rattle.std.specs.Prelude.{◌≡◌, ℕ, List, [], ◌∷◌, ◌++◌, Option, Some, None}
 use Rattle.std.specs.List.{flat_map}
+use Rattle.att_numbers.specs.Types.{Values}
 use Rattle.gatt_host.specs.Calls.{call_of}
 use Rattle.gatt_host.specs.Feeding.{octet_items}
+use Rattle.gatt_host.specs.ServerState.{ServerState}
 use Rattle.gatt_laws.specs.machine.Calls.{Call, Refused}
 use Rattle.gatt_laws.specs.machine.Input.{Item, ACall}
 use Rattle.gatt_subs.specs.Rows.{Subscriptions}
@@ -15,17 +17,26 @@ pub data DeviceInput : Type 0 where
   Came : (octets : Octets) → DeviceInput
   Asked : (call : Call) → DeviceInput
 
--- what is recorded: up to which deadline it was waited, if there was one; what happened then; what a call was answered, which
--- is why it is refused, if it is; that the stream of the controller has ended, or cannot be read; that rows were kept as they
--- stood, or could not be; which octets were sent, and which waited on since nobody was there, or were left where sending failed
+-- The state of a host that a device saves: what peers have configured, and the values of its table.
+pub record SavedState : Type 0 where
+  pub rows : Subscriptions
+  pub values : Values
+
+abbrev pub saved_state : ServerState → SavedState
+saved_state server = record { rows = server.rows; values = server.table.values }
+
+-- An entry of the history: up to which deadline it was waited, if there was one; what happened then; what a call was answered, which
+-- is why it is refused, if it is; that the stream of the controller has ended, or cannot be read; that the state was saved, or
+-- that it was not, with the handles of the connections whose changes are not saved; which octets were sent, and which waited on
+-- since nobody was there, or were left where sending failed.
 pub data HistoryEntry : Type 0 where
   Waited : (deadline : Option ℕ) → HistoryEntry
   Happened : (happening : DeviceInput) → HistoryEntry
   Answered : (refusal : Option Refused) → HistoryEntry
   Ended : HistoryEntry
   Failed : HistoryEntry
-  Kept : (rows : Subscriptions) → HistoryEntry
-  Unkept : (rows : Subscriptions) → HistoryEntry
+  Saved : (state : SavedState) → HistoryEntry
+  Unsaved : (state : SavedState) (connections : List ℕ) → HistoryEntry
   Sent : (octets : Octets) → HistoryEntry
   Unsent : (octets : Octets) → HistoryEntry
   Broken : (left : Octets) → HistoryEntry

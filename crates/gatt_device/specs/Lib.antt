@@ -3,3 +3,4 @@ pub mod Outside
 pub mod Serving
 pub mod Time
 pub mod Turn
+pub mod Withholding

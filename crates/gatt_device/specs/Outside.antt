@@ -1,15 +1,22 @@
--- What is recorded of what is kept and sent: this profile's own.
-use Rattle.std.specs.Prelude.{◌≡◌, Bool, true, false, List, [], ◌∷◌, ◌++◌, Option}
-use Rattle.gatt_subs.specs.Rows.{Subscriptions}
+-- What is recorded of what is saved and sent: this profile's own.
+use Rattle.std.specs.Prelude.{◌≡◌, List, [], ◌∷◌, ◌++◌, Option}
 use Rattle.octets.specs.Number.{Octets}
+use Rattle.gatt_device.specs.declared.outside.Saving.{Saving}
+use Rattle.gatt_device.specs.declared.outside.Saving.TheVariants as saving
 use Rattle.gatt_device.specs.declared.outside.Sending.{Sending}
 use Rattle.gatt_device.specs.declared.outside.Sending.TheVariants as sending
-use Rattle.gatt_device.specs.Happenings.{HistoryEntry, Kept, Unkept, Sent, Unsent, Broken, Records}
+use Rattle.gatt_device.specs.Happenings.{HistoryEntry, Saved, Unsaved, SavedState, Sent, Unsent, Broken, Records}
+use Rattle.gatt_device.specs.Withholding.{without_data_for}
 
--- rows were kept, or could not be
-abbrev pub kept_entry : Bool → Subscriptions → HistoryEntry
-kept_entry true rows = Kept rows
-kept_entry false rows = Unkept rows
+-- The state was saved, or it was not.
+abbrev pub saving_entry : Saving → SavedState → HistoryEntry
+saving_entry saving.Saved state = Saved state
+saving_entry (saving.Unsaved connections) state = Unsaved state connections.items
+
+-- The octets to be sent of those that wait: the data for the connections whose changes are not saved is dropped.
+abbrev pub octets_to_send : Saving → Octets → Octets
+octets_to_send saving.Saved octets = octets
+octets_to_send (saving.Unsaved connections) octets = without_data_for connections.items octets
 
 -- octets were sent, if there were any
 abbrev pub sent_entries : Octets → List HistoryEntry

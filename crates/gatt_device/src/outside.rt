@@ -1,12 +1,23 @@
-//! What a device does outside of its host: it keeps rows, and sends what waits.
+//! A device saves what its host has changed, and sends what waits.
 
-ghost use Rattle.std.specs.Prelude.{◌≡◌, ◌∷◌, [], Some};
-ghost use Rattle.gatt_device.specs.Happenings.{Records};
-ghost use Rattle.gatt_device.specs.Outside.{kept_entry, Sends};
+ghost use Rattle.std.specs.Prelude.{◌≡◌, ◌∷◌, [], Some, option_map};
+ghost use Rattle.gatt_device.specs.Happenings.{Records, saved_state};
+ghost use Rattle.gatt_device.specs.Outside.{saving_entry, Sends};
+ghost use Rattle.gatt_device.specs.Withholding.{without_data_for};
 
 use crate::happenings::Happenings;
-use gatt_host::{Host, Listener};
+use arrayvec::ArrayVec;
+use gatt_host::{Host, Listener, MAX_SLOTS};
 use octets::Sink;
+
+/// Whether all is saved that the host has changed.
+#[derive(Drop)]
+pub enum Saving {
+    /// All of it is.
+    Saved,
+    /// The changes of these connections are not, by their handles.
+    Unsaved(ArrayVec<u16, MAX_SLOTS>),
+}
 
 /// How octets were sent.
 #[derive(Clone, Copy)]
@@ -19,14 +30,14 @@ pub enum Sending {
     Failed,
 }
 
-/// Who keeps the rows of a host and sends its octets, beside what happens to it.
+/// Saves the state of a host and sends its octets, besides what happens to it.
 pub trait Outside<L: Listener>: Happenings {
-    /// Keeps the rows of a host as they stand, and answers whether they are kept. The application
-    /// may be told before what was heard, which stays heard.
-    fn keep(&mut self, host: &Host, listener: &mut L) -> bool
+    /// Saves the rows and the values of a host. Returns the connections whose changes are not saved,
+    /// if saving fails. It may first notify the application of what the listener has received.
+    fn save(&mut self, host: &Host, listener: &mut L) -> Saving
         ensures octets { Self.octets self.new ≡ Self.octets self.old }
         ensures calls { Self.calls self.new ≡ Self.calls self.old }
-        ensures history { Records (kept_entry result host.now.server.rows ∷ [])
+        ensures history { Records (saving_entry result (saved_state host.now.server) ∷ [])
             (Self.history self.old) (Self.history self.new) }
         ensures heard { L.heard listener.new ≡ L.heard listener.old };
 
@@ -47,5 +58,12 @@ pub trait Outgoing: Sink {
     /// Nothing waits any more.
     fn clear(&mut self)
         ensures none { Self.contents self.new ≡ Some [] }
+        ensures failures { Self.failures self.new ≡ Self.failures self.old };
+
+    /// Removes the ACL data for these connections, as the function `withhold` does, and leaves all
+    /// other packets.
+    fn withhold(&mut self, connections: &[u16])
+        ensures left { Self.contents self.new
+            ≡ option_map (without_data_for connections.now) (Self.contents self.old) }
         ensures failures { Self.failures self.new ≡ Self.failures self.old };
 }

@@ -1,35 +1,36 @@
-//! One turn of a device: what happens is taken in, then rows are kept, and only then is sent what
-//! waits.
+//! One turn of a device: it accepts what happens, then saves what that changes, and only then sends
+//! what waits.
 
-ghost use Rattle.std.specs.Prelude.{◌≡◌, true, None, Some, IsSome, IsOk, IfErr};
+ghost use Rattle.std.specs.Prelude.{◌≡◌, true, None, Some, IsSome, IsOk, IfErr, option_map};
 ghost use Rattle.gatt_host.specs.Feeding.{is_of_feeding, is_write_fault, WritesAllThatIsDue};
 ghost use Rattle.gatt_host.specs.HostModel.{all_out};
 ghost use Rattle.octets.specs.Number.{Octets};
 ghost use Rattle.octets.specs.Stream.{CountsIf};
-ghost use Rattle.gatt_device.specs.Outside.{waits_after};
+ghost use Rattle.gatt_device.specs.Outside.{octets_to_send, waits_after};
 ghost use Rattle.gatt_device.specs.Serving.{known};
 ghost use Rattle.gatt_device.specs.Turn.{StaysInOrder, TakesATurn};
 
-use crate::outside::{Outgoing, Outside, Sending};
+use crate::outside::{Outgoing, Outside, Saving, Sending};
 use crate::serving::{End, serve_happenings};
 use gatt_host::{Host, HostFault, Listener};
 
 /// What a turn has come to.
-#[derive(Clone, Copy)]
+#[derive(Drop)]
 pub struct Turn {
     /// That the turn is over, or why the host is served no longer.
     pub served: Result<End, HostFault>,
-    /// Whether the rows are kept as they stand.
-    pub is_kept: bool,
+    /// Whether all is saved that the host has changed.
+    pub saving: Saving,
     /// How what waited was sent.
     pub sending: Sending,
 }
 
-/// Serves a host by what happens in one turn, as `serve_happenings` does. Then its rows are kept as
-/// they stand, and only then is sent what waits. Where rows cannot be kept, what waits is sent all
-/// the same. Where nobody is there, or sending fails, it waits on; once it has failed, a front may
-/// have gone, and no more is to be sent there. After a fault of the host nothing more happens, but
-/// its rows are kept, and what waits is sent.
+/// Serves a host by what happens in one turn, as `serve_happenings` does. Then saves its rows and
+/// values, and only then sends what waits. If saving fails, drops the ACL data for the connections
+/// whose changes are not saved, and sends all else. End those connections, since they lack that
+/// data. What was not sent, since nobody is there or sending fails, waits on. Once sending has failed,
+/// a front may have gone, and no more is to be sent there. After a fault of the host nothing more
+/// happens, but its state is saved, and what waits is sent.
 pub fn serve_turn<O: Outside<L>, W: Outgoing, L: Listener>(
     host: &mut Host,
     outside: &mut O,
@@ -52,13 +53,26 @@ pub fn serve_turn<O: Outside<L>, W: Outgoing, L: Listener>(
     ensures stopped { IsSome host.old.fault → host.new ≡ host.old }
 {
     let served = serve_happenings(host, outside, out, listener, 1);
-    let is_kept = outside.keep(host, listener);
+    let saving = outside.save(host, listener);
+    withhold_unsaved(out, &saving);
     let sending = outside.send(out.waiting());
     drop_sent(out, sending);
     Turn {
         served,
-        is_kept,
+        saving,
         sending,
+    }
+}
+
+/// Drops the data for the connections whose changes are not saved.
+fn withhold_unsaved<W: Outgoing>(out: &mut W, saving: &Saving)
+    ensures left { W.contents out.new
+        ≡ option_map (octets_to_send saving.now) (W.contents out.old) }
+    ensures failures { W.failures out.new ≡ W.failures out.old }
+{
+    match saving {
+        Saving::Saved => {}
+        Saving::Unsaved(connections) => out.withhold(connections),
     }
 }
 
