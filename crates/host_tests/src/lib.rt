@@ -59,6 +59,8 @@ mod taken;
 #[cfg(test)]
 mod told;
 #[cfg(test)]
+mod turns;
+#[cfg(test)]
 mod wire;
 #[cfg(test)]
 mod words;
