@@ -1,3 +1,4 @@
+pub mod Changes
 pub mod Happened
 pub mod Order
 pub mod Packets

@@ -7,10 +7,12 @@ mod happenings;
 mod outside;
 mod serving;
 mod turn;
+mod unsaved;
 mod withholding;
 
 pub use happenings::{Happenings, Next};
 pub use outside::{Outgoing, Outside, Saving, Sending};
 pub use serving::{End, serve_happenings};
 pub use turn::{Turn, serve_turn};
+pub use unsaved::Unsaved;
 pub use withholding::withhold;
