@@ -1,0 +1,24 @@
+-- The parts of a state are read from their text: this profile's own.
+use Rattle.std.specs.Prelude.{◌≡◌, ◌<◌, ◌≤◌, ◌^◌, List, length, Ok}
+use Rattle.std.specs.List.{All}
+use Rattle.std.specs.Str.{IsUtf8}
+use Rattle.octets.specs.Number.{Octets}
+use Rattle.octets.specs.declared.pdu.TheConstants.{MAX_PDU}
+use Rattle.gatt_subs.specs.ReadBack.{IsOfAFile, written_by}
+use Rattle.gatt_subs.specs.Rows.{Subscriptions, unfitted_rows}
+use Rattle.device_state.specs.SavedValue.{Saved}
+use Rattle.device_state.specs.State.{state_read}
+use Rattle.device_state.specs.StateText.{state_text}
+
+-- A value that a line can write.
+pub record IsSavedValue (value : Saved) : Type 0 where
+  pub handle : value.handle < 2 ^ 16
+  pub kind : value.kind < 2 ^ 128
+  pub few : length value.octets ≤ MAX_PDU
+  pub octets : All (λ octet. octet < 256) value.octets
+
+-- The text of a state is read as its parts. The subscriptions are not fitted to a table yet.
+abbrev pub ReadsBack : Octets → Subscriptions → List Saved → Type 0
+ReadsBack table_text rows values =
+    IsUtf8 table_text → IsOfAFile (written_by rows) → All IsSavedValue values
+    → state_read (state_text table_text rows values) ≡ Ok (record { table_text = table_text; rows = unfitted_rows (written_by rows); values = values })

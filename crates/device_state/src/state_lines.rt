@@ -1,0 +1,210 @@
+//! The text of a state.
+
+ghost use Rattle.std.specs.Prelude.{◌≡◌, ◌<◌, ◌++◌, ◌∷◌, [], length, Some, None, IfOk, OnOk, IfSome, IfNone};
+ghost use Rattle.gatt_subs.specs.RowsText.{rows_text};
+ghost use Rattle.device_state.specs.ReadBack.{ReadsBack};
+ghost use Rattle.device_state.specs.StateText.{checksum, end_line, lines_of_state, piece_line, pieces_of, saved_lines, saved_values, state_text, table_lines, values_text};
+
+use crate::saved_value::add_value_line;
+use crate::saves::{Saves, is_saved, value_told};
+use att_table::{Attr, Table};
+use gatt_subs::Rows;
+use octets::{Failed, Sink};
+use sha2::{Digest, Sha256};
+use std::alloc::{AllocError, Global};
+
+/// Returns the text of a state: the text of the table that is served, the subscriptions, and the values
+/// of the table that differ from those of `initial`, the table as its file has it. Fails if memory is
+/// refused.
+#[tactic(auto, using(crate::proofs::StateBack::reads_back))]
+pub fn state_text(
+    alloc: Global,
+    table_text: &str,
+    rows: &Rows,
+    table: &Table,
+    initial: &Table,
+    saves: Saves,
+) -> Result<Vec<u8>, AllocError>
+    ensures text { IfOk result (λ text. text.items
+        ≡ state_text table_text.now rows.now (saved_values saves table.now initial.now)) }
+    // It is read as these parts again.
+    ensures read_back { ReadsBack table_text.now rows.now
+        (saved_values saves table.now initial.now) }
+{
+    let mut text = lines_of_state(alloc, table_text, rows, table, initial, saves)?;
+    add_end(&mut text)?;
+    Ok(text)
+}
+
+/// Returns all lines except the last one.
+#[tactic(auto, unfolding(crate::specs::StateText::lines_of_state))]
+fn lines_of_state(
+    alloc: Global,
+    table_text: &str,
+    rows: &Rows,
+    table: &Table,
+    initial: &Table,
+    saves: Saves,
+) -> Result<Vec<u8>, AllocError>
+    ensures { IfOk result (λ text. text.items
+        ≡ lines_of_state table_text.now rows.now (saved_values saves table.now initial.now)) }
+{
+    let mut lines = Lines {
+        octets: Vec::new(alloc),
+    };
+    lines.add(b"gihandop state 1\n[table]\n")?;
+    add_table(&mut lines.octets, table_text)?;
+    lines.add(b"[subscriptions]\n")?;
+    lines.add_rows(rows)?;
+    lines.add(b"[values]\n")?;
+    add_values(&mut lines.octets, table, initial, saves)?;
+    Ok(lines.octets)
+}
+
+/// The lines so far. As a sink it fails if memory is refused.
+#[derive(Drop)]
+struct Lines {
+    octets: Vec<u8>,
+}
+
+impl Sink for Lines {
+    ghost contents = { λ lines. Some lines.octets.items };
+
+    ghost failures = { λ _. None };
+
+    fn write(&mut self, buf: &[u8]) -> Result<usize, Failed> {
+        match self.octets.extend_from_slice(buf) {
+            Ok(()) => Ok(buf.len()),
+            Err(_) => Err(Failed),
+        }
+    }
+}
+
+impl Lines {
+    /// Adds octets.
+    fn add(&mut self, octets: &[u8]) -> Result<(), AllocError>
+        ensures ok { OnOk result
+            (self.new.octets.items ≡ self.old.octets.items ++ octets.now) }
+    {
+        self.octets.extend_from_slice(octets)
+    }
+
+    /// Adds the lines of subscriptions.
+    fn add_rows(&mut self, rows: &Rows) -> Result<(), AllocError>
+        ensures ok { OnOk result
+            (self.new.octets.items ≡ self.old.octets.items ++ rows_text rows.now) }
+    {
+        match rows.text(self) {
+            Ok(()) => Ok(()),
+            Err(_) => Err(AllocError),
+        }
+    }
+}
+
+/// Adds the lines of a table text.
+fn add_table(text: &mut Vec<u8>, table_text: &str) -> Result<(), AllocError>
+    ensures ok { OnOk result (text.new.items ≡ text.old.items ++ table_lines table_text.now) }
+{
+    let mut rest = table_text;
+    while let Some((piece, behind)) = first_piece(rest) {
+        add_piece(text, piece)?;
+        rest = behind;
+    }
+    add_piece(text, rest)
+}
+
+/// Splits a text at its first line feed.
+pub fn first_piece(text: &str) -> Option<(&str, &str)>
+    ensures first { IfSome result
+        (λ parts. pieces_of text.now ≡ parts.0.now ∷ pieces_of parts.1.now) }
+    ensures only { IfNone result (pieces_of text.now ≡ text.now ∷ []) }
+    ensures shorter { IfSome result (λ parts. length parts.1.now < length text.now) }
+{
+    text.split_once('\n')
+}
+
+/// Adds a piece of a table text, in a line.
+#[tactic(auto, unfolding(crate::specs::StateText::piece_line))]
+fn add_piece(text: &mut Vec<u8>, piece: &str) -> Result<(), AllocError>
+    ensures ok { OnOk result (text.new.items ≡ text.old.items ++ piece_line piece.now) }
+{
+    text.extend_from_slice(b"|")?;
+    text.extend_from_slice(piece.as_bytes())?;
+    text.extend_from_slice(b"\n")
+}
+
+/// Adds the lines of the values that are saved.
+fn add_values(
+    text: &mut Vec<u8>,
+    table: &Table,
+    initial: &Table,
+    saves: Saves,
+) -> Result<(), AllocError>
+    ensures ok { OnOk result (text.new.items ≡ text.old.items
+        ++ values_text (saved_values saves table.now initial.now)) }
+{
+    add_values_of(text, all_attributes(table), table, initial, saves)
+}
+
+/// Returns all attributes of a table.
+#[tactic(auto, using(crate::proofs::Writing::all_attributes))]
+fn all_attributes(table: &Table) -> &[Attr]
+    ensures { result.now ≡ table.now.attributes }
+{
+    table.in_range(1, table.len() as u16)
+}
+
+/// Adds the lines of the values of some attributes that are saved.
+fn add_values_of(
+    text: &mut Vec<u8>,
+    attributes: &[Attr],
+    table: &Table,
+    initial: &Table,
+    saves: Saves,
+) -> Result<(), AllocError>
+    ensures ok { OnOk result (text.new.items ≡ text.old.items
+        ++ saved_lines saves table.now initial.now attributes.now) }
+{
+    for attr in attributes {
+        add_saved(text, attr, table, initial, saves)?;
+    }
+    Ok(())
+}
+
+/// Adds the line of the value of an attribute, if it is saved.
+fn add_saved(
+    text: &mut Vec<u8>,
+    attr: &Attr,
+    table: &Table,
+    initial: &Table,
+    saves: Saves,
+) -> Result<(), AllocError>
+    ensures ok { OnOk result (text.new.items ≡ text.old.items
+        ++ saved_lines saves table.now initial.now (attr.now ∷ [])) }
+{
+    if is_saved(attr, table, initial, saves) {
+        add_value_line(text, attr.handle, attr.kind, value_told(table, attr.handle))
+    } else {
+        Ok(())
+    }
+}
+
+/// Adds the last line, with the checksum of a text.
+#[tactic(auto, unfolding(crate::specs::StateText::end_line))]
+fn add_end(text: &mut Vec<u8>) -> Result<(), AllocError>
+    ensures ok { OnOk result (text.new.items ≡ text.old.items ++ end_line text.old.items) }
+{
+    let digits = checksum(text.as_slice());
+    text.extend_from_slice(b"[end] ")?;
+    text.extend_from_slice(&digits)?;
+    text.extend_from_slice(b"\n")
+}
+
+/// Returns the SHA-256 of a text in hexadecimal.
+pub fn checksum(text: &[u8]) -> [u8; 64]
+    ensures { result ≡ checksum text.now }
+{
+    let mut digits = [0; 64];
+    hex::encode_to_slice(Sha256::digest(text), &mut digits).unwrap();
+    digits
+}
