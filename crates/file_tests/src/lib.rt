@@ -20,6 +20,8 @@ mod script_acts;
 #[cfg(test)]
 mod script_faults;
 #[cfg(test)]
+mod states;
+#[cfg(test)]
 mod stores;
 #[cfg(test)]
 mod table_faults;
