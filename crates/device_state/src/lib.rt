@@ -13,7 +13,7 @@ mod type_text;
 
 pub use restoring::restore;
 pub use saved_value::SavedValue;
-pub use saves::Saves;
+pub use saves::{Saves, may_be_saved};
 pub use state::State;
 pub use state_fault::StateFault;
 pub use state_lines::state_text;

@@ -25,7 +25,7 @@ pub fn is_saved(attr: &Attr, table: &Table, initial: &Table, saves: Saves) -> bo
 }
 
 /// Returns whether the value of an attribute is saved once it has changed.
-fn may_be_saved(attr: &Attr, saves: Saves) -> bool
+pub fn may_be_saved(attr: &Attr, saves: Saves) -> bool
     ensures { result ≡ may_be_saved saves attr.now }
 {
     match saves {
