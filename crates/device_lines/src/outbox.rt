@@ -45,6 +45,13 @@ impl Outbox {
         self.octets.as_slice()
     }
 
+    /// For how many octets more there is room.
+    pub fn room(&self) -> usize
+        ensures { result + length self.now.octets ≡ self.now.limit }
+    {
+        self.limit - self.octets.len()
+    }
+
     /// Has a text wait behind what waits, or answers false where that would be too much, or where
     /// memory is refused, and changes nothing.
     pub fn push(&mut self, text: &[u8]) -> bool
@@ -53,7 +60,7 @@ impl Outbox {
         ensures limit { self.new.limit ≡ self.old.limit }
         ensures fits { OnTrue result (length self.old.octets + length text.now ≤ self.old.limit) }
     {
-        text.len() <= self.limit - self.octets.len() && self.octets.extend_from_slice(text).is_ok()
+        text.len() <= self.room() && self.octets.extend_from_slice(text).is_ok()
     }
 
     /// So many octets were sent.

@@ -1,11 +1,11 @@
 //! What the application is told without asking.
 
 ghost use Rattle.std.specs.Prelude.{◌≡◌, ◌++◌, OnOk};
-ghost use Rattle.device_lines.specs.Told.{connection_lines, key_line, told_line};
-ghost use Rattle.device_lines.specs.declared.told.Told.TheVariants.{Stopped};
+ghost use Rattle.device_lines.specs.Told.{connection_lines, key_line, told_line, words_line};
+ghost use Rattle.device_lines.specs.declared.told.Told.TheVariants.{Started, Missed};
 
 use gatt_app::{Connection, Notice};
-use notice_lines::add_line;
+use notice_lines::{add_line, add_number, add_value};
 use std::alloc::AllocError;
 
 /// What the application is told beside the notices of a host.
@@ -17,6 +17,14 @@ pub enum Told<'a> {
     Waiting,
     /// The host has stopped, for what these words say.
     Stopped(&'a str),
+    /// The number of this start of the device, which no other start has.
+    Started(u64),
+    /// Phones wrote the value at a handle while no application heard it. It has these octets now.
+    Missed { handle: u16, value: &'a [u8] },
+    /// Not all is saved, for what these words say.
+    Unsaved(&'a str),
+    /// All is saved again.
+    Saved,
 }
 
 /// Adds the line of what is told to a text.
@@ -26,16 +34,41 @@ pub fn add_told(text: &mut Vec<u8>, told: &Told<'_>) -> Result<(), AllocError>
     match told {
         Told::Serving => text.extend_from_slice(b"+ serving\n"),
         Told::Waiting => text.extend_from_slice(b"+ waiting\n"),
-        Told::Stopped(words) => add_stopped(text, words),
+        Told::Stopped(words) => add_words(text, b"+ stopped: ", words),
+        Told::Started(number) => add_started(text, *number),
+        Told::Missed { handle, value } => add_missed(text, *handle, value),
+        Told::Unsaved(words) => add_words(text, b"+ unsaved: ", words),
+        Told::Saved => text.extend_from_slice(b"+ saved\n"),
     }
 }
 
-/// Adds the line that the host has stopped, for what these words say.
-fn add_stopped(text: &mut Vec<u8>, words: &str) -> Result<(), AllocError>
-    ensures ok { OnOk result (text.new.items ≡ text.old.items ++ told_line (Stopped words.entry)) }
+/// Adds a line of some words behind what they are about.
+fn add_words(text: &mut Vec<u8>, about: &[u8], words: &str) -> Result<(), AllocError>
+    ensures ok { OnOk result (text.new.items
+        ≡ text.old.items ++ words_line about.now words.now) }
 {
-    text.extend_from_slice(b"+ stopped: ")?;
+    text.extend_from_slice(about)?;
     text.extend_from_slice(words.as_bytes())?;
+    text.extend_from_slice(b"\n")
+}
+
+/// Adds the line with the number of this start.
+fn add_started(text: &mut Vec<u8>, number: u64) -> Result<(), AllocError>
+    ensures ok { OnOk result (text.new.items ≡ text.old.items ++ told_line (Started number)) }
+{
+    text.extend_from_slice(b"+ started")?;
+    add_number(text, number)?;
+    text.extend_from_slice(b"\n")
+}
+
+/// Adds the line of a value that phones wrote while no application heard it.
+fn add_missed(text: &mut Vec<u8>, handle: u16, value: &[u8]) -> Result<(), AllocError>
+    ensures ok { OnOk result (text.new.items
+        ≡ text.old.items ++ told_line (Missed handle value.entry)) }
+{
+    text.extend_from_slice(b"+ missed")?;
+    add_number(text, u64::from(handle))?;
+    add_value(text, value)?;
     text.extend_from_slice(b"\n")
 }
 
