@@ -5,5 +5,5 @@ mod advertising;
 mod settings;
 mod words;
 
-pub use settings::{Door, FileWords, HostSettings, Reached, Settings};
+pub use settings::{Door, FileWords, HostSettings, Reached, Saved, Settings};
 pub use words::HostWords;

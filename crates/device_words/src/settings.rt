@@ -30,6 +30,40 @@ pub enum Door<'a> {
     Port(SocketAddr),
 }
 
+/// What survives a restart, and where it is saved.
+#[derive(Clone, Copy)]
+pub enum Saved<'a> {
+    /// Nothing.
+    Nothing,
+    /// The subscriptions, in the file at a path.
+    Subscriptions(&'a str),
+    /// The state, in the folder at a path.
+    State {
+        /// The path of the folder.
+        folder: &'a str,
+        /// Whether it has all values, also those that no phone may write.
+        all_values: bool,
+    },
+}
+
+impl<'a> Saved<'a> {
+    /// What words say, or what is wrong with them.
+    fn read(words: &HostWords<'a>) -> Result<Saved<'a>, &'static str> {
+        match (words.state, words.rows) {
+            (Some(_), Some(_)) => Err("--state and --rows: one of them is enough"),
+            (Some(""), None) => Err("--state: the path of a folder"),
+            (None, Some("")) => Err("--rows: the path of a file"),
+            (Some(folder), None) => Ok(Saved::State {
+                folder,
+                all_values: words.save_updates,
+            }),
+            _ if words.save_updates => Err("--save-updates: it needs --state"),
+            (None, Some(path)) => Ok(Saved::Subscriptions(path)),
+            (None, None) => Ok(Saved::Nothing),
+        }
+    }
+}
+
 /// The files that are read and written.
 #[derive(Clone, Copy)]
 pub struct FileWords<'a> {
@@ -37,9 +71,9 @@ pub struct FileWords<'a> {
     pub table: &'a str,
     /// The path of the key file.
     pub keys: &'a str,
-    /// The path of the rows file.
-    pub rows: Option<&'a str>,
-    /// Whether rows of peers without a key are dropped, in place of the file being refused.
+    /// What is saved.
+    pub saved: Saved<'a>,
+    /// Whether subscriptions of peers without a key are dropped, in place of the file being refused.
     pub drop_unknown: bool,
     /// The path of a capture.
     pub capture: Option<&'a str>,
@@ -76,6 +110,8 @@ pub struct Settings<'a> {
     pub reached: Reached<'a>,
     /// Where an application connects.
     pub door: Door<'a>,
+    /// Whether controllers are served only while an application is connected.
+    pub wait_for_application: bool,
     /// How long a stranger may be silent, in milliseconds.
     pub idle: Option<u64>,
     /// What a host is opened with beside its files.
@@ -93,10 +129,15 @@ impl<'a> Settings<'a> {
         let door = read_door(words.application, words.application_port)?;
         let host = HostSettings::read(words)?;
         let idle = read_idle(words.idle)?;
+        let files = file_words(words)?;
+        if words.wait_for_application && matches!(door, Door::None) {
+            return Err("--wait-for-application: it needs --application or --application-port");
+        }
         Ok(Settings {
-            files: file_words(words),
+            files,
             reached,
             door,
+            wait_for_application: words.wait_for_application,
             idle,
             host,
             log_values: words.log_values,
@@ -105,15 +146,15 @@ impl<'a> Settings<'a> {
     }
 }
 
-/// The words that name files.
-fn file_words<'a>(words: &HostWords<'a>) -> FileWords<'a> {
-    FileWords {
+/// The words that name files, or what is wrong with them.
+fn file_words<'a>(words: &HostWords<'a>) -> Result<FileWords<'a>, &'static str> {
+    Ok(FileWords {
         table: words.table,
         keys: words.keys,
-        rows: words.rows,
+        saved: Saved::read(words)?,
         drop_unknown: words.drop_unknown,
         capture: words.capture,
-    }
+    })
 }
 
 /// How the controller is reached, or what is wrong with the words.

@@ -9,6 +9,10 @@ pub struct HostWords<'a> {
     pub keys: &'a str,
     /// The path of the rows file.
     pub rows: Option<&'a str>,
+    /// The folder of the state.
+    pub state: Option<&'a str>,
+    /// Whether the state has all values, also those that no phone may write.
+    pub save_updates: bool,
     /// Whether rows of peers without a key are dropped, in place of the file being refused.
     pub drop_unknown: bool,
     /// The address at which a controller connects.
@@ -21,6 +25,8 @@ pub struct HostWords<'a> {
     pub application: Option<&'a str>,
     /// The address at which an application connects.
     pub application_port: Option<&'a str>,
+    /// Whether controllers are served only while an application is connected.
+    pub wait_for_application: bool,
     /// The name that is advertised.
     pub name: Option<&'a str>,
     /// The UUIDs of the services that are advertised.

@@ -92,6 +92,8 @@ abbrev pub host_shape : Shape
 host_shape = shape_with (codes "host") (
     file_rule (codes "TABLE")
     ∷ file_rule (codes "KEYS")
+    ∷ option_rule (codes "state")
+    ∷ flag_rule (codes "save-updates")
     ∷ option_rule (codes "rows")
     ∷ flag_rule (codes "drop-unknown")
     ∷ option_rule (codes "listen")
@@ -99,6 +101,7 @@ host_shape = shape_with (codes "host") (
     ∷ option_rule (codes "serial")
     ∷ option_rule (codes "application")
     ∷ option_rule (codes "application-port")
+    ∷ flag_rule (codes "wait-for-application")
     ∷ option_rule (codes "name")
     ∷ list_rule (codes "advertise")
     ∷ option_rule (codes "address")
@@ -172,6 +175,8 @@ HasFilesOf arguments (Serve table keys rows address) =
     × IsGivenIfAny (codes "rows") arguments (option_map (λ path. path.now) rows)
 HasFilesOf arguments (Host words) =
     IsGiven (codes "TABLE") arguments words.table.now × IsGiven (codes "KEYS") arguments words.keys.now
+    × IsGivenIfAny (codes "state") arguments (option_map (λ path. path.now) words.state)
+    × IsSetIfGiven (codes "save-updates") arguments words.save_updates
     × IsGivenIfAny (codes "rows") arguments (option_map (λ path. path.now) words.rows)
     × IsSetIfGiven (codes "drop-unknown") arguments words.drop_unknown
     × IsGivenIfAny (codes "listen") arguments (option_map (λ word. word.now) words.listen)
@@ -179,6 +184,7 @@ HasFilesOf arguments (Host words) =
     × IsGivenIfAny (codes "serial") arguments (option_map (λ word. word.now) words.serial)
     × IsGivenIfAny (codes "application") arguments (option_map (λ word. word.now) words.application)
     × IsGivenIfAny (codes "application-port") arguments (option_map (λ word. word.now) words.application_port)
+    × IsSetIfGiven (codes "wait-for-application") arguments words.wait_for_application
     × IsGivenIfAny (codes "name") arguments (option_map (λ word. word.now) words.name)
     × (map (λ word. word.now) words.advertise.items ≡ take 14 (given (codes "advertise") arguments))
     × IsGivenIfAny (codes "address") arguments (option_map (λ word. word.now) words.address)

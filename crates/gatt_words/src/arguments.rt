@@ -23,6 +23,10 @@ pub const NOTICES: &str = "notices";
 
 pub const ECHO: &str = "echo";
 
+pub const STATE: &str = "state";
+
+pub const SAVE_UPDATES: &str = "save-updates";
+
 pub const DROP_UNKNOWN: &str = "drop-unknown";
 
 pub const LISTEN: &str = "listen";
@@ -34,6 +38,8 @@ pub const SERIAL: &str = "serial";
 pub const APPLICATION: &str = "application";
 
 pub const APPLICATION_PORT: &str = "application-port";
+
+pub const WAIT_FOR_APPLICATION: &str = "wait-for-application";
 
 pub const NAME: &str = "name";
 
@@ -126,14 +132,24 @@ const SERVE_ARGUMENTS: [Argument; 4] = [
 ];
 
 /// The arguments of `host`.
-const HOST_ARGUMENTS: [Argument; 17] = [
+const HOST_ARGUMENTS: [Argument; 20] = [
     TABLE_FILE,
     KEY_FILE,
+    Argument {
+        name: STATE,
+        takes: Takes::Value("DIR"),
+        about: "A folder for what has to survive a restart: values and subscriptions",
+    },
+    Argument {
+        name: SAVE_UPDATES,
+        takes: Takes::Nothing,
+        about: "Save in DIR also the values that only the application changes",
+    },
     ROWS_FILE,
     Argument {
         name: DROP_UNKNOWN,
         takes: Takes::Nothing,
-        about: "Drop rows of peers without a key, in place of refusing the file",
+        about: "Drop the subscriptions of peers without a key, in place of refusing the file",
     },
     Argument {
         name: LISTEN,
@@ -159,6 +175,11 @@ const HOST_ARGUMENTS: [Argument; 17] = [
         name: APPLICATION_PORT,
         takes: Takes::Value("ADDRESS"),
         about: "Where an application connects by TCP: whoever reaches it may speak for the device",
+    },
+    Argument {
+        name: WAIT_FOR_APPLICATION,
+        takes: Takes::Nothing,
+        about: "Serve a controller only while an application is connected",
     },
     Argument {
         name: NAME,

@@ -121,11 +121,12 @@ pub const HOST_ABOUT: &str = "Serve one controller after another, with an applic
 pub const HOST_DETAILS: &str = "\
 Serve one controller after another, with an application.
 
-The octets of a controller are H4. Where it goes, or the host stops by a fault, the next one is
-served with the values and the rows that stand. An application connects by a socket, asks by lines
-and is told by lines: docs/DEVICE.md has them. The rows file keeps what the phones have configured,
-and is written before they are told so. A log stands on standard error, whose line `ready` a script
-can wait for.
+The octets of a controller are H4. If it goes, or the host stops by a fault, the next one is served
+with the values and subscriptions that stand. An application connects by a socket, asks by lines and
+is told by lines: docs/DEVICE.md has them. With --state the device saves values and subscriptions
+before it answers a phone, and a restart begins with them. A log stands on standard error, whose
+line `ready` a script can wait for.
 
+  mkdir -p door.state
   gatt_shell host examples/door.toml examples/keys.toml --listen 127.0.0.1:5000 \\
-      --application door.socket --rows door.rows";
+      --application door.socket --state door.state";

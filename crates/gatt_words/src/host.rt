@@ -22,6 +22,10 @@ pub struct HostChoice<'a> {
     pub keys: &'a str,
     /// The rows file.
     pub rows: Option<&'a str>,
+    /// The folder of the state.
+    pub state: Option<&'a str>,
+    /// Whether the state has all values, also those that no phone may write.
+    pub save_updates: bool,
     /// Whether rows of peers without a key are dropped.
     pub drop_unknown: bool,
     /// Where a controller connects.
@@ -34,6 +38,8 @@ pub struct HostChoice<'a> {
     pub application: Option<&'a str>,
     /// The address where an application connects.
     pub application_port: Option<&'a str>,
+    /// Whether controllers are served only while an application is connected.
+    pub wait_for_application: bool,
     /// The name that is advertised.
     pub name: Option<&'a str>,
     /// The services that are advertised: the first of them, where there are more than are taken in.
@@ -62,12 +68,15 @@ pub(crate) fn hosting<'a>(matches: &ArgMatches<'a>) -> Option<Choice<'a>>
         table: matches.get_str(arguments::TABLE)?,
         keys: matches.get_str(arguments::KEYS)?,
         rows: matches.get_str(arguments::ROWS),
+        state: matches.get_str(arguments::STATE),
+        save_updates: matches.get_flag(arguments::SAVE_UPDATES),
         drop_unknown: matches.get_flag(arguments::DROP_UNKNOWN),
         listen: matches.get_str(arguments::LISTEN),
         connect: matches.get_str(arguments::CONNECT),
         serial: matches.get_str(arguments::SERIAL),
         application: matches.get_str(arguments::APPLICATION),
         application_port: matches.get_str(arguments::APPLICATION_PORT),
+        wait_for_application: matches.get_flag(arguments::WAIT_FOR_APPLICATION),
         name: matches.get_str(arguments::NAME),
         advertise: advertised(matches),
         address: matches.get_str(arguments::RANDOM_ADDRESS),
