@@ -24,6 +24,10 @@ pub struct Controller<'a> {
     is_missed: bool,
     /// When one is tried again, in milliseconds.
     retry: u64,
+    /// Whether none may be served now.
+    is_held: bool,
+    /// Whether one connects that is not taken yet.
+    is_knocking: bool,
 }
 
 impl<'a> Controller<'a> {
@@ -37,6 +41,8 @@ impl<'a> Controller<'a> {
             is_ending: false,
             is_missed: false,
             retry: 0,
+            is_held: false,
+            is_knocking: false,
         }
     }
 }
@@ -61,7 +67,7 @@ impl Controller<'_> {
 
     /// When one is to be tried again, in milliseconds, if none is there and it has to be tried.
     pub fn retry(&self) -> Option<u64> {
-        if self.stream.is_none() && self.way.is_tried() {
+        if self.stream.is_none() && self.way.is_tried() && !self.is_held {
             Some(self.retry)
         } else {
             None
@@ -118,11 +124,16 @@ impl Controller<'_> {
         }
     }
 
-    /// Reaches for one, where one connects, or where it is time to try again.
+    /// Reaches for one, where one connects, or where it is time to try again. None is reached for
+    /// as long as they are held.
     pub fn look<
         R: Files<File = File> + Net<Listener = TcpListener, Stream = TcpStream> + Clock + Eprint,
-    >(&mut self, connects: bool, waiting: &Waiting, log: &Log<'_, R>) {
-        if self.stream.is_none() && (connects || self.is_due_again(log)) {
+    >(&mut self, connects: bool, is_held: bool, waiting: &Waiting, log: &Log<'_, R>) {
+        self.is_held = is_held;
+        self.is_knocking |= connects;
+        let is_due = self.is_knocking || self.is_due_again(log);
+        if self.stream.is_none() && !is_held && is_due {
+            self.is_knocking = false;
             self.reach(waiting, log);
         }
     }

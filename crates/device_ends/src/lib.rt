@@ -1,13 +1,13 @@
 //! The ends of a device: its controller and the ways to one, the socket of its application, what it
-//! waits for, its clock and its log, its rows file and its capture.
+//! waits for, its clock and its log, its saved file and its capture.
 #![tactic(auto)]
 
 mod controller;
 mod line;
+mod lock;
 mod log;
 mod recording;
-mod rows;
-mod saved;
+mod saved_file;
 mod stream;
 mod unknown;
 mod waiting;
@@ -15,9 +15,10 @@ mod way;
 
 pub use controller::Controller;
 pub use line::{Line, Listener, Retry, bind_at_path, retry_after};
+pub use lock::{Lock, LockFault};
 pub use log::Log;
 pub use recording::Recording;
-pub use saved::SavedRows;
+pub use saved_file::SavedFile;
 pub use unknown::unknown_peer;
 pub use waiting::{Ready, Source, Waiting};
 pub use way::Way;

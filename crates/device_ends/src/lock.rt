@@ -1,0 +1,43 @@
+//! A lock that one process has at a time.
+
+use std::fs::{File, Files, TryLockError};
+use std::io;
+use std::os::unix::fs::OpenOptionsExt;
+
+/// A lock file may be opened by its owner alone.
+const OWNER_ALONE: u32 = 0o600;
+
+/// A lock on a file, until this value is dropped or the process ends.
+#[derive(Drop)]
+pub struct Lock {
+    _file: File,
+}
+
+/// Why a file cannot be locked.
+#[derive(Drop)]
+pub enum LockFault {
+    /// Another process has the lock.
+    Taken,
+    /// The file cannot be opened or locked.
+    Failed(io::Error),
+}
+
+impl Lock {
+    /// Locks the file at a path, which is created if it does not exist.
+    pub fn take<R: Files<File = File>>(files: &R, path: &str) -> Result<Lock, LockFault> {
+        let opened = File::options()
+            .write(true)
+            .create(true)
+            .mode(OWNER_ALONE)
+            .open(files, path);
+        let file = match opened {
+            Ok(file) => file,
+            Err(error) => return Err(LockFault::Failed(error)),
+        };
+        match file.try_lock() {
+            Ok(()) => Ok(Lock { _file: file }),
+            Err(TryLockError::WouldBlock) => Err(LockFault::Taken),
+            Err(TryLockError::Error(error)) => Err(LockFault::Failed(error)),
+        }
+    }
+}
