@@ -13,7 +13,7 @@ pub fn add_answer(
     answer: Result<(), AppFault>,
 ) -> Result<(), AllocError> {
     match question {
-        Question::Call => add_outcome(alloc, text, answer),
+        Question::Call | Question::Update(_) => add_outcome(alloc, text, answer),
         Question::Bad(words) => add_reply(text, &Reply::Bad(words)),
         Question::TooLong => add_reply(text, &Reply::Bad("the line is too long")),
         Question::Nothing | Question::Value(_) | Question::Connections => Ok(()),

@@ -21,6 +21,10 @@ pub(crate) struct Application {
     is_readable: bool,
     /// Whether it has heard nothing yet.
     pub(crate) is_new: bool,
+    /// Whether it has closed its connection with nothing left to read.
+    has_read_all: bool,
+    /// Whether it has closed its connection, or lost it, and nobody was told.
+    is_gone: bool,
     inbox: Inbox,
     outbox: Outbox,
 }
@@ -33,6 +37,8 @@ impl Application {
             line: None,
             is_readable: false,
             is_new: false,
+            has_read_all: true,
+            is_gone: false,
             inbox: Inbox::new(),
             outbox: Outbox::new(alloc, LIMIT),
         }
@@ -61,6 +67,7 @@ impl Application {
         line.watch(waiting)?;
         self.line = Some(line);
         self.is_new = true;
+        self.has_read_all = false;
         self.is_readable = true;
         Ok(true)
     }
@@ -77,6 +84,24 @@ impl Application {
         self.is_new = false;
         self.inbox.clear();
         self.outbox.clear();
+    }
+
+    /// Its connection is closed from the other side.
+    fn lose(&mut self) {
+        self.end();
+        self.is_gone = true;
+    }
+
+    /// Whether it is gone, and nobody was told.
+    pub(crate) fn is_gone(&self) -> bool {
+        self.is_gone
+    }
+
+    /// Whether it is gone, and nobody was told until now.
+    pub(crate) fn is_just_gone(&mut self) -> bool {
+        let is_gone = self.is_gone;
+        self.is_gone = false;
+        is_gone
     }
 
     /// It may be read, or takes more.
@@ -100,7 +125,10 @@ impl Application {
         };
         let mut buffer = [0; ROOM];
         match line.read(&mut buffer) {
-            Ok(0) => self.end(),
+            Ok(0) => {
+                self.has_read_all = self.outbox.waiting().is_empty();
+                self.lose();
+            }
             Ok(count) => {
                 // There is room, as was asked before.
                 let _ = self.inbox.take(&buffer[..count]);
@@ -108,7 +136,7 @@ impl Application {
             Err(error) => match retry_after(&error) {
                 Retry::Now => {}
                 Retry::Later => self.is_readable = false,
-                Retry::Never => self.end(),
+                Retry::Never => self.lose(),
             },
         }
     }
@@ -133,6 +161,16 @@ impl Application {
         false
     }
 
+    /// Whether it has heard what stands, and one more line may wait for it.
+    pub(crate) fn has_room(&self) -> bool {
+        self.line.is_some() && !self.is_new && self.outbox.room() >= LONGEST
+    }
+
+    /// Whether the last one is gone and has read all that it was told, as far as its connection tells.
+    pub(crate) fn has_read_all(&self) -> bool {
+        self.has_read_all
+    }
+
     /// Writes as much as it takes.
     pub(crate) fn flush(&mut self) {
         for _write in 0..u64::MAX {
@@ -152,7 +190,7 @@ impl Application {
             return false;
         }
         match line.write(waiting) {
-            Ok(0) => self.end(),
+            Ok(0) => self.lose(),
             Ok(count) => {
                 self.outbox.sent(count);
                 return true;
@@ -160,7 +198,7 @@ impl Application {
             Err(error) => match retry_after(&error) {
                 Retry::Now => return true,
                 Retry::Later => {}
-                Retry::Never => self.end(),
+                Retry::Never => self.lose(),
             },
         }
         false

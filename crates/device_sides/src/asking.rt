@@ -45,6 +45,11 @@ impl Asking {
         self.answer
     }
 
+    /// What the application has asked, which is still to be answered.
+    pub(crate) fn question(&self) -> Question {
+        self.question
+    }
+
     /// What is to be answered now.
     pub(crate) fn take_question(&mut self) -> Question {
         let question = self.question;

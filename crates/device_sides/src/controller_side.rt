@@ -74,7 +74,7 @@ impl ControllerSide<'_> {
 }
 
 /// The sooner of two moments.
-pub(crate) fn sooner(one: Option<u64>, other: Option<u64>) -> Option<u64> {
+pub fn sooner(one: Option<u64>, other: Option<u64>) -> Option<u64> {
     match (one, other) {
         (Some(one), Some(other)) => Some(one.min(other)),
         (Some(one), None) => Some(one),

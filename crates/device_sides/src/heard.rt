@@ -15,8 +15,8 @@ pub struct Heard {
     pub(crate) log: Vec<u8>,
     logs_values: bool,
     places: Places,
-    /// Whether one of them may have changed the rows.
-    pub may_change_rows: bool,
+    /// The handles of the values that phones wrote in the turn.
+    pub(crate) written: Vec<u16>,
     /// Whether memory was refused for one of them.
     pub(crate) is_refused: bool,
 }
@@ -29,7 +29,7 @@ impl Heard {
             log: Vec::new(alloc),
             logs_values,
             places: Places::new(),
-            may_change_rows: false,
+            written: Vec::new(alloc),
             is_refused: false,
         }
     }
@@ -43,14 +43,16 @@ impl Heard {
     pub fn clear(&mut self) {
         self.text.clear();
         self.log.clear();
-        self.may_change_rows = false;
+        self.written.clear();
         self.is_refused = false;
     }
 
     /// Hears a notice.
     pub fn hear(&mut self, notice: Notice<'_>) {
-        if !matches!(notice, Notice::Written { .. }) {
-            self.may_change_rows = true;
+        if let Notice::Written { attribute, .. } = notice
+            && self.written.push(attribute).is_err()
+        {
+            self.is_refused = true;
         }
         if add_line(&mut self.text, &notice).is_err() || self.add_logged(&notice).is_err() {
             self.is_refused = true;

@@ -7,6 +7,7 @@ mod application;
 mod asking;
 mod controller_side;
 mod heard;
+mod missed;
 mod opening;
 mod places;
 mod said;
@@ -16,6 +17,7 @@ mod telling;
 mod turns;
 
 pub use answering::{add_answer, add_value};
+pub use controller_side::sooner;
 pub use heard::Heard;
 pub use said::Question;
 pub use sides::Sides;

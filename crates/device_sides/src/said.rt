@@ -12,6 +12,8 @@ pub enum Question {
     Nothing,
     /// A call, which the host answers.
     Call,
+    /// A call that updates the value at a handle.
+    Update(u16),
     /// What a value is.
     Value(u16),
     /// Who is connected.
@@ -37,6 +39,7 @@ impl Said {
     pub(crate) fn question(self) -> Question {
         match self {
             Said::Question(question) => question,
+            Said::Update(handle, _) => Question::Update(handle),
             _ => Question::Call,
         }
     }

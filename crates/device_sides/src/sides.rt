@@ -4,9 +4,10 @@ use crate::application::Application;
 use crate::asking::Asking;
 use crate::controller_side::{ControllerSide, sooner};
 use crate::heard::Heard;
+use crate::missed::Missed;
 use crate::opening::{listener_at, record_to, way_to};
 use crate::said::Question;
-use crate::telling::{accept, fill, reply, say_or_end, tell, tell_heard};
+use crate::telling::{accept, flush, reply, say_or_end, tell, tell_heard};
 use crate::turns::Turns;
 use device_ends::{Log, Ready, Waiting};
 use device_lines::Told;
@@ -26,21 +27,25 @@ pub struct Sides<'a, R> {
     waiting: Waiting,
     controller: ControllerSide<'a>,
     application: Application,
+    /// Whether controllers are served only while an application is connected.
+    waits_for_application: bool,
+    missed: Missed,
     asking: Asking,
     turns: Turns,
 }
 
 impl<'a, R: Net<Listener = TcpListener, Stream = TcpStream> + Clock + Eprint> Sides<'a, R> {
-    /// Sides of which the controller is reached so, and for which no application connects. A stranger
-    /// may be silent so long, in milliseconds, or for ever.
+    /// Sides of which the controller is reached so, and for which no application connects yet.
+    /// Controllers are served only while one is connected, if that is asked for. A stranger may be
+    /// silent so long, in milliseconds, or for ever.
     pub fn new(
-        rt: &'a R,
+        log: Log<'a, R>,
         alloc: Global,
         reached: Reached<'a>,
+        waits_for_application: bool,
         idle: Option<u64>,
     ) -> io::Result<Sides<'a, R>> {
-        let log = Log::new(rt, alloc)?;
-        let waiting = Waiting::new(alloc, rt)?;
+        let waiting = Waiting::new(alloc, log.rt)?;
         let way = way_to(alloc, &log, &waiting, reached)?;
         Ok(Sides {
             alloc,
@@ -48,6 +53,8 @@ impl<'a, R: Net<Listener = TcpListener, Stream = TcpStream> + Clock + Eprint> Si
             waiting,
             controller: ControllerSide::new(way, idle),
             application: Application::none(alloc),
+            waits_for_application,
+            missed: Missed::new(alloc),
             asking: Asking::nothing(),
             turns: Turns::new(),
         })
@@ -93,6 +100,11 @@ impl<'a, R> Sides<'a, R> {
         self.asking.answer()
     }
 
+    /// What the application has asked, which is still to be answered.
+    pub fn question(&self) -> Question {
+        self.asking.question()
+    }
+
     /// What the application is still to be answered, which is to be done at once.
     pub fn take_question(&mut self) -> Question {
         self.asking.take_question()
@@ -109,9 +121,19 @@ impl<'a, R> Sides<'a, R> {
         self.controller.strangers.look(keyless, now);
     }
 
-    /// Writes as much to the application as it takes.
-    pub fn flush(&mut self) {
-        self.application.flush();
+    /// Whether a controller is served although an application has to be there, and none is.
+    pub fn lacks_application(&self) -> bool {
+        self.has_controller() && self.waits_for_application && !self.application.is_there()
+    }
+
+    /// The first of the values that phones wrote while no application heard of it, if there is an
+    /// application that takes a line more. It is to be told now.
+    pub fn next_missed(&mut self) -> Result<Option<u16>, AllocError> {
+        if self.application.has_room() {
+            self.missed.next()
+        } else {
+            Ok(None)
+        }
     }
 
     /// Whether an application is there that was not told yet what stands.
@@ -145,6 +167,11 @@ impl<R: Clock + Eprint> Sides<'_, R> {
         }
     }
 
+    /// Writes as much to the application as it takes.
+    pub fn flush(&mut self) {
+        flush(&mut self.application, &mut self.missed, &self.log);
+    }
+
     /// Tells the application a line, where it has heard the ones before.
     pub fn tell(&mut self, told: &Told<'_>) {
         tell(self.alloc, &mut self.application, &self.log, told);
@@ -152,7 +179,7 @@ impl<R: Clock + Eprint> Sides<'_, R> {
 
     /// What was heard in a turn goes to the application and to the log.
     pub fn tell_heard(&mut self, heard: &Heard) {
-        tell_heard(&mut self.application, &self.log, heard);
+        tell_heard(&mut self.application, &mut self.missed, &self.log, heard);
     }
 
     /// Answers a question with a text.
@@ -171,7 +198,11 @@ impl<R: Clock + Eprint> Sides<'_, R> {
     /// silent for too long, or until a controller is tried again; and not at all where something is
     /// there.
     fn timeout(&self, deadline: Option<u64>) -> Option<Duration> {
-        if self.controller.controller.is_readable() || self.application.has_something() {
+        if self.controller.controller.is_readable()
+            || self.application.has_something()
+            || self.application.is_gone()
+            || self.lacks_application()
+        {
             return Some(Duration::from_millis(0));
         }
         let due = sooner(deadline, self.controller.due())?;
@@ -209,7 +240,7 @@ impl<
 
     /// Waits until something is to be done.
     fn wait(&mut self, deadline: Option<u64>) {
-        fill(&mut self.application, &self.log);
+        self.application.fill();
         let timeout = self.timeout(deadline);
         if let Ok(ready) = self.waiting.wait(timeout) {
             self.take_in(ready);
@@ -225,10 +256,16 @@ impl<
             self.application.is_ready();
         }
         if ready.applications {
-            accept(&mut self.application, &self.waiting, &self.log);
+            accept(
+                &mut self.application,
+                &mut self.missed,
+                &self.waiting,
+                &self.log,
+            );
         }
+        let is_held = self.waits_for_application && !self.application.is_there();
         self.controller
             .controller
-            .look(ready.controllers, &self.waiting, &self.log);
+            .look(ready.controllers, is_held, &self.waiting, &self.log);
     }
 }

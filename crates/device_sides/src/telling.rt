@@ -2,6 +2,7 @@
 
 use crate::application::Application;
 use crate::heard::Heard;
+use crate::missed::Missed;
 use crate::said::Question;
 use device_ends::{Log, Waiting};
 use device_lines::{Told, add_told};
@@ -58,9 +59,11 @@ pub(crate) fn tell<R: Clock + Eprint>(
     }
 }
 
-/// What was heard in a turn goes to the application and to the log.
+/// What was heard in a turn goes to the application and to the log, and it is noted which values phones
+/// wrote.
 pub(crate) fn tell_heard<R: Clock + Eprint>(
     application: &mut Application,
+    missed: &mut Missed,
     log: &Log<'_, R>,
     heard: &Heard,
 ) {
@@ -68,10 +71,44 @@ pub(crate) fn tell_heard<R: Clock + Eprint>(
         log.say("memory: refused for notices");
         application.end();
     }
-    if !application.is_new {
+    let written = heard.written.as_slice();
+    let noted = if application.is_there() && !application.is_new {
         say(application, log, heard.text.as_slice());
+        missed.tell(written)
+    } else {
+        missed.add(written)
+    };
+    if noted.is_err() {
+        log.say("memory: refused for values that an application missed");
     }
     log_lines(log, heard.log.as_slice());
+}
+
+/// Writes as much to the application as it takes, and notes what it may have missed once it is gone.
+pub(crate) fn flush<R: Clock + Eprint>(
+    application: &mut Application,
+    missed: &mut Missed,
+    log: &Log<'_, R>,
+) {
+    application.flush();
+    tell_gone(application, log);
+    if !application.is_there() {
+        note_end(missed, application.has_read_all(), log);
+    }
+}
+
+/// Logs once that the application is gone.
+fn tell_gone<R: Clock + Eprint>(application: &mut Application, log: &Log<'_, R>) {
+    if application.is_just_gone() {
+        log.say("application gone");
+    }
+}
+
+/// Notes what an application may have missed that is gone.
+fn note_end<R: Clock + Eprint>(missed: &mut Missed, has_read_all: bool, log: &Log<'_, R>) {
+    if missed.end(has_read_all).is_err() {
+        log.say("memory: refused for values that an application missed");
+    }
 }
 
 /// Has the application hear a text.
@@ -93,23 +130,20 @@ fn log_lines<R: Clock + Eprint>(log: &Log<'_, R>, lines: &[u8]) {
     }
 }
 
-/// Reads what the application says.
-pub(crate) fn fill<R: Clock + Eprint>(application: &mut Application, log: &Log<'_, R>) {
-    let was_there = application.is_there();
-    application.fill();
-    if was_there && !application.is_there() {
-        log.say("application gone");
-    }
-}
-
 /// Takes the next application that connects.
 pub(crate) fn accept<R: Clock + Eprint>(
     application: &mut Application,
+    missed: &mut Missed,
     waiting: &Waiting,
     log: &Log<'_, R>,
 ) {
+    tell_gone(application, log);
+    let has_read_all = application.has_read_all();
     match application.accept(waiting) {
-        Ok(true) => log.say("application"),
+        Ok(true) => {
+            note_end(missed, has_read_all, log);
+            log.say("application");
+        }
         Ok(false) => {}
         Err(_) => log.say("application: not accepted"),
     }
