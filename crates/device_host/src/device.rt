@@ -2,10 +2,11 @@
 
 ghost use Rattle.std.specs.Prelude.{None};
 
-use device_ends::SavedRows;
-use device_sides::Sides;
+use crate::keeping::Keeping;
+use arrayvec::ArrayVec;
+use device_sides::{Sides, sooner};
 use gatt_device::{Happenings, Next};
-use gatt_host::{App, AppFault};
+use gatt_host::{App, AppFault, MAX_SLOTS};
 use std::alloc::Global;
 use std::fs::{File, Files};
 use std::net::{Net, TcpListener, TcpStream};
@@ -16,7 +17,22 @@ use std::time::Clock;
 pub(crate) struct Device<'a, R> {
     pub(crate) alloc: Global,
     pub(crate) sides: Sides<'a, R>,
-    pub(crate) rows: SavedRows<'a>,
+    /// What is saved, if something is.
+    pub(crate) keeping: Option<Keeping>,
+    /// The connections that are to be ended, since what they changed is not saved.
+    pub(crate) ending: ArrayVec<u16, MAX_SLOTS>,
+    /// The number of this start of the device.
+    pub(crate) started: u64,
+}
+
+impl<R> Device<'_, R> {
+    /// When a failed save is tried again, in milliseconds, if one has failed.
+    fn retry(&self) -> Option<u64> {
+        match &self.keeping {
+            Some(keeping) => keeping.retry(),
+            None => None,
+        }
+    }
 }
 
 impl<
@@ -29,6 +45,10 @@ impl<
     ghost history = { λ _. None };
 
     fn next<'b>(&mut self, deadline: Option<u64>, buffer: &'b mut [u8]) -> Next<'b> {
+        if let Some(handle) = self.ending.pop() {
+            return Next::Call(App::Disconnect(handle));
+        }
+        let deadline = sooner(deadline, self.retry());
         next(&mut self.sides, deadline, buffer)
     }
 

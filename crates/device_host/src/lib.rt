@@ -1,11 +1,12 @@
 //! The command `host`: it serves one controller after another, lets an application take part, and
-//! keeps the rows of the phones in a file. What is heard, said and taken in are libraries, and so are
-//! the ends that it has outside; here they are joined to a host.
+//! saves what has to survive a restart. What is heard, said and taken in are libraries, and so are the
+//! ends that it has outside; here they are joined to a host.
 #![tactic(auto)]
 
 mod device;
 mod ends;
 mod hearing;
+mod keeping;
 mod opening;
 mod outgoing;
 mod outside;

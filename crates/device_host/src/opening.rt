@@ -1,70 +1,373 @@
-//! The host that is served: what the files say, and what a controller before has left.
+//! The host that is served: what its files say, and what was saved of it before.
 
-use crate::stop::Stop;
+use crate::keeping::{Contents, Keeping, Served, subscriptions_text};
+use crate::stop::{Stop, refuse};
 use arrayvec::ArrayVec;
-use device_ends::unknown_peer;
-use device_words::{FileWords, HostSettings};
-use gatt_files::{LazyFile, RowsPath, RowsReader, ShellFault};
-use gatt_host::{Config, Host, Keys, Rows, Table};
+use att_numbers::attribute_type::SERVICE_CHANGED;
+use device_ends::{Lock, LockFault, Log, SavedFile, unknown_peer};
+use device_state::{Saves, State, restore};
+use device_words::{HostSettings, Saved, Settings};
+use gatt_files::{LazyFile, RowsPath, RowsReader, ShellFault, judged_table};
+use gatt_host::{Config, Host, Keys, PacketOctets, Rows, Table};
 use std::alloc::Global;
-use std::fs::Files;
+use std::fs::{File, Files};
+use std::io::ErrorKind;
+use std::str;
+use std::time::Clock;
 
 /// The largest PDU of the Attribute Protocol that the host receives, in octets.
 const RX_MTU: u16 = 247;
 
-/// A host with what the files say.
-pub(crate) fn read_host<R: Files + Eprint>(
-    rt: &R,
+/// The permission of a new file of subscriptions, as far as the user lets others read files.
+const FOR_ALL: u32 = 0o666;
+
+/// The permission of a new state, which has values.
+const OWNER_ALONE: u32 = 0o600;
+
+/// As many packets are taken out of a host that nobody was connected to: it owes a Reset at most.
+const MOST_PACKETS: usize = 8;
+
+/// A host with what its files say and with what was saved, and how it is saved from now on.
+pub(crate) fn open_host<R: Files<File = File> + Clock + Eprint>(
     alloc: Global,
-    files: &FileWords<'_>,
-    settings: &HostSettings,
-) -> Result<Host, Stop> {
-    let table = read_table(rt, alloc, files.table)?;
-    let keys = read_keys(rt, alloc, files.keys)?;
-    let rows = read_known_rows(rt, alloc, files, &keys)?;
-    open(alloc, table, keys, rows, settings)
-}
-
-/// The table of a file.
-fn read_table<F: Files>(files: &F, alloc: Global, path: &str) -> Result<Table, ShellFault> {
-    gatt_files::read_table(alloc, &mut LazyFile::new(files, path))
-}
-
-/// The keys of a file.
-fn read_keys<F: Files>(files: &F, alloc: Global, path: &str) -> Result<Keys, ShellFault> {
-    gatt_files::read_keys(alloc, &mut LazyFile::new(files, path))
-}
-
-/// The rows of the file, which are refused where a peer has no key, unless such rows are dropped.
-fn read_known_rows<R: Files + Eprint>(
-    rt: &R,
-    alloc: Global,
-    files: &FileWords<'_>,
-    keys: &Keys,
-) -> Result<Rows, Stop> {
-    let rows = gatt_files::read_rows(alloc, &mut RowsReader::new(rt, RowsPath(files.rows)))?;
-    if !files.drop_unknown {
-        refuse_unknown(rt, alloc, &rows, keys)?;
+    log: &Log<'_, R>,
+    settings: &Settings<'_>,
+) -> Result<(Host, Option<Keeping>), Stop> {
+    let files = &settings.files;
+    let text = gatt_files::read_all(alloc, &mut LazyFile::new(log.rt, files.table))?;
+    let table = judged_table(alloc, text.as_slice())?;
+    let keys = gatt_files::read_keys(alloc, &mut LazyFile::new(log.rt, files.keys))?;
+    match files.saved {
+        Saved::Nothing => {
+            let rows = read_rows(alloc, log.rt, None)?;
+            Ok((open(alloc, table, keys, rows, &settings.host)?, None))
+        }
+        Saved::Subscriptions(path) => open_with_subscriptions(
+            alloc, log, settings, path, table, keys,
+        ),
+        Saved::State { folder, all_values } => {
+            let served = Served {
+                text,
+                initial: table,
+                saves: if all_values {
+                    Saves::All
+                } else {
+                    Saves::Writable
+                },
+            };
+            open_with_state(alloc, log, settings, folder, served, keys)
+        }
     }
-    Ok(rows)
 }
 
-/// Refuses rows of which a peer has no key, and tells which. Where that cannot be written, nobody can
-/// be told.
-fn refuse_unknown<R: Eprint>(rt: &R, alloc: Global, rows: &Rows, keys: &Keys) -> Result<(), Stop> {
-    let unknown = match unknown_peer(alloc, rows, keys) {
-        Ok(unknown) => unknown,
+/// A host with the subscriptions of a file.
+fn open_with_subscriptions<R: Files<File = File> + Clock + Eprint>(
+    alloc: Global,
+    log: &Log<'_, R>,
+    settings: &Settings<'_>,
+    path: &str,
+    table: Table,
+    keys: Keys,
+) -> Result<(Host, Option<Keeping>), Stop> {
+    let file = find_file(alloc, log, path, FOR_ALL)?;
+    let lock = lock_file(alloc, log, file.path(), ".lock")?;
+    let rows = read_rows(alloc, log.rt, Some(file.path()))?;
+    let host = open_with(alloc, log, settings, table, keys, rows)?;
+    let keeping = Keeping::new(alloc, lock, file, Contents::Subscriptions);
+    Ok((host, Some(keeping)))
+}
+
+/// A host with the state of a folder.
+fn open_with_state<R: Files<File = File> + Clock + Eprint>(
+    alloc: Global,
+    log: &Log<'_, R>,
+    settings: &Settings<'_>,
+    folder: &str,
+    served: Served,
+    keys: Keys,
+) -> Result<(Host, Option<Keeping>), Stop> {
+    let lock = lock_file(alloc, log, folder, "/lock")?;
+    let path = match format!(in alloc; "{folder}/state") {
+        Ok(path) => path,
         Err(_) => return Err(Stop::Fault(ShellFault::Memory)),
     };
-    let Some(peer) = unknown else {
-        return Ok(());
+    let file = find_file(alloc, log, path.as_str(), OWNER_ALONE)?;
+    let table = judged_table(alloc, served.text.as_slice())?;
+    let host = match find_state(alloc, log, file.path())? {
+        Some(state) => resume(alloc, log, settings, state, &served, table, keys)?,
+        None => {
+            let rows = read_rows(alloc, log.rt, None)?;
+            open(alloc, table, keys, rows, &settings.host)?
+        }
     };
-    if let Ok(line) = format!(in alloc;
-        "rows: no key of the peer {peer} (--drop-unknown drops it)"
-    ) {
-        let _ = rt.eprintln(line.as_str());
+    let keeping = Keeping::new(alloc, lock, file, Contents::State(served));
+    Ok((host, Some(keeping)))
+}
+
+/// The file at a path, which is written later.
+fn find_file<R: Files<File = File> + Clock + Eprint>(
+    alloc: Global,
+    log: &Log<'_, R>,
+    path: &str,
+    mode: u32,
+) -> Result<SavedFile, Stop> {
+    match SavedFile::at(log.rt, alloc, path, mode) {
+        Ok(file) => Ok(file),
+        Err(error) => Err(refuse(log.rt, format!(in alloc; "{path}: {error}").ok())),
     }
-    Err(Stop::File)
+}
+
+/// Locks the file whose path is that of another one with an end. A disk that is full or can only be
+/// read is no reason not to serve: it is logged that there is no lock then.
+fn lock_file<R: Files<File = File> + Clock + Eprint>(
+    alloc: Global,
+    log: &Log<'_, R>,
+    path: &str,
+    end: &str,
+) -> Result<Option<Lock>, Stop> {
+    let Ok(place) = format!(in alloc; "{path}{end}") else {
+        return Err(Stop::Fault(ShellFault::Memory));
+    };
+    let place = place.as_str();
+    match Lock::take(log.rt, place) {
+        Ok(lock) => Ok(Some(lock)),
+        Err(LockFault::Taken) => Err(refuse(
+            log.rt,
+            format!(in alloc; "{place}: locked: another device uses {path}").ok(),
+        )),
+        Err(LockFault::Failed(error)) => match error.kind() {
+            ErrorKind::StorageFull | ErrorKind::QuotaExceeded | ErrorKind::ReadOnlyFilesystem => {
+                if let Ok(line) = format!(in alloc; "{place}: {error}") {
+                    log.say_of("not locked:", line.as_str());
+                }
+                Ok(None)
+            }
+            _ => Err(refuse(log.rt, format!(in alloc; "{place}: {error}").ok())),
+        },
+    }
+}
+
+/// The subscriptions of a file, if there is one.
+fn read_rows<F: Files>(alloc: Global, files: &F, path: Option<&str>) -> Result<Rows, ShellFault> {
+    gatt_files::read_rows(alloc, &mut RowsReader::new(files, RowsPath(path)))
+}
+
+/// The state that a file has, if it is there.
+fn find_state<R: Files<File = File> + Clock + Eprint>(
+    alloc: Global,
+    log: &Log<'_, R>,
+    path: &str,
+) -> Result<Option<State>, Stop> {
+    let mut file = match File::open(log.rt, path) {
+        Ok(file) => file,
+        Err(error) if error.kind() == ErrorKind::NotFound => return Ok(None),
+        Err(error) => {
+            return Err(refuse(log.rt, format!(in alloc; "{path}: {error}").ok()));
+        }
+    };
+    let Ok(octets) = gatt_files::read_all(alloc, &mut file) else {
+        return Err(refuse(log.rt, format!(in alloc; "{path}: cannot be read").ok()));
+    };
+    match State::read(alloc, octets.as_slice()) {
+        Ok(state) => Ok(Some(state)),
+        Err(fault) => Err(refuse(log.rt, format!(in alloc; "{path}: {fault}").ok())),
+    }
+}
+
+/// A host that goes on with a state.
+fn resume<R: Files<File = File> + Clock + Eprint>(
+    alloc: Global,
+    log: &Log<'_, R>,
+    settings: &Settings<'_>,
+    state: State,
+    served: &Served,
+    table: Table,
+    keys: Keys,
+) -> Result<Host, Stop> {
+    let mut table = table;
+    restore_values(alloc, log, &mut table, &state);
+    let (before, rows, _) = state.into_parts();
+    if before.as_bytes() == served.text.as_slice() {
+        return open_with(alloc, log, settings, table, keys, rows);
+    }
+    match judged_table(alloc, before.as_bytes()) {
+        Ok(before) => {
+            let replacement = Replacement { before, table };
+            open_changed(alloc, log, settings, replacement, keys, rows)
+        }
+        Err(_) => {
+            log.say("the saved table is no table any more: subscriptions are taken as they stand");
+            open_with(alloc, log, settings, table, keys, rows)
+        }
+    }
+}
+
+/// Puts the values of a state into a table, and logs those that do not fit.
+fn restore_values<R: Clock + Eprint>(
+    alloc: Global,
+    log: &Log<'_, R>,
+    table: &mut Table,
+    state: &State,
+) {
+    for value in state.values() {
+        let handle = value.handle();
+        if !restore(table, handle, value.kind(), value.octets())
+            && let Ok(line) = format!(in alloc; "{handle}: the table has no such value here")
+        {
+            log.say_of("value dropped:", line.as_str());
+        }
+    }
+}
+
+/// A table that takes the place of another one.
+#[derive(Drop)]
+struct Replacement {
+    before: Table,
+    table: Table,
+}
+
+/// A host with subscriptions that were made at another table, which is replaced.
+fn open_changed<R: Files<File = File> + Clock + Eprint>(
+    alloc: Global,
+    log: &Log<'_, R>,
+    settings: &Settings<'_>,
+    replacement: Replacement,
+    keys: Keys,
+    rows: Rows,
+) -> Result<Host, Stop> {
+    let Replacement { before, table } = replacement;
+    log.say("the table has changed");
+    refuse_unknown(alloc, log.rt, settings, &rows, &keys)?;
+    let saved = saved_lines(alloc, &rows)?;
+    let mut host = open(alloc, before, keys, rows, &settings.host)?;
+    take_out(&mut host);
+    let refused = replace_table(alloc, log, &mut host, table);
+    let (mut table, keys, mut rows) = host.into_parts();
+    if let Some(refused) = refused {
+        rows.keep(&table, &refused);
+        table = refused;
+    }
+    let host = open(alloc, table, keys, rows, &settings.host)?;
+    log_dropped(alloc, log, saved.as_slice(), host.rows());
+    Ok(host)
+}
+
+/// Replaces the table of a host, or gives it back and logs why.
+fn replace_table<R: Clock + Eprint>(
+    alloc: Global,
+    log: &Log<'_, R>,
+    host: &mut Host,
+    table: Table,
+) -> Option<Table> {
+    if !host.drained() {
+        return Some(table);
+    }
+    match host.replace(table) {
+        Ok(_) => None,
+        Err((fault, table)) => {
+            if let Ok(words) = format!(in alloc; "{fault}") {
+                log.say_of("phones are not told of the change:", words.as_str());
+            }
+            Some(table)
+        }
+    }
+}
+
+/// Takes out what a host owes its controller.
+fn take_out(host: &mut Host) {
+    let mut packet = PacketOctets::new();
+    for _packet in 0..MOST_PACKETS {
+        if !host.next_out(&mut packet) {
+            return;
+        }
+    }
+}
+
+/// A host with these subscriptions. Those that the host drops are logged.
+fn open_with<R: Eprint + Clock>(
+    alloc: Global,
+    log: &Log<'_, R>,
+    settings: &Settings<'_>,
+    table: Table,
+    keys: Keys,
+    rows: Rows,
+) -> Result<Host, Stop> {
+    refuse_unknown(alloc, log.rt, settings, &rows, &keys)?;
+    let saved = saved_lines(alloc, &rows)?;
+    let mut table = table;
+    if is_change_pending(saved.as_slice()) {
+        set_whole_range(&mut table);
+    }
+    let host = open(alloc, table, keys, rows, &settings.host)?;
+    log_dropped(alloc, log, saved.as_slice(), host.rows());
+    Ok(host)
+}
+
+/// Whether a peer among lines of subscriptions is still to be told that the table has changed.
+fn is_change_pending(lines: &[u8]) -> bool {
+    lines.contains(&b'!')
+}
+
+/// Sets that all handles have changed, as the value of Service Changed: Core 5.0, Vol 3 Part G, 7.1.
+fn set_whole_range(table: &mut Table) {
+    if let Some(handle) = table.changer() {
+        restore(table, handle, SERVICE_CHANGED, &[0x01, 0x00, 0xFF, 0xFF]);
+    }
+}
+
+/// The lines of subscriptions.
+fn saved_lines(alloc: Global, rows: &Rows) -> Result<Vec<u8>, Stop> {
+    match subscriptions_text(alloc, rows) {
+        Ok(text) => Ok(text),
+        Err(_) => Err(Stop::Fault(ShellFault::Memory)),
+    }
+}
+
+/// Logs each of these lines that subscriptions have no more.
+fn log_dropped<R: Clock + Eprint>(alloc: Global, log: &Log<'_, R>, saved: &[u8], rows: &Rows) {
+    let Ok(text) = subscriptions_text(alloc, rows) else {
+        log.say("memory: refused for the subscriptions that were dropped");
+        return;
+    };
+    let text = str::from_utf8(text.as_slice()).unwrap_or("");
+    for line in str::from_utf8(saved).unwrap_or("").split('\n') {
+        if !has_line(text, line) {
+            log.say_of("subscription dropped:", line);
+        }
+    }
+}
+
+/// Whether a text has a line. Each has the empty one.
+fn has_line(text: &str, line: &str) -> bool {
+    for other in text.split('\n') {
+        if other == line {
+            return true;
+        }
+    }
+    line.is_empty()
+}
+
+/// Refuses subscriptions of a peer without a key, unless such subscriptions are dropped.
+fn refuse_unknown<R: Eprint>(
+    alloc: Global,
+    rt: &R,
+    settings: &Settings<'_>,
+    rows: &Rows,
+    keys: &Keys,
+) -> Result<(), Stop> {
+    let what = match settings.files.saved {
+        _ if settings.files.drop_unknown => return Ok(()),
+        Saved::State { .. } => "state",
+        Saved::Subscriptions(_) | Saved::Nothing => "rows",
+    };
+    match unknown_peer(alloc, rows, keys) {
+        Ok(None) => Ok(()),
+        Ok(Some(peer)) => Err(refuse(
+            rt,
+            format!(in alloc; "{what}: no key of the peer {peer} (--drop-unknown drops it)").ok(),
+        )),
+        Err(_) => Err(Stop::Fault(ShellFault::Memory)),
+    }
 }
 
 /// A host with these, as the words say.

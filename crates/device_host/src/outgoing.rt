@@ -2,8 +2,7 @@
 
 ghost use Rattle.std.specs.Prelude.{None, Some};
 
-use device_lines::Outbox;
-use gatt_device::Outgoing;
+use gatt_device::{Outgoing, withhold};
 use octets::{Failed, Sink};
 use std::alloc::Global;
 
@@ -12,31 +11,44 @@ const LIMIT: usize = 1_048_576;
 
 /// The octets that wait for a controller.
 #[derive(Drop)]
-pub(crate) struct ToController(Outbox);
+pub(crate) struct ToController {
+    octets: Vec<u8>,
+}
 
 impl ToController {
     /// Nothing waits yet.
     pub(crate) fn new(alloc: Global) -> ToController {
-        ToController(Outbox::new(alloc, LIMIT))
+        ToController {
+            octets: Vec::new(alloc),
+        }
     }
 }
 
 impl Sink for ToController {
-    ghost contents = { λ outgoing. Some outgoing.0.octets };
+    ghost contents = { λ outgoing. Some outgoing.octets.items };
 
     ghost failures = { λ _. None };
 
     fn write(&mut self, buf: &[u8]) -> Result<usize, Failed> {
-        self.0.write(buf)
+        let fits = buf.len() <= LIMIT.saturating_sub(self.octets.len());
+        if fits && self.octets.extend_from_slice(buf).is_ok() {
+            Ok(buf.len())
+        } else {
+            Err(Failed)
+        }
     }
 }
 
 impl Outgoing for ToController {
     fn waiting(&self) -> &[u8] {
-        self.0.waiting()
+        self.octets.as_slice()
     }
 
     fn clear(&mut self) {
-        self.0.clear();
+        self.octets.clear();
+    }
+
+    fn withhold(&mut self, connections: &[u16]) {
+        withhold(&mut self.octets, connections);
     }
 }

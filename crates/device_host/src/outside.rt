@@ -3,7 +3,7 @@
 use crate::device::Device;
 use crate::hearing::Hearing;
 use crate::telling::settle;
-use gatt_device::{Outside, Sending};
+use gatt_device::{Outside, Saving, Sending};
 use gatt_host::Host;
 use std::fs::{File, Files};
 use std::net::{Net, TcpListener, TcpStream};
@@ -12,15 +12,8 @@ use std::time::Clock;
 impl<
     R: Files<File = File> + Net<Listener = TcpListener, Stream = TcpStream> + Clock + Eprint,
 > Outside<Hearing> for Device<'_, R> {
-    fn keep(&mut self, host: &Host, listener: &mut Hearing) -> bool {
-        settle(
-            self.alloc,
-            &mut self.sides,
-            &mut self.rows,
-            host,
-            &mut listener.0,
-        );
-        self.rows.is_kept()
+    fn save(&mut self, host: &Host, listener: &mut Hearing) -> Saving {
+        settle(self, host, listener)
     }
 
     #[tactic(auto, using(gatt_device::proofs::Unknown::sends_unknown))]

@@ -1,11 +1,13 @@
 //! One controller after another is served.
 
 use crate::device::Device;
-use crate::ends::{open_ends, reaching};
+use crate::ends::{begin_capture, reaching};
 use crate::hearing::Hearing;
-use crate::opening::{read_host, reopen};
+use crate::keeping::Keeping;
+use crate::opening::{open_host, reopen};
 use crate::outgoing::ToController;
 use crate::stop::Stop;
+use device_ends::Log;
 use device_lines::Told;
 use device_sides::{Heard, Sides};
 use device_words::{HostWords, Settings};
@@ -15,6 +17,7 @@ use gatt_host::{Host, HostFault};
 use std::alloc::Global;
 use std::fs::{File, Files};
 use std::net::{Net, TcpListener, TcpStream};
+use std::random::RandomSource;
 use std::time::Clock;
 
 /// Why a controller is served no longer.
@@ -42,30 +45,49 @@ pub fn serve_devices<
         + Net<Listener = TcpListener, Stream = TcpStream>
         + Clock
         + Eprint
+        + RandomSource
         + AllocGlobal,
 >(rt: &R, words: &HostWords<'_>) -> Result<(), Stop> {
     let settings = match Settings::read(words) {
         Ok(settings) => settings,
         Err(wrong) => return Err(Stop::Words(wrong)),
     };
-    prepare_and_serve(rt, rt.alloc(), &settings)
+    let Ok(log) = Log::new(rt, rt.alloc()) else {
+        return Err(Stop::Fault(ShellFault::Listen));
+    };
+    prepare_and_serve(rt.alloc(), log, &settings, number_of_start(rt))
+}
+
+/// A number that no other start of a device has, as far as chance can tell.
+fn number_of_start<R: RandomSource>(rt: &R) -> u64 {
+    let mut octets = [0; 4];
+    // The device serves also if there is no chance to be had: then the number is 0.
+    let _ = rt.fill_bytes(&mut octets);
+    u64::from(u32::from_le_bytes(octets))
 }
 
 /// Reads the files, listens, and serves.
 fn prepare_and_serve<
     R: Files<File = File> + Net<Listener = TcpListener, Stream = TcpStream> + Clock + Eprint,
->(rt: &R, alloc: Global, settings: &Settings<'_>) -> Result<(), Stop> {
-    let host = read_host(rt, alloc, &settings.files, &settings.host)?;
-    listen_and_serve(rt, alloc, settings, host)
+>(alloc: Global, log: Log<'_, R>, settings: &Settings<'_>, started: u64) -> Result<(), Stop> {
+    let (host, keeping) = open_host(alloc, &log, settings)?;
+    listen_and_serve(alloc, log, settings, host, keeping, started)
 }
 
 /// Listens, and serves a host. Host and device are dropped as a whole, here and below, for the proof.
 fn listen_and_serve<
     R: Files<File = File> + Net<Listener = TcpListener, Stream = TcpStream> + Clock + Eprint,
->(rt: &R, alloc: Global, settings: &Settings<'_>, host: Host) -> Result<(), Stop> {
-    match reaching(rt, alloc, settings, host.rows()) {
+>(
+    alloc: Global,
+    log: Log<'_, R>,
+    settings: &Settings<'_>,
+    host: Host,
+    keeping: Option<Keeping>,
+    started: u64,
+) -> Result<(), Stop> {
+    match reaching(log, alloc, settings, keeping, started) {
         Ok(mut device) => {
-            let served = open_and_serve(settings, host, &mut device);
+            let served = save_and_serve(settings, host, &mut device);
             drop(device);
             served
         }
@@ -76,11 +98,14 @@ fn listen_and_serve<
     }
 }
 
-/// Opens what a device still needs, and serves a host.
-fn open_and_serve<
+/// Saves a host for the first time, and serves it. If it cannot be saved, that is tried again.
+fn save_and_serve<
     R: Files<File = File> + Net<Listener = TcpListener, Stream = TcpStream> + Clock + Eprint,
 >(settings: &Settings<'_>, host: Host, device: &mut Device<'_, R>) -> Result<(), Stop> {
-    if let Err(stop) = open_ends(&mut device.sides, settings) {
+    if let Some(keeping) = &mut device.keeping {
+        keeping.save(&host, &mut device.sides);
+    }
+    if let Err(stop) = begin_capture(&mut device.sides, settings) {
         drop(host);
         return Err(stop);
     }
@@ -120,7 +145,13 @@ fn serve_each<
 fn serve_one<
     R: Files<File = File> + Net<Listener = TcpListener, Stream = TcpStream> + Clock + Eprint,
 >(device: &mut Device<'_, R>, host: &mut Host, logs_values: bool) -> Over {
-    let mut heard = Hearing(Heard::new(device.alloc, logs_values));
+    let saves_values = match &device.keeping {
+        Some(keeping) => keeping.contents.has_values(),
+        None => false,
+    };
+    let mut heard = Hearing::new(Heard::new(device.alloc, logs_values), saves_values);
+    // They were connections of the controller before.
+    device.ending.clear();
     let over = serve_turns(device, host, &mut heard);
     tell_over(device.alloc, &mut device.sides, over);
     over
@@ -153,6 +184,9 @@ fn over_in_turn<
         return Some(Over::Gone("gone: it cannot be written"));
     }
     match turn.served {
+        Ok(End::Turns) if device.sides.lacks_application() => {
+            Some(Over::Gone("released: no application is connected"))
+        }
         Ok(End::Turns) => None,
         Ok(End::Ended) => Some(Over::Gone("gone")),
         Ok(End::Failed) => Some(Over::Gone("gone: it cannot be read")),

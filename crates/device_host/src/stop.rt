@@ -18,3 +18,13 @@ impl From<ShellFault> for Stop {
         Stop::Fault(fault)
     }
 }
+
+/// Tells on standard error which file is refused and why, if memory was left for the line.
+pub(crate) fn refuse<R: Eprint>(rt: &R, line: Option<String>) -> Stop {
+    let Some(line) = line else {
+        return Stop::Fault(ShellFault::Memory);
+    };
+    // If that cannot be written, nobody can be told.
+    let _ = rt.eprintln(line.as_str());
+    Stop::File
+}

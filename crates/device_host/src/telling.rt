@@ -6,45 +6,96 @@ ghost use Rattle.std.specs.List.{flat_map};
 ghost use Rattle.device_lines.specs.Told.{connection_lines};
 ghost use Rattle.gatt_slots.specs.Connections.{connections_in};
 
+use crate::device::Device;
+use crate::hearing::Hearing;
+use crate::keeping::Keeping;
 use arrayvec::ArrayVec;
-use device_ends::SavedRows;
+use att_numbers::limit::MAX_ATTRIBUTES;
 use device_lines::{Reply, Told, add_connection, add_reply, add_told};
-use device_sides::{Heard, Question, Sides, add_answer, add_value};
+use device_sides::{Question, Sides, add_answer, add_value};
+use gatt_device::Saving;
 use gatt_host::{AppFault, Host, MAX_SLOTS};
 use std::alloc::{AllocError, Global};
 use std::fs::{File, Files};
 use std::time::Clock;
 
-/// Answers and tells the application what a turn has brought, logs it, and saves the rows.
+/// As many values may have been missed: a table has no more.
+const MOST_MISSED: usize = MAX_ATTRIBUTES;
+
+/// Saves what a turn has changed, and then answers the application, tells it what the turn has brought,
+/// and logs that.
 pub(crate) fn settle<R: Files<File = File> + Clock + Eprint>(
-    alloc: Global,
-    sides: &mut Sides<'_, R>,
-    rows: &mut SavedRows<'_>,
+    device: &mut Device<'_, R>,
     host: &Host,
-    heard: &mut Heard,
-) {
+    hearing: &mut Hearing,
+) -> Saving {
+    let sides = &mut device.sides;
     sides.tell_controller();
-    answer(alloc, sides, host);
-    if !heard.is_nothing() {
-        hear(sides, rows, host, heard);
+    if let Some(keeping) = &mut device.keeping {
+        note_changes(keeping, sides, host, hearing);
     }
-    welcome(alloc, sides, host);
+    let saving = save(device, host, hearing);
+    let sides = &mut device.sides;
+    answer(device.alloc, sides, host);
+    if !hearing.heard.is_nothing() {
+        sides.tell_heard(&hearing.heard);
+        hearing.heard.clear();
+    }
+    welcome(device, host);
+    let sides = &mut device.sides;
+    tell_missed(sides, host);
     look_for_strangers(sides, host);
     sides.flush();
+    saving
 }
 
-/// What was heard in a turn goes to the application and to the log, and the rows to their file.
-fn hear<R: Files<File = File> + Clock + Eprint>(
-    sides: &mut Sides<'_, R>,
-    rows: &mut SavedRows<'_>,
+/// Notes whether a turn has changed something that is saved.
+fn note_changes<R: Clock + Eprint>(
+    keeping: &mut Keeping,
+    sides: &Sides<'_, R>,
     host: &Host,
-    heard: &mut Heard,
+    hearing: &mut Hearing,
 ) {
-    sides.tell_heard(heard);
-    if heard.may_change_rows {
-        rows.save(host.rows(), sides.log());
+    if hearing.is_change {
+        keeping.note_change();
+        hearing.is_change = false;
     }
-    heard.clear();
+    if let Question::Update(handle) = sides.question()
+        && sides.answer().is_ok()
+    {
+        keeping.note_update(host.table(), handle);
+    }
+}
+
+/// Saves what has changed, and has the connections ended whose changes are not saved.
+fn save<R: Files<File = File> + Clock + Eprint>(
+    device: &mut Device<'_, R>,
+    host: &Host,
+    hearing: &mut Hearing,
+) -> Saving {
+    let is_saved = match &mut device.keeping {
+        Some(keeping) => keeping.save(host, &mut device.sides),
+        None => true,
+    };
+    if is_saved {
+        hearing.unsaved.clear();
+        return Saving::Saved;
+    }
+    let unsaved = hearing.unsaved.handles();
+    device.ending = standing(host, unsaved.as_slice());
+    Saving::Unsaved(unsaved)
+}
+
+/// Those of some connections that are there and are not being ended.
+fn standing(host: &Host, handles: &[u16]) -> ArrayVec<u16, MAX_SLOTS> {
+    let mut standing = ArrayVec::new();
+    for connection in host.connections() {
+        if handles.contains(&connection.handle) && !connection.ending {
+            // A host has no more connections than there is room for.
+            let _ = standing.try_push(connection.handle);
+        }
+    }
+    standing
 }
 
 /// Answers the line that was said in a turn.
@@ -81,25 +132,55 @@ fn add_all_connections(text: &mut Vec<u8>, host: &Host) -> Result<(), AllocError
     add_reply(text, &Reply::Done)
 }
 
-/// Tells a new application what stands: whether a controller is served, and who is connected.
-fn welcome<R: Clock + Eprint>(alloc: Global, sides: &mut Sides<'_, R>, host: &Host) {
+/// Tells a new application which start of the device this is, what stands, and what is not saved.
+fn welcome<R: Clock + Eprint>(device: &mut Device<'_, R>, host: &Host) {
+    let sides = &mut device.sides;
     if sides.has_new_application() {
-        let text = standing_text(alloc, sides.has_controller(), host);
+        let text = standing_text(device.alloc, device.started, sides, host);
         sides.welcome(text);
+        if let Some(keeping) = &device.keeping {
+            keeping.tell_failure(sides);
+        }
     }
 }
 
-/// What stands: whether a controller is served, and who is connected.
-fn standing_text(alloc: Global, is_served: bool, host: &Host) -> Result<Vec<u8>, AllocError> {
-    let told = if is_served {
+/// Which start of the device this is, whether a controller is served, and who is connected.
+fn standing_text<R>(
+    alloc: Global,
+    started: u64,
+    sides: &Sides<'_, R>,
+    host: &Host,
+) -> Result<Vec<u8>, AllocError> {
+    let told = if sides.has_controller() {
         Told::Serving
     } else {
         Told::Waiting
     };
     let mut text = Vec::new(alloc);
+    add_told(&mut text, &Told::Started(started))?;
     add_told(&mut text, &told)?;
     add_connections(&mut text, host)?;
     Ok(text)
+}
+
+/// Tells the application the values that it missed, as they are now, as far as it takes lines.
+fn tell_missed<R: Clock + Eprint>(sides: &mut Sides<'_, R>, host: &Host) {
+    for _handle in 0..MOST_MISSED {
+        match sides.next_missed() {
+            Ok(Some(handle)) => {
+                if let Some(value) = host.table().value_of(handle) {
+                    sides.tell(&Told::Missed { handle, value });
+                }
+            }
+            Ok(None) => return,
+            Err(_) => {
+                sides
+                    .log()
+                    .say("memory: refused for values that an application missed");
+                return;
+            }
+        }
+    }
 }
 
 /// Adds the lines of all connections of a host, in the order of their slots.

@@ -1,0 +1,191 @@
+//! What of a host is saved, and when.
+
+use device_ends::{Lock, SavedFile};
+use device_lines::Told;
+use device_sides::Sides;
+use device_state::{Saves, may_be_saved, state_text};
+use gatt_host::{Host, Rows, Table};
+use octets::Writer;
+use std::alloc::Global;
+use std::fs::{File, Files};
+use std::io::ErrorKind;
+use std::time::Clock;
+use std::{io, str};
+
+/// After how long a failed save is tried again, in milliseconds.
+const RETRY_TIME: u64 = 1_000;
+
+/// What the saved text has.
+#[derive(Drop)]
+pub(crate) enum Contents {
+    /// The subscriptions.
+    Subscriptions,
+    /// The state.
+    State(Served),
+}
+
+/// The table that is served.
+#[derive(Drop)]
+pub(crate) struct Served {
+    /// The text of its file.
+    pub(crate) text: Vec<u8>,
+    /// The table with the values of its file.
+    pub(crate) initial: Table,
+    /// Which values are saved.
+    pub(crate) saves: Saves,
+}
+
+impl Contents {
+    /// Whether values are saved that phones write.
+    pub(crate) fn has_values(&self) -> bool {
+        matches!(self, Contents::State(_))
+    }
+
+    /// Whether the value at a handle is saved.
+    fn has(&self, table: &Table, handle: u16) -> bool {
+        match (self, table.get(handle)) {
+            (Contents::State(served), Some(attr)) => may_be_saved(attr, served.saves),
+            _ => false,
+        }
+    }
+
+    /// The text for a host as it stands.
+    fn text(&self, alloc: Global, host: &Host) -> io::Result<Vec<u8>> {
+        match self {
+            Contents::Subscriptions => subscriptions_text(alloc, host.rows()),
+            Contents::State(served) => {
+                // A table file is text, or it was refused.
+                let table_text = str::from_utf8(served.text.as_slice()).unwrap_or("");
+                let (rows, table) = (host.rows(), host.table());
+                let text = state_text(
+                    alloc,
+                    table_text,
+                    rows,
+                    table,
+                    &served.initial,
+                    served.saves,
+                )?;
+                Ok(text)
+            }
+        }
+    }
+}
+
+/// The lines of subscriptions.
+pub(crate) fn subscriptions_text(alloc: Global, rows: &Rows) -> io::Result<Vec<u8>> {
+    let mut text = Vec::new(alloc);
+    match rows.text(&mut Writer::new(&mut text)) {
+        Ok(()) => Ok(text),
+        Err(_) => Err(io::Error::from(ErrorKind::OutOfMemory)),
+    }
+}
+
+/// The file in which a host is saved.
+#[derive(Drop)]
+pub(crate) struct Keeping {
+    alloc: Global,
+    _lock: Option<Lock>,
+    file: SavedFile,
+    pub(crate) contents: Contents,
+    /// Whether something has changed since all was saved.
+    is_due: bool,
+    /// When a failed save is tried again, in milliseconds.
+    retry: Option<u64>,
+    /// Which file the last save failed for and why, if it failed.
+    failure: Option<String>,
+}
+
+impl Keeping {
+    /// Nothing is saved yet.
+    pub(crate) fn new(
+        alloc: Global,
+        lock: Option<Lock>,
+        file: SavedFile,
+        contents: Contents,
+    ) -> Keeping {
+        Keeping {
+            alloc,
+            _lock: lock,
+            file,
+            contents,
+            is_due: true,
+            retry: None,
+            failure: None,
+        }
+    }
+
+    /// When a failed save is tried again, in milliseconds.
+    pub(crate) fn retry(&self) -> Option<u64> {
+        self.retry
+    }
+
+    /// The application has updated the value at a handle.
+    pub(crate) fn note_update(&mut self, table: &Table, handle: u16) {
+        self.is_due |= self.contents.has(table, handle);
+    }
+
+    /// Phones have changed something that is saved.
+    pub(crate) fn note_change(&mut self) {
+        self.is_due = true;
+    }
+
+    /// Saves a host as it stands, if something has changed and it is time to try: whether all is
+    /// saved. The log and the application are told when this changes.
+    pub(crate) fn save<R: Files<File = File> + Clock + Eprint>(
+        &mut self,
+        host: &Host,
+        sides: &mut Sides<'_, R>,
+    ) -> bool {
+        if self.is_due && self.is_time(sides.log().now()) {
+            match self.write(host, sides.log().rt) {
+                Ok(()) => self.succeed(sides),
+                Err(error) => self.fail(sides, &error),
+            }
+        }
+        !self.is_due
+    }
+
+    /// Whether a save may be tried.
+    fn is_time(&self, now: u64) -> bool {
+        match self.retry {
+            Some(retry) => retry <= now,
+            None => true,
+        }
+    }
+
+    /// Tells the application that not all is saved, and why, if the last save failed.
+    pub(crate) fn tell_failure<R: Clock + Eprint>(&self, sides: &mut Sides<'_, R>) {
+        if let Some(failure) = &self.failure {
+            sides.tell(&Told::Unsaved(failure.as_str()));
+        }
+    }
+
+    /// All is saved.
+    fn succeed<R: Clock + Eprint>(&mut self, sides: &mut Sides<'_, R>) {
+        self.is_due = false;
+        if self.retry.is_some() {
+            self.retry = None;
+            self.failure = None;
+            sides.log().say_of("saved again:", self.file.path());
+            sides.tell(&Told::Saved);
+        }
+    }
+
+    /// Not all is saved, and it is tried again later.
+    fn fail<R: Clock + Eprint>(&mut self, sides: &mut Sides<'_, R>, error: &io::Error) {
+        let is_first = self.retry.is_none();
+        self.retry = Some(sides.log().now().saturating_add(RETRY_TIME));
+        let path = self.file.path();
+        if is_first && let Ok(line) = format!(in self.alloc; "{path}: {error}") {
+            sides.log().say_of("not saved:", line.as_str());
+            self.failure = Some(line);
+            self.tell_failure(sides);
+        }
+    }
+
+    /// Writes the text of a host.
+    fn write<R: Files>(&mut self, host: &Host, files: &R) -> io::Result<()> {
+        let text = self.contents.text(self.alloc, host)?;
+        self.file.save(files, text)
+    }
+}
