@@ -538,30 +538,32 @@ def a_confirmation(folder):
 
 
 def rows_without_a_folder(folder):
-    """Rows that cannot be written are told of, phones are served, and the next ones are written again."""
-    place = f"{folder}/rows"
+    """A configuration that cannot be saved is not answered, its phone is sent away, and it is saved later."""
+    place, both = f"{folder}/rows", "0 00:11:22:33:44:55 7 1\n0 00:11:22:33:44:55 11 1\n"
     os.mkdir(place)
     device = Device(*DOOR, "--listen", "127.0.0.1:0", "--rows", f"{place}/door.rows")
     controller = controller_at(device)
     controller.is_advertised()
+    controller.connect(64, STRANGER)
     controller.connect(65, OWNER)
     controller.encrypt(65)
     check("the first rows", "13", controller.ask(65, "1207000100"))
     check("are written", "0 00:11:22:33:44:55 7 1\n", text_of(f"{place}/door.rows"))
     shutil.rmtree(place)
-    check("a phone is answered", "13", controller.ask(65, "120b000100"))
-    check("it is told", "", device.said("rows: not saved"))
+    controller.say(65, "120b000100")
+    check("the phone is sent away", "410013", controller.command(DISCONNECT))
+    check("it is not answered", None, controller.hears(65, 0.2))
+    check("it is logged", f" {place}/door.rows: No such file", device.said("not saved:")[:len(place) + 25])
+    check("another phone is served", "0b4c6f636b", controller.ask(64, "0a0300"))
     os.mkdir(place)
-    check("the next rows", "13", controller.ask(65, "1207000000"))
-    check("are written again", "0 00:11:22:33:44:55 11 1\n", text_of(f"{place}/door.rows"))
-    shutil.rmtree(place)
-    check("another configuration", "13", controller.ask(65, "1207000100"))
-    device.said("rows: not saved", 2)
-    os.mkdir(place)
-    check("the same once more", "13", controller.ask(65, "1207000100"))
+    begun = time.monotonic()
+    check("which is logged too", f" {place}/door.rows", device.said("saved again:"))
+    check("within two seconds", True, time.monotonic() - begun < 2)
     # In the order in which the phone configured them first.
-    both = "0 00:11:22:33:44:55 7 1\n0 00:11:22:33:44:55 11 1\n"
-    check("is written too", both, text_of(f"{place}/door.rows"))
+    check("all is written", both, text_of(f"{place}/door.rows"))
+    controller.connect(65, OWNER)
+    controller.encrypt(65)
+    check("the phone is served again", "0b0100", controller.ask(65, "0a0b00"))
     device.end()
     controller.close()
 

@@ -48,15 +48,22 @@ class Device:
     def __init__(self, *words):
         self.process = subprocess.Popen([PROGRAM, "host", *words], stderr=subprocess.PIPE, text=True)
         Device.started.append(self.process)
+        # The lines of standard error as they are, and without their first word, which is the time.
+        self.lines = []
         self.log = []
+        self.is_over = False
         self.changed = threading.Condition()
         threading.Thread(target=self.read, daemon=True).start()
 
     def read(self):
         for line in self.process.stderr:
             with self.changed:
+                self.lines.append(line.rstrip("\n"))
                 self.log.append(line.rstrip("\n").split(" ", 1)[-1])
                 self.changed.notify_all()
+        with self.changed:
+            self.is_over = True
+            self.changed.notify_all()
 
     def said(self, begin, count=1):
         """What the line of the log says that begins so, once there are as many."""
@@ -66,6 +73,8 @@ class Device:
                 found = [it for it in self.log if it.startswith(begin)]
                 if len(found) >= count:
                     return found[count - 1][len(begin):]
+                if self.is_over:
+                    break
                 self.changed.wait(0.1)
         raise TimeoutError(f"the log has no {begin!r}: {self.log}")
 
@@ -77,6 +86,13 @@ class Device:
     def end(self, how=signal.SIGKILL):
         self.process.send_signal(how)
         return self.process.wait(PATIENCE)
+
+    def refusal(self):
+        """The status of a device that does not start, and what it says."""
+        status = self.process.wait(PATIENCE)
+        with self.changed:
+            self.changed.wait_for(lambda: self.is_over, PATIENCE)
+            return status, "\n".join(self.lines)
 
 
 def end_all():
@@ -225,12 +241,15 @@ class SerialLine:
 
 
 class Application:
-    """An application, and the lines that it hears."""
+    """An application, the number of the device's start, and the lines that it hears."""
 
     def __init__(self, path):
         self.stream = socket.socket(socket.AF_UNIX)
         self.stream.connect(path)
         self.octets = b""
+        first = self.line()
+        check("an application's first line", "+ started ", (first or "")[:10])
+        self.started = (first or "")[10:]
 
     def line(self, seconds=PATIENCE):
         """The next line; `END` at the end, and none where nothing comes."""
