@@ -76,7 +76,7 @@ class Device:
                 if self.is_over:
                     break
                 self.changed.wait(0.1)
-        raise TimeoutError(f"the log has no {begin!r}: {self.log}")
+        raise TimeoutError(f"the log has no {begin!r}: {self.log[-8:]}")
 
     def port(self):
         self.said("ready")
