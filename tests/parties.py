@@ -45,8 +45,9 @@ class Device:
 
     started = []
 
-    def __init__(self, *words):
-        self.process = subprocess.Popen([PROGRAM, "host", *words], stderr=subprocess.PIPE, text=True)
+    def __init__(self, *words, through=()):
+        """The words of the command, and those of a program that runs it, if one does."""
+        self.process = subprocess.Popen([*through, PROGRAM, "host", *words], stderr=subprocess.PIPE, text=True)
         Device.started.append(self.process)
         # The lines of standard error as they are, and without their first word, which is the time.
         self.lines = []
@@ -61,6 +62,7 @@ class Device:
                 self.lines.append(line.rstrip("\n"))
                 self.log.append(line.rstrip("\n").split(" ", 1)[-1])
                 self.changed.notify_all()
+        self.process.stderr.close()
         with self.changed:
             self.is_over = True
             self.changed.notify_all()
@@ -248,6 +250,8 @@ class Application:
         self.stream.connect(path)
         self.octets = b""
         first = self.line()
+        if first == "END":
+            raise ConnectionResetError("the device ended before its first line")
         check("an application's first line", "+ started ", (first or "")[:10])
         self.started = (first or "")[10:]
 

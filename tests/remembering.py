@@ -135,8 +135,9 @@ class Home:
         self.saved = ["--state", self.place] if saved == "state" else ["--rows", self.path]
         self.socket = f"{folder}/socket"
 
-    def device(self, *words):
-        return Device(self.table, KEYS, "--listen", "127.0.0.1:0", "--application", self.socket, *self.saved, *words)
+    def device(self, *words, through=()):
+        words = ["--listen", "127.0.0.1:0", "--application", self.socket, *self.saved, *words]
+        return Device(self.table, KEYS, *words, through=through)
 
     def start(self, *words):
         """A device, its controller, and the owner with the key."""
@@ -299,53 +300,51 @@ def nobody_there(folder):
     check("it comes last", missed(one.welcome), one.welcome[-2:])
     write(controller, VALUE, "04")
     check("what is told", f"+ written {AT_OWNER} {VALUE} 04", one.line())
-    one.close()
-    device.said("application gone")
-    check("it is not told again", [], missed(home.application().welcome))
+    check("it is not told again", [], missed(after(home, device, one).welcome))
     end(device, controller)
 
 
-def an_unread_line(folder, is_replaced):
-    """An application is gone, or replaced, and one line of its socket is unread."""
+def after(home, device, application):
+    """The application that comes after one that has read all, and is gone."""
+    count = len(lines_of(device, "application gone"))
+    application.close()
+    device.said("application gone", count + 1)
+    return home.application()
+
+
+def unread_lines(folder, count, is_replaced):
+    """An application is gone, or replaced, and so many lines are unread: what they told is told again."""
     home = Home(folder)
     device, controller = home.start()
     one = home.application()
     check("it has missed nothing", [], missed(one.welcome))
-    write(controller, VALUE, "05")
-    if not is_replaced:
-        one.close()
-        device.said("application gone")
-    check("what was not read", [f"+ missed {VALUE} 05"], missed(home.application().welcome))
-    check("it is told once", [], missed(home.application().welcome))
-    end(device, controller)
-
-
-def many_unread_lines(folder, is_replaced):
-    """An application is gone, or replaced, and more waits for it than its socket takes."""
-    home = Home(folder)
-    device, controller = home.start()
-    one = home.application()
     controller.ask(AT_OWNER, "02f700")
-    for number in range(200):
+    for number in range(count):
         write(controller, LONG, f"{number:02x}" * 240)
     if not is_replaced:
         one.close()
         device.said("application gone")
-    check("what was not read", [f"+ missed {LONG} " + "c7" * 240], missed(home.application().welcome))
-    check("it is told once", [], missed(home.application().welcome))
+    two = home.application()
+    check("what was not read", [f"+ missed {LONG} " + f"{count - 1:02x}" * 240], missed(two.welcome))
+    check("it is told once", [], missed(after(home, device, two).welcome))
     end(device, controller)
 
 
 def gone_with_a_line(folder):
-    an_unread_line(folder, False)
+    unread_lines(folder, 1, False)
 
 
+# So many lines are more than the socket takes: the device still holds some of them.
 def gone_with_many_lines(folder):
-    many_unread_lines(folder, False)
+    unread_lines(folder, 200, False)
+
+
+def replaced_with_a_line(folder):
+    unread_lines(folder, 1, True)
 
 
 def replaced_with_many_lines(folder):
-    many_unread_lines(folder, True)
+    unread_lines(folder, 200, True)
 
 
 def is_refused(what, home, second, parts, status=1):
@@ -879,7 +878,7 @@ def killed(folder, times):
 
 SCENARIOS = [
     writable_values, all_values, commands, a_stranger, starts, nobody_there, gone_with_a_line, gone_with_many_lines,
-    replaced_with_many_lines, a_locked_state, a_locked_rows_file, a_linked_rows_file, no_place_to_listen, faulty_states,
+    replaced_with_a_line, replaced_with_many_lines, a_locked_state, a_locked_rows_file, a_linked_rows_file, no_place_to_listen, faulty_states,
     a_file_beside_the_state, a_file_beside_the_rows, a_linked_state, a_linked_rows_path, no_folder, both, permission,
     a_service_in_front, a_larger_value, a_smaller_value, no_service_changed, another_value_in_its_place, rows_of_another_table,
     waits_for_an_application, a_state_that_is_not_saved, rows_that_are_not_saved, updates_that_are_not_saved,

@@ -1,0 +1,255 @@
+#!/usr/bin/env -S python3 -B
+"""Has each call by which `gatt_shell host` saves a file fail, be cut short, or be its last.
+
+usage: tests/failing.py [PROGRAM] [--at-once N] [--saved state|rows] [--only KIND:NUMBER]
+
+PROGRAM stands in place of ./gatt_shell. For each call and each kind of fault a device is played with:
+phones write and subscribe, and an application updates. Then it is killed, and started again without
+faults. N devices are played at once. The last line is 'N passed, M failed', and the one before it says
+how many calls failed in how many ways.
+"""
+
+import argparse
+import concurrent.futures
+import errno
+import os
+import shutil
+import signal
+import subprocess
+import sys
+import tempfile
+
+sys.dont_write_bytecode = True
+from parties import COUNT, DISCONNECT, ROOT, STRANGER, check, controller_at, end_all
+from remembering import (
+    AT_GUEST, AT_OWNER, AT_STRANGER, GUEST_NAME, LONG, OWNER_NAME, VALUE, VALUE_CONFIG, Home, guest_comes, owner_comes,
+    sealed, spelled,
+)
+
+# The kinds of faults, with the number of the error; and whether the program ends by it.
+KINDS = [
+    ("once", errno.ENOSPC), ("once", errno.EIO), ("from", errno.ENOSPC), ("from", errno.EIO), ("short", 0),
+    ("before", 0), ("after", 0),
+]
+KILLS = ("before", "after")
+
+
+class Promised:
+    """What a party said of one thing, in order, and how much of it was answered."""
+
+    def __init__(self, first):
+        self.said, self.answered = [first], 0
+
+    def say(self, value):
+        self.said.append(value)
+
+    def is_answered(self):
+        self.answered = len(self.said) - 1
+
+    def may_be(self):
+        return self.said[self.answered:]
+
+
+class Play:
+    """A device with a fault, its phones and its application."""
+
+    def __init__(self, folder, tracer, saved, kind, number, fault):
+        self.name = f"{saved} {kind} {number} {errno.errorcode.get(fault, '')}".strip()
+        self.home = Home(folder, saved=saved)
+        self.report = f"{folder}/report"
+        self.through = [tracer, self.report, self.home.place, kind, str(number), str(fault)]
+        self.kind, self.saved, self.wrong = kind, saved, []
+        self.controller = self.application = None
+        self.promised = {
+            "owner": Promised(False), "guest": Promised(False), "write": Promised("00"), "update": Promised("00"),
+        }
+
+    def expect(self, what, wanted, found):
+        if wanted != found:
+            self.wrong.append(f"{what}: wanted {wanted!r}, found {found!r}")
+
+    def ask(self, at, name, pdu, value):
+        """A phone asks for a change: whether it is answered, and not sent away."""
+        controller, promised = self.controller, self.promised[name]
+        gone = lambda: [it for it in controller.commands if it[0] == DISCONNECT and it[1][:1] == bytes([at])]
+        before = len(gone())
+        promised.say(value)
+        controller.say(at, pdu)
+        controller.until(lambda: (at, "13") in controller.heard or len(gone()) > before, 5)
+        is_answered = (at, "13") in controller.heard
+        controller.heard.clear()
+        if is_answered:
+            promised.is_answered()
+        elif len(gone()) > before:
+            (owner_comes if at == AT_OWNER else guest_comes)(controller)
+        elif not controller.is_gone:
+            self.wrong.append(f"{name}: neither answered nor sent away")
+        return is_answered
+
+    def update(self, value):
+        """The application updates: `ok` is no promise if it reads that the value is not saved."""
+        promised = self.promised["update"]
+        promised.say(value)
+        self.application.say(f"update {VALUE} {value}")
+        lines = []
+        while (line := self.application.line(5)) != "ok":
+            lines.append(line)
+            if line in ("END", None):
+                if not (line == "END" and self.kind in KILLS):
+                    self.wrong.append(f"update: {lines}")
+                return
+        while (line := self.application.line(0.1)) and line != "END":
+            lines.append(line)
+        for line in lines:
+            if line.startswith(("+ unsaved", "+ saved")):
+                self.is_unsaved = line.startswith("+ unsaved")
+        if not self.is_unsaved:
+            promised.is_answered()
+
+    def changes(self, written, updated, bits):
+        """Each party changes something: whether all of the phones are answered."""
+        configure = f"12{spelled(VALUE_CONFIG)}{bits:02x}00"
+        answers = [self.ask(AT_OWNER, "owner", configure, bool(bits))]
+        if self.saved == "state":
+            answers.append(self.ask(AT_GUEST, "write", f"12{spelled(LONG)}{written}", written))
+            self.update(updated)
+        answers.append(self.ask(AT_GUEST, "guest", configure, bool(bits)))
+        return all(answers)
+
+    def with_fault(self):
+        """Plays until the device is killed."""
+        device = self.home.device(through=self.through)
+        try:
+            self.serve(device)
+        except (OSError, TimeoutError) as error:
+            if self.kind not in KILLS:
+                self.wrong.append(f"{error!r}")
+        finally:
+            for it in (self.controller, self.application):
+                if it:
+                    it.close()
+        if self.kind in KILLS:
+            self.expect("it is killed", 128 + signal.SIGKILL, device.process.wait(20))
+        else:
+            self.expect("it runs", None, device.process.poll())
+            device.end(signal.SIGTERM)
+
+    def serve(self, device):
+        self.is_unsaved = False
+        self.controller = controller_at(device)
+        self.controller.is_advertised()
+        self.application = self.home.application()
+        self.is_unsaved = any(it.startswith("+ unsaved") for it in self.application.welcome)
+        owner_comes(self.controller)
+        guest_comes(self.controller)
+        self.controller.connect(AT_STRANGER, STRANGER)
+        are_answered = [self.changes("aabb", "01", 1), self.changes("ccdd", "02", 0)]
+        if self.kind in ("once", "short"):
+            if not all(are_answered) or any(it.startswith("not saved:") for it in device.log):
+                device.said("saved again:")
+            self.expect("all is answered again", True, self.changes("eeff", "03", 1))
+        self.controller.say(AT_STRANGER, f"0a{spelled(VALUE)}")
+        answer = self.controller.hears(AT_STRANGER, 5)
+        if self.kind not in KILLS:
+            self.expect("a phone reads", self.promised["update"].said[-1], (answer or "")[2:])
+            self.expect("an application reads", True, (self.application.ask("value 99") or "").startswith(("fault 1", "+ ")))
+
+    def without_fault(self):
+        """What was promised is there after a start without faults."""
+        before = self.home.state()
+        if self.saved == "state" and before:
+            self.expect("it is whole", before, sealed(before[: before.rindex("[end]")]))
+        device = self.home.device()
+        try:
+            device.said("ready")
+            state = self.home.state()
+            for name, peer in (("owner", OWNER_NAME), ("guest", GUEST_NAME)):
+                found = f"{peer} {VALUE_CONFIG} 1\n" in state
+                self.expect(f"subscription of the {name}", True, found in self.promised[name].may_be())
+            if self.saved == "state":
+                application = self.home.application()
+                for name, attribute in (("write", LONG), ("update", VALUE)):
+                    value = application.ask(f"value {attribute}").split(" ")[2].replace("-", "00")
+                    self.expect(f"{name}: {value} of {self.promised[name].may_be()}", True, value in self.promised[name].may_be())
+                application.close()
+            self.expect("no new file is left", False, os.path.lexists(f"{self.home.path}.new"))
+        except (OSError, TimeoutError) as error:
+            self.wrong.append(f"after it: {error!r}")
+        device.end()
+
+    def calls(self):
+        with open(self.report) as file:
+            return file.read().split()
+
+
+def played(room, *more):
+    """Plays once: its name, and what is wrong."""
+    folder = tempfile.mkdtemp(dir=room)
+    play = Play(folder, *more)
+    try:
+        play.with_fault()
+        play.without_fault()
+    except Exception as error:
+        play.wrong.append(repr(error))
+    shutil.rmtree(folder, ignore_errors=True)
+    return play.name, play.wrong
+
+
+def compiled(room):
+    """The program that has calls fail, or nothing if it cannot be compiled or may not trace another."""
+    compiler = shutil.which(os.environ.get("CC", "cc"))
+    if not compiler or os.uname().machine != "x86_64":
+        print("skipped: there is no C compiler, or this is no x86-64", flush=True)
+        return None
+    path = f"{room}/failing"
+    words = [compiler, "-std=c11", "-O2", "-Wall", "-Wextra", "-Wpedantic", "-Werror", "-o", path, f"{ROOT}/tests/c/failing.c"]
+    check("failing.c", 0, subprocess.run(words).returncode)
+    if not os.path.exists(path):
+        return None
+    tried = subprocess.run([path, f"{room}/report", room, "none", "0", "0", "/bin/true"])
+    if tried.returncode != 0:
+        print("skipped: ptrace is not permitted", flush=True)
+        return None
+    return path
+
+
+def calls_of(room, tracer, saved):
+    """The calls of a play without a fault."""
+    play = Play(tempfile.mkdtemp(dir=room), tracer, saved, "none", 0, 0)
+    play.with_fault()
+    play.without_fault()
+    check(f"{saved} without a fault", [], play.wrong)
+    return play.calls()
+
+
+def cases(tracer, saved, calls):
+    for kind, fault in KINDS:
+        for number, name in enumerate(calls, 1):
+            if kind != "short" or name == "write":
+                yield tracer, saved, kind, number, fault
+
+
+def main():
+    words = argparse.ArgumentParser(description=__doc__, formatter_class=argparse.RawDescriptionHelpFormatter)
+    words.add_argument("program", nargs="?")
+    words.add_argument("--at-once", type=int, default=16)
+    words.add_argument("--saved", choices=("state", "rows"), action="append")
+    words.add_argument("--only")
+    given = words.parse_args()
+    with tempfile.TemporaryDirectory() as room:
+        tracer = compiled(room)
+        found = {saved: calls_of(room, tracer, saved) for saved in given.saved or ("state", "rows")} if tracer else {}
+        chosen = [it for saved, calls in found.items() for it in cases(tracer, saved, calls)]
+        if given.only:
+            chosen = [it for it in chosen if f"{it[2]}:{it[3]}" == given.only]
+        with concurrent.futures.ThreadPoolExecutor(given.at_once) as pool:
+            for name, wrong in pool.map(lambda it: played(room, *it), chosen):
+                check(name, [], wrong)
+        end_all()
+        print(f"{sum(map(len, found.values()))} calls, {len(KINDS)} kinds of faults, {len(chosen)} plays")
+    print("{passed} passed, {failed} failed".format(**COUNT))
+    return COUNT["failed"] != 0
+
+
+if __name__ == "__main__":
+    sys.exit(main())
