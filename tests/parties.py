@@ -164,7 +164,10 @@ class Controller:
             left = end - time.monotonic()
             if left <= 0 or not select.select([self.stream], [], [], left)[0]:
                 return False
-            octets = self.stream.recv(4096)
+            try:
+                octets = self.stream.recv(4096)
+            except ConnectionResetError:
+                octets = b""
             if not octets:
                 self.is_gone = True
                 return is_so()

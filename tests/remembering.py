@@ -853,7 +853,7 @@ def killed(folder, times):
     wrong, rounds, left = [], 0, 0
     for _ in range(times):
         before = actors[0].said
-        killed_once(home, actors, random.uniform(0, 0.05))
+        killed_once(home, actors, random.uniform(0, 0.08))
         rounds += actors[0].said - before
         state = home.state()
         left += os.path.lexists(f"{home.path}.new")
