@@ -130,6 +130,7 @@ def a_day(folder):
     two = Application(path)
     stands = ["+ serving", "+ connected 65 0 00:11:22:33:44:55", "+ secured 65 16 1 0"]
     check("another application", stands, two.lines(3))
+    check("the first one may not have read this", "+ missed 10 01", two.line())
     check("in place of the first", "END", one.line())
     check("who is connected", stands[1:] + ["ok"], [two.ask("connections")] + two.lines(2))
     two.close()
