@@ -535,11 +535,15 @@ def no_folder(folder):
     check("it is not made", False, os.path.exists(f"{folder}/none"))
 
 
-def both(folder):
-    """A state and a rows file together are refused."""
+def refused_words(folder):
+    """Words that cannot be followed together are refused, and nothing is made."""
     home = Home(folder)
-    second = Device(home.table, KEYS, "--listen", "127.0.0.1:0", *home.saved, "--rows", f"{folder}/rows")
-    is_refused("both", home, second, [], 64)
+    for words, named in (
+        ([*home.saved, "--rows", f"{folder}/rows"], "--rows"), (["--state", ""], "--state"),
+        (["--save-updates"], "--state"), (["--wait-for-application"], "--application"),
+    ):
+        second = Device(home.table, KEYS, "--listen", "127.0.0.1:0", *words)
+        is_refused(" ".join(words[:1]), home, second, [named], 64)
     check("nothing is made", ["saved", "table.toml"], sorted(os.listdir(folder)))
 
 
@@ -637,6 +641,20 @@ def a_smaller_value(folder):
         check("the other one", "aabb", read(controller, LONG, AT_GUEST))
 
     play_changed(folder, HEAD + CHANGED + SERVICE % 4, judge)
+
+
+def a_second_restart(folder):
+    """Who subscribed to Service Changed gets it, with its range, also after another restart."""
+
+    def judge(home, device, controller):
+        check("it is pending", True, f"! {OWNER_NAME}\n" in home.state())
+        end(device, controller)
+        device, controller = home.start()
+        check("no other change", [], lines_of(device, *DROPPED))
+        confirmed(home, controller, AT_OWNER)
+        end(device, controller)
+
+    play_changed(folder, HEAD + CHANGED + OTHER + SERVICE % 8, judge)
 
 
 def no_service_changed(folder):
@@ -879,8 +897,8 @@ def killed(folder, times):
 SCENARIOS = [
     writable_values, all_values, commands, a_stranger, starts, nobody_there, gone_with_a_line, gone_with_many_lines,
     replaced_with_a_line, replaced_with_many_lines, a_locked_state, a_locked_rows_file, a_linked_rows_file, no_place_to_listen, faulty_states,
-    a_file_beside_the_state, a_file_beside_the_rows, a_linked_state, a_linked_rows_path, no_folder, both, permission,
-    a_service_in_front, a_larger_value, a_smaller_value, no_service_changed, another_value_in_its_place, rows_of_another_table,
+    a_file_beside_the_state, a_file_beside_the_rows, a_linked_state, a_linked_rows_path, no_folder, refused_words, permission,
+    a_service_in_front, a_second_restart, a_larger_value, a_smaller_value, no_service_changed, another_value_in_its_place, rows_of_another_table,
     waits_for_an_application, a_state_that_is_not_saved, rows_that_are_not_saved, updates_that_are_not_saved,
 ]
 
