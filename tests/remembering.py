@@ -430,8 +430,8 @@ def faulty_states(folder):
 
     cases = [
         ("nothing", "", None, ""),
-        ("half of it", good[: len(good) // 2], None, "not whole"),
-        ("no last line", body, None, "not whole"),
+        ("half of it", good[: len(good) // 2], None, "ends before"),
+        ("no last line", body, None, "ends before"),
         ("no last line feed", good[:-1], None, ""),
         ("a line too many", good + "\n", None, ""),
         ("a state twice", good + good, None, ""),
