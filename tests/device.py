@@ -529,7 +529,7 @@ def a_confirmation(folder):
     controller.is_advertised()
     controller.connect(64, GUEST)
     check("its key", True, controller.encrypt(64, GUEST_KEY))
-    check("Service Changed", "1d030000000000", controller.hears(64))
+    check("Service Changed, of all handles", "1d03000100ffff", controller.hears(64))
     check("is pending", f"{owner} 4 2\n! {owner}\n", text_of(rows))
     controller.say(64, "1e")
     check("until it is confirmed", f"{owner} 4 2\n", soon(lambda: "!" not in text_of(rows) and text_of(rows)))
