@@ -7,7 +7,7 @@ use Rattle.gatt_app.specs.declared.notice.Notice.TheVariants.{Connected, Secured
 use Rattle.gatt_app.specs.declared.connection.Connection.{Connection}
 use Rattle.octets.specs.Number.{Octets}
 use Rattle.device_lines.specs.declared.told.Told.{Told}
-use Rattle.device_lines.specs.declared.told.Told.TheVariants.{Serving, Waiting, Stopped, Started, Missed, Unsaved, Saved}
+use Rattle.device_lines.specs.declared.told.Told.TheVariants.{Serving, Waiting, Replaced, Stopped, Started, Missed, Unsaved, Saved}
 
 abbrev pub words_line : Octets → Octets → Octets
 words_line about words = about ++ words ++ 10 ∷ []
@@ -15,6 +15,7 @@ words_line about words = about ++ words ++ 10 ∷ []
 abbrev pub told_line : Told → Octets
 told_line Serving = codes "+ serving" ++ 10 ∷ []
 told_line Waiting = codes "+ waiting" ++ 10 ∷ []
+told_line Replaced = codes "+ replaced" ++ 10 ∷ []
 told_line (Stopped words) = words_line (codes "+ stopped: ") words.now
 told_line (Started number) = codes "+ started" ++ 32 ∷ decimal number ++ 10 ∷ []
 told_line (Missed handle value) = codes "+ missed" ++ 32 ∷ decimal handle ++ 32 ∷ value_text value.now ++ 10 ∷ []

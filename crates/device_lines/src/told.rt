@@ -17,6 +17,8 @@ pub enum Told<'a> {
     Waiting,
     /// The host has stopped, for what these words say.
     Stopped(&'a str),
+    /// Another application takes the place of this one.
+    Replaced,
     /// The number of this start of the device, which no other start has.
     Started(u64),
     /// Phones wrote the value at a handle while no application heard it. It has these octets now.
@@ -34,6 +36,7 @@ pub fn add_told(text: &mut Vec<u8>, told: &Told<'_>) -> Result<(), AllocError>
     match told {
         Told::Serving => text.extend_from_slice(b"+ serving\n"),
         Told::Waiting => text.extend_from_slice(b"+ waiting\n"),
+        Told::Replaced => text.extend_from_slice(b"+ replaced\n"),
         Told::Stopped(words) => add_words(text, b"+ stopped: ", words),
         Told::Started(number) => add_started(text, *number),
         Told::Missed { handle, value } => add_missed(text, *handle, value),
