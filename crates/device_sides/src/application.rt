@@ -12,6 +12,9 @@ const LIMIT: usize = 65_536;
 /// As many octets are read at once.
 const ROOM: usize = 512;
 
+/// So often one that is replaced is read at most, so that it does not keep the next one waiting.
+const LAST_READS: u32 = 128;
+
 /// The application, if there is one, and what it says and hears.
 #[derive(Drop)]
 pub(crate) struct Application {
@@ -21,10 +24,20 @@ pub(crate) struct Application {
     is_readable: bool,
     /// Whether it has heard nothing yet.
     pub(crate) is_new: bool,
+    /// Whether it sends no more.
+    is_ended: bool,
+    /// Whether it takes no more.
+    is_deaf: bool,
     /// Whether it has closed its connection with nothing left to read.
     has_read_all: bool,
     /// Whether it has closed its connection, or lost it, and nobody was told.
     is_gone: bool,
+    /// The one that takes its place, once all is done that it has sent.
+    next: Option<Line>,
+    /// How often it is still read until then.
+    last_reads: u32,
+    /// Whether one more connects, which is not accepted before the next one has its place.
+    is_knocking: bool,
     inbox: Inbox,
     outbox: Outbox,
 }
@@ -37,8 +50,13 @@ impl Application {
             line: None,
             is_readable: false,
             is_new: false,
+            is_ended: false,
+            is_deaf: false,
             has_read_all: true,
             is_gone: false,
+            next: None,
+            last_reads: 0,
+            is_knocking: false,
             inbox: Inbox::new(),
             outbox: Outbox::new(alloc, LIMIT),
         }
@@ -49,8 +67,13 @@ impl Application {
         self.listener = listener;
     }
 
-    /// Takes the next application that connects, if one does, in place of the one before.
+    /// Takes the next application that connects, if one does. If there is one before, its place is
+    /// taken once all is done that it has sent.
     pub(crate) fn accept(&mut self, waiting: &Waiting) -> io::Result<bool> {
+        self.is_knocking = self.next.is_some();
+        if self.is_knocking {
+            return Ok(false);
+        }
         let accepted = match &self.listener {
             Some(listener) => listener.accept(waiting)?,
             None => None,
@@ -61,15 +84,26 @@ impl Application {
         }
     }
 
-    /// Takes an application that has connected, in place of the one before.
+    /// Takes an application that has connected.
     fn take_line(&mut self, line: Line, waiting: &Waiting) -> io::Result<bool> {
-        self.end();
+        if self.line.is_none() {
+            self.begin(line, waiting)?;
+        } else {
+            self.next = Some(line);
+            self.last_reads = LAST_READS;
+            self.is_readable = !self.is_ended;
+        }
+        Ok(true)
+    }
+
+    /// Begins with an application, of which nothing is known.
+    fn begin(&mut self, line: Line, waiting: &Waiting) -> io::Result<()> {
         line.watch(waiting)?;
         self.line = Some(line);
         self.is_new = true;
         self.has_read_all = false;
         self.is_readable = true;
-        Ok(true)
+        Ok(())
     }
 
     /// Whether one is connected.
@@ -81,6 +115,8 @@ impl Application {
     pub(crate) fn end(&mut self) {
         self.line = None;
         self.is_readable = false;
+        self.is_ended = false;
+        self.is_deaf = false;
         self.is_new = false;
         self.inbox.clear();
         self.outbox.clear();
@@ -106,39 +142,97 @@ impl Application {
 
     /// It may be read, or takes more.
     pub(crate) fn is_ready(&mut self) {
-        self.is_readable = self.line.is_some();
+        self.is_readable = self.line.is_some() && !self.is_ended;
         self.flush();
     }
 
     /// Whether something is to be done without waiting.
     pub(crate) fn has_something(&self) -> bool {
-        self.is_readable || self.inbox.has_line()
+        let has_input = self.is_readable || self.inbox.has_line();
+        has_input || self.next.is_some() || self.is_knocking || self.is_done()
     }
 
-    /// Reads once, where no whole line is there.
-    pub(crate) fn fill(&mut self) {
-        if !self.is_readable || self.inbox.has_line() || self.inbox.room() < ROOM {
-            return;
+    /// Whether one more connects, which can be accepted later.
+    pub(crate) fn is_knocking(&self) -> bool {
+        self.is_knocking
+    }
+
+    /// Whether it sends no more, and all is written that it was told or can be.
+    fn is_done(&self) -> bool {
+        self.is_ended && (self.is_deaf || self.outbox.waiting().is_empty())
+    }
+
+    /// Reads once, if no whole line is there. Once all is done that it has sent, it is ended if it
+    /// sends no more, or the next one takes its place: the answer is true then.
+    pub(crate) fn fill(&mut self, waiting: &Waiting) -> bool {
+        if self.inbox.has_line() {
+            return false;
         }
+        if self.is_readable && !self.is_giving_place() {
+            self.last_reads = self.last_reads.saturating_sub(1);
+            self.read();
+            return false;
+        }
+        if self.next.is_some() {
+            return self.give_place(waiting);
+        }
+        if self.is_done() {
+            self.has_read_all = !self.is_deaf;
+            self.lose();
+        }
+        false
+    }
+
+    /// Whether the next one takes its place now: all is done that it has sent.
+    pub(crate) fn is_giving_place(&self) -> bool {
+        let is_read = !self.is_readable || self.last_reads == 0;
+        self.next.is_some() && is_read && !self.inbox.has_line()
+    }
+
+    /// The next one takes its place.
+    fn give_place(&mut self, waiting: &Waiting) -> bool {
+        self.flush();
+        self.end();
+        let Some(line) = self.next.take() else {
+            return false;
+        };
+        self.begin(line, waiting).is_ok()
+    }
+
+    /// Reads once.
+    fn read(&mut self) {
         let Some(line) = &mut self.line else {
             return;
         };
         let mut buffer = [0; ROOM];
         match line.read(&mut buffer) {
-            Ok(0) => {
-                self.has_read_all = self.outbox.waiting().is_empty();
-                self.lose();
-            }
+            Ok(0) => self.end_input(),
             Ok(count) => {
-                // There is room, as was asked before.
+                // There is room, since no whole line is there.
                 let _ = self.inbox.take(&buffer[..count]);
             }
             Err(error) => match retry_after(&error) {
                 Retry::Now => {}
                 Retry::Later => self.is_readable = false,
-                Retry::Never => self.lose(),
+                Retry::Never => {
+                    self.deafen();
+                    self.end_input();
+                }
             },
         }
+    }
+
+    /// It sends no more.
+    fn end_input(&mut self) {
+        self.is_ended = true;
+        self.is_readable = false;
+    }
+
+    /// It takes no more. It is read to its end, since it may have sent something before.
+    fn deafen(&mut self) {
+        self.is_deaf = true;
+        self.is_readable = !self.is_ended;
+        self.outbox.clear();
     }
 
     /// The next line that it has said.
@@ -151,7 +245,7 @@ impl Application {
 
     /// Tells it something. One for which too much waits is cut off: the answer is false then.
     pub(crate) fn tell(&mut self, text: &[u8]) -> bool {
-        if self.line.is_none() {
+        if self.line.is_none() || self.is_deaf {
             return true;
         }
         if self.outbox.push(text) {
@@ -163,7 +257,7 @@ impl Application {
 
     /// Whether it has heard what stands, and one more line may wait for it.
     pub(crate) fn has_room(&self) -> bool {
-        self.line.is_some() && !self.is_new && self.outbox.room() >= LONGEST
+        self.line.is_some() && !self.is_new && !self.is_deaf && self.outbox.room() >= LONGEST
     }
 
     /// Whether the last one is gone and has read all that it was told, as far as its connection tells.
@@ -190,7 +284,7 @@ impl Application {
             return false;
         }
         match line.write(waiting) {
-            Ok(0) => self.lose(),
+            Ok(0) => self.deafen(),
             Ok(count) => {
                 self.outbox.sent(count);
                 return true;
@@ -198,7 +292,7 @@ impl Application {
             Err(error) => match retry_after(&error) {
                 Retry::Now => return true,
                 Retry::Later => {}
-                Retry::Never => self.lose(),
+                Retry::Never => self.deafen(),
             },
         }
         false

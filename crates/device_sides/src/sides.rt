@@ -7,7 +7,7 @@ use crate::heard::Heard;
 use crate::missed::Missed;
 use crate::opening::{listener_at, record_to, way_to};
 use crate::said::Question;
-use crate::telling::{accept, flush, reply, say_or_end, tell, tell_heard};
+use crate::telling::{accept, fill, flush, reply, say_or_end, tell, tell_heard};
 use crate::turns::Turns;
 use device_ends::{Log, Ready, Waiting};
 use device_lines::Told;
@@ -240,7 +240,13 @@ impl<
 
     /// Waits until something is to be done.
     fn wait(&mut self, deadline: Option<u64>) {
-        self.application.fill();
+        fill(
+            self.alloc,
+            &mut self.application,
+            &mut self.missed,
+            &self.waiting,
+            &self.log,
+        );
         let timeout = self.timeout(deadline);
         if let Ok(ready) = self.waiting.wait(timeout) {
             self.take_in(ready);
@@ -255,7 +261,7 @@ impl<
         if ready.application {
             self.application.is_ready();
         }
-        if ready.applications {
+        if ready.applications || self.application.is_knocking() {
             accept(
                 &mut self.application,
                 &mut self.missed,

@@ -97,6 +97,22 @@ pub(crate) fn flush<R: Clock + Eprint>(
     }
 }
 
+/// Reads what the application says, or lets the next one take its place, which it is told.
+pub(crate) fn fill<R: Clock + Eprint>(
+    alloc: Global,
+    application: &mut Application,
+    missed: &mut Missed,
+    waiting: &Waiting,
+    log: &Log<'_, R>,
+) {
+    if application.is_giving_place() {
+        tell(alloc, application, log, &Told::Replaced);
+    }
+    if application.fill(waiting) {
+        note_end(missed, false, log);
+    }
+}
+
 /// Logs once that the application is gone.
 fn tell_gone<R: Clock + Eprint>(application: &mut Application, log: &Log<'_, R>) {
     if application.is_just_gone() {
@@ -138,10 +154,13 @@ pub(crate) fn accept<R: Clock + Eprint>(
     log: &Log<'_, R>,
 ) {
     tell_gone(application, log);
+    let was_there = application.is_there();
     let has_read_all = application.has_read_all();
     match application.accept(waiting) {
         Ok(true) => {
-            note_end(missed, has_read_all, log);
+            if !was_there {
+                note_end(missed, has_read_all, log);
+            }
             log.say("application");
         }
         Ok(false) => {}
