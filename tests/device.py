@@ -131,7 +131,7 @@ def a_day(folder):
     stands = ["+ serving", "+ connected 65 0 00:11:22:33:44:55", "+ secured 65 16 1 0"]
     check("another application", stands, two.lines(3))
     check("the first one may not have read this", "+ missed 10 01", two.line())
-    check("in place of the first", "END", one.line())
+    check("in place of the first", ["+ replaced", "END"], one.lines(2))
     check("who is connected", stands[1:] + ["ok"], [two.ask("connections")] + two.lines(2))
     two.close()
     check("none is needed", "0b01", controller.ask(65, "0a0a00"))
@@ -518,6 +518,43 @@ def a_second_device(folder):
     controller.close()
 
 
+def sent_and_closed(folder):
+    """What an application has sent is done, also if it closes at once or another one takes its place."""
+    path = f"{folder}/sent.socket"
+    device = Device(*DOOR, "--listen", "127.0.0.1:0", "--application", path)
+    device.port()
+
+    def is_now(value):
+        application = Application(path)
+        application.line()
+        found = application.ask("value 21")
+        application.close()
+        return found == f"value 21 {value:04x}"
+
+    done = []
+    for value in range(30):
+        with socket.socket(socket.AF_UNIX) as sender:
+            sender.connect(path)
+            sender.sendall(f"update 21 {value:04x}\n".encode())
+        done.append(is_now(value))
+    check("one line, and closed", 30, sum(done))
+    for first in range(1_000, 1_500, 50):
+        with socket.socket(socket.AF_UNIX) as sender:
+            sender.connect(path)
+            sender.sendall("".join(f"update 21 {first + it:04x}\n" for it in range(50)).encode())
+            done.append(is_now(first + 49))
+            lines = sender.makefile().read().splitlines()
+            check("replaced, and each line done", (50, 1), (lines.count("ok"), lines.count("+ replaced")))
+    check("each value", [True] * 40, done)
+    with socket.socket(socket.AF_UNIX) as sender:
+        sender.connect(path)
+        sender.sendall(b"value 21\nconnections\n")
+        sender.shutdown(socket.SHUT_WR)
+        answers = sender.makefile().read().splitlines()[2:]
+    check("answers to one that sends no more", ["value 21 05db", "ok"], answers)
+    device.end()
+
+
 def a_confirmation(folder):
     """The rows file keeps its permission, and a peer that has confirmed Service Changed waits no more."""
     rows, owner = f"{folder}/confirmed.rows", "1 c0:00:00:00:00:01"
@@ -715,7 +752,7 @@ def main():
         later = a_bell(folder)
         plays = (
             a_day, a_stranger, a_listener, a_serial_line, a_lock, a_visit, an_example_ends, a_file_in_the_way, once, words, unknown, values,
-            slots, a_full_disk, a_long_value, a_second_device, a_confirmation, rows_without_a_folder, floods, a_busy_controller, idle,
+            slots, a_full_disk, a_long_value, a_second_device, sent_and_closed, a_confirmation, rows_without_a_folder, floods, a_busy_controller, idle,
         )
         for play in plays:
             try:
