@@ -13,6 +13,7 @@ import argparse
 import concurrent.futures
 import errno
 import os
+import re
 import shutil
 import signal
 import subprocess
@@ -32,6 +33,9 @@ KINDS = [
     ("before", 0), ("after", 0),
 ]
 KILLS = ("before", "after")
+# The calls of a save in their order, besides the permission of a file that is there already. An empty
+# file is not written to.
+SAVE = "unlink open write sync rename open-folder sync-folder"
 
 
 class Promised:
@@ -219,7 +223,10 @@ def calls_of(room, tracer, saved):
     play.with_fault()
     play.without_fault()
     check(f"{saved} without a fault", [], play.wrong)
-    return play.calls()
+    calls = play.calls()
+    saves = {it.replace("chmod ", "").strip() for it in re.split(r"(?=\bunlink\b)", " ".join(calls)) if it}
+    check(f"{saved}: the order of each save", set(), saves - {SAVE, SAVE.replace("write ", "")})
+    return calls
 
 
 def cases(tracer, saved, calls):
