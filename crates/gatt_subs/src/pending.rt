@@ -1,4 +1,4 @@
-ghost use Rattle.std.specs.Prelude.{◌≡◌, ◌≢◌, ◌<◌, ◌≤◌, true, IfSome, []};
+ghost use Rattle.std.specs.Prelude.{◌≡◌, ◌≢◌, ◌<◌, ◌≤◌, ◌&&◌, not, true, IfSome, []};
 ghost use Rattle.std.specs.Bool.{OnTrue, OnFalse};
 ghost use Rattle.att_numbers.specs.declared.limit.TheConstants.{MAX_ATTRIBUTES};
 ghost use Rattle.att_attributes.specs.Attributes.{is_value_at};
@@ -6,7 +6,7 @@ ghost use Rattle.gatt_subs.specs.Alone.{after_notify_alone, telling_alone};
 ghost use Rattle.gatt_subs.specs.Deadline.{deadline_of};
 ghost use Rattle.gatt_subs.specs.Hearing.{is_indicated, wants_indications};
 ghost use Rattle.gatt_subs.specs.HeardOnly.{NotifiesOnlyWhatIsHeard, IndicatesOnlyWhatIsHeard, IndicatesOnlyWhatWaits};
-ghost use Rattle.gatt_subs.specs.Indications.{after_confirmation, after_end, after_notify, after_indicate, after_replacement, after_tick, confirmed_handle, first_handle, from_due, is_notified, is_told, is_waiting, no_indications, indicated_handle, rest_of, times_out, with_handle, HaveOnePlace};
+ghost use Rattle.gatt_subs.specs.Indications.{after_confirmation, after_end, after_notify, after_indicate, after_replacement, after_tick, confirmed_handle, first_handle, from_due, hears, is_notified, is_told, is_waiting, no_indications, indicated_handle, rest_of, times_out, with_handle, HaveOnePlace};
 ghost use Rattle.gatt_subs.specs.Room.{has_room_to_wait};
 ghost use Rattle.gatt_subs.specs.Told.{TellsOnlyWhatIsHeard};
 
@@ -115,6 +115,22 @@ impl<const ROOM: usize> PendingOf<ROOM> {
                 false
             }
         }
+    }
+
+    /// Returns whether a notification of a value, which was looked up, is to be sent to the connection:
+    /// it is sent if fewer than `MAX_BACKLOG` PDUs are queued, and is skipped otherwise.
+    #[inline(always)]
+    pub fn wants_notification(
+        &self,
+        raised: &Raised<'_>,
+        row: &ConfigRow,
+        standing: &Standing,
+    ) -> bool
+        ensures { result
+            ≡ (hears self.now raised.now.table.attributes row.now standing.entry.now
+            raised.now.handle && not (wants_indications row.now raised.now.handle)) }
+    {
+        !self.timed_out && matches!(raised.telling(row, standing), Some(Telling::Notification))
     }
 
     /// Takes in that a value, which was looked up and is the only one of an event, was written, and says
