@@ -30,26 +30,46 @@ use Rattle.gatt_conn.specs.Answer.{answer_to, written_response, is_confirmation}
 use Rattle.gatt_conn.specs.Connection.{Bearer, mtu_between}
 use Rattle.gatt_conn.specs.Transcript.{first_exchange}
 use Rattle.gatt_laws.proofs.OwnWrites.{served_turn}
+use Rattle.gatt_laws.proofs.Skips.{NotifiesNothing, effect_notifies_nothing, tells_only_of_the_event}
 use Rattle.gatt_laws.specs.laws.AllowedNotices.{TellsNoRefusals, TellsNoRefusedCommands, TellsNothingIgnored, TellsOnlyOfTheLive}
+use Rattle.gatt_laws.specs.laws.Silence.{is_for_all}
 use Rattle.gatt_laws.specs.machine.Event.{Ordinal, Own, Encrypted, Refreshed, Asks}
 use Rattle.gatt_laws.specs.machine.Event.{Of, Credit, Tick}
 use Rattle.gatt_laws.specs.machine.Event as event
 use Rattle.gatt_laws.specs.machine.Notice.{Ending}
 use Rattle.gatt_laws.specs.machine.Notice.{write_told, confirmation_told, end_told, live_told}
-use Rattle.gatt_laws.specs.machine.Notice.{own_told, noticed}
+use Rattle.gatt_laws.specs.machine.Notice.{own_told, event_told, noticed}
 use Rattle.gatt_laws.specs.machine.ConnectionState.{ConnectionState, is_live, row_in_force, connection_mtu}
 use Rattle.gatt_laws.specs.machine.ConnectionState.{bearer_of}
 use Rattle.gatt_laws.specs.machine.SharedState.{SharedState}
-use Rattle.gatt_laws.specs.machine.Effect.{Effect, is_full, served, effect_of}
+use Rattle.gatt_laws.specs.machine.State.{State, change_of}
+use Rattle.gatt_laws.specs.machine.Effect.{Effect, effect_on_connection, is_full, served, live_effect, effect_of, values_among}
 use Rattle.octets.specs.Number.{Octets}
 
 -- Who does not serve tells nothing.
 
+idle-told : (state : State) (ordinal : Ordinal) (own : Own) → is_live (state.connections ordinal).mark ≡ false
+    → is_for_all own ≡ false → event_told state (Of ordinal own) ≡ []
+unfolding event_told
+idle-told state ordinal (event.Connected handle peer) is kind = cc kind
+idle-told state ordinal event.Disconnected is kind = cc kind
+idle-told state ordinal own is kind = rw is refl
+
+idle-notifies : (state : State) (ordinal : Ordinal) (own : Own) → is_live (state.connections ordinal).mark ≡ false
+    → is_for_all own ≡ false → NotifiesNothing (change_of state (Of ordinal own))
+unfolding change_of
+idle-notifies state ordinal (event.Connected handle peer) is kind = cc kind
+idle-notifies state ordinal event.Disconnected is kind = cc kind
+idle-notifies state ordinal own is kind =
+    let connection : ConnectionState = state.connections ordinal in
+    effect_notifies_nothing state ordinal own
+    (effect_of state.shared (state.bonds connection.peer) (state.owed connection.peer) connection own)
+    (rw is refl) (rw is refl)
+
 pub tells_only_of_the_live : TellsOnlyOfTheLive
-unfolding noticed
-tells_only_of_the_live state ordinal (event.Connected handle peer) is kind = cc kind
-tells_only_of_the_live state ordinal event.Disconnected is kind = cc kind
-tells_only_of_the_live state ordinal own is kind = rw is refl
+tells_only_of_the_live state ordinal own is kind =
+    tells_only_of_the_event state (Of ordinal own) (idle-notifies state ordinal own is kind)
+    ∙ idle-told state ordinal own is kind
 
 -- A request that is refused tells nothing, and neither does what is ignored.
 
@@ -157,12 +177,44 @@ module _ (shared : SharedState) (bond : Row) (owed : Bool) (connection : Connect
       ap (λ (lives : Bool). if lives then live_told shared bond connection (Asks pdu) after
       ++ end_told connection.handle after.connection else []) is
 
+  notifies-none : (live : Bool) → is_live connection.mark ≡ live → (is_due asked && is_full shared connection) ≡ false
+      → handles_by shared.table (row_in_force bond connection) (bearer_of shared connection) asked ≡ []
+      → (after.to_notify_here ≡ []) × (after.to_notify ≡ [])
+  notifies-none true is free none =
+      let turns : after ≡ served shared bond owed connection pdu asked =
+      served_turn shared bond owed connection pdu asked is refl free in (
+        ap (λ (effect : Effect). effect.to_notify_here) turns,
+        ap (λ (effect : Effect). effect.to_notify) turns ∙ ap (values_among shared.table.attributes) none,
+      )
+  notifies-none false is free none = (
+    ap (λ (lives : Bool). (if lives then live_effect shared bond owed connection (Asks pdu)
+        else effect_on_connection shared bond owed connection).to_notify_here) is,
+    ap (λ (lives : Bool). (if lives then live_effect shared bond owed connection (Asks pdu)
+        else effect_on_connection shared bond owed connection).to_notify) is,
+  )
+
+silent-in : (state : State) (ordinal : Ordinal) (pdu : Octets)
+    → (let connection = state.connections ordinal in
+    let asks = request_of pdu (connection_mtu state.shared connection) in
+    (is_due asks && is_full state.shared connection) ≡ false
+    → handles_by state.shared.table (row_in_force (state.bonds connection.peer) connection)
+    (bearer_of state.shared connection) asks ≡ []
+    → is_confirmation pdu ≡ false → noticed state (Of ordinal (Asks pdu)) ≡ [])
+unfolding event_told change_of
+silent-in state ordinal pdu free none confirms =
+    let connection : ConnectionState = state.connections ordinal in
+    let bond : Row = state.bonds connection.peer in
+    let owed : Bool = state.owed connection.peer in
+    let notifies = notifies-none state.shared bond owed connection pdu (is_live connection.mark) refl free none in
+    tells_only_of_the_event state (Of ordinal (Asks pdu)) (effect_notifies_nothing state ordinal (Asks pdu)
+    (effect_of state.shared bond owed connection (Asks pdu)) notifies.0 notifies.1)
+    ∙ silent state.shared bond owed connection pdu (is_live connection.mark) refl free none confirms
+
 and-none : (one other : Bool) → other ≡ false → (one && other) ≡ false
 and-none true other none = none
 and-none false other none = refl
 
 pub tells_no_refusals : TellsNoRefusals
-unfolding noticed
 tells_no_refusals state ordinal pdu request handle code free is =
     let connection : ConnectionState = state.connections ordinal in
     let bond : Row = state.bonds connection.peer in
@@ -170,7 +222,7 @@ tells_no_refusals state ordinal pdu request handle code free is =
     let conn = bearer_of state.shared connection in
     let row : Row = row_in_force bond connection in
     let answers : Question → Option Response = λ of. answer_to state.shared.table row conn of in
-    silent state.shared bond (state.owed connection.peer) connection pdu (is_live connection.mark) refl
+    silent-in state ordinal pdu
     (and-none (is_due (request_of pdu mtu)) (is_full state.shared connection) free)
     (refused-none state.shared.table row conn (request_of pdu mtu) request handle code is)
     (no-confirmation (λ (of : Octets). answers (request_of of mtu)
@@ -193,14 +245,13 @@ command-none table row conn handle value code is =
     (Ok (after_entry table.attributes (stored_in table row) entry)))) is
 
 pub tells_no_refused_commands : TellsNoRefusedCommands
-unfolding noticed
 tells_no_refused_commands state ordinal pdu handle value code asks is =
     let connection : ConnectionState = state.connections ordinal in
     let bond : Row = state.bonds connection.peer in
     let mtu : Mtu = connection_mtu state.shared connection in
     let conn = bearer_of state.shared connection in
     let row : Row = row_in_force bond connection in
-    silent state.shared bond (state.owed connection.peer) connection pdu (is_live connection.mark) refl
+    silent-in state ordinal pdu
     (ap (λ (of : Question). is_due of && is_full state.shared connection) asks)
     (ap (handles_by state.shared.table row conn) asks
     ∙ command-none state.shared.table row conn handle value code is)
@@ -221,12 +272,11 @@ one-fits rx_mtu (Some client_rx_mtu) none =
     omega (arith, small)
 
 pub tells_nothing_ignored : TellsNothingIgnored
-unfolding noticed
 tells_nothing_ignored state ordinal pdu is =
     let connection : ConnectionState = state.connections ordinal in
     let bond : Row = state.bonds connection.peer in
     let mtu : Mtu = connection_mtu state.shared connection in
-    silent state.shared bond (state.owed connection.peer) connection pdu (is_live connection.mark) refl
+    silent-in state ordinal pdu
     (ap (λ (of : Question). is_due of && is_full state.shared connection) is)
     (ap (λ (of : Question). handles_by state.shared.table (row_in_force bond connection)
     (bearer_of state.shared connection) of) is)

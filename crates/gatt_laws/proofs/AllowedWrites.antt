@@ -21,6 +21,7 @@ use Rattle.att_writes.specs.SameBut.{is_touched}
 use Rattle.gatt_conn.specs.Answer.{Question, Writing, writing_asked, handles_after, handles_by}
 use Rattle.gatt_conn.specs.Answer.{is_confirmation}
 use Rattle.gatt_laws.proofs.Headline.{each-once, writes_what_may_be_written}
+use Rattle.gatt_laws.proofs.Skips.{holds_with_skips}
 use Rattle.gatt_laws.specs.laws.AllowedNotices.{MayWrite, WasAllowed, TellsWhatWasAllowed}
 use Rattle.gatt_laws.specs.machine.Controller.{Slots}
 use Rattle.gatt_laws.specs.machine.Event.{Ordinal, Own, Event, Encrypted, Refreshed, Asks}
@@ -30,7 +31,7 @@ use Rattle.gatt_laws.specs.laws.Headline.{Each, MayUse}
 use Rattle.gatt_laws.specs.machine.Notice.{Notice, Connected, Disconnected, Secured, Unsecured, Written}
 use Rattle.gatt_laws.specs.machine.Notice.{Configured, Confirmed, TimedOut, Ending, are_same_facts}
 use Rattle.gatt_laws.specs.machine.Notice.{link_told, write_told, confirmation_told, end_told, live_told}
-use Rattle.gatt_laws.specs.machine.Notice.{own_told, late_told, slot_told, noticed}
+use Rattle.gatt_laws.specs.machine.Notice.{own_told, late_told, slot_told, event_told}
 use Rattle.gatt_laws.specs.machine.ConnectionState.{ConnectionState, is_live, is_there, key_of, row_in_force, connection_mtu, standing_of}
 use Rattle.gatt_laws.specs.machine.ConnectionState.{bearer_of, prepared_of}
 use Rattle.gatt_laws.specs.machine.State.{State}
@@ -241,14 +242,18 @@ module _ (state : State) (happens : Event) where
         (one-allowed (Disconnected told-part.handle) tt) none-allowed
     own-allowed own is = if-live-allowed own (is_live told-part.mark) is refl
 
-pub tells_what_was_allowed : TellsWhatWasAllowed
-unfolding noticed
-tells_what_was_allowed state (Of ordinal own) =
+event-allowed : (state : State) (happens : Event) → Allowed state happens (event_told state happens)
+unfolding event_told
+event-allowed state (Of ordinal own) =
     let connection : ConnectionState = state.connections ordinal in
     let bond : Row = state.bonds connection.peer in
     own-allowed state (Of ordinal own) ordinal bond
     (effect_of state.shared bond (state.owed connection.peer) connection own) own refl
-tells_what_was_allowed state (Credit allowed opcode status following) =
+event-allowed state (Credit allowed opcode status following) =
     none-allowed state (Credit allowed opcode status following)
-tells_what_was_allowed state (Tick time) = slots-allowed state (Tick time) time state.slots
-tells_what_was_allowed state event = none-allowed state event
+event-allowed state (Tick time) = slots-allowed state (Tick time) time state.slots
+event-allowed state event = none-allowed state event
+
+pub tells_what_was_allowed : TellsWhatWasAllowed
+tells_what_was_allowed state happens =
+    holds_with_skips (WasAllowed state happens) (λ handle attribute. tt) state happens (event-allowed state happens)

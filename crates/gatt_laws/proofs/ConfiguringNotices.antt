@@ -11,6 +11,7 @@ use Rattle.att_numbers.specs.Types.{Handle, Row}
 use Rattle.att_policy.specs.declared.standing.KeyFacts.{KeyFacts}
 use Rattle.att_table.specs.ConfigRow.{bits_at}
 use Rattle.gatt_conn.specs.Answer.{is_confirmation}
+use Rattle.gatt_laws.proofs.Skips.{none_with_skips}
 use Rattle.gatt_laws.specs.machine.ConnectionState.{ConnectionState, is_live, is_there, key_of, row_in_force}
 use Rattle.gatt_laws.specs.machine.Controller.{Slots}
 use Rattle.gatt_laws.specs.machine.Effect.{Effect, effect_of, handles_written}
@@ -19,7 +20,7 @@ use Rattle.gatt_laws.specs.machine.Event.{Ordinal, Own, Event, Asks, Encrypted, 
 use Rattle.gatt_laws.specs.machine.Event.{Authorized, Ended, Of, Tick}
 use Rattle.gatt_laws.specs.machine.Notice.{Notice, Connected, Disconnected, Secured, Unsecured, Written, Configured}
 use Rattle.gatt_laws.specs.machine.Notice.{Confirmed, TimedOut, Ending, are_same_facts, link_told, write_told}
-use Rattle.gatt_laws.specs.machine.Notice.{confirmation_told, end_told, live_told, late_told, slot_told, noticed}
+use Rattle.gatt_laws.specs.machine.Notice.{confirmation_told, end_told, live_told, late_told, slot_told, event_told, noticed}
 use Rattle.gatt_laws.specs.machine.State.{State}
 use Rattle.octets.specs.Number.{Octets}
 
@@ -102,20 +103,21 @@ module _ (state : State) (at : Ordinal) where
       ]
 
   pub request_changes_no_link : (pdu : Octets) → Lacks is_link_notice (noticed state (Of at (Asks pdu)))
-  unfolding noticed
+  unfolding event_told
   request_changes_no_link pdu =
       let wrote : List Notice = map (write_told state.shared.table.attributes
       (row_in_force (effect (Asks pdu)).bond (effect (Asks pdu)).connection) connection.handle)
       (handles_written state.shared bond connection (Asks pdu)) in
       let confirmed : List Notice = if is_confirmation pdu
       then confirmation_told connection.handle connection.pending.unconfirmed else [] in
-      if-live-lacks is_link_notice (Asks pdu) (λ of. refl)
+      none_with_skips is_link_notice (λ handle attribute. refl) state (Of at (Asks pdu))
+      (if-live-lacks is_link_notice (Asks pdu) (λ of. refl)
       (both-lack is_link_notice wrote confirmed
       (writes-link state.shared.table.attributes
       (row_in_force (effect (Asks pdu)).bond (effect (Asks pdu)).connection) connection.handle
       (handles_written state.shared bond connection (Asks pdu)))
       (either-lacks is_link_notice (confirmation_told connection.handle connection.pending.unconfirmed) []
-      (is_confirmation pdu) confirmation-links refl))
+      (is_confirmation pdu) confirmation-links refl)))
 
   -- And all else.
 
@@ -140,30 +142,35 @@ abbrev pub is_request : Event → Bool
 is_request (Of at (Asks pdu)) = true
 is_request happens = false
 
-pub others_configure_nothing : (state : State) (happens : Event) → is_request happens ≡ false
-    → Lacks is_configured_notice (noticed state happens)
-unfolding noticed
-others_configure_nothing state (Of at (event.Connected handle peer)) kind =
+others-told : (state : State) (happens : Event) → is_request happens ≡ false
+    → Lacks is_configured_notice (event_told state happens)
+unfolding event_told
+others-told state (Of at (event.Connected handle peer)) kind =
     either-lacks is_configured_notice [] (Connected handle peer ∷ []) (is_there (state.connections at).mark) refl refl
-others_configure_nothing state (Of at event.Disconnected) kind =
+others-told state (Of at event.Disconnected) kind =
     either-lacks is_configured_notice (Disconnected (state.connections at).handle ∷ []) []
     (is_there (state.connections at).mark) refl refl
-others_configure_nothing state (Of at (Asks pdu)) kind = cc kind
-others_configure_nothing state (Of at (Encrypted status enabled)) kind =
+others-told state (Of at (Asks pdu)) kind = cc kind
+others-told state (Of at (Encrypted status enabled)) kind =
     if-live-lacks state at is_configured_notice (Encrypted status enabled) (λ of. refl)
     (link-configures state at (state.connections at).handle (key_of (state.connections at))
     (key_of (effect state at (Encrypted status enabled)).connection))
-others_configure_nothing state (Of at (Refreshed status)) kind =
+others-told state (Of at (Refreshed status)) kind =
     if-live-lacks state at is_configured_notice (Refreshed status) (λ of. refl)
     (link-configures state at (state.connections at).handle (key_of (state.connections at))
     (key_of (effect state at (Refreshed status)).connection))
-others_configure_nothing state (Of at (KeyAsked random_number diversifier)) kind =
+others-told state (Of at (KeyAsked random_number diversifier)) kind =
     if-live-lacks state at is_configured_notice (KeyAsked random_number diversifier) (λ of. refl) refl
-others_configure_nothing state (Of at (OtherChannel channel payload)) kind =
+others-told state (Of at (OtherChannel channel payload)) kind =
     if-live-lacks state at is_configured_notice (OtherChannel channel payload) (λ of. refl) refl
-others_configure_nothing state (Of at (Authorized until)) kind =
+others-told state (Of at (Authorized until)) kind =
     if-live-lacks state at is_configured_notice (Authorized until) (λ of. refl) refl
-others_configure_nothing state (Of at Ended) kind =
+others-told state (Of at Ended) kind =
     if-live-lacks state at is_configured_notice Ended (λ of. refl) refl
-others_configure_nothing state (Tick time) kind = slots-configure state time state.slots
-others_configure_nothing state happens kind = refl
+others-told state (Tick time) kind = slots-configure state time state.slots
+others-told state happens kind = refl
+
+pub others_configure_nothing : (state : State) (happens : Event) → is_request happens ≡ false
+    → Lacks is_configured_notice (noticed state happens)
+others_configure_nothing state happens kind =
+    none_with_skips is_configured_notice (λ handle attribute. refl) state happens (others-told state happens kind)

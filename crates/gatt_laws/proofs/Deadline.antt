@@ -1,24 +1,25 @@
--- A time tells of somebody who did not confirm from the deadline on.
-use Rattle.std.proofs.Common.{◌≡◌, ℕ, ◌<◌, Bool, true, false, List, [], ◌∷◌, Option, Some, None, refl, sym, ap, ◌∙◌, arith}
+-- A time tells of somebody who did not confirm from the deadline of indications on.
+use Rattle.std.proofs.Common.{◌≡◌, ℕ, ◌<◌, Bool, true, false, List, [], ◌∷◌, Option, Some, None, refl, sym, ap, subst, ◌∙◌, arith}
 use Rattle.std.specs.Prelude.{◌^◌, ◌==◌, ◌||◌, All, min, nat_le, nat_lt, fold, filter_map, if◌then◌else◌}
 use Rattle.std.specs.List.{list_any, reduce, flat_map, cons_option}
 use Rattle.std.specs.Option.{option_and_then, option_map_or}
 use Rattle.std.proofs.lemmas.Bool.{eqb-true, eq-eqb}
 use Rattle.std.proofs.lemmas.List.Elements.{All-nil, All-cons, All-append}
 use Rattle.std.proofs.lemmas.List.Folds.{list_any-append}
+use Rattle.gatt_laws.proofs.Skips.{finds_what_is_told, noticed_where_quiet}
 use Rattle.gatt_laws.specs.machine.Controller.{Slots}
-use Rattle.gatt_laws.specs.laws.Deadline.{slot_deadline, is_late_told, is_reached, TellsFromTheDeadlineOn}
+use Rattle.gatt_laws.specs.laws.Deadline.{slot_indication_deadline, is_late_told, is_reached, TellsFromTheDeadlineOn}
 use Rattle.gatt_laws.specs.laws.Deadline.{IsNoticeOfLate, NoticesOnlyWhoIsLate, is_late_notice_of, NoticesEachWhoIsLate}
 use Rattle.gatt_laws.specs.laws.Settled.{has_slot}
-use Rattle.gatt_laws.specs.machine.Event.{Ordinal}
-use Rattle.gatt_laws.specs.machine.Notice.{Notice, TimedOut, noticed, late_told, slot_told}
+use Rattle.gatt_laws.specs.machine.Event.{Ordinal, Tick}
+use Rattle.gatt_laws.specs.machine.Notice.{Notice, TimedOut, event_told, late_told, slot_told}
 use Rattle.gatt_laws.specs.machine.State.{State}
 use Rattle.gatt_subs.specs.declared.pending.Unconfirmed.{Unconfirmed}
 use Rattle.gatt_subs.specs.Deadline.{late_at, late_from}
 use Rattle.gatt_subs.specs.Indications.{is_late, times_out}
 
 module _ (time : ℕ) where
-  abbrev has-come : ℕ → Bool
+  abbrev pub has-come : ℕ → Bool
   has-come least = nat_le least time
 
   or-none : (one : Bool) → one ≡ (one || false)
@@ -29,7 +30,7 @@ module _ (time : ℕ) where
   or-assoc true other third = refl
   or-assoc false other third = refl
 
-  least-come : (one other : ℕ) → has-come (min one other) ≡ (has-come one || has-come other)
+  pub least-come : (one other : ℕ) → has-come (min one other) ≡ (has-come one || has-come other)
   least-come one other = grind arith
 
   fold-come : (first : ℕ) (times : List ℕ) → has-come (fold min first times) ≡ (has-come first || list_any has-come times)
@@ -39,8 +40,8 @@ module _ (time : ℕ) where
       ∙ ap (λ (one : Bool). one || list_any has-come times) (least-come first next)
       ∙ or-assoc (has-come first) (has-come next) (list_any has-come times)
 
-  -- the least of some times has come where one of them has
-  reached : (times : List ℕ) → list_any has-come times ≡ is_reached (reduce min times) time
+  -- the least of some times has come if one of them has
+  pub reached : (times : List ℕ) → list_any has-come times ≡ is_reached (reduce min times) time
   reached [] = refl
   reached (first ∷ times) = sym (fold-come first times)
 
@@ -64,19 +65,20 @@ module _ (time : ℕ) where
       either handle at rest (nat_le at time) (nat_lt at (2 ^ 64)) refl refl few
 
   slots-told : (state : State) (slots : Slots) → time < 2 ^ 64
-      → list_any is_late_told (flat_map (slot_told state time) slots) ≡ list_any has-come (filter_map (slot_deadline state) slots)
+      → list_any is_late_told (flat_map (slot_told state time) slots) ≡ list_any has-come (filter_map (slot_indication_deadline state) slots)
   slots-told state [] few = refl
   slots-told state (None ∷ slots) few = slots-told state slots few
   slots-told state (Some ordinal ∷ slots) few =
       let connection = state.connections ordinal in
       list_any-append is_late_told (late_told time connection) (flat_map (slot_told state time) slots)
       ∙ ap (λ (later : Bool). list_any is_late_told (late_told time connection) || later) (slots-told state slots few)
-      ∙ one-told connection.handle connection.pending.unconfirmed (filter_map (slot_deadline state) slots) few
+      ∙ one-told connection.handle connection.pending.unconfirmed (filter_map (slot_indication_deadline state) slots) few
 
 pub tells_from_the_deadline_on : TellsFromTheDeadlineOn
-unfolding noticed
+unfolding event_told
 tells_from_the_deadline_on state time few =
-    slots-told time state state.slots few ∙ reached time (filter_map (slot_deadline state) state.slots)
+    finds_what_is_told is_late_told (λ handle attribute. refl) state (Tick time)
+    ∙ slots-told time state state.slots few ∙ reached time (filter_map (slot_indication_deadline state) state.slots)
 
 -- A notice of a Tick is of a connection that is late.
 
@@ -114,8 +116,10 @@ module _ (state : State) (time : ℕ) where
       (slots-late slots (λ other later. has other (or-second-true (ordinal == other) (has_slot other slots) later)))
 
 pub notices_only_who_is_late : NoticesOnlyWhoIsLate
-unfolding noticed
-notices_only_who_is_late state time = slots-late state time state.slots (λ ordinal has. has)
+unfolding event_told
+notices_only_who_is_late state time =
+    subst (All (IsNoticeOfLate state time)) (sym (noticed_where_quiet state (Tick time) refl))
+    (slots-late state time state.slots (λ ordinal has. has))
 
 -- And each connection that is late is one of them.
 
@@ -146,5 +150,7 @@ module _ (state : State) (time : ℕ) (ordinal : Ordinal)
       first-or-later false differs there later = or-second-true _ _ (later there)
 
 pub notices_each_who_is_late : NoticesEachWhoIsLate
-unfolding noticed
-notices_each_who_is_late state time ordinal has late = one-late state time ordinal late state.slots has
+unfolding event_told
+notices_each_who_is_late state time ordinal has late =
+    finds_what_is_told (is_late_notice_of (state.connections ordinal).handle) (λ handle attribute. refl) state (Tick time)
+    ∙ one-late state time ordinal late state.slots has

@@ -15,6 +15,7 @@ use Rattle.gatt_conn.specs.Transcript.{Dropped}
 use Rattle.gatt_laws.proofs.Meant.{first-true, last-true}
 use Rattle.gatt_laws.proofs.Ends.{end_keeps}
 use Rattle.gatt_laws.proofs.Notices.{or-first, or-second}
+use Rattle.gatt_laws.proofs.Skips.{none_of_the_event}
 use Rattle.gatt_laws.proofs.Steady.{completed_steady}
 use Rattle.gatt_laws.specs.machine.Event as event
 use Rattle.gatt_laws.specs.machine.Event.{Ordinal, Own, Event, Connected, Encrypted}
@@ -22,7 +23,7 @@ use Rattle.gatt_laws.specs.machine.Event.{Refreshed, Asks, OtherChannel, Of, Com
 use Rattle.gatt_laws.specs.machine.Event.{Replaced}
 use Rattle.gatt_laws.specs.machine.Notice.{Notice, Disconnected, Secured, Unsecured, are_both, are_same_facts}
 use Rattle.gatt_laws.specs.machine.Notice.{link_told}
-use Rattle.gatt_laws.specs.machine.Notice.{end_told, own_told, noticed}
+use Rattle.gatt_laws.specs.machine.Notice.{end_told, own_told, event_told, noticed}
 use Rattle.gatt_laws.specs.machine.ConnectionState.{ConnectionState, fresh_connection, is_live, is_there, key_of, connection_mtu, with_pdus}
 use Rattle.gatt_laws.specs.machine.ConnectionState.{after_ending}
 use Rattle.gatt_laws.specs.machine.SharedState.{SharedState}
@@ -155,18 +156,18 @@ module _ (shared : SharedState) (bond : Row) (owed : Bool) (connection : Connect
 
 of-key : (state : State) (at ordinal : Ordinal) (own : Own) (same : Bool) → (ordinal == at) ≡ same
     → (same && is_for_all own) ≡ false
-    → Untold (state.connections ordinal).handle (noticed state (Of at own))
+    → Untold (state.connections ordinal).handle (event_told state (Of at own))
     → (let connection = state.connections at in
     key_of (if same then (effect_of state.shared (state.bonds connection.peer)
     (state.owed connection.peer) connection own).connection else state.connections ordinal)
     ≡ key_of (state.connections ordinal))
-unfolding noticed
+unfolding event_told
 of-key state at ordinal own true is kind none =
     let here : ordinal ≡ at = eqb-true ordinal at is in
     let connection = state.connections at in
     own-key state.shared (state.bonds connection.peer) (state.owed connection.peer) connection own kind
     (subst (λ (one : Ordinal). Untold (state.connections one).handle
-    (noticed state (Of at own))) here none)
+    (event_told state (Of at own))) here none)
     ∙ ap (λ (one : Ordinal). key_of (state.connections one)) (sym here)
 of-key state at ordinal own false is kind none = refl
 
@@ -182,7 +183,7 @@ replaced-key old new connection =
 
 change-key : (state : State) (event : Event) (ordinal : Ordinal)
     → is_connection_or_disconnection ordinal event ≡ false
-    → Untold (state.connections ordinal).handle (noticed state event)
+    → Untold (state.connections ordinal).handle (event_told state event)
     → key_of ((change_of state event).state.connections ordinal) ≡ key_of (state.connections ordinal)
 unfolding change_of
 change-key state (Of at own) ordinal kind none = of-key state at ordinal own
@@ -201,7 +202,8 @@ pub stays_keyed : (state : State) (event : Event) (ordinal : Ordinal)
     → key_of ((step state event).connections ordinal) ≡ key_of (state.connections ordinal)
 stays_keyed state event ordinal kind none =
     end_keeps key_of (λ connection pdus pending given reply reason. refl) state event ordinal
-    ∙ change-key state event ordinal kind none
+    ∙ change-key state event ordinal kind
+    (none_of_the_event (changes_key (state.connections ordinal).handle) (λ handle attribute. refl) state event none)
 
 -- of what a test finds nowhere a stricter one finds nothing
 pub none-stricter : (less more : Notice → Bool) → ((notice : Notice) → more notice ≡ false → less notice ≡ false)
@@ -220,9 +222,9 @@ tells-changes handle notice none = refl
 -- a connection that is there does not come, and is noticed where it goes
 here-key : (state : State) (at ordinal : Ordinal) (own : Own) → (ordinal == at) ≡ true → is_for_all own ≡ true
     → is_there (state.connections at).mark ≡ true
-    → list_any (tells_key (state.connections at).handle) (noticed state (Of at own)) ≡ false
+    → list_any (tells_key (state.connections at).handle) (event_told state (Of at own)) ≡ false
     → key_of ((change_of state (Of at own)).state.connections ordinal) ≡ key_of (state.connections at)
-unfolding change_of noticed
+unfolding change_of event_told
 here-key state at ordinal (Connected handle peer) same kind there none =
     let connection = state.connections at in
     (λ i. key_of (if same i then (if there i then connection else fresh_connection handle peer)
@@ -250,7 +252,8 @@ key-by-kind state (Of at own) ordinal true kind there none =
     ∙ here-key state at ordinal own same (last-true (ordinal == at) (is_for_all own) kind)
     (subst (λ (one : Ordinal). is_there (state.connections one).mark ≡ true) here there)
     (subst (λ (one : Ordinal). list_any (tells_key (state.connections one).handle)
-    (noticed state (Of at own)) ≡ false) here none)
+    (event_told state (Of at own)) ≡ false) here
+    (none_of_the_event (tells_key (state.connections ordinal).handle) (λ handle attribute. refl) state (Of at own) none))
     ∙ ap (λ (one : Ordinal). key_of (state.connections one)) (sym here)
 key-by-kind state event ordinal true kind there none = cc kind
 

@@ -19,6 +19,7 @@ use Rattle.gatt_laws.proofs.KnownKeys.{connects, has-slot, is-alone, keys-known,
 use Rattle.gatt_laws.proofs.Meant.{possible_where_meant, unused_where_meant}
 use Rattle.gatt_laws.proofs.Named.{step_named}
 use Rattle.gatt_laws.proofs.RowNotices.{tells_each_bond, tells_each_own_row}
+use Rattle.gatt_laws.proofs.Skips.{knows_what_is_told, present_by_what_is_told}
 use Rattle.gatt_laws.proofs.ToldIsSo.{tells_what_is_so}
 use Rattle.gatt_laws.specs.laws.KnownConfigurations.{Known, known_after_notice, known_at_start, with_bits_read}
 use Rattle.gatt_laws.specs.laws.KnownConfigurations.{is_replacing, known_after_item, known_after_items, bits_known_of}
@@ -33,7 +34,7 @@ use Rattle.gatt_laws.specs.machine.ConnectionState.{ConnectionState, is_there, k
 use Rattle.gatt_laws.specs.machine.Event.{Ordinal, Event, Asks, Of, Replaced}
 use Rattle.gatt_laws.specs.machine.Input.{Item, Run, after_item, after_items, run_at_start, run}
 use Rattle.gatt_laws.specs.machine.ItemEvents.{event_at, after_if}
-use Rattle.gatt_laws.specs.machine.Notice.{Notice, Connected, Secured, Unsecured, Configured, noticed, notices_of}
+use Rattle.gatt_laws.specs.machine.Notice.{Notice, Connected, Secured, Unsecured, Configured, event_told, noticed, notices_of}
 use Rattle.gatt_laws.specs.machine.Start.{Start, state_at}
 use Rattle.gatt_laws.specs.machine.State.{State, step}
 use Rattle.le_hci.specs.declared.peer.Peer.{Peer}
@@ -207,15 +208,17 @@ module _ (state : State) (at : Ordinal) (pdu : Octets) (known : Known) (is : IsK
 -- at a replacement
 replaced-known : (state : State) (table : Contents) (known : Known) → IsKnown state known
     → IsKnown (step state (Replaced table)) (with_bits_read (step state (Replaced table)) known)
-unfolding noticed
+unfolding event_told
 replaced-known state table known is =
     let happens : Event = Replaced table in
     let new : State = step state happens in
     let knowing = knowing-then state happens known is tt tt in
     record {
       knowing = knowing;
-      present = present-folded state happens known is tt tt;
-      keys = keys-folded state happens known is tt tt;
+      present = sym (present_by_what_is_told state happens known.present) ∙ present-folded state happens known is tt tt;
+      keys = subst (AreKeysKnown new)
+          (knows_what_is_told known_keys_after (λ keys handle attribute. refl) state happens known.keys)
+          (keys-folded state happens known is tt tt);
       own = λ ordinal attribute there.
           ap (λ (found : Option Ordinal). option_map_or (λ one. bits_at (new.connections one).row attribute) found 0)
           (held new ordinal knowing there);

@@ -15,6 +15,7 @@ use Rattle.gatt_laws.proofs.Present.{present_both, if-live-others, slots-others,
 use Rattle.gatt_laws.proofs.Present.{same-peers, none-has, taken-peers, freed-peers, freed-none}
 use Rattle.gatt_laws.proofs.Present.{init-peers}
 use Rattle.gatt_laws.proofs.Settled.{none_next, stays_settled, settled_at_first}
+use Rattle.gatt_laws.proofs.Skips.{present_by_what_is_told}
 use Rattle.gatt_laws.specs.machine.Context.{holding}
 use Rattle.gatt_laws.specs.machine.Controller.{with_freed}
 use Rattle.gatt_laws.specs.machine.Event as event
@@ -22,7 +23,7 @@ use Rattle.gatt_laws.specs.machine.Event.{Ordinal, Event, KeyAsked, Encrypted, R
 use Rattle.gatt_laws.specs.machine.Event.{OtherChannel, Authorized, Ended, Of, Credit, Tick}
 use Rattle.gatt_laws.specs.machine.Input.{Item, Run, after_item, after_items, run_at_start, run}
 use Rattle.gatt_laws.specs.machine.ItemEvents.{event_at, after_if}
-use Rattle.gatt_laws.specs.machine.Notice.{Notice, Connected, Disconnected, noticed, notices_of, notices_in}
+use Rattle.gatt_laws.specs.machine.Notice.{Notice, Connected, Disconnected, event_told, noticed, notices_of, notices_in}
 use Rattle.gatt_laws.specs.machine.ConnectionState.{ConnectionState, fresh_connection, is_there}
 use Rattle.gatt_laws.specs.laws.Possible.{Possible, MayConnect}
 use Rattle.gatt_laws.specs.laws.Present.{ConnectsUnused}
@@ -81,9 +82,9 @@ module _ (state : State) (at : Ordinal) (handle : ℕ) (peer : Peer) (is : IsKno
   others-named ordinal differs = step_named state coming ordinal
       (ap (λ (same : Bool). same && true) differs)
 
-  coming-peers : (asked : ℕ) → present_in (peers_in state) (noticed state coming) asked
+  coming-peers : (asked : ℕ) → present_in (peers_in state) (event_told state coming) asked
       ≡ peers_in (step state coming) asked
-  unfolding step change_of noticed
+  unfolding step change_of event_told
   coming-peers asked =
       ap (λ (there : Bool). present_in (peers_in state)
       (if there then [] else Connected handle peer ∷ []) asked) away
@@ -138,8 +139,8 @@ module _ (state : State) (at : Ordinal) (is : IsKnowing state) where
       (ap (λ (same : Bool). same && true) differs)
 
   going-by : (asked : ℕ) (has : Bool) → has_slot at state.slots ≡ has
-      → present_in (peers_in state) (noticed state going) asked ≡ peers_in (step state going) asked
-  unfolding step change_of noticed
+      → present_in (peers_in state) (event_told state going) asked ≡ peers_in (step state going) asked
+  unfolding step change_of event_told
   going-by asked true has =
       ap (λ (there : Bool). present_in (peers_in state)
       (if there then Disconnected (state.connections at).handle ∷ [] else []) asked)
@@ -164,13 +165,15 @@ module _ (state : State) (happens : Event)
       sym (same-peers state.connections (step state happens).connections state.slots asked
       (λ ordinal has. step_named state happens ordinal (kind ordinal)))
 
-pub tells_who_is_there : TellsWhoIsThere
-unfolding step change_of noticed
-tells_who_is_there state (Of at (event.Connected handle peer)) asked is possible unused =
+event-tells : (state : State) (happens : Event) (asked : ℕ) → IsKnowing state
+    → Possible (λ table. Unit) state happens → ConnectsUnused state happens
+    → present_in (peers_in state) (event_told state happens) asked ≡ peers_in (step state happens) asked
+unfolding step change_of event_told
+event-tells state (Of at (event.Connected handle peer)) asked is possible unused =
     coming-peers state at handle peer is possible unused asked
-tells_who_is_there state (Of at event.Disconnected) asked is possible unused = going-by state at is asked
+event-tells state (Of at event.Disconnected) asked is possible unused = going-by state at is asked
     (has_slot at state.slots) refl
-tells_who_is_there state (Of at (KeyAsked random_number diversifier)) asked is possible unused =
+event-tells state (Of at (KeyAsked random_number diversifier)) asked is possible unused =
     let connection : ConnectionState = state.connections at in
     let bond : Row = state.bonds connection.peer in
     ap (λ (present : Present). present asked)
@@ -179,7 +182,7 @@ tells_who_is_there state (Of at (KeyAsked random_number diversifier)) asked is p
     (peers_in state))
     ∙ still state (Of at (KeyAsked random_number diversifier))
     (λ ordinal. and-false (ordinal == at)) asked
-tells_who_is_there state (Of at (Encrypted status enabled)) asked is possible unused =
+event-tells state (Of at (Encrypted status enabled)) asked is possible unused =
     let connection : ConnectionState = state.connections at in
     let bond : Row = state.bonds connection.peer in
     ap (λ (present : Present). present asked)
@@ -187,21 +190,21 @@ tells_who_is_there state (Of at (Encrypted status enabled)) asked is possible un
     (effect_of state.shared bond (state.owed connection.peer) connection (Encrypted status enabled))
     (peers_in state))
     ∙ still state (Of at (Encrypted status enabled)) (λ ordinal. and-false (ordinal == at)) asked
-tells_who_is_there state (Of at (Refreshed status)) asked is possible unused =
+event-tells state (Of at (Refreshed status)) asked is possible unused =
     let connection : ConnectionState = state.connections at in
     let bond : Row = state.bonds connection.peer in
     ap (λ (present : Present). present asked)
     (if-live-others state.shared bond connection (Refreshed status)
     (effect_of state.shared bond (state.owed connection.peer) connection (Refreshed status)) (peers_in state))
     ∙ still state (Of at (Refreshed status)) (λ ordinal. and-false (ordinal == at)) asked
-tells_who_is_there state (Of at (Asks pdu)) asked is possible unused =
+event-tells state (Of at (Asks pdu)) asked is possible unused =
     let connection : ConnectionState = state.connections at in
     let bond : Row = state.bonds connection.peer in
     ap (λ (present : Present). present asked)
     (if-live-others state.shared bond connection (Asks pdu)
     (effect_of state.shared bond (state.owed connection.peer) connection (Asks pdu)) (peers_in state))
     ∙ still state (Of at (Asks pdu)) (λ ordinal. and-false (ordinal == at)) asked
-tells_who_is_there state (Of at (OtherChannel channel payload)) asked is possible unused =
+event-tells state (Of at (OtherChannel channel payload)) asked is possible unused =
     let connection : ConnectionState = state.connections at in
     let bond : Row = state.bonds connection.peer in
     ap (λ (present : Present). present asked)
@@ -209,31 +212,36 @@ tells_who_is_there state (Of at (OtherChannel channel payload)) asked is possibl
     (effect_of state.shared bond (state.owed connection.peer) connection (OtherChannel channel payload))
     (peers_in state))
     ∙ still state (Of at (OtherChannel channel payload)) (λ ordinal. and-false (ordinal == at)) asked
-tells_who_is_there state (Of at (Authorized until)) asked is possible unused =
+event-tells state (Of at (Authorized until)) asked is possible unused =
     let connection : ConnectionState = state.connections at in
     let bond : Row = state.bonds connection.peer in
     ap (λ (present : Present). present asked)
     (if-live-others state.shared bond connection (Authorized until)
     (effect_of state.shared bond (state.owed connection.peer) connection (Authorized until)) (peers_in state))
     ∙ still state (Of at (Authorized until)) (λ ordinal. and-false (ordinal == at)) asked
-tells_who_is_there state (Of at Ended) asked is possible unused =
+event-tells state (Of at Ended) asked is possible unused =
     let connection : ConnectionState = state.connections at in
     let bond : Row = state.bonds connection.peer in
     ap (λ (present : Present). present asked)
     (if-live-others state.shared bond connection Ended
     (effect_of state.shared bond (state.owed connection.peer) connection Ended) (peers_in state))
     ∙ still state (Of at Ended) (λ ordinal. and-false (ordinal == at)) asked
-tells_who_is_there state (Credit allowed opcode status (Some init)) asked is possible unused =
+event-tells state (Credit allowed opcode status (Some init)) asked is possible unused =
     let happens : Event = Credit allowed opcode status (Some init) in
     still state happens (λ ordinal. refl) asked
     ∙ sym (init-peers (step state happens).connections state.shared.slots init state.slots asked
     (is.settled.early possible))
-tells_who_is_there state (Credit allowed opcode status None) asked is possible unused =
+event-tells state (Credit allowed opcode status None) asked is possible unused =
     still state (Credit allowed opcode status None) (λ ordinal. refl) asked
-tells_who_is_there state (Tick time) asked is possible unused =
+event-tells state (Tick time) asked is possible unused =
     ap (λ (present : Present). present asked) (slots-others state time state.slots (peers_in state))
     ∙ still state (Tick time) (λ ordinal. refl) asked
-tells_who_is_there state event asked is possible unused = still state event (λ ordinal. refl) asked
+event-tells state event asked is possible unused = still state event (λ ordinal. refl) asked
+
+pub tells_who_is_there : TellsWhoIsThere
+tells_who_is_there state happens asked is possible unused =
+    ap (λ (present : Present). present asked) (present_by_what_is_told state happens (peers_in state))
+    ∙ event-tells state happens asked is possible unused
 
 -- No two have one handle.
 

@@ -15,6 +15,7 @@ use Rattle.gatt_laws.proofs.KnowingWho.{stays-knowing}
 use Rattle.gatt_laws.proofs.Meant.{possible_where_meant, unused_where_meant}
 use Rattle.gatt_laws.proofs.Named.{step_named}
 use Rattle.gatt_laws.proofs.Notices.{or-first}
+use Rattle.gatt_laws.proofs.Skips.{none_of_the_event}
 use Rattle.gatt_laws.proofs.ToldIsSo.{tells_what_is_so}
 use Rattle.gatt_laws.specs.laws.KnownKeys.{KnownKeys, with_key, known_keys_after, no_keys_known, AreKeysKnown, KnowsTheKeys}
 use Rattle.gatt_laws.specs.laws.Possible.{Possible}
@@ -27,7 +28,7 @@ use Rattle.gatt_laws.specs.machine.Event as event
 use Rattle.gatt_laws.specs.machine.Event.{Ordinal, Event, Of}
 use Rattle.gatt_laws.specs.machine.Input.{Item, Run, after_item, after_items, run_at_start, run}
 use Rattle.gatt_laws.specs.machine.ItemEvents.{event_at, after_if}
-use Rattle.gatt_laws.specs.machine.Notice.{Notice, Connected, Secured, Unsecured, noticed, notices_of, notices_in}
+use Rattle.gatt_laws.specs.machine.Notice.{Notice, Connected, Secured, Unsecured, event_told, noticed, notices_of, notices_in}
 use Rattle.gatt_laws.specs.machine.State.{State, step}
 
 -- a connection that is there has a slot
@@ -147,7 +148,7 @@ pub was-there : (state : State) (happens : Event) (ordinal : Ordinal) → IsKnow
     → has_slot ordinal (step state happens).slots ≡ true
     → list_any (connects ((step state happens).connections ordinal).handle) (noticed state happens) ≡ false
     → (has_slot ordinal state.slots ≡ true) × (is_connection_or_disconnection ordinal happens ≡ false)
-unfolding noticed
+unfolding event_told
 was-there state (Of at (event.Connected handle peer)) ordinal is possible unused has none =
     let happens : Event = Of at (event.Connected handle peer) in
     elim (ordinal == at) as (λ (same : Bool). (ordinal == at) ≡ same
@@ -158,7 +159,9 @@ was-there state (Of at (event.Connected handle peer)) ordinal is possible unused
           let missing : ((handle == ((step state happens).connections ordinal).handle) || false) ≡ false =
           ap (λ (there : Bool). list_any (connects ((step state happens).connections ordinal).handle)
           (if there then [] else Connected handle peer ∷ []))
-          (sym (away state at handle peer is possible unused)) ∙ none in
+          (sym (away state at handle peer is possible unused))
+          ∙ none_of_the_event (connects ((step state happens).connections ordinal).handle) (λ handle attribute. refl)
+          state happens none in
           let found : (handle == ((step state happens).connections ordinal).handle) ≡ true =
           eq-eqb handle ((step state happens).connections ordinal).handle (sym its) in
           let lacks : (handle == ((step state happens).connections ordinal).handle) ≡ false =

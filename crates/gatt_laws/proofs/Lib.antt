@@ -20,6 +20,7 @@ pub mod KnowingWho
 pub mod ConfiguringNotices
 pub mod KnownConfigurations
 pub mod KnownKeys
+pub mod LaterStandings
 pub mod MayBeHeard
 pub mod Meant
 pub mod Named
@@ -33,6 +34,7 @@ pub mod Places
 pub mod Preparing
 pub mod Present
 pub mod Queued
+pub mod QuietTicks
 pub mod Refusals
 pub mod Renaming
 pub mod RowNotices
@@ -43,6 +45,9 @@ pub mod SameView
 pub mod ServiceChanged
 pub mod Settled
 pub mod Silence
+pub mod SkipNotices
+pub mod Skipped
+pub mod Skips
 pub mod Steady
 pub mod Stores
 pub mod StreamNotices

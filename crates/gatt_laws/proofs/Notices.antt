@@ -21,12 +21,13 @@ use Rattle.att_writes.specs.Queue.{once_each, touched_by}
 use Rattle.att_writes.specs.SameBut.{is_touched}
 use Rattle.gatt_conn.specs.Answer.{Question, Writing, writing_asked, stored_after_writing, handles_after}
 use Rattle.gatt_conn.specs.Answer.{handles_by, is_confirmation}
+use Rattle.gatt_laws.proofs.Skips.{none_of_the_event}
 use Rattle.gatt_laws.proofs.Stores.{leaves-configurations, other-value}
 use Rattle.gatt_laws.specs.machine.Event.{Own, Event, Connected, Disconnected, Asks}
 use Rattle.gatt_laws.specs.machine.Event.{Of, Credit, Update}
 use Rattle.gatt_laws.specs.machine.Event.{Replaced}
 use Rattle.gatt_laws.specs.machine.Notice.{Notice, Configured, Written, write_told, end_told, live_told}
-use Rattle.gatt_laws.specs.machine.Notice.{confirmation_told, own_told, noticed}
+use Rattle.gatt_laws.specs.machine.Notice.{confirmation_told, own_told, event_told}
 use Rattle.gatt_laws.specs.laws.Notices.{tells_value, is_value_told, sets_value, TellsEachValue}
 use Rattle.gatt_laws.specs.machine.ConnectionState.{ConnectionState, is_live, connection_mtu, row_in_force, bearer_of, after_ending}
 use Rattle.gatt_laws.specs.laws.Possible.{Possible}
@@ -265,10 +266,10 @@ used-there attributes (suc handle) attr there = omega arith
 
 change-values : (state : State) (event : Event) (attribute : Handle) → 0 < attribute
     → Possible (λ table. Unit) state event → sets_value attribute event ≡ false
-    → is_value_told attribute (noticed state event) ≡ false
+    → is_value_told attribute (event_told state event) ≡ false
     → value_at (change_of state event).state.shared.table.values attribute
     ≡ value_at state.shared.table.values attribute
-unfolding change_of noticed
+unfolding change_of event_told
 change-values state (Of ordinal own) attribute used possible sets none =
     let connection : ConnectionState = state.connections ordinal in
     own-values state.shared (state.bonds connection.peer)
@@ -285,4 +286,5 @@ change-values state event attribute used possible sets none = refl
 pub tells_each_value : TellsEachValue
 unfolding step
 tells_each_value state event attribute used possible sets none =
-    change-values state event attribute used possible sets none
+    change-values state event attribute used possible sets
+    (none_of_the_event (tells_value attribute) (λ handle other. refl) state event none)

@@ -22,13 +22,14 @@ use Rattle.gatt_conn.specs.Answer.{handles_after, handles_by, is_confirmation}
 use Rattle.gatt_laws.proofs.Ends.{end_keeps}
 use Rattle.gatt_laws.proofs.Notices.{or-first, or-second, both-none, is_among, none-once}
 use Rattle.gatt_laws.proofs.Notices.{none-touched}
+use Rattle.gatt_laws.proofs.Skips.{none_of_the_event}
 use Rattle.gatt_laws.proofs.Steady.{is_asking, live_steady, completed_steady}
 use Rattle.gatt_laws.proofs.Stores.{set_bits, sets_written}
 use Rattle.gatt_laws.specs.machine.Event.{Ordinal, Own, Event, Connected, Disconnected, KeyAsked, Encrypted}
 use Rattle.gatt_laws.specs.machine.Event.{Refreshed, Asks, OtherChannel, Authorized, Ended, Of, Completed, Credit}
 use Rattle.gatt_laws.specs.machine.Event.{Replaced}
 use Rattle.gatt_laws.specs.machine.Notice.{Notice, Configured, Written, write_told, confirmation_told}
-use Rattle.gatt_laws.specs.machine.Notice.{end_told, own_told, noticed}
+use Rattle.gatt_laws.specs.machine.Notice.{end_told, own_told, event_told, noticed}
 use Rattle.gatt_laws.specs.machine.ConnectionState.{ConnectionState, is_live, key_of, connection_mtu, row_in_force, bearer_of, after_ending}
 use Rattle.gatt_laws.specs.machine.SharedState.{SharedState}
 use Rattle.gatt_laws.specs.laws.RowNotices.{tells_bits, is_bits_told, is_replacement}
@@ -322,19 +323,19 @@ of-own-row : (state : State) (at ordinal : Ordinal) (own : Own) (attribute : Han
     → (ordinal == at) ≡ same
     → (same && is_for_all own) ≡ false
     → (let connection = state.connections ordinal in is_some (key_of connection) ≡ false
-    → is_bits_told connection.handle attribute (noticed state (Of at own)) ≡ false)
+    → is_bits_told connection.handle attribute (event_told state (Of at own)) ≡ false)
     → (let connection = state.connections at in
     bits_at (if same then
     (effect_of state.shared (state.bonds connection.peer) (state.owed connection.peer) connection own).connection
     else state.connections ordinal).row attribute
     ≡ bits_at (state.connections ordinal).row attribute)
-unfolding noticed
+unfolding event_told
 of-own-row state at ordinal own attribute true is kind untold =
     let here : ordinal ≡ at = eqb-true ordinal at is in
     let connection = state.connections at in
     own-row state.shared (state.bonds connection.peer) (state.owed connection.peer) connection attribute own kind
     (subst (λ (one : Ordinal). is_some (key_of (state.connections one)) ≡ false
-    → is_bits_told (state.connections one).handle attribute (noticed state (Of at own))
+    → is_bits_told (state.connections one).handle attribute (event_told state (Of at own))
     ≡ false) here untold)
     ∙ ap (λ (one : Ordinal). bits_at (state.connections one).row attribute) (sym here)
 of-own-row state at ordinal own attribute false is kind untold = refl
@@ -342,7 +343,7 @@ of-own-row state at ordinal own attribute false is kind untold = refl
 change-own-row : (state : State) (event : Event) (ordinal : Ordinal) (attribute : Handle)
     → is_replacement event ≡ false → is_connection_or_disconnection ordinal event ≡ false
     → (let connection = state.connections ordinal in is_some (key_of connection) ≡ false
-    → is_bits_told connection.handle attribute (noticed state event) ≡ false)
+    → is_bits_told connection.handle attribute (event_told state event) ≡ false)
     → bits_at ((change_of state event).state.connections ordinal).row attribute
     ≡ bits_at (state.connections ordinal).row attribute
 unfolding change_of
@@ -361,7 +362,9 @@ pub tells_each_own_row : TellsEachOwnRow
 tells_each_own_row state event ordinal attribute kind stays untold =
     ap (λ (of : Row). bits_at of attribute)
     (end_keeps row (λ connection pdus pending given reply reason. refl) state event ordinal)
-    ∙ change-own-row state event ordinal attribute kind stays untold
+    ∙ change-own-row state event ordinal attribute kind stays (λ unkeyed.
+    none_of_the_event (tells_bits (state.connections ordinal).handle attribute) (λ handle other. refl) state event
+    (untold unkeyed))
 
 abbrev BondUntoldIn : State → Event → Peer → Handle → Type 0
 BondUntoldIn state event peer attribute = (ordinal : Ordinal)
@@ -377,11 +380,12 @@ of-bond : (state : State) (at : Ordinal) (own : Own) (peer : Peer) (attribute : 
     (effect_of state.shared (state.bonds connection.peer) (state.owed connection.peer) connection own).bond
     else state.bonds peer) attribute
     ≡ bits_at (state.bonds peer) attribute)
-unfolding noticed
+unfolding event_told
 of-bond state at own peer attribute true is untold =
     let connection = state.connections at in
     own-bond state.shared (state.bonds connection.peer) (state.owed connection.peer) connection attribute own
-    (λ keyed. untold at is keyed)
+    (λ keyed. none_of_the_event (tells_bits connection.handle attribute) (λ handle other. refl) state (Of at own)
+    (untold at is keyed))
     ∙ ap (λ (one : Peer). bits_at (state.bonds one) attribute) (sym (equal_peers peer connection.peer is))
 of-bond state at own peer attribute false is untold = refl
 

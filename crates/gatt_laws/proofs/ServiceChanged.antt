@@ -11,12 +11,13 @@ use Rattle.att_pdu.specs.Grammar.{request_of, is_due}
 use Rattle.gatt_conn.specs.Answer.{Question, is_confirmation}
 use Rattle.gatt_laws.proofs.Meant.{first-true, last-true}
 use Rattle.gatt_laws.proofs.Notices.{or-first, or-second}
+use Rattle.gatt_laws.proofs.Skips.{none_of_the_event}
 use Rattle.gatt_laws.specs.laws.ServiceChanged.{is_confirmed_notice, NoticesServiceChangedConfirmed}
 use Rattle.gatt_laws.specs.machine.ConnectionState.{ConnectionState, is_live, key_of, row_in_force, connection_mtu, after_ending}
 use Rattle.gatt_laws.specs.machine.Effect.{Effect, effect_on_connection, effect_of, live_effect, served, is_full}
 use Rattle.gatt_laws.specs.machine.Effect.{owed_after, handles_written, remote_user_terminated}
 use Rattle.gatt_laws.specs.machine.Event.{Ordinal, Own, Event, Connected, Disconnected, Asks, Of, Credit, Replaced}
-use Rattle.gatt_laws.specs.machine.Notice.{Notice, Confirmed, write_told, confirmation_told, end_told, own_told, noticed}
+use Rattle.gatt_laws.specs.machine.Notice.{Notice, Confirmed, write_told, confirmation_told, end_told, own_told, event_told, noticed}
 use Rattle.gatt_laws.specs.machine.SharedState.{SharedState}
 use Rattle.gatt_laws.specs.machine.State.{State, change_of, step}
 use Rattle.gatt_subs.specs.Indications.{Indications, is_told, is_waiting}
@@ -157,11 +158,12 @@ of-owed : (state : State) (at : Ordinal) (own : Own) (peer : Peer) (same : Bool)
     (effect_of state.shared (state.bonds connection.peer) (state.owed connection.peer) connection own).owed
     else state.owed peer)
     ≡ state.owed peer)
-unfolding noticed
+unfolding event_told
 of-owed state at own peer true is none =
     let connection = state.connections at in
     own-owed state.shared (state.bonds connection.peer) (state.owed connection.peer) connection own
-    (λ changer. none at changer is)
+    (λ changer keyed has. none_of_the_event (is_confirmed_notice connection.handle changer) (λ handle attribute. refl)
+    state (Of at own) (none at changer is keyed has))
     ∙ ap state.owed (sym (equal_peers peer connection.peer is))
 of-owed state at own peer false is none = refl
 

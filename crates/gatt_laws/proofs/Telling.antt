@@ -10,8 +10,10 @@ use Rattle.gatt_laws.proofs.KnowingWho.{always_has_one_handle_each, knows_who_is
 use Rattle.gatt_laws.proofs.KnowingWho.{tells_who_is_there}
 use Rattle.gatt_laws.proofs.KnownKeys.{knows_the_keys}
 use Rattle.gatt_laws.proofs.Notices.{tells_each_value}
+use Rattle.gatt_laws.proofs.QuietTicks.{ends_authorizations, is_quiet_before_the_deadline}
 use Rattle.gatt_laws.proofs.RowNotices.{tells_each_bond, tells_each_own_row}
 use Rattle.gatt_laws.proofs.ServiceChanged.{notices_service_changed_confirmed}
+use Rattle.gatt_laws.proofs.SkipNotices.{notices_each_skipped, notices_only_what_is_skipped}
 use Rattle.gatt_laws.proofs.StreamNotices.{receives_of_the_division, tells_of_the_division}
 use Rattle.gatt_laws.proofs.ToldIsSo.{tells_what_is_so}
 use Rattle.gatt_laws.specs.laws.Telling.{TellsTheApplication}
@@ -36,8 +38,12 @@ tells_the_application = record {
   nothing_ignored = tells_nothing_ignored;
   only_live = tells_only_of_the_live;
   deadline = tells_from_the_deadline_on;
+  quiet = is_quiet_before_the_deadline;
+  authorizations = ends_authorizations;
   only_late = notices_only_who_is_late;
   each_late = notices_each_who_is_late;
+  each_skipped = notices_each_skipped;
+  only_skipped = notices_only_what_is_skipped;
   division = tells_of_the_division;
   values_of_division = receives_of_the_division;
 }

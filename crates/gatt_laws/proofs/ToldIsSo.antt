@@ -15,6 +15,7 @@ use Rattle.gatt_conn.specs.Answer.{is_confirmation}
 use Rattle.gatt_laws.proofs.Ends.{end_keeps}
 use Rattle.gatt_laws.proofs.Named.{IsNamedAs, if-live-named, if-live-stays, end_named}
 use Rattle.gatt_laws.proofs.Places.{live-there}
+use Rattle.gatt_laws.proofs.Skips.{holds_with_skips}
 use Rattle.gatt_laws.specs.machine.Controller.{Slots}
 use Rattle.gatt_laws.specs.machine.Event as event
 use Rattle.gatt_laws.specs.machine.Event.{Ordinal, Own, KeyAsked, Encrypted, Refreshed, Asks}
@@ -22,7 +23,7 @@ use Rattle.gatt_laws.specs.machine.Event.{OtherChannel, Authorized, Ended, Of, T
 use Rattle.gatt_laws.specs.machine.Notice.{Notice, Connected, Disconnected, Secured, Unsecured, Written}
 use Rattle.gatt_laws.specs.machine.Notice.{Configured, Confirmed, TimedOut, Ending, are_same_facts}
 use Rattle.gatt_laws.specs.machine.Notice.{link_told, write_told, confirmation_told, end_told, live_told}
-use Rattle.gatt_laws.specs.machine.Notice.{late_told, slot_told, noticed}
+use Rattle.gatt_laws.specs.machine.Notice.{late_told, slot_told, event_told}
 use Rattle.gatt_laws.specs.laws.OwnWrites.{row_of_connection}
 use Rattle.gatt_laws.specs.machine.ConnectionState.{ConnectionState, fresh_connection, is_live, is_there, key_of, row_in_force}
 use Rattle.gatt_laws.specs.machine.State.{State, change_of, step}
@@ -222,9 +223,9 @@ comes-named : (state : State) (at : Ordinal) (handle : ℕ) (peer : Peer)
 comes-named state at handle peer away =
     ap (λ (there : Bool). if there then state.connections at else fresh_connection handle peer) away
 
-pub tells_what_is_so : TellsWhatIsSo
-unfolding noticed
-tells_what_is_so state (Of at (event.Connected handle peer)) =
+told-event : (state : State) (happens : event.Event) → AreSo (step state happens) (event_told state happens)
+unfolding event_told
+told-event state (Of at (event.Connected handle peer)) =
     let own : Own = event.Connected handle peer in
     either-so (step state (Of at own)) [] (Connected handle peer ∷ [])
     (is_there (state.connections at).mark)
@@ -243,13 +244,13 @@ tells_what_is_so state (Of at (event.Connected handle peer)) =
             ∙ ap (λ (of : ConnectionState). of.row) (comes-named state at handle peer away);
       };
     }))
-tells_what_is_so state (Of at event.Disconnected) =
+told-event state (Of at event.Disconnected) =
     let connection : ConnectionState = state.connections at in
     either-so (step state (Of at event.Disconnected)) (Disconnected connection.handle ∷ []) []
     (is_there connection.mark)
     (λ there. one-so (step state (Of at event.Disconnected)) (Disconnected connection.handle) tt)
     (λ away. none-so (step state (Of at event.Disconnected)))
-tells_what_is_so state (Of at (Asks pdu)) =
+told-event state (Of at (Asks pdu)) =
     let own : Own = Asks pdu in
     let connection : ConnectionState = state.connections at in
     let bond : Row = state.bonds connection.peer in
@@ -268,27 +269,31 @@ tells_what_is_so state (Of at (Asks pdu)) =
     (either-so new (confirmation_told connection.handle connection.pending.unconfirmed) [] (is_confirmation pdu)
     (λ is. confirmation-so new at connection.handle (there state at own kept stays live) (named state at own kept stays) connection.pending.unconfirmed)
     (λ is. none-so new)))
-tells_what_is_so state (Of at (Encrypted status enabled)) =
+told-event state (Of at (Encrypted status enabled)) =
     let own : Own = Encrypted status enabled in
     let kept = stays-named state at own in
     let stays = stays-there state at own in
     told-so state at own kept stays (linked-so state at own kept stays)
-tells_what_is_so state (Of at (Refreshed status)) =
+told-event state (Of at (Refreshed status)) =
     let own : Own = Refreshed status in
     let kept = stays-named state at own in
     let stays = stays-there state at own in
     told-so state at own kept stays (linked-so state at own kept stays)
-tells_what_is_so state (Of at (KeyAsked random_number diversifier)) =
+told-event state (Of at (KeyAsked random_number diversifier)) =
     let own : Own = KeyAsked random_number diversifier in
     told-so state at own (stays-named state at own) (stays-there state at own) (λ live. none-so (step state (Of at own)))
-tells_what_is_so state (Of at (OtherChannel channel payload)) =
+told-event state (Of at (OtherChannel channel payload)) =
     let own : Own = OtherChannel channel payload in
     told-so state at own (stays-named state at own) (stays-there state at own) (λ live. none-so (step state (Of at own)))
-tells_what_is_so state (Of at (Authorized until)) =
+told-event state (Of at (Authorized until)) =
     let own : Own = Authorized until in
     told-so state at own (stays-named state at own) (stays-there state at own) (λ live. none-so (step state (Of at own)))
-tells_what_is_so state (Of at Ended) =
+told-event state (Of at Ended) =
     let own : Own = Ended in
     told-so state at own (stays-named state at own) (stays-there state at own) (λ live. none-so (step state (Of at own)))
-tells_what_is_so state (Tick time) = slots-so (step state (Tick time)) state time state.slots
-tells_what_is_so state event = none-so (step state event)
+told-event state (Tick time) = slots-so (step state (Tick time)) state time state.slots
+told-event state event = none-so (step state event)
+
+pub tells_what_is_so : TellsWhatIsSo
+tells_what_is_so state happens =
+    holds_with_skips (IsSo (step state happens)) (λ handle attribute. tt) state happens (told-event state happens)

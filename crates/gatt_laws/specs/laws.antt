@@ -25,6 +25,7 @@ pub mod SameView
 pub mod ServiceChanged
 pub mod Settled
 pub mod Silence
+pub mod Skipped
 pub mod StreamNotices
 pub mod Telling
 pub mod ToldIsSo

@@ -1,24 +1,62 @@
--- When an indication of any connection is late: this profile's own.
-use Rattle.std.specs.Prelude.{◌≡◌, ℕ, ◌<◌, ◌==◌, ◌^◌, min, nat_le, All, Bool, true, false, filter_map, Option, Some, None}
+-- When an indication of any connection is late, and when an authorization ends: this profile's own.
+use Rattle.std.specs.Prelude.{◌≡◌, ℕ, ◌<◌, ◌≤◌, ◌==◌, ◌^◌, min, nat_le, nat_lt, if◌then◌else◌}
+use Rattle.std.specs.Prelude.{All, Bool, true, false, List, [], filter_map, Option, Some, None}
 use Rattle.std.specs.List.{list_any, reduce}
 use Rattle.std.specs.Option.{option_map_or}
-use Rattle.gatt_laws.specs.machine.Event.{Ordinal, Tick}
-use Rattle.gatt_laws.specs.machine.Notice.{Notice, TimedOut, noticed}
-use Rattle.gatt_laws.specs.machine.State.{State}
-use Rattle.gatt_subs.specs.Deadline.{deadline_of}
+use Rattle.att_attributes.specs.declared.attr.Attr.{Attr}
+use Rattle.att_numbers.specs.Types.{Handle, Row}
+use Rattle.att_policy.specs.Policy.{is_unmet}
+use Rattle.att_policy.specs.declared.guard.Need.{Need}
+use Rattle.att_policy.specs.declared.policy.Rule.TheVariants.{Authorization}
+use Rattle.att_table.specs.Table.{Contents}
+use Rattle.gatt_conn.specs.Answer.{Question, answer_to, handles_by, stored_by}
 use Rattle.gatt_laws.specs.laws.Settled.{has_slot}
+use Rattle.gatt_laws.specs.machine.ConnectionState.{ConnectionState}
+use Rattle.gatt_laws.specs.machine.ConnectionState.{bearer_of, is_live, standing_of}
+use Rattle.gatt_laws.specs.machine.Event.{Ordinal, Nothing, Tick}
+use Rattle.gatt_laws.specs.machine.Notice.{Notice, TimedOut, noticed}
+use Rattle.gatt_laws.specs.machine.SharedState.{SharedState}
+use Rattle.gatt_laws.specs.machine.State.{State, out, step}
+use Rattle.gatt_subs.specs.Deadline.{deadline_of}
+use Rattle.gatt_subs.specs.Hearing.{may_hear_at}
 use Rattle.gatt_subs.specs.Indications.{Milliseconds, times_out}
 
--- of the connection of a slot
-abbrev pub slot_deadline : State → Option Ordinal → Option Milliseconds
-slot_deadline state None = None
-slot_deadline state (Some ordinal) = deadline_of (state.connections ordinal).pending
+-- The time at which the indication of the connection of a slot is late.
+abbrev pub slot_indication_deadline : State → Option Ordinal → Option Milliseconds
+slot_indication_deadline state None = None
+slot_indication_deadline state (Some ordinal) = deadline_of (state.connections ordinal).pending
 
--- and the least of all: none where nothing is unconfirmed
+-- The least of these times: none if each indication is confirmed.
+abbrev pub indication_deadline : State → Option Milliseconds
+indication_deadline state = reduce min (filter_map (slot_indication_deadline state) state.slots)
+
+-- The time at which an authorization ends, if it has not ended.
+abbrev pub end_after : Milliseconds → Milliseconds → Option Milliseconds
+end_after now until = if nat_lt now until then Some until else None
+
+-- The time at which the authorization of a connection ends, if it serves and is authorized.
+abbrev pub authorization_end : Milliseconds → ConnectionState → Option Milliseconds
+authorization_end now connection =
+    if is_live connection.mark then end_after now connection.until else None
+
+-- The earlier of two times, of which either may be absent.
+abbrev pub earlier_of : Option Milliseconds → Option Milliseconds → Option Milliseconds
+earlier_of None other = other
+earlier_of (Some one) None = Some one
+earlier_of (Some one) (Some other) = Some (min one other)
+
+abbrev pub slot_deadline : Milliseconds → State → Option Ordinal → Option Milliseconds
+slot_deadline now state None = None
+slot_deadline now state (Some ordinal) =
+    let connection = state.connections ordinal in
+    earlier_of (deadline_of connection.pending) (authorization_end now connection)
+
+-- The earliest time at which an indication is late or the authorization of a connection that serves
+-- ends. A caller needs no Tick before it.
 abbrev pub deadline : State → Option Milliseconds
-deadline state = reduce min (filter_map (slot_deadline state) state.slots)
+deadline state = reduce min (filter_map (slot_deadline state.shared.time state) state.slots)
 
--- A caller may wait until it: a time below it tells of nobody who did not confirm in time, and one from it on does.
+-- A time below the deadline of indications notifies of no late indication, and one from it on does.
 abbrev pub is_late_told : Notice → Bool
 is_late_told (TimedOut handle) = true
 is_late_told other = false
@@ -28,7 +66,47 @@ is_reached deadline time = option_map_or (λ (least : ℕ). nat_le least time) d
 
 abbrev pub TellsFromTheDeadlineOn : Type 0
 TellsFromTheDeadlineOn = (state : State) (time : Milliseconds) → time < 2 ^ 64 →
-    list_any is_late_told (noticed state (Tick time)) ≡ is_reached (deadline state) time
+    list_any is_late_told (noticed state (Tick time)) ≡ is_reached (indication_deadline state) time
+
+-- The shared state at another time.
+abbrev pub at_time : Milliseconds → SharedState → SharedState
+at_time time shared = record shared { time = time }
+
+-- Two shared states allow a connection the same: the same answer to each request, the same values and
+-- configurations after it, the same handles written, and the same values to be notified of.
+pub record IsAllowedTheSame (one other : SharedState) (connection : ConnectionState) : Type 0 where
+  pub answers : (table : Contents) (row : Row) (asked : Question) →
+      answer_to table row (bearer_of one connection) asked
+      ≡ answer_to table row (bearer_of other connection) asked
+  pub stores : (table : Contents) (row : Row) (asked : Question) →
+      stored_by table row (bearer_of one connection) asked
+      ≡ stored_by table row (bearer_of other connection) asked
+  pub writes : (table : Contents) (row : Row) (asked : Question) →
+      handles_by table row (bearer_of one connection) asked
+      ≡ handles_by table row (bearer_of other connection) asked
+  pub hears : (attributes : List Attr) (row : Row) (handle : Handle) →
+      may_hear_at attributes row (standing_of one connection) handle
+      ≡ may_hear_at attributes row (standing_of other connection) handle
+
+-- A Tick before the deadline causes no notice and no packet that Nothing would not cause. It allows each
+-- connection that has a slot and serves the same as before.
+pub record IsQuietAt (state : State) (time : Milliseconds) : Type 0 where
+  pub notices : noticed state (Tick time) ≡ []
+  pub packets : out state (Tick time) ≡ out state Nothing
+  pub same : (ordinal : Ordinal) → has_slot ordinal state.slots ≡ true
+      → is_live (state.connections ordinal).mark ≡ true
+      → IsAllowedTheSame (at_time time state.shared) state.shared (state.connections ordinal)
+
+abbrev pub IsQuietBeforeTheDeadline : Type 0
+IsQuietBeforeTheDeadline = (state : State) (time : Milliseconds) → state.shared.time ≤ time
+    → time < 2 ^ 64 → is_reached (deadline state) time ≡ false → IsQuietAt state time
+
+-- A Tick at the end of an authorization or later ends it: the connection fails each need of one.
+abbrev pub EndsAuthorizations : Type 0
+EndsAuthorizations = (state : State) (time : Milliseconds) (ordinal : Ordinal) (need : Need) →
+    let new = step state (Tick time) in
+    (state.connections ordinal).until ≤ time → need.authorized ≡ true
+    → is_unmet need (standing_of new.shared (new.connections ordinal)) Authorization ≡ true
 
 -- A connection that has a slot and this handle did not confirm an indication in time.
 pub record IsLateInASlot (state : State) (time : Milliseconds) (handle : ℕ) : Type 0 where
@@ -54,4 +132,5 @@ is_late_notice_of handle other = false
 abbrev pub NoticesEachWhoIsLate : Type 0
 NoticesEachWhoIsLate = (state : State) (time : Milliseconds) (ordinal : Ordinal) →
     has_slot ordinal state.slots ≡ true → times_out (state.connections ordinal).pending time ≡ true
-    → list_any (is_late_notice_of (state.connections ordinal).handle) (noticed state (Tick time)) ≡ true
+    → list_any (is_late_notice_of (state.connections ordinal).handle) (noticed state (Tick time))
+    ≡ true

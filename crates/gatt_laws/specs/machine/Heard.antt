@@ -1,13 +1,15 @@
 -- What a connection hears unasked at an event: what is notified to it, and what is indicated at the end. When is this
 -- profile's own, by Core 5.0, Vol 3 Part F, 3.4.7.
-use Rattle.std.specs.Prelude.{ℕ, ◌+◌, List, [], ◌∷◌, ◌++◌, length, map}
+use Rattle.std.specs.Prelude.{ℕ, ◌+◌, nat_lt, Bool, ◌&&◌, not, if◌then◌else◌, List, [], ◌∷◌, ◌++◌, length, map}
 use Rattle.std.specs.Option.{option_to_list}
 use Rattle.att_numbers.specs.Types.{Handle, Row, Values}
 use Rattle.att_pdu.specs.Response.{Response, sent}
 use Rattle.att_attributes.specs.declared.attr.Attr.{Attr}
 use Rattle.gatt_laws.specs.machine.ConnectionState.{ConnectionState, is_live, standing_of, row_in_force, connection_mtu, backlog_of, with_pdus}
 use Rattle.gatt_laws.specs.machine.SharedState.{SharedState}
-use Rattle.gatt_subs.specs.Indications.{Indications}
+use Rattle.gatt_subs.specs.declared.pending.TheConstants.{MAX_BACKLOG}
+use Rattle.gatt_subs.specs.Hearing.{wants_indications}
+use Rattle.gatt_subs.specs.Indications.{Indications, hears}
 use Rattle.gatt_subs.specs.Told.{Hearer, notify_tells, pending_after_notify, indicate_tells, pending_after_indicate}
 use Rattle.le_acl.specs.Packets.{Pdu}
 use Rattle.le_l2cap.specs.declared.channel.TheConstants.{ATT}
@@ -47,12 +49,27 @@ hearer_after hearer heard = record hearer { pending = heard.pending; backlog = h
 abbrev pub after_responses : List Response → Heard → Heard
 after_responses first heard = record heard { responses = first ++ heard.responses }
 
--- values are notified in their order, and then what is due is indicated
+-- Values are notified in their order, and then what is due is indicated.
 abbrev pub heard_in_turn : List Attr → Values → Hearer → ℕ → List Handle → Heard
 heard_in_turn attributes values hearer now [] = heard_when_indicating attributes values hearer now
 heard_in_turn attributes values hearer now (handle ∷ handles) =
     let first = heard_when_notifying attributes values hearer handle in
     after_responses first.responses (heard_in_turn attributes values (hearer_after hearer first) now handles)
+
+-- A value is skipped if a notification of it would be sent, but MAX_BACKLOG PDUs or more are queued
+-- for the connection: then the connection is not sent the value.
+abbrev pub is_skipped : List Attr → Hearer → Handle → Bool
+is_skipped attributes hearer handle =
+    hearer.live && hears hearer.pending attributes hearer.row hearer.standing handle
+    && not (wants_indications hearer.row handle) && not (nat_lt hearer.backlog MAX_BACKLOG)
+
+-- The values that are skipped when these values are notified in their order.
+abbrev pub skipped_in_turn : List Attr → Values → Hearer → List Handle → List Handle
+skipped_in_turn attributes values hearer [] = []
+skipped_in_turn attributes values hearer (handle ∷ handles) =
+    (if is_skipped attributes hearer handle then handle ∷ [] else [])
+    ++ skipped_in_turn attributes values
+    (hearer_after hearer (heard_when_notifying attributes values hearer handle)) handles
 
 -- a response as a PDU on its channel
 abbrev pub att_pdu : Response → Pdu

@@ -13,12 +13,13 @@ use Rattle.att_table.specs.Table.{Contents, value_at}
 use Rattle.gatt_conn.specs.Answer.{is_confirmation}
 use Rattle.gatt_laws.specs.machine.Event as event
 use Rattle.gatt_laws.specs.machine.Event.{Ordinal, Own, Encrypted, Refreshed, Asks, Event, Of, Tick}
+use Rattle.gatt_laws.specs.machine.Heard.{hearer_of, skipped_in_turn}
 use Rattle.gatt_laws.specs.machine.Input.{Item, Run, after_item, run_at_start}
 use Rattle.gatt_laws.specs.machine.ItemEvents.{event_at}
 use Rattle.gatt_laws.specs.machine.ConnectionState.{ConnectionState, is_live, is_there, key_of, row_in_force}
 use Rattle.gatt_laws.specs.machine.SharedState.{SharedState}
 use Rattle.gatt_laws.specs.machine.Start.{Start}
-use Rattle.gatt_laws.specs.machine.State.{State, step}
+use Rattle.gatt_laws.specs.machine.State.{State, Change, change_of, step}
 use Rattle.gatt_laws.specs.machine.Effect.{Effect, effect_of, handles_written}
 use Rattle.gatt_subs.specs.declared.pending.Unconfirmed.{Unconfirmed}
 use Rattle.gatt_subs.specs.Indications.{is_late}
@@ -28,7 +29,8 @@ use Rattle.octets.specs.Number.{Octets}
 -- Of a connection, by the handle that it has in HCI: it comes with its peer, or is gone, also one
 -- that was ending; its link has a key that is worth another thing than before, or no key any more;
 -- it wrote the value of an attribute, or a configuration, which has these bits then; it confirmed
--- an indication of a value, or did not in time; and it is ended for a reason
+-- an indication of a value, or did not in time; it is ended for a reason; and it is not sent a
+-- notification of a value, since too many PDUs are queued for it.
 pub data Notice : Type 0 where
   Connected : (handle : ℕ) (peer : Peer) → Notice
   Disconnected : (handle : ℕ) → Notice
@@ -39,6 +41,7 @@ pub data Notice : Type 0 where
   Confirmed : (handle : ℕ) (attribute : Handle) → Notice
   TimedOut : (handle : ℕ) → Notice
   Ending : (handle : ℕ) (reason : ℕ) → Notice
+  Skipped : (handle : ℕ) (attribute : Handle) → Notice
 
 -- what a key is worth is its facts, and not its octets
 abbrev pub are_both : Bool → Bool → Bool
@@ -109,14 +112,34 @@ abbrev pub slot_told : State → ℕ → Option Ordinal → List Notice
 slot_told state time None = []
 slot_told state time (Some ordinal) = late_told time (state.connections ordinal)
 
--- what is told of an event, in its order
-unfoldable pub noticed : State → Event → List Notice
-noticed state (Of ordinal own) =
+-- The notices of what happens to connections, in its order.
+unfoldable pub event_told : State → Event → List Notice
+event_told state (Of ordinal own) =
     let connection = state.connections ordinal in
     let bond = state.bonds connection.peer in
     own_told state.shared bond connection own (effect_of state.shared bond (state.owed connection.peer) connection own)
-noticed state (Tick time) = flat_map (slot_told state time) state.slots
-noticed state event = []
+event_told state (Tick time) = flat_map (slot_told state time) state.slots
+event_told state event = []
+
+-- The values that an event notifies and that are skipped, for one connection and for each slot.
+abbrev pub values_skipped : Change → Ordinal → List Handle
+values_skipped change ordinal =
+    let shared = change.state.shared in
+    let connection = change.state.connections ordinal in
+    skipped_in_turn shared.table.attributes shared.table.values
+    (hearer_of shared (change.state.bonds connection.peer) connection) (change.to_notify ordinal)
+
+abbrev pub slot_skips_told : Change → Option Ordinal → List Notice
+slot_skips_told change None = []
+slot_skips_told change (Some ordinal) =
+    map (Skipped (change.state.connections ordinal).handle) (values_skipped change ordinal)
+
+abbrev pub skips_told : Change → List Notice
+skips_told change = flat_map (slot_skips_told change) change.state.slots
+
+-- The notices of an event: of what happens, and then of what is skipped.
+unfoldable pub noticed : State → Event → List Notice
+noticed state event = event_told state event ++ skips_told (change_of state event)
 
 -- what is read of an item of the input by its event: nothing if it means none
 abbrev pub of_item : {A : Type 0} → (State → Event → List A) → Run → Item → List A

@@ -1,0 +1,89 @@
+-- No value that an event notifies is lost without a notice. When a value is skipped is this
+-- profile's own.
+use Rattle.std.specs.Prelude.{◌≡◌, ℕ, ◌+◌, ◌≤◌, ◌==◌, ◌||◌, ◌&&◌, Bool, true, false}
+use Rattle.std.specs.Prelude.{All, List, length}
+use Rattle.std.specs.List.{list_any}
+use Rattle.att_numbers.specs.Types.{Handle, Values}
+use Rattle.att_attributes.specs.declared.attr.Attr.{Attr}
+use Rattle.gatt_laws.specs.laws.MayBeHeard.{handles_told}
+use Rattle.gatt_laws.specs.laws.Settled.{has_slot}
+use Rattle.gatt_laws.specs.machine.Event.{Ordinal, Event}
+use Rattle.gatt_laws.specs.machine.Heard.{Heard, heard_in_turn, hearer_of, skipped_in_turn}
+use Rattle.gatt_laws.specs.machine.Notice.{Notice, Skipped, noticed}
+use Rattle.gatt_laws.specs.machine.State.{State, Change, change_of, step}
+use Rattle.gatt_subs.specs.declared.pending.TheConstants.{MAX_BACKLOG}
+use Rattle.gatt_subs.specs.Hearing.{may_hear_at, wants_indications}
+use Rattle.gatt_subs.specs.Told.{Hearer}
+
+abbrev pub is_among : Handle → List Handle → Bool
+is_among handle handles = list_any (λ other. other == handle) handles
+
+-- When values are notified to a connection that serves and is not timed out, each of them that it
+-- may hear is sent to it in a notification or an indication, or waits to be indicated, or is skipped.
+abbrev pub is_accounted_for : List Attr → Values → Hearer → ℕ → List Handle → Handle → Bool
+is_accounted_for attributes values hearer now handles handle =
+    let heard = heard_in_turn attributes values hearer now handles in
+    is_among handle (handles_told heard.responses) || is_among handle heard.pending.waiting
+    || is_among handle (skipped_in_turn attributes values hearer handles)
+
+abbrev pub AccountsForEachValue : Type 0
+AccountsForEachValue = (attributes : List Attr) (values : Values) (hearer : Hearer) (now : ℕ)
+    (handles : List Handle) (handle : Handle) → hearer.live ≡ true
+    → hearer.pending.timed_out ≡ false → is_among handle handles ≡ true
+    → may_hear_at attributes hearer.row hearer.standing handle ≡ true
+    → is_accounted_for attributes values hearer now handles handle ≡ true
+
+-- a connection as a hearer at the end of an event, and what it hears then
+abbrev pub hearer_at : Change → Ordinal → Hearer
+hearer_at change ordinal =
+    let connection = change.state.connections ordinal in
+    hearer_of change.state.shared (change.state.bonds connection.peer) connection
+
+abbrev pub heard_at : Change → Ordinal → Heard
+heard_at change ordinal =
+    let shared = change.state.shared in
+    heard_in_turn shared.table.attributes shared.table.values (hearer_at change ordinal) shared.time
+    (change.to_notify ordinal)
+
+-- An event notifies a value to a connection that has a slot, serves, is not timed out, and may hear
+-- it.
+pub record IsToHear (change : Change) (ordinal : Ordinal) (attribute : Handle) : Type 0 where
+  pub has : has_slot ordinal change.state.slots ≡ true
+  pub live : (hearer_at change ordinal).live ≡ true
+  pub on_time : (hearer_at change ordinal).pending.timed_out ≡ false
+  pub notified : is_among attribute (change.to_notify ordinal) ≡ true
+  pub may : may_hear_at change.state.shared.table.attributes (hearer_at change ordinal).row
+      (hearer_at change ordinal).standing attribute ≡ true
+
+abbrev pub is_skip_of : ℕ → Handle → Notice → Bool
+is_skip_of handle attribute (Skipped other skipped) = other == handle && skipped == attribute
+is_skip_of handle attribute notice = false
+
+-- Then the connection is sent the value, or the value waits after the event, or the application is
+-- notified that the connection is not sent it.
+abbrev pub NoticesEachSkipped : Type 0
+NoticesEachSkipped = (state : State) (event : Event) (ordinal : Ordinal) (attribute : Handle) →
+    let change = change_of state event in
+    IsToHear change ordinal attribute
+    → (is_among attribute (handles_told (heard_at change ordinal).responses)
+    || is_among attribute ((step state event).connections ordinal).pending.waiting
+    || list_any (is_skip_of (change.state.connections ordinal).handle attribute)
+    (noticed state event)) ≡ true
+
+-- Such a notice is of a connection that has this handle and is to hear the value, by a notification,
+-- and for which MAX_BACKLOG PDUs or more are queued.
+pub record IsSkippedFor (change : Change) (handle : ℕ) (attribute : Handle) : Type 0 where
+  pub ordinal : Ordinal
+  pub named : (change.state.connections ordinal).handle ≡ handle
+  pub to_hear : IsToHear change ordinal attribute
+  pub by_notification : wants_indications (hearer_at change ordinal).row attribute ≡ false
+  pub full : MAX_BACKLOG
+      ≤ (hearer_at change ordinal).backlog + length (heard_at change ordinal).responses
+
+abbrev pub IsSkippedIfTold : Change → Notice → Type 0
+IsSkippedIfTold change (Skipped handle attribute) = IsSkippedFor change handle attribute
+IsSkippedIfTold change notice = Unit
+
+abbrev pub NoticesOnlyWhatIsSkipped : Type 0
+NoticesOnlyWhatIsSkipped = (state : State) (event : Event) →
+    All (IsSkippedIfTold (change_of state event)) (noticed state event)
