@@ -17,3 +17,4 @@ pub mod Noted
 mod Late
 pub mod Seen
 pub mod OfTable
+pub mod Skipping

@@ -125,7 +125,7 @@ unasked-of : (guard : Guard) (standing : Standing) → may_hear_of guard 0 stand
 unasked-of guard standing =
     ap (λ (both : ℕ). not (both == 0) && is_none (first_unmet_rule_of guard.read standing)) (and_zero_l (configuration_bits_of guard.properties))
 
-unasked : (attributes : List Attr) (standing : Standing) (handle : Handle) → may_hear_at attributes [] standing handle ≡ false
+pub unasked : (attributes : List Attr) (standing : Standing) (handle : Handle) → may_hear_at attributes [] standing handle ≡ false
 unasked attributes standing handle =
     elim (attribute_at attributes handle) as (λ (found : Option Attr).
     option_map_or (λ (attr : Attr). is_value attr.role && may_hear_of attr.guard 0 standing) found false ≡ false) [
@@ -133,8 +133,8 @@ unasked attributes standing handle =
       | Some attr ↦ and_right (is_value attr.role) (may_hear_of attr.guard 0 standing) (unasked-of attr.guard standing)
     ]
 
-none-in-force : (bond : Option Row) (slot_state : SlotState) → (is_some slot_state.link.key || not (length slot_state.row == 0)) ≡ false → slot_row_in_force bond slot_state ≡ []
-none-in-force bond slot_state none =
+pub none_in_force : (bond : Option Row) (slot_state : SlotState) → (is_some slot_state.link.key || not (length slot_state.row == 0)) ≡ false → slot_row_in_force bond slot_state ≡ []
+none_in_force bond slot_state none =
     let parts = both-none (is_some slot_state.link.key) (not (length slot_state.row == 0)) none in
     ap (λ (has : Bool). row_by_key has bond slot_state.row) parts.0 ∙ none_there slot_state.row (turned (length slot_state.row == 0) parts.1)
   where
@@ -150,7 +150,7 @@ unlistening table now rows handle (Some slot_state) deaf =
     elim slot_state.live as (λ (live : Bool). (live && (is_some slot_state.link.key || not (length slot_state.row == 0))) ≡ false
     → Some (if live then with_delivery slot_state (delivery_when_notifying table ear handle (delivery_of slot_state)) else slot_state) ≡ Some slot_state) [
       | true ↦ λ none. ap (λ (told : Delivery). Some (with_delivery slot_state told)) (unheard-raised table ear handle (delivery_of slot_state)
-          (ap (λ (row : Row). may_hear_at table.attributes row ear.standing handle) (none-in-force (row_of rows slot_state.peer) slot_state none)
+          (ap (λ (row : Row). may_hear_at table.attributes row ear.standing handle) (none_in_force (row_of rows slot_state.peer) slot_state none)
           ∙ unasked table.attributes ear.standing handle))
       | false ↦ λ none. refl
     ] deaf

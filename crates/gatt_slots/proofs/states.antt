@@ -1,6 +1,7 @@
 pub mod Events
 pub mod Found
 pub mod Heard
+pub mod Skips
 pub mod SlotStates
 pub mod Places
 pub mod Requests

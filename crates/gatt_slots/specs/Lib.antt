@@ -5,6 +5,7 @@ pub mod Hearing
 pub mod SlotEffects
 pub mod Request
 pub mod Slots
+pub mod Skips
 pub mod OfTable
 pub mod Places
 pub mod Handles

@@ -6,6 +6,7 @@ use Rattle.std.specs.Option.{option_map, option_map_or}
 use Rattle.att_numbers.specs.Types.{Handle, Row}
 use Rattle.att_attributes.specs.declared.attr.Attr.{Attr}
 use Rattle.att_table.specs.Table.{Contents}
+use Rattle.gatt_laws.specs.laws.Deadline.{earlier_of, end_after}
 use Rattle.gatt_slots.specs.Hearing.{slot_after_hearing, slot_after_notifying, slot_after_notifying_alone, slot_row_in_force}
 use Rattle.gatt_slots.specs.SlotState.{SlotState}
 use Rattle.gatt_slots.specs.SlotEffects.{slot_after_packets_completed, after_table, after_time}
@@ -112,13 +113,18 @@ late_handle now slot_state = if times_out slot_state.pending now then slot_state
 abbrev pub late_handles : ℕ → SlotStates → List ℕ
 late_handles now slots = flat_map (λ (slot : Option SlotState). option_map_or (late_handle now) slot []) slots
 
--- when the first indication of a connection is late
-abbrev pub slot_state_deadline : Option SlotState → Option ℕ
-slot_state_deadline None = None
-slot_state_deadline (Some slot_state) = deadline_of slot_state.pending
+-- The time at which the authorization of a connection ends, if the connection serves and is authorized.
+abbrev pub slot_authorization_end : ℕ → SlotState → Option ℕ
+slot_authorization_end now slot_state = if slot_state.live then end_after now slot_state.until else None
 
-abbrev pub slots_deadline : SlotStates → Option ℕ
-slots_deadline slots = reduce min (filter_map slot_state_deadline slots)
+-- The earlier time: that, or the time at which the connection's indication is late.
+abbrev pub slot_state_deadline : ℕ → Option SlotState → Option ℕ
+slot_state_deadline now None = None
+slot_state_deadline now (Some slot_state) =
+    earlier_of (deadline_of slot_state.pending) (slot_authorization_end now slot_state)
+
+abbrev pub slots_deadline : ℕ → SlotStates → Option ℕ
+slots_deadline now slots = reduce min (filter_map (slot_state_deadline now) slots)
 
 -- time has gone by for all, and the table is replaced for all
 abbrev pub all_after_time : ℕ → SlotStates → SlotStates

@@ -69,22 +69,27 @@ impl Slot {
 }
 
 impl Slot {
-    /// When the indication of its connection that is not confirmed is late, in milliseconds.
-    fn deadline(&self) -> Option<u64>
-        ensures { result ≡ slot_state_deadline self.now }
+    /// The earliest time, in milliseconds, at which the indication of its connection that is not
+    /// confirmed is late or the authorization of its connection ends.
+    fn deadline(&self, now: u64) -> Option<u64>
+        ensures { result ≡ slot_state_deadline now self.now }
     {
         if self.used == Use::Free {
             return None;
         }
-        self.pending.deadline()
+        let late = self.pending.deadline();
+        if self.used != Use::Live || self.until <= now {
+            return late;
+        }
+        Some(late.map_or(self.until, |late| late.min(self.until)))
     }
 }
 
-/// The least time at which an indication is late, in milliseconds.
-pub(crate) fn first_deadline(slots: &[Slot]) -> Option<u64>
-    ensures { result ≡ slots_deadline slots.now }
+/// The earliest time, in milliseconds, at which an indication is late or an authorization ends.
+pub(crate) fn first_deadline(slots: &[Slot], now: u64) -> Option<u64>
+    ensures { result ≡ slots_deadline now slots.now }
 {
-    slots.iter().filter_map(|slot| slot.deadline()).min()
+    slots.iter().filter_map(|slot| slot.deadline(now)).min()
 }
 
 /// Takes in the time, in milliseconds, with the handles of the connections that are timed out by it in

@@ -73,7 +73,12 @@ fn queue_value(opcode: u8, handle: u16, value: &[u8], mtu: u16, sender: &mut Sen
 
 /// The row of the peer's bond where the link has a key, else the connection's own.
 #[inline(always)]
-fn row_in_force<'a>(link: &Link, peer: &Peer, own: &'a ConfigRow, rows: &'a Rows) -> &'a ConfigRow
+pub(crate) fn row_in_force<'a>(
+    link: &Link,
+    peer: &Peer,
+    own: &'a ConfigRow,
+    rows: &'a Rows,
+) -> &'a ConfigRow
     ensures { result.now ≡ row_by_key (is_some link.now.key) (row_of rows.now peer.now) own.now }
 {
     if link.facts().is_some() {

@@ -13,11 +13,13 @@ mod marks;
 mod moment;
 mod places;
 mod request;
+mod skipped;
 mod slot;
 mod slots;
 mod telling;
 
 pub use moment::Moment;
 pub use request::Brought;
+pub use skipped::{MAX_SKIPPED, Skipped, Skips};
 pub use slot::Slot;
 pub use slots::Slots;

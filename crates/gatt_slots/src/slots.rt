@@ -6,12 +6,14 @@ ghost use Rattle.std.specs.Borrow.{sem};
 ghost use Rattle.std.specs.List.{position};
 ghost use Rattle.att_table.specs.ConfigRow.{bits_at, IsRowOf};
 ghost use Rattle.att_table.specs.Table.{Contents};
+ghost use Rattle.att_writes.specs.declared.queue.TheConstants.{MAX_PREPARED};
 ghost use Rattle.gatt_slots.specs.Connections.{FindsNext};
 ghost use Rattle.gatt_slots.specs.Hearing.{slot_row_in_force};
 ghost use Rattle.gatt_slots.specs.Lending.{LendsSlot};
 ghost use Rattle.gatt_slots.specs.OfTable.{AreOfTable, AreOfTableIfAny};
 ghost use Rattle.gatt_slots.specs.Places.{may_listen};
 ghost use Rattle.gatt_slots.specs.Request.{bond_served, confirmed_of, handles_written_by, overflows, slot_after_request, table_after};
+ghost use Rattle.gatt_slots.specs.Skips.{all_skipped};
 ghost use Rattle.gatt_slots.specs.Slots.{slots_after_entries, all_after_table, all_after_time, all_heard, slot_state_at, late_handles, place_free, place_holding, place_serving, slot_row_at, slots_at, slots_deadline, IsThere};
 ghost use Rattle.gatt_subs.specs.Rows.{row_of, ChangesBond, Subscriptions};
 ghost use Rattle.le_hci.specs.Event.{completed_packets_of};
@@ -25,6 +27,7 @@ use crate::marks::Marks;
 use crate::moment::Moment;
 use crate::places::{Due, Places, first_due};
 use crate::request::Brought;
+use crate::skipped::{Skips, note_all_skips};
 use crate::slot::Slot;
 use crate::telling::{Heard, indicate_due, notify_all, notify_alone};
 use arrayvec::ArrayVec;
@@ -117,11 +120,12 @@ impl Slots {
         find_free(self.slots.as_slice())
     }
 
-    /// The least time at which an indication that is not confirmed is late, in milliseconds.
-    pub fn deadline(&self) -> Option<u64>
-        ensures { result ≡ slots_deadline self.now }
+    /// Returns the earliest time, in milliseconds, at which an indication that is not confirmed is late
+    /// or the authorization of a connection that serves ends.
+    pub fn deadline(&self, now: u64) -> Option<u64>
+        ensures { result ≡ slots_deadline now self.now }
     {
-        first_deadline(self.slots.as_slice())
+        first_deadline(self.slots.as_slice(), now)
     }
 
     /// The first connection of a slot from a place on, and the place behind that slot.
@@ -237,30 +241,46 @@ impl Slots {
 
     /// Ends an event: the connections hear of the values that it notified to them, in the order of their
     /// slots, that of the slot `own` of those of `here` and the others of `handles`, and of what is then
-    /// due. Where values are notified, what the slots keep is of the table.
+    /// due. Where values are notified, what the slots keep is of the table. `skipped` then has the
+    /// values that were skipped, since too many PDUs were queued for a connection, and no others.
     #[inline(always)]
-    pub fn hear(&mut self, moment: Moment<'_>, own: Option<usize>, here: &[u16], handles: &[u16])
+    pub fn hear(
+        &mut self,
+        moment: Moment<'_>,
+        own: Option<usize>,
+        here: &[u16],
+        handles: &[u16],
+        skipped: &mut Skips,
+    )
         requires here { AreOfTableIfAny here.now moment.table.now.attributes
             moment.rows.now self.old }
         requires handles { AreOfTableIfAny handles.now moment.table.now.attributes
             moment.rows.now self.old }
+        requires few_here { length here.now ≤ MAX_PREPARED }
+        requires few { length handles.now ≤ MAX_PREPARED }
         ensures heard { self.new
             ≡ all_heard moment.entry.table.now moment.entry.now moment.entry.rows.now own here.now
             handles.now self.old }
+        ensures skipped { skipped.new.items
+            ≡ all_skipped moment.entry.table.now moment.entry.now moment.entry.rows.now own
+            here.now handles.now self.old }
         ensures count { length self.new ≡ length self.old }
     {
+        skipped.clear();
         // Most events tell no connection anything.
         if !self.nobody_hears(own, here, handles) || self.may_wait() {
-            self.look_and_hear(moment, own, here, handles);
+            self.look_and_hear(moment, own, here, handles, skipped);
         }
     }
 
     /// Whether the marks tell that no connection hears of these values.
     #[inline(always)]
     fn nobody_hears(&self, own: Option<usize>, here: &[u16], handles: &[u16]) -> bool
-        ensures { OnTrue result ((table : Contents) (rows : Subscriptions) (now : ℕ)
+        ensures heard { OnTrue result ((table : Contents) (rows : Subscriptions) (now : ℕ)
             → all_heard table now rows own here.now handles.now self.now
             ≡ all_heard table now rows None [] [] self.now) }
+        ensures skipped { OnTrue result ((table : Contents) (rows : Subscriptions) (now : ℕ)
+            → all_skipped table now rows own here.now handles.now self.now ≡ []) }
     {
         here.is_empty() && (handles.is_empty() || self.marks.listening.is_empty_but(own))
     }
@@ -284,6 +304,7 @@ impl Slots {
     }
 
     /// Looks at who may hear of values, and has each slot hear what is notified where one does.
+    /// Nothing is noted as skipped yet.
     #[inline(never)]
     fn look_and_hear(
         &mut self,
@@ -291,49 +312,91 @@ impl Slots {
         own: Option<usize>,
         here: &[u16],
         handles: &[u16],
+        skipped: &mut Skips,
     )
         requires here { AreOfTableIfAny here.now moment.table.now.attributes
             moment.rows.now self.old }
         requires handles { AreOfTableIfAny handles.now moment.table.now.attributes
             moment.rows.now self.old }
+        requires few_here { length here.now ≤ MAX_PREPARED }
+        requires few { length handles.now ≤ MAX_PREPARED }
+        requires none { skipped.old.items ≡ [] }
         ensures heard { self.new
             ≡ all_heard moment.entry.table.now moment.entry.now moment.entry.rows.now own here.now
             handles.now self.old }
+        ensures skipped { skipped.new.items
+            ≡ all_skipped moment.entry.table.now moment.entry.now moment.entry.rows.now own
+            here.now handles.now self.old }
         ensures count { length self.new ≡ length self.old }
     {
         let first = self.first_that_listens();
         let another_listens = first.is_some() && first != own;
         if another_listens || !self.nobody_hears(own, here, handles) {
-            self.hear_values(moment, own, here, handles);
+            self.hear_values(moment, own, here, handles, skipped);
         } else if self.may_wait() {
             self.hear_each(moment, None, &[], &[]);
         }
     }
 
-    /// Has each slot hear what is notified: most often it is one value, which only others hear of.
+    /// Notes what is skipped, and has each slot hear what is notified: most often it is one value,
+    /// which only others hear of.
     #[inline(always)]
-    fn hear_values(&mut self, moment: Moment<'_>, own: Option<usize>, here: &[u16], handles: &[u16])
+    fn hear_values(
+        &mut self,
+        moment: Moment<'_>,
+        own: Option<usize>,
+        here: &[u16],
+        handles: &[u16],
+        skipped: &mut Skips,
+    )
         requires here { AreOfTableIfAny here.now moment.table.now.attributes
             moment.rows.now self.old }
         requires handles { AreOfTableIfAny handles.now moment.table.now.attributes
             moment.rows.now self.old }
+        requires few_here { length here.now ≤ MAX_PREPARED }
+        requires few { length handles.now ≤ MAX_PREPARED }
+        requires none { skipped.old.items ≡ [] }
         ensures heard { self.new
             ≡ all_heard moment.entry.table.now moment.entry.now moment.entry.rows.now own here.now
             handles.now self.old }
+        ensures skipped { skipped.new.items
+            ≡ all_skipped moment.entry.table.now moment.entry.now moment.entry.rows.now own
+            here.now handles.now self.old }
         ensures count { length self.new ≡ length self.old }
     {
         match handles {
-            [handle] if here.is_empty() => self.hear_alone(moment, own, *handle),
-            _ => self.hear_each(moment, own, here, handles),
+            [handle] if here.is_empty() => self.hear_alone(moment, own, *handle, skipped),
+            _ => {
+                note_all_skips(
+                    self.slots.as_slice(),
+                    self.marks.listening,
+                    moment,
+                    own,
+                    here,
+                    handles,
+                    skipped,
+                );
+                self.hear_each(moment, own, here, handles);
+            }
         }
     }
 
     /// Has each slot hear of one value, the only one that is notified, and then what is due.
     #[inline(always)]
-    fn hear_alone(&mut self, moment: Moment<'_>, own: Option<usize>, handle: u16)
-        requires { AreOfTable moment.table.now.attributes moment.rows.now self.old }
+    fn hear_alone(
+        &mut self,
+        moment: Moment<'_>,
+        own: Option<usize>,
+        handle: u16,
+        skipped: &mut Skips,
+    )
+        requires of_table { AreOfTable moment.table.now.attributes moment.rows.now self.old }
+        requires none { skipped.old.items ≡ [] }
         ensures heard { self.new
             ≡ all_heard moment.entry.table.now moment.entry.now moment.entry.rows.now own []
+            (handle ∷ []) self.old }
+        ensures skipped { skipped.new.items
+            ≡ all_skipped moment.entry.table.now moment.entry.now moment.entry.rows.now own []
             (handle ∷ []) self.old }
         ensures count { length self.new ≡ length self.old }
     {
@@ -343,7 +406,7 @@ impl Slots {
         };
         let whom = self.marks.listening.without_own(own);
         let slots = self.slots.as_mut_slice();
-        notify_alone(slots, &mut heard, moment, whom, handle);
+        notify_alone(slots, &mut heard, moment, whom, handle, skipped);
         indicate_due(slots, &mut heard, moment);
         self.marks.packets = heard.packets;
         self.marks.waiting = heard.waiting;

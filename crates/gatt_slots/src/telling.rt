@@ -1,15 +1,17 @@
 //! The end of an event: what each connection hears of the values that it notified, and of what waits.
 
-ghost use Rattle.std.specs.Prelude.{◌≡◌, ◌<◌, ◌≤◌, true, false, [], length, set, Option, None};
+ghost use Rattle.std.specs.Prelude.{◌≡◌, ◌<◌, ◌≤◌, true, false, [], ◌∷◌, length, set, Option, None};
 ghost use Rattle.gatt_slots.specs.Commands.{gives};
 ghost use Rattle.gatt_slots.specs.SlotState.{SlotState};
 ghost use Rattle.gatt_slots.specs.OfTable.{AreOfTable, AreOfTableIfAny};
 ghost use Rattle.gatt_slots.specs.Places.{waits, CoversHeard};
+ghost use Rattle.gatt_slots.specs.Skips.{skips_among};
 ghost use Rattle.gatt_slots.specs.Slots.{all_heard, all_notified, all_notified_alone, all_notified_in_turn, slot_heard, slot_state_at, SlotStates};
 ghost use Rattle.gatt_laws.specs.declared.TheConstants.{MAX_SLOTS};
 
 use crate::moment::Moment;
 use crate::places::Places;
+use crate::skipped::Skips;
 use crate::slot::Slot;
 use gatt_subs::Raised;
 
@@ -121,7 +123,8 @@ fn notify_for(slots: &mut [Slot], heard: &mut Heard, moment: Moment<'_>, whom: P
 }
 
 /// A value, the only one, is notified to the connections of the slots of `whom`, slot by slot: it is
-/// looked up once for all of them, and told at once where nothing waits before it.
+/// looked up once for all of them, and told at once where nothing waits before it. It is noted in
+/// `skipped`, where nothing is noted yet, for which of them it is skipped.
 #[inline(always)]
 pub(crate) fn notify_alone(
     slots: &mut [Slot],
@@ -129,14 +132,19 @@ pub(crate) fn notify_alone(
     moment: Moment<'_>,
     whom: Places,
     handle: u16,
+    skipped: &mut Skips,
 )
     requires few { length slots.old ≤ MAX_SLOTS }
     requires covered { CoversHeard slots.old heard.old }
+    requires none { skipped.old.items ≡ [] }
     requires of_table { AreOfTable moment.table.now.attributes moment.rows.now
         slots.old }
     ensures notified { slots.new
         ≡ all_notified_alone moment.entry.table.now moment.entry.now moment.entry.rows.now
         whom.bits handle slots.old }
+    ensures skipped { skipped.new.items
+        ≡ skips_among moment.entry.table.now moment.entry.now moment.entry.rows.now whom.bits
+        (handle ∷ []) slots.old }
     ensures covered { CoversHeard slots.new heard.new }
     ensures count { length slots.new ≡ length slots.old }
 {
@@ -150,6 +158,7 @@ pub(crate) fn notify_alone(
         left.remove(place);
         if place < slots.len() {
             let slot = &mut slots[place];
+            slot.note_skips(moment, &[handle], skipped);
             let told = slot.notify_alone(&raised, moment);
             heard.take(place, told, slot.may_wait());
         }

@@ -11,7 +11,7 @@ use Rattle.att_table.specs.Table.{Contents}
 use Rattle.att_policy.specs.Policy.{may_hear_of}
 use Rattle.gatt_laws.proofs.Silence.{only_serves_the_live}
 use Rattle.gatt_laws.specs.machine.Heard.{Heard, att_pdu, heard_in_turn, heard_when_notifying, hearer_after, after_responses, hearer_of, after_hearing}
-use Rattle.gatt_laws.specs.machine.ConnectionState.{ConnectionState, Mark, Absent, Live, Ending, is_live, is_there, key_of, with_pdus, after_giving}
+use Rattle.gatt_laws.specs.machine.ConnectionState.{ConnectionState, Mark, Absent, Live, Ending, is_live, is_there, key_of, connection_mtu, with_pdus, after_giving}
 use Rattle.gatt_laws.specs.laws.Queued.{IsWithinBounds}
 use Rattle.gatt_laws.specs.machine.SharedState.{SharedState, Bonds, quota_of, fragment_size_of}
 use Rattle.gatt_laws.specs.machine.State.{finished}
@@ -79,6 +79,18 @@ heard-told table ear now (handle ∷ handles) told =
     ∙ ap (λ (by : Hearer). delivery_with_heard next (heard_in_turn table.attributes table.values by now handles)) same
     ∙ heard-both told first (heard_in_turn table.attributes table.values (hearer_after hearer first) now handles)
 
+-- who serves hears by the same
+pub same_hearer : (shared : SharedState) (found : Option Row) (bond : Row) (connection : ConnectionState) → (is_some (key_of connection) ≡ true → found ≡ Some bond) → is_live connection.mark ≡ true
+    → slot_hearer (hearer_facts_of shared.time found (slot_state_of shared connection connection.given)) (delivery_of (slot_state_of shared connection connection.given)) ≡ hearer_of shared bond connection
+same_hearer shared found bond connection has is = λ i. record {
+  live = sym is i;
+  standing = standing_kept shared connection connection.given i;
+  row = row_kept shared connection connection.given found bond has i;
+  mtu = connection_mtu shared connection;
+  backlog = backlog_kept shared connection is i;
+  pending = connection.pending;
+}
+
 module _ (shared : SharedState) (found : Option Row) (bonds : Bonds) (handles : List Handle) (connection : ConnectionState) (bounds : IsWithinBounds (quota_of shared.slots shared.buffers) (fragment_size_of shared.buffers) connection)
     (has : is_some (key_of connection) ≡ true → found ≡ Some (bonds connection.peer)) where
   abbrev slot_state : SlotState
@@ -86,17 +98,6 @@ module _ (shared : SharedState) (found : Option Row) (bonds : Bonds) (handles : 
 
   abbrev bond : Row
   bond = bonds connection.peer
-
-  -- who serves hears by the same
-  same-hearer : is_live connection.mark ≡ true → slot_hearer (hearer_facts_of shared.time found slot_state) (delivery_of slot_state) ≡ hearer_of shared bond connection
-  same-hearer is = λ i. record {
-    live = sym is i;
-    standing = standing_kept shared connection connection.given i;
-    row = row_kept shared connection connection.given found bond has i;
-    mtu = slot_state.mtu;
-    backlog = backlog_kept shared connection is i;
-    pending = connection.pending;
-  }
 
   abbrev heard : Heard
   heard = heard_in_turn shared.table.attributes shared.table.values (hearer_of shared bond connection) shared.time handles
@@ -115,7 +116,7 @@ module _ (shared : SharedState) (found : Option Row) (bonds : Bonds) (handles : 
   live-heard : is_live connection.mark ≡ true → slot_state_of shared then-queued connection.given ≡ slot_after_hearing shared.table shared.time found handles slot_state
   live-heard is =
       kept-heard is
-      ∙ ap (λ (hearer : Hearer). with_delivery slot_state (delivery_with_heard (delivery_of slot_state) (heard_in_turn shared.table.attributes shared.table.values hearer shared.time handles))) (sym (same-hearer is))
+      ∙ ap (λ (hearer : Hearer). with_delivery slot_state (delivery_with_heard (delivery_of slot_state) (heard_in_turn shared.table.attributes shared.table.values hearer shared.time handles))) (sym (same_hearer shared found bond connection has is))
       ∙ ap (λ (told : Delivery). with_delivery slot_state told) (sym (heard-told shared.table (hearer_facts_of shared.time found slot_state) shared.time handles (delivery_of slot_state)))
       ∙ sym (ap (λ (live : Bool). if live then with_delivery slot_state (delivery_in_turn shared.table (hearer_facts_of shared.time found slot_state) shared.time handles (delivery_of slot_state)) else slot_state) is)
 
@@ -153,21 +154,21 @@ module _ (shared : SharedState) (found : Option Row) (bonds : Bonds) (handles : 
   finished_kept = by-mark connection.mark refl
 
 -- of handles that are not of values nothing is heard
-unheard-attr : (found : Option Attr) (bits : ℕ) (standing : Standing) → option_map_or (λ (attr : Attr). is_value attr.role) found false ≡ false
+pub unheard_attr : (found : Option Attr) (bits : ℕ) (standing : Standing) → option_map_or (λ (attr : Attr). is_value attr.role) found false ≡ false
     → option_map_or (λ (attr : Attr). is_value attr.role && may_hear_of attr.guard bits standing) found false ≡ false
-unheard-attr None bits standing is = refl
-unheard-attr (Some attr) bits standing is = ap (λ (value : Bool). value && may_hear_of attr.guard bits standing) is
+unheard_attr None bits standing is = refl
+unheard_attr (Some attr) bits standing is = ap (λ (value : Bool). value && may_hear_of attr.guard bits standing) is
 
-not-first : (test other : Bool) → other ≡ false → (test && other) ≡ false
-not-first true other is = is
-not-first false other is = refl
+pub not_first : (test other : Bool) → other ≡ false → (test && other) ≡ false
+not_first true other is = is
+not_first false other is = refl
 
 unheard : (table : Contents) (ear : HearerFacts) (handle : Handle) (told : Delivery) → is_value_at table.attributes handle ≡ false → delivery_when_notifying table ear handle told ≡ told
 unheard table ear handle told is =
     let may : may_hear_at table.attributes ear.row ear.standing handle ≡ false =
-    unheard-attr (attribute_at table.attributes handle) (bits_for ear.row handle) ear.standing is in
+    unheard_attr (attribute_at table.attributes handle) (bits_for ear.row handle) ear.standing is in
     let hear : hears told.pending table.attributes ear.row ear.standing handle ≡ false =
-    not-first (not told.pending.timed_out) (may_hear_at table.attributes ear.row ear.standing handle) may in
+    not_first (not told.pending.timed_out) (may_hear_at table.attributes ear.row ear.standing handle) may in
     λ i. delivery_with_heard told (record {
       responses = option_to_list (if (hear i && not (wants_indications ear.row handle)) && nat_lt (length told.outgoing.queue) MAX_BACKLOG
           then Some (notification_of table.values handle ear.mtu) else None);

@@ -1,11 +1,13 @@
 use Rattle.std.proofs.Common.{◌≡◌, ◌≤◌, ℕ, [], ◌∷◌, None, length, sym, ap, subst, ◌∙◌, arith}
 use Rattle.gatt_slots.proofs.Alone.{all_alone}
+use Rattle.gatt_slots.proofs.Skipping.{others_miss}
 use Rattle.gatt_slots.proofs.HeardMarks.{commands_heard, free_heard, listening_heard}
 use Rattle.gatt_slots.proofs.Noted.{heard_noted, written_over}
 use Rattle.gatt_slots.specs.Handles.{AreNotedIfAny}
 use Rattle.gatt_slots.specs.declared.marks.Marks.{Marks}
 use Rattle.gatt_slots.specs.OfTable.{AreOfTable}
 use Rattle.gatt_slots.specs.Places.{Covers, IsMarked}
+use Rattle.gatt_slots.specs.Skips.{all_skipped}
 use Rattle.gatt_slots.specs.Slots.{SlotStates, all_heard}
 use Rattle.gatt_slots.specs.declared.places.Due.TheVariants.{Value}
 use Rattle.gatt_laws.specs.declared.TheConstants.{MAX_SLOTS}
@@ -78,7 +80,7 @@ returns-clause-heard c =
 pub notify_alone-requires-clause-of_table : goal.notify_alone-requires-clause-of_table
 notify_alone-requires-clause-of_table c =
     let a = c.args in
-    subst (λ (it : SlotStates). AreOfTable a.moment.table.now.attributes a.moment.rows.now it) (sym (c.as_mut_slice-slots.ensures.value ∙ c.self.view_is)) c.requires
+    subst (λ (it : SlotStates). AreOfTable a.moment.table.now.attributes a.moment.rows.now it) (sym (c.as_mut_slice-slots.ensures.value ∙ c.self.view_is)) c.requires.of_table
 
 pub returns-clause-count : goal.returns-clause-count
 returns-clause-count c =
@@ -89,3 +91,21 @@ returns-clause-count c =
     let count : length new ≡ length old = c.indicate_due.ensures.count ∙ c.notify_alone.ensures.count ∙ is in
     ap (λ (it : SlotStates). length it) (written_over c.self.inside.slots.len old new count (sym is ∙ c.as_mut_slice-slots.ensures.len))
     ∙ count ∙ ap (λ (it : SlotStates). length it) c.self.view_is
+
+pub returns-clause-skipped : goal.returns-clause-skipped
+returns-clause-skipped c =
+    let a = c.args in
+    let table = a.moment.table.now in
+    let now = a.moment.now in
+    let rows = a.moment.rows.now in
+    let own = a.own in
+    let handle = a.handle in
+    let old = c.self.inside.slots.items in
+    let lent = c.as_mut_slice-slots.result.now in
+    let is : lent ≡ old = c.as_mut_slice-slots.ensures.value in
+    let few : length lent ≤ MAX_SLOTS = omega (arith, ap (λ (it : SlotStates). length it) is, c.self.invariant.0.few) in
+    let listens : Covers Value c.self.inside.marks.listening.bits lent = subst (Covers Value c.self.inside.marks.listening.bits) (sym is) c.self.invariant.0.listening in
+    c.notify_alone.ensures.skipped
+    ∙ others_miss table now rows own c.without_own-whom.result.bits c.self.inside.marks.listening.bits handle lent listens c.without_own-whom.ensures.own
+    c.without_own-whom.ensures.others few
+    ∙ ap (λ (it : SlotStates). all_skipped table now rows own [] (handle ∷ []) it) (is ∙ c.self.view_is)
