@@ -51,4 +51,10 @@ pub enum Notice<'a> {
         handle: u16,
         reason: u8,
     },
+    /// The connection is not sent a notification of this value, since 8 PDUs or more are queued for it.
+    /// A notification of a later value of the attribute may be sent.
+    Skipped {
+        handle: u16,
+        attribute: u16,
+    },
 }

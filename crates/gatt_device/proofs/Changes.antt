@@ -6,7 +6,7 @@ use Rattle.std.proofs.lemmas.List.Elements.{All-cons, All-head, All-nil, All-tai
 use Rattle.std.proofs.lemmas.List.Folds.{list_any-append}
 use Rattle.std.proofs.lemmas.List.Sums.{fold-append}
 use Rattle.gatt_device.specs.Unsaved.{HasChanged, changed_by, has_connection, unsaved_after, unsaved_by, with_connection, without_connection}
-use Rattle.gatt_laws.specs.machine.Notice.{Notice, Connected, Disconnected, Secured, Unsecured, Written, Configured, Confirmed, TimedOut, Ending}
+use Rattle.gatt_laws.specs.machine.Notice.{Notice, Connected, Disconnected, Secured, Unsecured, Written, Configured, Confirmed, TimedOut, Ending, Skipped}
 
 -- one of two
 either-true : (one other : Bool) → (one || other) ≡ true → (one ≡ true) ⊎ (other ≡ true)
@@ -127,6 +127,7 @@ one-notice connections (Configured own attribute bits) handle has = by-change co
 one-notice connections (Confirmed own attribute) handle has = by-change connections (Confirmed own attribute) own handle refl (λ is. cc is) has
 one-notice connections (TimedOut own) handle has = inr (has, λ is. cc is)
 one-notice connections (Ending own reason) handle has = inr (has, λ is. cc is)
+one-notice connections (Skipped own attribute) handle has = inr (has, λ is. cc is)
 
 change-there : (connections : List ℕ) (notice : Notice) (handle : ℕ) → changed_by notice ≡ Some handle → has_connection (unsaved_after connections notice) handle ≡ true
 change-there connections (Connected own peer) handle is = absurd (cc is)
@@ -144,6 +145,7 @@ change-there connections (Confirmed own attribute) handle is =
     subst (λ own. has_connection (with_connection connections own) handle ≡ true) (sym same) (added-there connections handle (has_connection connections handle) refl)
 change-there connections (TimedOut own) handle is = absurd (cc is)
 change-there connections (Ending own reason) handle is = absurd (cc is)
+change-there connections (Skipped own attribute) handle is = absurd (cc is)
 
 stays-there : (connections : List ℕ) (notice : Notice) (handle : ℕ) → has_connection connections handle ≡ true → notice ≢ Disconnected handle
     → has_connection (unsaved_after connections notice) handle ≡ true
@@ -160,6 +162,7 @@ stays-there connections (Configured own attribute bits) handle has other = stays
 stays-there connections (Confirmed own attribute) handle has other = stays-with connections own handle (has_connection connections own) has
 stays-there connections (TimedOut own) handle has other = has
 stays-there connections (Ending own reason) handle has other = has
+stays-there connections (Skipped own attribute) handle has other = has
 
 -- and by notices
 abbrev Stays : ℕ → List Notice → Type 0

@@ -27,3 +27,4 @@ pub mod Rows
 pub mod Slots
 pub mod Seen
 pub mod Deadlines
+pub mod Initialised

@@ -8,10 +8,11 @@ use Rattle.gatt_host.specs.declared.last_event.LastEvent.TheVariants as last
 use Rattle.gatt_app.specs.declared.notice.Notice.{Notice as Lent}
 use Rattle.gatt_app.specs.declared.notice.Notice.TheVariants as lent
 use Rattle.gatt_host.specs.ServerState.{ServerState}
-use Rattle.gatt_laws.specs.machine.Notice.{Notice, Connected, Disconnected, Secured, Unsecured, Written, Configured, Confirmed, TimedOut, Ending, Received, link_told, octets_of_notice, write_told}
+use Rattle.gatt_laws.specs.machine.Notice.{Notice, Connected, Disconnected, Secured, Unsecured, Written, Configured, Confirmed, TimedOut, Ending, Skipped, Received, link_told, octets_of_notice, write_told}
 use Rattle.att_table.specs.Table.{Contents}
 use Rattle.gatt_laws.specs.machine.Effect.{authentication_failure, lost_encryption, remote_user_terminated}
 use Rattle.gatt_slots.specs.declared.request.Brought.{Brought}
+use Rattle.gatt_slots.specs.declared.skipped.Skipped as noted
 use Rattle.gatt_slots.specs.Slots.{slot_row_at}
 use Rattle.octets.specs.Number.{Octets}
 
@@ -41,8 +42,12 @@ notices_by server (last.Served place handle brought) = served_told server place 
 notices_by server (last.Ended handle reason) = Ending handle reason ∷ []
 notices_by server last.Ticked = map TimedOut server.late
 
+-- The values that were skipped come last.
+abbrev pub skip_told : noted.Skipped → Notice
+skip_told skipped = Skipped skipped.handle skipped.attribute
+
 abbrev pub last_notices : ServerState → List Notice
-last_notices server = notices_by server server.last
+last_notices server = notices_by server server.last ++ map skip_told server.skipped
 
 -- a notice without where the octets lie that it lends
 abbrev pub notice_of : Lent → Notice
@@ -55,6 +60,7 @@ notice_of (lent.Configured handle attribute bits) = Configured handle attribute 
 notice_of (lent.Confirmed handle attribute) = Confirmed handle attribute
 notice_of (lent.TimedOut handle) = TimedOut handle
 notice_of (lent.Ending handle reason) = Ending handle reason
+notice_of (lent.Skipped handle attribute) = Skipped handle attribute
 
 -- the octets that it lends
 abbrev pub octets_lent : Lent → Octets

@@ -51,4 +51,5 @@ held_at_first table keys rows slots config = record {
   last = last.Quiet;
   written = [];
   late = [];
+  skipped = [];
 }

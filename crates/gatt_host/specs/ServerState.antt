@@ -15,8 +15,10 @@ use Rattle.gatt_laws.specs.machine.State.{announced, advertising_after}
 use Rattle.gatt_laws.specs.machine.Effect.{channel_answer, gained_encryption, remote_user_terminated}
 use Rattle.gatt_slots.specs.SlotState.{SlotState}
 use Rattle.gatt_slots.specs.declared.request.Brought.{Brought}
+use Rattle.gatt_slots.specs.declared.skipped.Skipped.{Skipped}
 use Rattle.gatt_slots.specs.Request.{table_after, bond_served, confirmed_of, slot_after_request, handles_written_by, overflows}
 use Rattle.gatt_slots.specs.Slots.{Place, at_place, slot_state_at, late_handles, all_heard, all_after_time, all_after_table, after_completions, slots_at}
+use Rattle.gatt_slots.specs.Skips.{all_skipped}
 use Rattle.gatt_slots.specs.SlotEffects as effect
 use Rattle.gatt_slots.specs.SlotEffects.{after_authorizing, slot_after_ending, after_key_asked, after_link_step, slot_after_other_channel, has_no_room}
 use Rattle.gatt_subs.specs.Changes.{with_changes_owed}
@@ -32,8 +34,9 @@ use Rattle.le_security.specs.Link.{Step, after_step}
 use Rattle.octets.specs.Number.{Octets}
 
 -- the table with its changer, the keys, and what peers have configured; the largest PDU that is received; the time; the
--- controller; what each slot keeps; and what the application is told of the last event, with the handles that the last
--- request wrote, and those of the connections that the last time told has timed out
+-- controller; what each slot keeps; and what the application is told of the last event. It rests on the handles that
+-- the last request wrote, on those of the connections that the last time told has timed out, and on the values that the
+-- last event notified and that were skipped.
 pub record ServerState : Type 0 where
   pub table : Contents
   pub changer : Option Handle
@@ -46,6 +49,7 @@ pub record ServerState : Type 0 where
   pub last : LastEvent
   pub written : List Handle
   pub late : List ℕ
+  pub skipped : List Skipped
 
 -- no connection has a slot before the controller is initialised
 abbrev pub open_slots : ServerState → List (Option SlotState)
@@ -55,10 +59,18 @@ open_slots server = if is_ready server.controller then server.slots else []
 -- the event, but for what is said beside it
 abbrev pub server_after_event : Option ℕ → List Handle → List Handle → ServerState → ServerState
 server_after_event own here handles server =
-    record server { slots = all_heard server.table server.time server.rows own here handles server.slots; last = last.Quiet }
+    record server {
+      slots = all_heard server.table server.time server.rows own here handles server.slots;
+      last = last.Quiet;
+      skipped = all_skipped server.table server.time server.rows own here handles server.slots;
+    }
 
 abbrev pub with_last : LastEvent → ServerState → ServerState
 with_last last server = record server { last = last }
+
+-- No notice is there any more.
+abbrev pub without_notices : ServerState → ServerState
+without_notices server = record server { last = last.Quiet; skipped = [] }
 
 -- nothing happens that counts
 abbrev pub after_no_change : ServerState → ServerState

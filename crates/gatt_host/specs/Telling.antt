@@ -1,8 +1,7 @@
 -- What the application is told of what was taken in last, wherever a host was.
 use Rattle.std.specs.Prelude.{◌≡◌, is_some, if◌then◌else◌, List, [], ◌∷◌, map, Option, Some, None, Result, Ok, Err}
 use Rattle.gatt_host.specs.declared.host_fault.HostFault.{HostFault}
-use Rattle.gatt_host.specs.declared.last_event.LastEvent.TheVariants as last
-use Rattle.gatt_host.specs.ServerState.{ServerState, with_last}
+use Rattle.gatt_host.specs.ServerState.{ServerState, without_notices}
 use Rattle.gatt_host.specs.Meaning.{Frames}
 use Rattle.gatt_app.specs.declared.notice.Notice.{Notice as Lent}
 use Rattle.gatt_host.specs.Notices.{HasTheValue, last_notices, notice_of}
@@ -29,7 +28,7 @@ received_told host = map (received_with host.server.table) (notices_told host)
 -- of a call that is refused nothing is told, and it changes nothing else. Of a host that has stopped nothing is told anyway
 abbrev pub silent_unless : Option HostFault → HostModel → HostModel
 silent_unless (Some fault) host = host
-silent_unless None host = record host { server = with_last last.Quiet host.server }
+silent_unless None host = record host { server = without_notices host.server }
 
 abbrev pub silent : HostModel → HostModel
 silent host = silent_unless host.fault host

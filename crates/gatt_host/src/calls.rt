@@ -5,11 +5,10 @@ ghost use Rattle.att_table.specs.Changer.{changer_of};
 ghost use Rattle.gatt_laws.specs.machine.Calls.{has_length, same_changer, AuthorizeCall, DisconnectCall, TickCall, UpdateCall};
 ghost use Rattle.gatt_host.specs.Calls.{call_of, refused_of};
 ghost use Rattle.gatt_host.specs.Asked.{call_happening, replacement_happening};
-ghost use Rattle.gatt_host.specs.ServerState.{after_replacing, with_last};
+ghost use Rattle.gatt_host.specs.ServerState.{after_replacing, without_notices};
 ghost use Rattle.gatt_host.specs.Meaning.{IsAfter, IsOfItsTable};
 
 use crate::host_state::HostState;
-use crate::last_event::LastEvent;
 use att_table::{Attr, Role, Table};
 use gatt_app::{App, AppFault};
 
@@ -22,7 +21,7 @@ impl HostState {
             (λ happening. IsAfter happening self.old self.new) }
         ensures refused { IfErr result
             (λ fault. call_happening self.old (call_of call.entry) ≡ Err (refused_of fault)) }
-        ensures silent { OnErr result (self.new ≡ with_last LastEvent.Quiet self.old) }
+        ensures silent { OnErr result (self.new ≡ without_notices self.old) }
     {
         let done = self.call(call);
         if done.is_err() {
@@ -136,7 +135,7 @@ impl HostState {
         ensures refused { IfErr result
             (λ fault. replacement_happening self.old table ≡ Err (refused_of fault.0)) }
         ensures given_back { IfErr result (λ fault. fault.1 ≡ table) }
-        ensures silent { OnErr result (self.new ≡ with_last LastEvent.Quiet self.old) }
+        ensures silent { OnErr result (self.new ≡ without_notices self.old) }
     {
         if !same_changer(self.changer, table.changer()) {
             self.forget();

@@ -5,8 +5,10 @@ ghost use Rattle.std.specs.Prelude.{◌≡◌, ◌<◌, ◌≤◌, ◌∷◌, []
 ghost use Rattle.std.specs.Bool.{OnTrue, OnFalse};
 ghost use Rattle.std.specs.Option.{option_map};
 ghost use Rattle.std.specs.Result.{result_err};
-ghost use Rattle.gatt_laws.specs.laws.Deadline.{deadline, TellsFromTheDeadlineOn};
+ghost use Rattle.gatt_laws.specs.laws.Deadline.{deadline};
+ghost use Rattle.gatt_laws.specs.laws.Deadline.{IsQuietBeforeTheDeadline, TellsFromTheDeadlineOn};
 ghost use Rattle.gatt_laws.specs.machine.Input.{run, call_refusal, replacement_refusal, Item, APacket, ACall, ATable};
+ghost use Rattle.gatt_laws.specs.machine.Controller.{is_ready};
 ghost use Rattle.gatt_laws.specs.machine.Start.{Start};
 ghost use Rattle.gatt_laws.specs.laws.Telling.{TellsTheApplication};
 ghost use Rattle.gatt_host.specs.Calls.{call_of};
@@ -259,7 +261,7 @@ impl Host {
     pub(crate) fn notice(&self, at: usize) -> Option<Notice<'_>>
         ensures notice { option_map notice_of result ≡ slice_get (notices_told self.now) at }
         ensures value { IfSome result (HasTheValue self.now.server.table) }
-        ensures few { IsSome result → at < 34 }
+        ensures few { IsSome result → at < 290 }
     {
         if self.fault.is_some() {
             return None;
@@ -289,18 +291,34 @@ impl Host {
         &self.state.table
     }
 
-    /// The least time, in milliseconds, at which an indication that is not confirmed is late; none where
-    /// every one is confirmed. Until then no time has to be told.
+    /// Returns the earliest time, in milliseconds, at which an indication that is not confirmed is late
+    /// or the authorization of a connection that serves ends; `None` if there is neither.
+    ///
+    /// A caller needs no tick before that time. Until then a tick causes no notice and no packet of its
+    /// own, and each request is answered as without it.
     #[tactic(auto, using(crate::proofs::model::Deadlines::tells_from_the_deadline))]
     pub fn deadline(&self) -> Option<u64>
-        ensures server { result ≡ slots_deadline self.now.server.slots }
+        ensures server { result ≡ slots_deadline self.now.server.time self.now.server.slots }
         ensures run { (start : Start) (input : List Item) (sent : List Octets)
             → RefinesRun (run start input) sent self.now
             → result ≡ deadline (run start input).intake.state }
         // And of every state, for every time:
         ensures told { TellsFromTheDeadlineOn }
+        ensures quiet { IsQuietBeforeTheDeadline }
     {
-        self.state.slots.deadline()
+        self.state.slots.deadline(self.state.time)
+    }
+
+    /// Returns whether the controller is initialised: it has answered each command of the initialisation,
+    /// from Reset on, and may have connections.
+    #[tactic(auto, using(crate::proofs::model::Initialised::initialised_where))]
+    pub fn is_initialised(&self) -> bool
+        ensures server { result ≡ is_ready self.now.server.controller }
+        ensures run { (start : Start) (input : List Item) (sent : List Octets)
+            → RefinesRun (run start input) sent self.now
+            → result ≡ is_ready (run start input).intake.state.controller }
+    {
+        self.state.controller.is_ready()
     }
 
     /// Who is connected: each connection that is there, in the order of the slots.

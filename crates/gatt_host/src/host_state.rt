@@ -2,7 +2,8 @@ ghost use Rattle.std.specs.Prelude.{◌≡◌, ◌<◌, ◌≤◌, [], if◌then
 ghost use Rattle.std.specs.Option.{option_to_list};
 ghost use Rattle.att_attributes.specs.Attributes.{attribute_at, is_fixed_at};
 ghost use Rattle.att_table.specs.Table.{room_at};
-ghost use Rattle.gatt_host.specs.ServerState.{server_after_event, after_ask_key, after_authorize, server_after_packets_completed, after_disconnect, after_disconnection_complete, after_link, after_no_change, after_replacing, server_after_other_channel, server_after_tick, after_update, server_slot_at, with_last, ServesRequest};
+ghost use Rattle.att_writes.specs.declared.queue.TheConstants.{MAX_PREPARED};
+ghost use Rattle.gatt_host.specs.ServerState.{server_after_event, after_ask_key, after_authorize, server_after_packets_completed, after_disconnect, after_disconnection_complete, after_link, after_no_change, after_replacing, server_after_other_channel, server_after_tick, after_update, server_slot_at, with_last, without_notices, ServesRequest};
 ghost use Rattle.gatt_host.specs.Meaning.{IsOfItsTable};
 ghost use Rattle.gatt_laws.specs.machine.Packets.{entries_of_connections};
 ghost use Rattle.gatt_slots.specs.Slots.{place_holding};
@@ -17,7 +18,7 @@ use att_policy::KeyFacts;
 use att_table::Table;
 use gatt_conn::Touched;
 use gatt_laws::MAX_SLOTS;
-use gatt_slots::{Moment, Slots};
+use gatt_slots::{Moment, Skips, Slots};
 use gatt_subs::Rows;
 use le_hci::reason::REMOTE_USER_TERMINATED;
 use le_security::Keys;
@@ -45,6 +46,8 @@ pub(crate) struct HostState {
     pub(crate) written: Touched,
     /// The handles of the connections that the last time told has timed out.
     pub(crate) late: ArrayVec<u16, MAX_SLOTS>,
+    /// The values that the last event notified and that were skipped, for each connection.
+    pub(crate) skipped: Skips,
 }
 
 impl Model for HostState {
@@ -66,6 +69,7 @@ impl Model for HostState {
       last = h.last;
       written = h.written.items;
       late = h.late.items;
+      skipped = h.skipped.items;
     } };
 
     ghost invariant = { λ h. (MIN_MTU ≤ h.rx_mtu) × (h.rx_mtu ≤ MAX_MTU) };
@@ -75,9 +79,10 @@ impl Model for HostState {
 impl HostState {
     /// Nothing is told any more of the last event.
     pub(crate) fn forget(&mut self)
-        ensures { self.new ≡ with_last LastEvent.Quiet self.old }
+        ensures { self.new ≡ without_notices self.old }
     {
         self.last = LastEvent::Quiet;
+        self.skipped.clear();
     }
 
     /// Ends an event that notifies nothing: what waits may be indicated. This is what the application is
@@ -98,6 +103,8 @@ impl HostState {
             self.old.slots }
         requires handles { AreOfTableIfAny handles.now self.old.table.attributes self.old.rows
             self.old.slots }
+        requires few_here { length here.now ≤ MAX_PREPARED }
+        requires few { length handles.now ≤ MAX_PREPARED }
         ensures { self.new ≡ server_after_event own here.now handles.now self.old }
     {
         let moment = Moment {
@@ -105,7 +112,8 @@ impl HostState {
             rows: &self.rows,
             now: self.time,
         };
-        self.slots.hear(moment, own, here, handles);
+        self.slots
+            .hear(moment, own, here, handles, &mut self.skipped);
         self.last = LastEvent::Quiet;
     }
 
@@ -230,8 +238,13 @@ impl HostState {
             rows: &self.rows,
             now: self.time,
         };
-        self.slots
-            .hear(moment, Some(place), &[], self.written.as_slice());
+        self.slots.hear(
+            moment,
+            Some(place),
+            &[],
+            self.written.as_slice(),
+            &mut self.skipped,
+        );
     }
 
     /// Encryption of the link of the connection of a slot was changed, or could not be.

@@ -1,13 +1,13 @@
 //! The notices of the last event, read from what is held.
 
-ghost use Rattle.std.specs.Prelude.{◌≡◌, ◌<◌, ◌==◌, [], ◌∷◌, ◌++◌, map, if◌then◌else◌, slice_get, is_some, IfSome, IsSome, Some, None};
+ghost use Rattle.std.specs.Prelude.{◌≡◌, ℕ, ◌<◌, ◌≤◌, ◌==◌, [], ◌∷◌, ◌++◌, length, map, if◌then◌else◌, slice_get, is_some, IfSome, IsSome, Some, None};
 ghost use Rattle.std.specs.Option.{option_map, option_to_list};
 ghost use Rattle.att_numbers.specs.Types.{Handle};
 ghost use Rattle.att_attributes.specs.Attributes.{attribute_at};
 ghost use Rattle.att_table.specs.Table.{value_at};
 ghost use Rattle.gatt_laws.specs.machine.Notice.{Confirmed, Ending, TimedOut, write_told};
 ghost use Rattle.gatt_laws.specs.machine.Effect.{remote_user_terminated};
-ghost use Rattle.gatt_host.specs.Notices.{last_notices, link_change_told, notice_of, row_at_place, served_told, HasTheValue};
+ghost use Rattle.gatt_host.specs.Notices.{last_notices, link_change_told, notice_of, notices_by, row_at_place, served_told, skip_told, HasTheValue};
 
 use crate::host_state::HostState;
 use crate::last_event::LastEvent;
@@ -18,9 +18,56 @@ use gatt_slots::Brought;
 use le_hci::reason::{AUTHENTICATION_FAILURE, REMOTE_USER_TERMINATED};
 
 impl HostState {
-    /// The notice at a place among those of the last event, counted from 0, if there are so many.
+    /// Returns the notice at a place among those of the last event, counted from 0, if there are so many:
+    /// first what happened, and then the values that were skipped.
     pub(crate) fn notice(&self, at: usize) -> Option<Notice<'_>>
         ensures notice { option_map notice_of result ≡ slice_get (last_notices self.now) at }
+        ensures value { IfSome result (HasTheValue self.now.table) }
+        ensures few { IsSome result → at < 290 }
+    {
+        match self.event_notice(at) {
+            Some(notice) => Some(notice),
+            None => self.skip_notice(at - self.event_count()),
+        }
+    }
+
+    /// Returns the notice at a place among the values that were skipped.
+    fn skip_notice(&self, at: usize) -> Option<Notice<'_>>
+        ensures notice { option_map notice_of result
+            ≡ slice_get (map skip_told self.now.skipped) at }
+        ensures value { IfSome result (HasTheValue self.now.table) }
+        ensures few { IsSome result → at < 256 }
+    {
+        let _few = self.skipped.len();
+        match self.skipped.get(at) {
+            Some(skipped) => Some(Notice::Skipped {
+                handle: skipped.handle,
+                attribute: skipped.attribute,
+            }),
+            None => None,
+        }
+    }
+
+    /// Returns how many notices tell what happened.
+    fn event_count(&self) -> usize
+        ensures count { result ≡ length (notices_by self.now self.now.last) }
+        ensures few { result ≤ 34 }
+    {
+        match self.last {
+            LastEvent::Quiet => 0,
+            LastEvent::Connected { .. }
+            | LastEvent::Disconnected { .. }
+            | LastEvent::Ended { .. } => 1,
+            LastEvent::LinkChanged { before, after, .. } => link_count(before, after),
+            LastEvent::Served { brought, .. } => self.written.len() + brought_count(brought),
+            LastEvent::Ticked => self.late.len(),
+        }
+    }
+
+    /// Returns the notice at a place among those that tell what happened.
+    fn event_notice(&self, at: usize) -> Option<Notice<'_>>
+        ensures notice { option_map notice_of result
+            ≡ slice_get (notices_by self.now self.now.last) at }
         ensures value { IfSome result (HasTheValue self.now.table) }
         ensures few { IsSome result → at < 34 }
     {
@@ -147,6 +194,29 @@ fn link_notice(
             _ => None,
         },
     }
+}
+
+/// Returns how many notices tell that the key of a link was worth this before, and is worth that now.
+fn link_count(before: Option<KeyFacts>, after: Option<KeyFacts>) -> usize
+    ensures count { (handle : ℕ) → result ≡ length (link_change_told handle before after) }
+    ensures few { result ≤ 2 }
+{
+    match (before, after) {
+        (None, None) => 0,
+        (None, Some(_)) => 1,
+        (Some(before), Some(after)) => usize::from(before != after),
+        (Some(_), None) => 2,
+    }
+}
+
+/// Returns how many notices tell what a request brought.
+fn brought_count(brought: Brought) -> usize
+    ensures count { (handle : ℕ) → result
+        ≡ length (map (Confirmed handle) (option_to_list brought.confirmed)
+        ++ (if brought.ended then Ending handle remote_user_terminated ∷ [] else [])) }
+    ensures few { result ≤ 2 }
+{
+    usize::from(brought.confirmed.is_some()) + usize::from(brought.ended)
 }
 
 /// What a request brought, beside what it wrote.

@@ -106,6 +106,7 @@ fn held_at_first(table: Table, keys: Keys, rows: Rows, slots: Slots, config: Con
         controller: Controller::new(config.address, config.advertising),
         slots,
         last: LastEvent::Quiet,
+        skipped: ArrayVec::new(),
         written: ArrayVec::new(),
         late: ArrayVec::new(),
     }

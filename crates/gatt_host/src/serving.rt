@@ -3,7 +3,7 @@
 ghost use Rattle.std.specs.Prelude.{◌≡◌, ◌≤◌, ◌==◌, [], is_ok, length, None, Some, IsSome, IsOk, IfErr, IfOk, OnErr, true};
 ghost use Rattle.std.specs.Io.KnownBytes.{Consumes, IsAtEnd, Keeps};
 ghost use Rattle.gatt_host.specs.Feeding.{is_read_fault, is_write_fault, Reads, Serves, WritesAllThatIsDue};
-ghost use Rattle.gatt_host.specs.ServerState.{with_last};
+ghost use Rattle.gatt_host.specs.ServerState.{without_notices};
 ghost use Rattle.gatt_host.specs.Listening.{ListensServing};
 ghost use Rattle.gatt_host.specs.Promises.{KeepsConnectionsApart, KeepsThePolicy};
 ghost use Rattle.gatt_host.specs.HostModel.{all_out, Takes};
@@ -13,7 +13,6 @@ ghost use Rattle.octets.specs.Stream.{CountsFailure, CountsIf, CountsNone, Count
 use crate::feeding::{feed_to, stop, write_out};
 use crate::host::Host;
 use crate::host_fault::HostFault;
-use crate::last_event::LastEvent;
 use crate::listener::{Listener, Nobody};
 use le_h4::Deframer;
 use octets::{Failed, Sink, Source};
@@ -171,7 +170,7 @@ fn read_turn<'a, R: Source>(reader: &mut R, octets: &'a mut [u8; TURN]) -> Resul
 fn end_stream(host: &mut Host)
     requires none { host.old.fault ≡ None }
     ensures takes { Takes TheEnd host.old host.new }
-    ensures server { host.new.server ≡ with_last LastEvent.Quiet host.old.server }
+    ensures server { host.new.server ≡ without_notices host.old.server }
     ensures fault { host.new.fault ≡ None }
 {
     host.deframer = Deframer::new();

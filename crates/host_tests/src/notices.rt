@@ -312,6 +312,44 @@ const A_FULL_QUEUE: &[Case] = &[
     (GOES, &[Notice::Disconnected { handle: 0x40 }]),
 ];
 
+/// Two packets are outstanding and eight answers wait, so that a value is skipped.
+const A_SKIPPED_VALUE: &[Case] = &[
+    (COMES, &[STRANGER]),
+    (
+        Taken::Pdu("1207000100"),
+        &[Notice::Configured {
+            handle: 0x40,
+            attribute: 7,
+            bits: 1,
+        }],
+    ),
+    (Taken::Held(10, "0a0300"), &[]),
+    (
+        Taken::Call(App::Update(6, &[0x63])),
+        &[Notice::Skipped {
+            handle: 0x40,
+            attribute: 6,
+        }],
+    ),
+    (GOES, &[Notice::Disconnected { handle: 0x40 }]),
+];
+
+/// Seven answers wait: the value is sent, and nothing is told.
+const A_VALUE_IN_TIME: &[Case] = &[
+    (COMES, &[STRANGER]),
+    (
+        Taken::Pdu("1207000100"),
+        &[Notice::Configured {
+            handle: 0x40,
+            attribute: 7,
+            bits: 1,
+        }],
+    ),
+    (Taken::Held(9, "0a0300"), &[]),
+    (Taken::Call(App::Update(6, &[0x63])), &[]),
+    (GOES, &[Notice::Disconnected { handle: 0x40 }]),
+];
+
 /// A queue that is full for an answer on another channel.
 const A_FULL_QUEUE_FOR_PAIRING: &[Case] = &[
     (COMES, &[STRANGER]),
@@ -355,6 +393,12 @@ fn a_replacement_is_no_confirmation(rt: HostRuntime) {
 fn a_full_queue_is_told(rt: HostRuntime) {
     play(&rt, rt.alloc(), Door, A_FULL_QUEUE);
     play(&rt, rt.alloc(), Door, A_FULL_QUEUE_FOR_PAIRING);
+}
+
+#[test]
+fn a_skipped_value_is_told(rt: HostRuntime) {
+    play(&rt, rt.alloc(), Door, A_SKIPPED_VALUE);
+    play(&rt, rt.alloc(), Door, A_VALUE_IN_TIME);
 }
 
 /// The application ends a connection, which is told as an end of the host's own.

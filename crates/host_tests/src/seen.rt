@@ -1,4 +1,4 @@
-//! What can be seen of a host: when an indication is late, who is connected, and what is left of it.
+//! What can be seen of a host: its deadline, who is connected, and what is left of it.
 
 use crate::player::ready;
 use crate::tables::File::{Bell, Door};
@@ -29,14 +29,41 @@ const DEADLINES: &[(Taken, Option<u64>)] = &[
     (Taken::Call(App::Disconnect(0x40)), None),
 ];
 
+/// Authorizations of two, of which one ends, one is withdrawn and one is of a connection that is ended.
+const AUTHORIZATIONS: &[(Taken, Option<u64>)] = &[
+    (COMES, None),
+    (ANOTHER_COMES, None),
+    (Taken::Call(App::Tick(5)), None),
+    // It has ended already.
+    (Taken::Call(App::Authorize(0x40, 5)), None),
+    (Taken::Call(App::Authorize(0x40, 90)), Some(90)),
+    (Taken::Call(App::Authorize(0x41, 70)), Some(70)),
+    (Taken::Call(App::Tick(69)), Some(70)),
+    (Taken::Call(App::Tick(70)), Some(90)),
+    (Taken::Call(App::Authorize(0x40, 0)), None),
+    // Even the last time is one.
+    (Taken::Call(App::Authorize(0x40, u64::MAX)), Some(u64::MAX)),
+    // An indication is late before.
+    (Taken::Pdu("1204000200"), Some(u64::MAX)),
+    (Taken::Call(App::Update(3, &[0x01])), Some(30_070)),
+    (Taken::Call(App::Authorize(0x40, 80)), Some(80)),
+    (Taken::Call(App::Tick(80)), Some(30_070)),
+    (Taken::Pdu("1e"), None),
+    (Taken::Call(App::Authorize(0x40, 100)), Some(100)),
+    // It serves no more.
+    (Taken::Call(App::Disconnect(0x40)), None),
+];
+
 #[test]
 fn deadlines_are_known(rt: HostRuntime) {
-    let mut host = ready(&rt, rt.alloc(), &at(Bell));
-    for (place, &(taken, deadline)) in DEADLINES.iter().enumerate() {
-        go_on(&rt, rt.alloc(), &mut host, taken);
-        assert!(rt; host.deadline() == deadline, "deadline {place}");
+    for cases in [DEADLINES, AUTHORIZATIONS] {
+        let mut host = ready(&rt, rt.alloc(), &at(Bell));
+        for (place, &(taken, deadline)) in cases.iter().enumerate() {
+            go_on(&rt, rt.alloc(), &mut host, taken);
+            assert!(rt; host.deadline() == deadline, "deadline {place}");
+        }
+        drop(host);
     }
-    drop(host);
 }
 
 const STRANGER: Peer = Peer {

@@ -11,8 +11,7 @@ use Rattle.gatt_host.specs.Calls.{refused_of}
 use Rattle.gatt_host.specs.Asked.{call_happening, refusal_in_result, replacement_happening}
 use Rattle.gatt_app.specs.declared.app.AppFault.{AppFault}
 use Rattle.gatt_host.specs.declared.host_fault.HostFault.{HostFault}
-use Rattle.gatt_host.specs.declared.last_event.LastEvent.TheVariants as last
-use Rattle.gatt_host.specs.ServerState.{ServerState, after_replacing, with_last}
+use Rattle.gatt_host.specs.ServerState.{ServerState, after_replacing, without_notices}
 use Rattle.gatt_host.specs.Meaning.{Frames, IsAfter}
 use Rattle.gatt_host.specs.Notices.{last_notices}
 use Rattle.gatt_host.specs.RunRefinement.{IsDrainedIn, ServerRefinesRun}
@@ -51,7 +50,7 @@ module _ (call : Call) (old new : HostModel) (none : old.fault ≡ None) (out : 
   drained-there run sent is = drained_in run sent old.server old.frames is (drained_where old none out)
 
   call-stands : (result : Result Unit AppFault) → (IsOk result → IsOkAnd (call_happening old.server call) (λ happening. IsAfter happening old.server new.server))
-      → IfErr result (λ fault. call_happening old.server call ≡ Err (refused_of fault)) → OnErr result (new.server ≡ with_last last.Quiet old.server)
+      → IfErr result (λ fault. call_happening old.server call ≡ Err (refused_of fault)) → OnErr result (new.server ≡ without_notices old.server)
       → (run : Run) (sent : List Octets) → ServerRefinesRun run sent old.server old.frames
       → ServerRefinesRun (after_result run (call_event run.intake.state call)) sent new.server old.frames
   call-stands (Ok done) after refused same run sent is =
@@ -65,7 +64,7 @@ module _ (call : Call) (old new : HostModel) (none : old.fault ≡ None) (out : 
 
   -- and what is told of it is what the run has
   pub call_told : (result : Result Unit AppFault) → (IsOk result → IsOkAnd (call_happening old.server call) (λ happening. IsAfter happening old.server new.server))
-      → IfErr result (λ fault. call_happening old.server call ≡ Err (refused_of fault)) → OnErr result (new.server ≡ with_last last.Quiet old.server)
+      → IfErr result (λ fault. call_happening old.server call ≡ Err (refused_of fault)) → OnErr result (new.server ≡ without_notices old.server)
       → (run : Run) (sent : List Octets) → ServerRefinesRun run sent old.server old.frames
       → last_notices new.server ≡ noticed_in run.intake.state (call_event run.intake.state call)
   call_told (Ok done) after refused same run sent is = (call_led run old.server old.frames (drained-there run sent is) new.server call (after refl)).told
@@ -74,7 +73,7 @@ module _ (call : Call) (old new : HostModel) (none : old.fault ≡ None) (out : 
       ap last_notices same ∙ sym (ap (λ (result : Result Event Refused). noticed_in run.intake.state result) refusal)
 
   pub takes_call : (result : Result Unit AppFault) → (IsOk result → IsOkAnd (call_happening old.server call) (λ happening. IsAfter happening old.server new.server))
-      → IfErr result (λ fault. call_happening old.server call ≡ Err (refused_of fault)) → OnErr result (new.server ≡ with_last last.Quiet old.server) → KeepsTheRest old new
+      → IfErr result (λ fault. call_happening old.server call ≡ Err (refused_of fault)) → OnErr result (new.server ≡ without_notices old.server) → KeepsTheRest old new
       → Takes (ACall call) old new
   takes_call result after refused same keeps =
       takes_item (ACall call) old new none (λ run sent no_why is.
@@ -108,7 +107,7 @@ if-same false table P is so = cc is
 module _ {A : Type 0} (table : Contents) (old new : HostModel) (none : old.fault ≡ None) (out : all_out old ≡ true) where
   table-stands : (result : Result A (AppFault × Contents)) → OnOk result (new.server ≡ after_replacing table old.server)
       → (IsOk result → same_changer old.server.changer (changer_of table) ≡ true)
-      → IfErr result (λ fault. replacement_happening old.server table ≡ Err (refused_of fault.0)) → OnErr result (new.server ≡ with_last last.Quiet old.server)
+      → IfErr result (λ fault. replacement_happening old.server table ≡ Err (refused_of fault.0)) → OnErr result (new.server ≡ without_notices old.server)
       → (run : Run) (sent : List Octets) → ServerRefinesRun run sent old.server old.frames
       → ServerRefinesRun (after_result run (replacement_event run.intake.state table)) sent new.server old.frames
   table-stands (Ok given) after accepts refused same run sent is =
@@ -125,7 +124,7 @@ module _ {A : Type 0} (table : Contents) (old new : HostModel) (none : old.fault
 
   pub table_told : (result : Result A (AppFault × Contents)) → OnOk result (new.server ≡ after_replacing table old.server)
       → (IsOk result → same_changer old.server.changer (changer_of table) ≡ true)
-      → IfErr result (λ fault. replacement_happening old.server table ≡ Err (refused_of fault.0)) → OnErr result (new.server ≡ with_last last.Quiet old.server)
+      → IfErr result (λ fault. replacement_happening old.server table ≡ Err (refused_of fault.0)) → OnErr result (new.server ≡ without_notices old.server)
       → (run : Run) (sent : List Octets) → ServerRefinesRun run sent old.server old.frames
       → last_notices new.server ≡ noticed_in run.intake.state (replacement_event run.intake.state table)
   table_told (Ok given) after accepts refused same run sent is =
@@ -137,7 +136,7 @@ module _ {A : Type 0} (table : Contents) (old new : HostModel) (none : old.fault
 
   pub takes_table : (result : Result A (AppFault × Contents)) → OnOk result (new.server ≡ after_replacing table old.server)
       → (IsOk result → same_changer old.server.changer (changer_of table) ≡ true)
-      → IfErr result (λ fault. replacement_happening old.server table ≡ Err (refused_of fault.0)) → OnErr result (new.server ≡ with_last last.Quiet old.server) → KeepsTheRest old new
+      → IfErr result (λ fault. replacement_happening old.server table ≡ Err (refused_of fault.0)) → OnErr result (new.server ≡ without_notices old.server) → KeepsTheRest old new
       → Takes (ATable table) old new
   takes_table result after accepts refused same keeps =
       takes_item (ATable table) old new none (λ run sent no_why is.

@@ -8,8 +8,7 @@ use Rattle.gatt_host.specs.declared.host_fault.HostFault.{HostFault}
 use Rattle.gatt_host.specs.declared.host_fault.HostFault.TheVariants as stop
 use Rattle.gatt_host.specs.Feeding.{IsAllOut, WritesAllThatIsDue}
 use Rattle.gatt_host.specs.GoingOut.{is_drained}
-use Rattle.gatt_host.specs.declared.last_event.LastEvent.TheVariants as last
-use Rattle.gatt_host.specs.ServerState.{ServerState, open_slots, with_last}
+use Rattle.gatt_host.specs.ServerState.{ServerState, open_slots, without_notices}
 use Rattle.gatt_host.specs.HostModel.{HostModel, all_out}
 use Rattle.gatt_laws.specs.machine.Input.{run}
 
@@ -42,7 +41,7 @@ due_where_drained host fault drained =
     due-by fault host (λ start input sent is. all_sent (run start input) sent host.server host.frames is.refines drained)
 
 -- of which nothing is told any more
-pub due_in_silence : (old new : HostModel) (fault : Option HostFault) → old.fault ≡ None → all_out old ≡ true → new.server ≡ with_last last.Quiet old.server
+pub due_in_silence : (old new : HostModel) (fault : Option HostFault) → old.fault ≡ None → all_out old ≡ true → new.server ≡ without_notices old.server
     → WritesAllThatIsDue fault new
 due_in_silence old new fault none out same =
     due_where_drained new fault

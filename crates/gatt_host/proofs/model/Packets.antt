@@ -10,8 +10,7 @@ use Rattle.gatt_host.proofs.refinement.Holding.{some-is}
 use Rattle.gatt_host.specs.Answers.{stop_of, told_fault}
 use Rattle.gatt_host.specs.declared.host_fault.HostFault.{HostFault}
 use Rattle.gatt_host.specs.GoingOut.{is_drained}
-use Rattle.gatt_host.specs.declared.last_event.LastEvent.TheVariants as last
-use Rattle.gatt_host.specs.ServerState.{ServerState, open_slots, with_last}
+use Rattle.gatt_host.specs.ServerState.{ServerState, open_slots, without_notices}
 use Rattle.gatt_host.specs.Meaning.{Frames, context_in}
 use Rattle.gatt_host.specs.Packet.{TakesPacket, packet_stop}
 use Rattle.gatt_host.specs.RunRefinement.{ServerRefinesRun}
@@ -90,7 +89,7 @@ takes_packet packet old new short none stream leads =
 
 -- one that is too long leaves all as it is, and nothing is told of it
 pub passes_long : (packet : Packet) (old new : HostModel) → is_long packet ≡ true → old.fault ≡ None
-    → new ≡ record old { server = with_last last.Quiet old.server } → Takes (APacket packet) old new
+    → new ≡ record old { server = without_notices old.server } → Takes (APacket packet) old new
 passes_long packet old new long none same =
     takes_item (APacket packet) old new none (λ run sent no_why is.
     subst (λ (long : Bool). RefinesRun (if long then run else after_packet run packet) sent new) (sym long)

@@ -39,6 +39,7 @@ lent_received table (lent.Configured handle attribute bits) has = refl
 lent_received table (lent.Confirmed handle attribute) has = refl
 lent_received table (lent.TimedOut handle) has = refl
 lent_received table (lent.Ending handle reason) has = refl
+lent_received table (lent.Skipped handle attribute) has = refl
 
 -- the notices of an item, with the values after it
 of-event : (state : State) (event : Option Event)

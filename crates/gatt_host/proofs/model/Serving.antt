@@ -11,10 +11,9 @@ use Rattle.gatt_host.proofs.model.Silence.{stands_at_in_silence}
 use Rattle.gatt_host.specs.declared.host_fault.HostFault.{HostFault}
 use Rattle.gatt_host.proofs.owing.Nexts.{clash}
 use Rattle.gatt_host.specs.declared.host_fault.HostFault.TheVariants as stop
-use Rattle.gatt_host.specs.declared.last_event.LastEvent.TheVariants as last
 use Rattle.gatt_host.specs.declared.serving.End.{End}
 use Rattle.gatt_host.specs.Feeding.{Feeds, IsReadIn, Reads, Serves, TakesAll, is_of_feeding, is_write_fault, octet_items}
-use Rattle.gatt_host.specs.ServerState.{with_last}
+use Rattle.gatt_host.specs.ServerState.{without_notices}
 use Rattle.gatt_host.specs.HostModel.{RefinesRun, Takes, HostModel, is_own_fault}
 use Rattle.gatt_laws.specs.machine.Input.{Run, Item, TheEnd, run}
 use Rattle.le_h4.specs.Deframer.{deframing_at_start, still}
@@ -31,7 +30,7 @@ from-the-start rest = elim (cases_Bool (nat_le 0 (length rest))) [
 
 -- the stream ends: what is unfinished is dropped, and nothing is told
 pub takes_end : (old new : HostModel) → old.fault ≡ None → new.fault ≡ None → new.frames ≡ old.frames → new.stream ≡ deframing_at_start
-    → new.server ≡ with_last last.Quiet old.server → Takes TheEnd old new
+    → new.server ≡ without_notices old.server → Takes TheEnd old new
 takes_end old new none still frames anew silent start input sent is =
     let ended : HostModel = record old { stream = deframing_at_start } in
     let takes : Takes TheEnd old ended =

@@ -5,8 +5,7 @@ use Rattle.std.specs.Result.{result_err}
 use Rattle.std.specs.Option.{option_map_or}
 use Rattle.gatt_host.proofs.model.Items.{no_fault}
 use Rattle.gatt_host.specs.declared.host_fault.HostFault.{HostFault}
-use Rattle.gatt_host.specs.declared.last_event.LastEvent.TheVariants as last
-use Rattle.gatt_host.specs.ServerState.{with_last}
+use Rattle.gatt_host.specs.ServerState.{without_notices}
 use Rattle.gatt_host.specs.Notices.{last_notices}
 use Rattle.gatt_host.specs.RunRefinement.{ServerRefinesRun}
 use Rattle.gatt_host.specs.Telling.{noticed_in, notices_told}
@@ -48,7 +47,7 @@ not_long state fragments packet short =
     ap (λ (long : Bool). if long then None else event_if (packet_event state fragments packet)) short
 
 pub long_told : (packet : Packet) (run : Run) (old new : HostModel) → is_long packet ≡ true → new.fault ≡ None
-    → new ≡ record old { server = with_last last.Quiet old.server } → notices_told new ≡ notices_of run (APacket packet)
+    → new ≡ record old { server = without_notices old.server } → notices_told new ≡ notices_of run (APacket packet)
 long_told packet run old new long still same =
     ap (λ (fault : Option HostFault). if is_some fault then [] else last_notices new.server) still
     ∙ ap (λ (host : HostModel). last_notices host.server) same

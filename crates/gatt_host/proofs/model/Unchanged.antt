@@ -7,7 +7,7 @@ use Rattle.gatt_host.specs.GoingOut.{command_next, init_command, slots_commanded
 use Rattle.gatt_host.specs.HostModel.{HostModel}
 use Rattle.gatt_host.specs.declared.last_event.LastEvent.{LastEvent}
 use Rattle.gatt_host.specs.declared.last_event.LastEvent.TheVariants as last
-use Rattle.gatt_host.specs.Notices.{last_notices, notices_by, row_at_place}
+use Rattle.gatt_host.specs.Notices.{last_notices, notices_by, row_at_place, skip_told}
 use Rattle.gatt_host.specs.ServerState.{ServerState, after_out}
 use Rattle.gatt_host.specs.Telling.{notices_told}
 use Rattle.gatt_laws.specs.machine.Controller.{Controller, is_ready}
@@ -75,7 +75,7 @@ row_after_out : (server : ServerState) (place : ℕ) → row_at_place (after_out
 row_after_out server place = out-row (is_ready server.controller) server.controller server.rows server.slots place
 
 notices_after_out : (server : ServerState) → last_notices (after_out server) ≡ last_notices server
-notices_after_out server = by server.last
+notices_after_out server = ap (λ (notices : List Notice). notices ++ map skip_told server.skipped) (by server.last)
   where
     by : (event : LastEvent) → notices_by (after_out server) event ≡ notices_by server event
     by last.Quiet = refl

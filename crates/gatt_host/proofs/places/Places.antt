@@ -12,6 +12,8 @@ use Rattle.gatt_laws.specs.machine.State.{advertising_after}
 use Rattle.gatt_slots.specs.declared.request.Brought.{Brought}
 use Rattle.gatt_slots.specs.SlotState.{SlotState}
 use Rattle.gatt_slots.specs.Request.{bond_served, confirmed_of, handles_written_by, overflows, slot_after_request, table_after}
+use Rattle.gatt_slots.specs.declared.skipped.Skipped.{Skipped}
+use Rattle.gatt_slots.specs.Skips.{all_skipped}
 use Rattle.gatt_slots.specs.Slots.{all_heard, at_place, slots_at}
 use Rattle.gatt_slots.specs.SlotEffects.{new_slot_state}
 use Rattle.gatt_subs.specs.Rows.{Subscriptions, ChangesBond}
@@ -20,11 +22,12 @@ use Rattle.le_security.specs.Keys.{is_known}
 use Rattle.octets.specs.Number.{Octets}
 
 -- a PDU of the Attribute Protocol is served, and then all hear
-module _ (old : ServerState) (place : ℕ) (pdu : Octets) (table : Contents) (rows : Subscriptions) (written : List Handle) (handle : ℕ) (brought : Brought) (changed slots : List (Option SlotState))
+module _ (old : ServerState) (place : ℕ) (pdu : Octets) (table : Contents) (rows : Subscriptions) (written : List Handle) (handle : ℕ) (brought : Brought) (changed slots : List (Option SlotState)) (skipped : List Skipped)
     (changes : changed ≡ slots_at place (λ slot_state. slot_after_request old.table old.time (row_at old slot_state) pdu slot_state) old.slots)
-    (heard : slots ≡ all_heard table old.time rows (Some place) [] written changed) where
+    (heard : slots ≡ all_heard table old.time rows (Some place) [] written changed)
+    (skips : skipped ≡ all_skipped table old.time rows (Some place) [] written changed) where
   abbrev then_held : ServerState → ServerState
-  then_held server = record server { table = table; rows = rows; slots = slots; last = last.Served place handle brought; written = written }
+  then_held server = record server { table = table; rows = rows; slots = slots; last = last.Served place handle brought; written = written; skipped = skipped }
 
   abbrev ServesThen : Option SlotState → Type 0
   ServesThen found = IfSome found (λ slot_state. table ≡ table_after old.table old.time (row_at old slot_state) pdu slot_state)
@@ -51,6 +54,7 @@ module _ (old : ServerState) (place : ℕ) (pdu : Octets) (table : Contents) (ro
           slots = (heard ∙ (λ j. all_heard (table-is j) old.time rows (Some place) [] (writes j) (same j))) i;
           last = last.Served place (own i) (brings i);
           written = writes i;
+          skipped = (skips ∙ (λ j. all_skipped (table-is j) old.time rows (Some place) [] (writes j) (same j))) i;
         };
         bond = bond;
       }

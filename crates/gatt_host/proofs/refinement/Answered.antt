@@ -11,7 +11,7 @@ use Rattle.gatt_host.specs.StateRefinement.{RefinesStep, RefinesState, IsSound}
 use Rattle.gatt_laws.specs.laws.Possible.{Possible}
 use Rattle.gatt_laws.specs.machine.Controller.{Controller, Slots, is_ready}
 use Rattle.gatt_laws.specs.machine.Event.{Credit}
-use Rattle.gatt_laws.specs.machine.Notice.{noticed}
+use Rattle.gatt_laws.specs.machine.Notice.{event_told}
 use Rattle.gatt_laws.specs.machine.State.{State, change_of, is_refusal, slots_when_ready}
 use Rattle.le_acl.specs.Quotas.{usable}
 use Rattle.le_hci.specs.declared.init.Init.{Init}
@@ -74,7 +74,7 @@ module _ (state : State) (server : ServerState) (allowed opcode : ℕ) (status :
       }
 
   other-leads : RefinesStep state (Credit allowed opcode status None) (server_after_command_complete allowed opcode status None server)
-  unfolding change_of noticed
+  unfolding change_of event_told
   other-leads =
       ends state (Credit allowed opcode status None) sound tt (answered None) other-holds None [] [] (λ place ordinal there found slot_state. refl) refl
 
@@ -131,7 +131,7 @@ module _ (state : State) (server : ServerState) (allowed opcode : ℕ) (status :
 
     next-leads : (init : Init)
         → RefinesStep state (Credit allowed opcode status (Some init)) (server_after_command_complete allowed opcode status (Some init) server)
-    unfolding change_of noticed
+    unfolding change_of event_told
     next-leads init =
         ends state (Credit allowed opcode status (Some init)) sound early (answered (Some init)) (next-holds init) None [] [] (λ place ordinal there found slot_state. refl) refl
 

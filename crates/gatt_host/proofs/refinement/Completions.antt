@@ -12,7 +12,7 @@ use Rattle.gatt_laws.specs.laws.Possible.{HaveSlots}
 use Rattle.gatt_laws.specs.laws.Renaming.{renamed_entry}
 use Rattle.gatt_laws.specs.machine.Controller.{is_ready}
 use Rattle.gatt_laws.specs.machine.Event.{Ordinal, Completed}
-use Rattle.gatt_laws.specs.machine.Notice.{noticed}
+use Rattle.gatt_laws.specs.machine.Notice.{event_told}
 use Rattle.gatt_laws.specs.machine.ConnectionState.{ConnectionState}
 use Rattle.gatt_laws.specs.machine.State.{State, with_packets_completed, after_packets_completed, change_of}
 use Rattle.gatt_slots.proofs.states.Found.{all_completed}
@@ -71,7 +71,7 @@ module _ (state : State) (server : ServerState) (entries : List (Ordinal × ℕ)
       }
 
   pub completion_leads : RefinesStep state (Completed entries) (server_after_packets_completed counted server)
-  unfolding change_of noticed
+  unfolding change_of event_told
   completion_leads =
       ends state (Completed entries) sound tt (record server { slots = after_completions counted server.slots }) completion-holds None [] []
       (λ place ordinal there found slot_state. refl) refl

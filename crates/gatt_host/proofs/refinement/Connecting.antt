@@ -17,7 +17,7 @@ use Rattle.gatt_laws.proofs.Settled.{none_next}
 use Rattle.gatt_laws.specs.machine.Controller.{Controller, Slots, has_free, is_ready, with_freed, with_taken}
 use Rattle.gatt_laws.specs.machine.Event.{Ordinal, Of, Connected, Disconnected}
 use Rattle.gatt_laws.specs.machine.Notice as notice
-use Rattle.gatt_laws.specs.machine.Notice.{noticed}
+use Rattle.gatt_laws.specs.machine.Notice.{event_told}
 use Rattle.gatt_laws.specs.machine.ConnectionState as laws
 use Rattle.gatt_laws.specs.machine.ConnectionState.{ConnectionState, no_connection, is_there}
 use Rattle.gatt_laws.specs.machine.SharedState.{quota_of, fragment_size_of}
@@ -225,7 +225,7 @@ module _ (state : State) (server : ServerState) (place handle : ℕ) (peer : Pee
       }
 
   pub coming_leads : RefinesStep state (Of next (Connected handle peer)) (after_connection_complete place handle peer server)
-  unfolding change_of noticed
+  unfolding change_of event_told
   coming_leads =
       ends_with state (Of next (Connected handle peer)) sound (record { next = refl; free = free }) with_it coming-holds None [] []
       (none_raised_at state.shared.table state.shared.time (with_taken next state.slots) next [] [] refl refl)

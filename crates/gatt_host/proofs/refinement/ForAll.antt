@@ -14,7 +14,7 @@ use Rattle.gatt_host.specs.StateRefinement.{IsSound, RefinesStep, RefinesState}
 use Rattle.gatt_laws.specs.laws.Possible.{MayBeUpdated}
 use Rattle.gatt_laws.specs.machine.Controller.{Slots, is_ready}
 use Rattle.gatt_laws.specs.machine.Event.{Ordinal, Nothing, Tick, Update}
-use Rattle.gatt_laws.specs.machine.Notice.{noticed}
+use Rattle.gatt_laws.specs.machine.Notice.{event_told}
 use Rattle.gatt_laws.specs.machine.ConnectionState.{ConnectionState, is_there}
 use Rattle.gatt_laws.specs.machine.SharedState.{SharedState}
 use Rattle.gatt_laws.specs.machine.State.{State, change_of}
@@ -59,7 +59,7 @@ unfolding change_of
 nothing-holds state server refines = holds state server refines
 
 pub nothing_leads : (state : State) (server : ServerState) → IsSound state → RefinesState state [] server → RefinesStep state Nothing (host.after_no_change server)
-unfolding change_of noticed
+unfolding change_of event_told
 nothing_leads state server sound refines =
     ends state Nothing sound tt server (nothing-holds state server refines) None [] [] (λ place ordinal there found slot_state. refl) refl
 
@@ -131,7 +131,7 @@ update-holds state server handle value refines =
 
 pub update_leads : (state : State) (server : ServerState) (handle : Handle) (value : Octets) → IsSound state → RefinesState state [] server
     → MayBeUpdated state handle value → RefinesStep state (Update handle value) (host.after_update handle value server)
-unfolding change_of noticed
+unfolding change_of event_told
 update_leads state server handle value sound refines may =
     ends state (Update handle value) sound may (with_update handle value server) (update-holds state server handle value refines) None [] (handle ∷ [])
     (λ place ordinal there found slot_state. refl) refl

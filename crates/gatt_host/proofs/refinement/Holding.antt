@@ -1,6 +1,7 @@
 -- What a host holds where nothing is owed, and how an event that is done but for its end leaves it standing at the next state.
-use Rattle.std.proofs.Common.{◌≡◌, ℕ, zero, suc, ◌+◌, Bool, true, false, List, [], ◌∷◌, map, length, slice_get, Option, Some, None, refl, sym, ap, subst, ◌∙◌, arith}
+use Rattle.std.proofs.Common.{◌≡◌, ℕ, zero, suc, ◌+◌, Bool, true, false, List, [], ◌∷◌, ◌++◌, map, length, slice_get, Option, Some, None, refl, sym, ap, subst, ◌∙◌, arith}
 use Rattle.std.specs.Prelude.{is_some, ◌||◌, nat_lt, replicate, if◌then◌else◌}
+use Rattle.std.specs.List.{flat_map}
 use Rattle.std.specs.Option.{option_map, option_map_or}
 use Rattle.att_numbers.specs.Types.{Handle, Row}
 use Rattle.att_table.specs.Table.{Contents}
@@ -8,16 +9,16 @@ use Rattle.std.proofs.lemmas.Bool.{eq-eqb}
 use Rattle.gatt_host.proofs.places.Entering.{change-same, owes_what_an_event_brings}
 use Rattle.gatt_host.proofs.owing.Owing.{hands_out_what_is_owed}
 use Rattle.gatt_host.specs.GoingOut.{next_out}
-use Rattle.gatt_host.specs.ServerState.{ServerState, open_slots, server_after_event, with_last}
+use Rattle.gatt_host.specs.ServerState.{ServerState, open_slots, server_after_event, with_last, without_notices}
 use Rattle.gatt_host.specs.Owing.{Handed, all_given, slot_state_handed, slot_states_handed, IsOwing, IsAllSent, SendsTheNext}
 use Rattle.gatt_host.specs.declared.last_event.LastEvent.{LastEvent}
-use Rattle.gatt_host.specs.Notices.{notices_by}
+use Rattle.gatt_host.specs.Notices.{notices_by, skip_told}
 use Rattle.gatt_host.specs.StateRefinement.{bond_in, HoldsBonds, HasKeysOfItsPeer, slots_with_buffers, RefinesState, IsSound, RefinesStep}
 use Rattle.gatt_laws.proofs.Queued.{change-queued}
 use Rattle.gatt_laws.specs.machine.Controller.{Controller, Slots, is_ready, command_of_init, count_before, without_command}
 use Rattle.gatt_laws.specs.machine.Event.{Ordinal, Event}
-use Rattle.gatt_laws.specs.machine.Heard.{after_hearing}
-use Rattle.gatt_laws.specs.machine.Notice.{noticed}
+use Rattle.gatt_laws.specs.machine.Heard.{after_hearing, skipped_in_turn}
+use Rattle.gatt_laws.specs.machine.Notice.{Notice, Skipped, event_told, noticed, skips_told, slot_skips_told, values_skipped}
 use Rattle.gatt_laws.specs.machine.ConnectionState.{ConnectionState, is_live, is_there, key_of}
 use Rattle.gatt_laws.specs.laws.Possible.{Possible}
 use Rattle.gatt_laws.specs.laws.Queued.{IsWithinBounds}
@@ -25,8 +26,11 @@ use Rattle.gatt_laws.specs.machine.SharedState.{SharedState, Bonds, ServiceChang
 use Rattle.gatt_laws.specs.laws.Settled.{has_slot, is_slot_of}
 use Rattle.gatt_laws.specs.machine.State.{State, Change, change_of, finished, connections_finished, before_commands, step, out}
 use Rattle.gatt_slots.proofs.states.Heard.{finished_kept}
-use Rattle.gatt_slots.specs.Hearing.{slot_after_hearing}
+use Rattle.gatt_slots.specs.Hearing.{delivery_of, hearer_facts_of, slot_after_hearing, slot_hearer}
 use Rattle.gatt_slots.specs.SlotState.{SlotState, slot_state_of, slot_state_if_there}
+use Rattle.gatt_slots.proofs.states.Skips.{skips_kept}
+use Rattle.gatt_slots.specs.declared.skipped.Skipped as noted
+use Rattle.gatt_slots.specs.Skips.{all_skipped, skip_of, skips_from, slot_skips}
 use Rattle.gatt_slots.specs.Slots.{handles_for, slot_heard, heard_from}
 use Rattle.gatt_subs.specs.declared.bond.Bond.{Bond}
 use Rattle.gatt_subs.specs.Rows.{Subscriptions, row_of}
@@ -123,6 +127,21 @@ stands_with_last state owed server last is = record {
   owing = is.owing;
 }
 
+pub stands_without_notices : (state : State) (owed : List Octets) (server : ServerState) → RefinesState state owed server → RefinesState state owed (without_notices server)
+stands_without_notices state owed server is = record {
+  table = is.table;
+  changer = is.changer;
+  keys = is.keys;
+  rx_mtu = is.rx_mtu;
+  time = is.time;
+  buffers = is.buffers;
+  rows = is.rows;
+  keyed = is.keyed;
+  free = is.free;
+  ready = is.ready;
+  owing = is.owing;
+}
+
 -- slots that all hear
 pub heard_free : (hear : ℕ → Option SlotState → Option SlotState) → ((place : ℕ) → hear place None ≡ None) → (start count : ℕ)
     → heard_from start hear (replicate count None) ≡ replicate count None
@@ -141,6 +160,25 @@ heard_each hear old new start (slot ∷ slots) each =
     let first : hear start (old slot) ≡ new slot = each 0 start slot (omega arith) refl in
     let later = heard_each hear old new (start + 1) slots (λ place at slot is there. each (suc place) at slot (omega (arith, is)) there) in
     λ i. first i ∷ later i
+
+-- and the values that they skip
+pub skipped_free : (skips : ℕ → Option SlotState → List noted.Skipped) → ((place : ℕ) → skips place None ≡ []) → (start count : ℕ)
+    → skips_from start skips (replicate count None) ≡ []
+skipped_free skips none start zero = refl
+skipped_free skips none start (suc count) = λ i. none start i ++ skipped_free skips none (start + 1) count i
+
+told-both : (one other : List noted.Skipped) → map skip_told (one ++ other) ≡ map skip_told one ++ map skip_told other
+told-both [] other = refl
+told-both (skipped ∷ one) other = ap (λ (rest : List Notice). skip_told skipped ∷ rest) (told-both one other)
+
+pub skipped_each : (skips : ℕ → Option SlotState → List noted.Skipped) (old : Option Ordinal → Option SlotState) (told : Option Ordinal → List Notice) (start : ℕ) (slots : Slots)
+    → ((place at : ℕ) (slot : Option Ordinal) → at ≡ start + place → slice_get slots place ≡ Some slot → map skip_told (skips at (old slot)) ≡ told slot)
+    → map skip_told (skips_from start skips (map old slots)) ≡ flat_map told slots
+skipped_each skips old told start [] each = refl
+skipped_each skips old told start (slot ∷ slots) each =
+    let first : map skip_told (skips start (old slot)) ≡ told slot = each 0 start slot (omega arith) refl in
+    let later = skipped_each skips old told (start + 1) slots (λ place at slot is there. each (suc place) at slot (omega (arith, is)) there) in
+    told-both (skips start (old slot)) (skips_from (start + 1) skips (map old slots)) ∙ λ i. first i ++ later i
 
 pub has_slot_there : (ordinal : Ordinal) (slots : Slots) (place : ℕ) → slice_get slots place ≡ Some (Some ordinal) → has_slot ordinal slots ≡ true
 has_slot_there ordinal [] place there = cc there
@@ -215,10 +253,18 @@ heard-of-peer table now rows handles shared connection handed =
     elim (is_there connection.mark) as (λ (there : Bool). slot_heard table now rows handles (if there then Some (slot_state_of shared connection handed) else None)
     ≡ option_map (slot_after_hearing table now (row_of rows connection.peer) handles) (if there then Some (slot_state_of shared connection handed) else None)) [ true ↦ refl | false ↦ refl ]
 
+-- what a slot keeps once it has heard of values, and which of them are skipped
+abbrev pub skipped_by : Contents → ℕ → Option Row → List Handle → SlotState → List Handle
+skipped_by table now found handles slot_state =
+    skipped_in_turn table.attributes table.values (slot_hearer (hearer_facts_of now found slot_state) (delivery_of slot_state)) handles
+
+abbrev pub hears_and_skips : Contents → ℕ → Option Row → List Handle → SlotState → SlotState × List Handle
+hears_and_skips table now found handles slot_state = (slot_after_hearing table now found handles slot_state, skipped_by table now found handles slot_state)
+
 -- the handles that a slot hears of are those that are notified to its connection
 abbrev pub HearsRaised : Contents → ℕ → Slots → (ℕ → List Handle) → (Ordinal → List Handle) → Type 0
 HearsRaised table now slots handles raised = (place : ℕ) (ordinal : Ordinal) → slice_get slots place ≡ Some (Some ordinal) → (found : Option Row) (slot_state : SlotState)
-    → slot_after_hearing table now found (handles place) slot_state ≡ slot_after_hearing table now found (raised ordinal) slot_state
+    → hears_and_skips table now found (handles place) slot_state ≡ hears_and_skips table now found (raised ordinal) slot_state
 
 module _ (state : State) (event : Event) (sound : IsSound state) (possible : Possible (λ table. Unit) state event) (server : ServerState)
     (is : Holds (change_of state event).state (all_given state) server)
@@ -251,7 +297,7 @@ module _ (state : State) (event : Event) (sound : IsSound state) (possible : Pos
       (finished_kept changed.shared found changed.bonds (change.to_notify ordinal) connection bounds has) in
       (λ i. slot_heard (is.table i) (is.time i) server.rows (handles_for own here handles place) (slot_state_if_there changed.shared connection given))
       ∙ heard-of-peer changed.shared.table changed.shared.time server.rows (handles_for own here handles place) changed.shared connection given
-      ∙ (λ i. option_map (λ (slot_state : SlotState). raises place ordinal there found slot_state i) (slot_state_if_there changed.shared connection given))
+      ∙ (λ i. option_map (λ (slot_state : SlotState). (raises place ordinal there found slot_state i).0) (slot_state_if_there changed.shared connection given))
       ∙ sym ends
 
   heard-slot : (place : ℕ) (slot : Option Ordinal) → slice_get changed.slots place ≡ Some slot
@@ -305,14 +351,76 @@ module _ (state : State) (event : Event) (sound : IsSound state) (possible : Pos
     owing = owing-then;
   }
 
-  -- an event of which nothing is told, and one of which something is
-  pub ends : [] ≡ noticed state event → RefinesStep state event (server_after_event own here handles server)
-  ends silent = record { refines = ended; told = silent }
+  -- the values that are skipped
+  abbrev skips : ℕ → Option SlotState → List noted.Skipped
+  skips place slot = slot_skips server.table server.time server.rows (handles_for own here handles place) slot
+
+  skipped-one : (place : ℕ) (ordinal : Ordinal) → slice_get changed.slots place ≡ Some (Some ordinal)
+      → map skip_told (skips place (slot_state_if_there changed.shared (changed.connections ordinal) (state.connections ordinal).given)) ≡ slot_skips_told change (Some ordinal)
+  skipped-one place ordinal there =
+      let connection : ConnectionState = changed.connections ordinal in
+      let found : Option Row = row_of server.rows connection.peer in
+      let has = has_row changed.shared.keys server.rows changed.bonds changed.owed connection is.rows (is.keyed ordinal) in
+      let of : ℕ → List noted.Skipped =
+      λ count. slot_skips changed.shared.table changed.shared.time server.rows (change.to_notify ordinal) (slot_state_if_there changed.shared connection count) in
+      ap (map skip_told)
+      ((λ i. slot_skips (is.table i) (is.time i) server.rows (handles_for own here handles place) (slot_state_if_there changed.shared connection (state.connections ordinal).given))
+      ∙ skips-raised place ordinal there
+      ∙ ap of (sym (change-same state event possible sound.settled ordinal (has_slot_there ordinal changed.slots place there)))
+      ∙ skips_kept changed.shared server.rows (changed.bonds connection.peer) (change.to_notify ordinal) connection has)
+      ∙ skips-of (values_skipped change ordinal) connection.handle
+    where
+      skips-raised : (place : ℕ) (ordinal : Ordinal) → slice_get changed.slots place ≡ Some (Some ordinal) →
+          let slot : Option SlotState = slot_state_if_there changed.shared (changed.connections ordinal) (state.connections ordinal).given in
+          slot_skips changed.shared.table changed.shared.time server.rows (handles_for own here handles place) slot
+          ≡ slot_skips changed.shared.table changed.shared.time server.rows (change.to_notify ordinal) slot
+      skips-raised place ordinal there =
+          let connection : ConnectionState = changed.connections ordinal in
+          let slot_state : SlotState = slot_state_of changed.shared connection (state.connections ordinal).given in
+          let of : List Handle → Bool → List noted.Skipped =
+          λ handles is. slot_skips changed.shared.table changed.shared.time server.rows handles (if is then Some slot_state else None) in
+          elim (is_there connection.mark) as (λ (is : Bool). of (handles_for own here handles place) is ≡ of (change.to_notify ordinal) is) [
+            | true ↦ λ i. if slot_state.live then map (skip_of slot_state.handle) ((raises place ordinal there (row_of server.rows connection.peer) slot_state i).1) else []
+            | false ↦ refl
+          ]
+
+      skips-of : (handles : List Handle) (handle : ℕ)
+          → map skip_told (map (skip_of handle) handles) ≡ map (Skipped handle) handles
+      skips-of [] handle = refl
+      skips-of (attribute ∷ handles) handle = ap (λ (rest : List Notice). Skipped handle attribute ∷ rest) (skips-of handles handle)
+
+  skipped-slot : (place : ℕ) (slot : Option Ordinal) → slice_get changed.slots place ≡ Some slot
+      → map skip_told (skips place (slot_state_handed changed (all_given state) slot)) ≡ slot_skips_told change slot
+  skipped-slot place None there = refl
+  skipped-slot place (Some ordinal) there = skipped-one place ordinal there
+
+  skips-then : map skip_told (all_skipped server.table server.time server.rows own here handles server.slots) ≡ skips_told change
+  skips-then =
+      by-ready (is_ready server.controller) refl
+      ∙ skipped_each skips (slot_state_handed changed (all_given state)) (slot_skips_told change) 0 changed.slots
+      (λ place at slot at_is there. skipped-slot at slot (subst (λ (k : ℕ). slice_get changed.slots k ≡ Some slot) (let same : place ≡ at = omega (arith, at_is) in same) there))
+    where
+      by-ready : (ready : Bool) → is_ready server.controller ≡ ready
+          → map skip_told (skips_from 0 skips server.slots) ≡ map skip_told (skips_from 0 skips (slot_states_handed changed (all_given state)))
+      by-ready true is_so =
+          ap (λ (slots : List (Option SlotState)). map skip_told (skips_from 0 skips slots))
+          (sym (ap (λ (ready : Bool). if ready then server.slots else []) is_so) ∙ is.slots)
+      by-ready false is_so =
+          ap (λ (slots : List (Option SlotState)). map skip_told (skips_from 0 skips slots)) (is.free (sym (ap is_ready is.controller) ∙ is_so))
+          ∙ ap (map skip_told) (skipped_free skips (λ place. refl) 0 changed.shared.slots)
+          ∙ ap (λ (slots : List (Option SlotState)). map skip_told (skips_from 0 skips slots))
+          (sym (ap (λ (ready : Bool). if ready then server.slots else []) is_so) ∙ is.slots)
+
+  -- an event of which nothing is told but what is skipped, and one of which something is
+  pub ends : [] ≡ event_told state event → RefinesStep state event (server_after_event own here handles server)
+  unfolding noticed
+  ends silent = record { refines = ended; told = λ i. silent i ++ skips-then i }
 
   pub ends_with : (last : LastEvent)
-      → notices_by (with_last last (server_after_event own here handles server)) last ≡ noticed state event
+      → notices_by (with_last last (server_after_event own here handles server)) last ≡ event_told state event
       → RefinesStep state event (with_last last (server_after_event own here handles server))
+  unfolding noticed
   ends_with last told = record {
     refines = stands_with_last (step state event) (out state event) (server_after_event own here handles server) last ended;
-    told = told;
+    told = λ i. told i ++ skips-then i;
   }

@@ -4,7 +4,7 @@ use Rattle.std.specs.Prelude.{is_some, if◌then◌else◌, not, ◌&&◌, ◌==
 use Rattle.std.specs.Option.{option_map, option_map_or, option_to_list}
 use Rattle.att_numbers.specs.Types.{Handle}
 use Rattle.att_policy.specs.declared.standing.KeyFacts.{KeyFacts}
-use Rattle.gatt_host.proofs.refinement.Holding.{Holds, ends_with, holds, keyed_alike, HearsRaised}
+use Rattle.gatt_host.proofs.refinement.Holding.{Holds, ends_with, holds, hears_and_skips, keyed_alike, HearsRaised}
 use Rattle.gatt_host.proofs.refinement.OneSlot.{raised_at}
 use Rattle.gatt_host.proofs.refinement.Told.{encrypted_told, refreshed_told}
 use Rattle.gatt_host.proofs.refinement.Effects.{holds_alone, kept_here}
@@ -18,7 +18,6 @@ use Rattle.gatt_laws.specs.machine.SharedState.{Bonds, ServiceChangedPending}
 use Rattle.gatt_laws.specs.machine.State.{State, all_to_notify, at_ordinal, change_of, step}
 use Rattle.gatt_laws.specs.machine.Effect.{Effect, live_effect, effect_of, effect_on_connection, with_step, lost_encryption, gained_encryption, authentication_failure}
 use Rattle.gatt_slots.proofs.states.Effects.{encrypted_kept, encrypted_raised, refreshed_kept, refreshed_raised, live_turned}
-use Rattle.gatt_slots.specs.Hearing.{slot_after_hearing}
 use Rattle.gatt_slots.specs.SlotState.{SlotState, slot_state_of}
 use Rattle.gatt_slots.specs.Slots.{handles_for, slots_at}
 use Rattle.gatt_slots.specs.SlotEffects.{after_link_step}
@@ -115,7 +114,7 @@ module _ (state : State) (server : ServerState) (place : ℕ) (ordinal : Ordinal
   link-raised own step keyed here none =
       raised_at (record state.shared.table { values = (effect own).values }) state.shared.time state.next state.slots place ordinal (told_here step) []
       (effect own).to_notify_here (effect own).to_notify sound.settled.slots serving.there (told-here step keyed ∙ sym here)
-      (λ found slot_state. ap (λ (handles : List Handle). slot_after_hearing (record state.shared.table { values = (effect own).values }) state.shared.time found handles slot_state) (sym none))
+      (λ found slot_state. ap (λ (handles : List Handle). hears_and_skips (record state.shared.table { values = (effect own).values }) state.shared.time found handles slot_state) (sym none))
 
   -- its encryption is changed
   encryption-holds : (status enabled : ℕ) → Holds (change_of state (Of ordinal (Encrypted status enabled))).state (all_given state)

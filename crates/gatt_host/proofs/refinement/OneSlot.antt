@@ -7,12 +7,11 @@ use Rattle.std.proofs.lemmas.Option.{slice_get-map}
 use Rattle.att_numbers.specs.Types.{Handle, Row}
 use Rattle.att_table.specs.Table.{Contents}
 use Rattle.gatt_host.proofs.owing.Nexts.{clash}
-use Rattle.gatt_host.proofs.refinement.Holding.{some-is, has_slot_there, HearsRaised}
+use Rattle.gatt_host.proofs.refinement.Holding.{some-is, has_slot_there, hears_and_skips, HearsRaised}
 use Rattle.gatt_laws.specs.machine.Controller.{Slots, is_ready}
 use Rattle.gatt_laws.specs.machine.Event.{Ordinal}
 use Rattle.gatt_laws.specs.laws.Settled.{has_slot, HaveOneSlotEach, IsSettled}
 use Rattle.gatt_laws.specs.machine.State.{State, at_ordinal, all_to_notify}
-use Rattle.gatt_slots.specs.Hearing.{slot_after_hearing}
 use Rattle.gatt_slots.specs.SlotState.{SlotState}
 use Rattle.gatt_slots.specs.Slots.{handles_for, at_place}
 
@@ -99,19 +98,19 @@ module _ (old new : Option Ordinal → Option SlotState) (ordinal : Ordinal) (no
 -- what is notified to it, and for the others
 pub raised_at : (table : Contents) (now : ℕ) (next : Ordinal) (slots : Slots) (place : ℕ) (ordinal : Ordinal) (here handles raised_here raised : List Handle)
     → HaveOneSlotEach next slots → slice_get slots place ≡ Some (Some ordinal) → here ≡ raised_here
-    → ((found : Option Row) (slot_state : SlotState) → slot_after_hearing table now found handles slot_state ≡ slot_after_hearing table now found raised slot_state)
+    → ((found : Option Row) (slot_state : SlotState) → hears_and_skips table now found handles slot_state ≡ hears_and_skips table now found raised slot_state)
     → HearsRaised table now slots (handles_for (Some place) here handles) (at_ordinal ordinal raised_here (all_to_notify raised))
 raised_at table now next slots place ordinal here handles raised_here raised each there is alike =
     λ at other at_there found slot_state.
     elim (other == ordinal) as (λ (same : Bool). (other == ordinal) ≡ same
-    → slot_after_hearing table now found (if place == at then here else handles) slot_state ≡ slot_after_hearing table now found (if same then raised_here else raised) slot_state) [
+    → hears_and_skips table now found (if place == at then here else handles) slot_state ≡ hears_and_skips table now found (if same then raised_here else raised) slot_state) [
       | true ↦ λ same.
           let places : place ≡ at =
           same_place next slots place at ordinal each there (at_there ∙ ap (λ (one : Ordinal). Some (Some one)) (eqb-true other ordinal same)) in
-          ap (λ (own : Bool). slot_after_hearing table now found (if own then here else handles) slot_state) (eq-eqb place at places)
-          ∙ ap (λ (those : List Handle). slot_after_hearing table now found those slot_state) is
+          ap (λ (own : Bool). hears_and_skips table now found (if own then here else handles) slot_state) (eq-eqb place at places)
+          ∙ ap (λ (those : List Handle). hears_and_skips table now found those slot_state) is
       | false ↦ λ differs.
-          ap (λ (own : Bool). slot_after_hearing table now found (if own then here else handles) slot_state) (elsewhere at other at_there differs) ∙ alike found slot_state
+          ap (λ (own : Bool). hears_and_skips table now found (if own then here else handles) slot_state) (elsewhere at other at_there differs) ∙ alike found slot_state
     ] refl
   where
     elsewhere : (at : ℕ) (other : Ordinal) → slice_get slots at ≡ Some (Some other) → (other == ordinal) ≡ false → (place == at) ≡ false
@@ -127,7 +126,7 @@ pub none_raised_at : (table : Contents) (now : ℕ) (slots : Slots) (ordinal : O
     → HearsRaised table now slots (handles_for None [] []) (at_ordinal ordinal raised_here (all_to_notify raised))
 none_raised_at table now slots ordinal raised_here raised none none' =
     λ at other at_there found slot_state.
-    elim (other == ordinal) as (λ (same : Bool). slot_after_hearing table now found [] slot_state ≡ slot_after_hearing table now found (if same then raised_here else raised) slot_state) [
-      | true ↦ ap (λ (those : List Handle). slot_after_hearing table now found those slot_state) (sym none)
-      | false ↦ ap (λ (those : List Handle). slot_after_hearing table now found those slot_state) (sym none')
+    elim (other == ordinal) as (λ (same : Bool). hears_and_skips table now found [] slot_state ≡ hears_and_skips table now found (if same then raised_here else raised) slot_state) [
+      | true ↦ ap (λ (those : List Handle). hears_and_skips table now found those slot_state) (sym none)
+      | false ↦ ap (λ (those : List Handle). hears_and_skips table now found those slot_state) (sym none')
     ]

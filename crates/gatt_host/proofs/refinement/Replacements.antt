@@ -15,7 +15,7 @@ use Rattle.gatt_host.specs.Owing.{all_given}
 use Rattle.gatt_host.specs.StateRefinement.{bond_in, HoldsBonds, RefinesStep, RefinesState, IsSound}
 use Rattle.gatt_laws.specs.machine.Controller.{is_ready}
 use Rattle.gatt_laws.specs.machine.Event.{Replaced}
-use Rattle.gatt_laws.specs.machine.Notice.{noticed}
+use Rattle.gatt_laws.specs.machine.Notice.{event_told}
 use Rattle.gatt_laws.specs.machine.ConnectionState.{ConnectionState, is_live}
 use Rattle.gatt_laws.specs.machine.SharedState.{Bonds, ServiceChangedPending}
 use Rattle.gatt_laws.specs.machine.State.{State, announced, bonds_replaced, owed_by, connection_after_replacement, change_of}
@@ -117,6 +117,6 @@ module _ (state : State) (server : ServerState) (table : Contents) (sound : IsSo
       }
 
   pub replacement_leads : RefinesStep state (Replaced table) (after_replacing table server)
-  unfolding change_of noticed
+  unfolding change_of event_told
   replacement_leads =
       ends state (Replaced table) sound tt with_table replacement-holds None [] (option_to_list (changer_of table)) (λ place ordinal there found slot_state. refl) refl

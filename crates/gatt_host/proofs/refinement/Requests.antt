@@ -10,7 +10,7 @@ use Rattle.att_policy.specs.declared.standing.KeyFacts.{KeyFacts}
 use Rattle.att_table.specs.Table.{Contents}
 use Rattle.gatt_host.proofs.owing.Nexts.{clash}
 use Rattle.gatt_conn.specs.Answer.{Question, handles_by, is_confirmation}
-use Rattle.gatt_host.proofs.refinement.Holding.{Holds, Stays, ends_with, finished_stays, holds, holds_with_written, has_row, keyed_alike, slots_heard, some-is, HearsRaised, SameLink}
+use Rattle.gatt_host.proofs.refinement.Holding.{Holds, Stays, ends_with, finished_stays, hears_and_skips, holds, holds_with_written, has_row, keyed_alike, slots_heard, some-is, HearsRaised, SameLink}
 use Rattle.gatt_host.proofs.refinement.OneSlot.{raised_at, ready_where}
 use Rattle.gatt_host.proofs.refinement.Effects.{holds_turned, kept_here, turned}
 use Rattle.gatt_host.specs.declared.last_event.LastEvent.TheVariants as last
@@ -20,12 +20,13 @@ use Rattle.gatt_host.specs.Owing.{all_given, slot_state_handed, slot_states_hand
 use Rattle.gatt_host.specs.StateRefinement.{bond_in, HoldsBonds, HasKeysOfItsPeer, IsServing, RefinesStep, RefinesState, IsSound}
 use Rattle.gatt_laws.specs.machine.Controller.{is_ready}
 use Rattle.gatt_laws.specs.machine.Event.{Ordinal, Of, Asks}
-use Rattle.gatt_laws.specs.machine.Notice.{Confirmed, Ending, confirmation_told, end_told, live_told, noticed, write_told}
+use Rattle.gatt_laws.specs.machine.Notice.{Confirmed, Ending, confirmation_told, end_told, live_told, event_told, write_told}
 use Rattle.gatt_laws.specs.machine.ConnectionState.{ConnectionState, bearer_of, is_live, is_there, key_of, connection_mtu, row_in_force, after_ending}
 use Rattle.gatt_laws.specs.machine.SharedState.{SharedState, Bonds, ServiceChangedPending}
 use Rattle.gatt_laws.specs.machine.State.{State, all_to_notify, at_ordinal, at_peer, before_commands, change_of, finished, with_values}
 use Rattle.gatt_laws.specs.machine.Effect.{Effect, live_effect, effect_of, effect_on_connection, served, is_full, remote_user_terminated, handles_written}
 use Rattle.gatt_slots.proofs.states.Heard.{hears_of_values}
+use Rattle.gatt_slots.proofs.states.Skips.{skipped_of_values}
 use Rattle.gatt_slots.proofs.states.SlotStates.{connection_kept, link_key, live_there, row_kept}
 use Rattle.gatt_slots.proofs.states.Requests.{served_bond, served_kept, served_owed, served_raised, served_raised_here, served_values}
 use Rattle.gatt_slots.proofs.states.Effects.{full_kept, live_turned}
@@ -248,12 +249,13 @@ module _ (state : State) (server new : ServerState) (place : ℕ) (ordinal : Ord
   handles = handles_written_by server.table server.time found pdu slot_state
 
   raised-alike : (now : ℕ) (row : Option Row) (hearer : SlotState)
-      → slot_after_hearing (record state.shared.table { values = effect.values }) now row handles hearer ≡ slot_after_hearing (record state.shared.table { values = effect.values }) now row effect.to_notify hearer
+      → hears_and_skips (record state.shared.table { values = effect.values }) now row handles hearer ≡ hears_and_skips (record state.shared.table { values = effect.values }) now row effect.to_notify hearer
   raised-alike now row hearer =
       let after : Contents = record state.shared.table { values = effect.values } in
-      (λ i. slot_after_hearing after now row (handles_written_by (is.table i) (is.time i) found pdu slot_state) hearer)
-      ∙ sym (hears_of_values after now row (handles_written_by state.shared.table state.shared.time found pdu slot_state) hearer)
-      ∙ ap (λ (those : List Handle). slot_after_hearing after now row those hearer)
+      let those : List Handle = handles_written_by state.shared.table state.shared.time found pdu slot_state in
+      (λ i. hears_and_skips after now row (handles_written_by (is.table i) (is.time i) found pdu slot_state) hearer)
+      ∙ sym (λ i. (hears_of_values after now row those hearer i, skipped_of_values after now row those hearer i))
+      ∙ ap (λ (those : List Handle). hears_and_skips after now row those hearer)
       (sym (served_raised state.shared found (state.bonds peer) (state.owed peer) connection pdu serving.live (sound.queued ordinal) has))
 
   request-raised : HearsRaised (record state.shared.table { values = effect.values }) state.shared.time state.slots (handles_for (Some place) [] handles)
@@ -366,8 +368,8 @@ module _ (state : State) (server new : ServerState) (place : ℕ) (ordinal : Ord
         ]
         ∙ sym (ap (λ (effect : Effect). end_told connection.handle effect.connection) effect-is)
 
-    request-told : notices_by served_held (last.Served place connection.handle (brought_by pdu slot_state)) ≡ noticed state (Of ordinal (Asks pdu))
-    unfolding noticed
+    request-told : notices_by served_held (last.Served place connection.handle (brought_by pdu slot_state)) ≡ event_told state (Of ordinal (Asks pdu))
+    unfolding event_told
     request-told =
         (λ i. (map (write_told (table-is i).attributes (row-then i) connection.handle) (handles-written i) ++ confirmed-told i) ++ ended-told i)
         ∙ sym (ap (λ (live : Bool). if live then live_told state.shared (state.bonds peer) connection (Asks pdu) effect ++ end_told connection.handle effect.connection else []) serving.live)

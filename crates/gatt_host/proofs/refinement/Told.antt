@@ -15,7 +15,7 @@ use Rattle.gatt_host.specs.StateRefinement.{IsServing, IsSound, RefinesState}
 use Rattle.gatt_laws.specs.machine.Controller.{Slots, is_ready}
 use Rattle.gatt_laws.specs.machine.Event.{Ordinal, Own, Of, Authorized, Ended, KeyAsked, Encrypted, Refreshed, OtherChannel, Tick}
 use Rattle.gatt_laws.specs.machine.Event as event
-use Rattle.gatt_laws.specs.machine.Notice.{Notice, Disconnected, TimedOut, Ending, end_told, late_told, link_told, noticed, slot_told}
+use Rattle.gatt_laws.specs.machine.Notice.{Notice, Disconnected, TimedOut, Ending, end_told, late_told, link_told, event_told, slot_told}
 use Rattle.gatt_laws.specs.machine.ConnectionState.{ConnectionState, is_live, is_there, key_of, after_ending, with_pdus}
 use Rattle.gatt_laws.specs.laws.Settled.{has_slot}
 use Rattle.gatt_laws.specs.machine.State.{State}
@@ -66,21 +66,21 @@ module _ (state : State) (server : ServerState) (place : ℕ) (ordinal : Ordinal
   end-is : (one other : Effect) → one ≡ other → end_told connection.handle one.connection ≡ end_told connection.handle other.connection
   end-is one other same = ap (λ (effect : Effect). end_told connection.handle effect.connection) same
 
-  pub authorized_told : (until : ℕ) → [] ≡ noticed state (Of ordinal (Authorized until))
-  unfolding noticed live_effect
+  pub authorized_told : (until : ℕ) → [] ≡ event_told state (Of ordinal (Authorized until))
+  unfolding event_told live_effect
   authorized_told until =
       let own : Own = Authorized until in
       sym (if-live (end_told connection.handle (effect own).connection) ∙ end-is (effect own) (live own) (effect-is own) ∙ serves-on connection.handle (live own).connection serving.live)
 
   pub disconnected_told : (any : ServerState)
-      → notices_by any (option_map_or end_event (server_slot_at server place) last.Quiet) ≡ noticed state (Of ordinal Ended)
-  unfolding noticed live_effect
+      → notices_by any (option_map_or end_event (server_slot_at server place) last.Quiet) ≡ event_told state (Of ordinal Ended)
+  unfolding event_told live_effect
   disconnected_told any =
       ap (notices_by any) (event-is end_event)
       ∙ sym (if-live (end_told connection.handle (effect Ended).connection) ∙ end-is (effect Ended) (live Ended) (effect-is Ended))
 
-  pub key_asked_told : (random_number : Octets) (diversifier : ℕ) → [] ≡ noticed state (Of ordinal (KeyAsked random_number diversifier))
-  unfolding noticed live_effect
+  pub key_asked_told : (random_number : Octets) (diversifier : ℕ) → [] ≡ event_told state (Of ordinal (KeyAsked random_number diversifier))
+  unfolding event_told live_effect
   key_asked_told random_number diversifier =
       let own : Own = KeyAsked random_number diversifier in
       sym (if-live (end_told connection.handle (effect own).connection) ∙ end-is (effect own) (live own) (effect-is own) ∙ serves-on connection.handle (live own).connection serving.live)
@@ -103,8 +103,8 @@ module _ (state : State) (server : ServerState) (place : ℕ) (ordinal : Ordinal
       ]
 
   pub other_channel_told : (channel : ℕ) (payload : Octets) (any : ServerState)
-      → notices_by any (option_map_or (other_channel_event channel payload) (server_slot_at server place) last.Quiet) ≡ noticed state (Of ordinal (OtherChannel channel payload))
-  unfolding noticed live_effect
+      → notices_by any (option_map_or (other_channel_event channel payload) (server_slot_at server place) last.Quiet) ≡ event_told state (Of ordinal (OtherChannel channel payload))
+  unfolding event_told live_effect
   other_channel_told channel payload any =
       let own : Own = OtherChannel channel payload in
       ap (notices_by any) (event-is (other_channel_event channel payload))
@@ -140,8 +140,8 @@ module _ (state : State) (server : ServerState) (place : ℕ) (ordinal : Ordinal
 
   pub encrypted_told : (status enabled : ℕ) (any : ServerState)
       → notices_by any (option_map_or (link_event (Encryption status enabled)) (server_slot_at server place) last.Quiet)
-      ≡ noticed state (Of ordinal (Encrypted status enabled))
-  unfolding noticed live_effect
+      ≡ event_told state (Of ordinal (Encrypted status enabled))
+  unfolding event_told live_effect
   encrypted_told status enabled any =
       let own : Own = Encrypted status enabled in
       link-told (Encryption status enabled) any
@@ -149,8 +149,8 @@ module _ (state : State) (server : ServerState) (place : ℕ) (ordinal : Ordinal
       ∙ ap (λ (effect : Effect). link_told connection.handle (key_of connection) (key_of effect.connection) ++ end_told connection.handle effect.connection) (effect-is own))
 
   pub refreshed_told : (status : ℕ) (any : ServerState)
-      → notices_by any (option_map_or (link_event (Refresh status)) (server_slot_at server place) last.Quiet) ≡ noticed state (Of ordinal (Refreshed status))
-  unfolding noticed live_effect
+      → notices_by any (option_map_or (link_event (Refresh status)) (server_slot_at server place) last.Quiet) ≡ event_told state (Of ordinal (Refreshed status))
+  unfolding event_told live_effect
   refreshed_told status any =
       let own : Own = Refreshed status in
       link-told (Refresh status) any
@@ -160,8 +160,8 @@ module _ (state : State) (server : ServerState) (place : ℕ) (ordinal : Ordinal
 -- a connection is gone
 pub gone_told : (state : State) (server : ServerState) (place : ℕ) (ordinal : Ordinal) → IsSound state → RefinesState state [] server
     → slice_get state.slots place ≡ Some (Some ordinal) → (any : ServerState)
-    → notices_by any (option_map_or disconnected_event (server_slot_at server place) last.Quiet) ≡ noticed state (Of ordinal event.Disconnected)
-unfolding noticed
+    → notices_by any (option_map_or disconnected_event (server_slot_at server place) last.Quiet) ≡ event_told state (Of ordinal event.Disconnected)
+unfolding event_told
 gone_told state server place ordinal sound refines there any =
     let connection : ConnectionState = state.connections ordinal in
     let has : is_there connection.mark ≡ true = sound.placed.there ordinal (has_slot_there ordinal state.slots place there) in
@@ -207,8 +207,8 @@ none-late now zero = refl
 none-late now (suc count) = none-late now count
 
 pub tick_told : (state : State) (server : ServerState) (now : ℕ) → IsSound state → RefinesState state [] server
-    → map TimedOut (late_handles now server.slots) ≡ noticed state (Tick now)
-unfolding noticed
+    → map TimedOut (late_handles now server.slots) ≡ event_told state (Tick now)
+unfolding event_told
 tick_told state server now sound refines =
     let is : Holds state (all_given state) server = holds state server refines in
     let wanted : Slots → List Notice = λ slots. flat_map (slot_told state now) slots in

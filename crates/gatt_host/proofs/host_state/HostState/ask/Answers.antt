@@ -8,6 +8,7 @@ use Rattle.gatt_host.proofs.places.Places.{asked_then_heard, both_brought}
 use Rattle.gatt_slots.specs.SlotState.{SlotState}
 use Rattle.gatt_slots.proofs.OfTable.{of_table_if_any, row_at_of_table, served_of_table}
 use Rattle.gatt_slots.specs.OfTable.{AreOfTable}
+use Rattle.gatt_slots.specs.Skips.{all_skipped}
 use Rattle.gatt_slots.specs.Slots.{SlotStates, all_heard, slot_state_at}
 use Rattle.gatt_host.proofs.host_state.HostState.ask.Goals as goal
 
@@ -15,8 +16,10 @@ pub returns : goal.returns
 returns c =
     let old : ServerState = the_view c.self.inside in
     asked_then_heard old c.args.place c.args.pdu.now c.serve-brought.new.table c.serve-brought.new.rows c.serve-brought.new.written.items
-    c.handle-handle.result c.serve-brought.result c.serve-brought.new.self c.hear.new.self c.serve-brought.ensures.after
+    c.handle-handle.result c.serve-brought.result c.serve-brought.new.self c.hear.new.self c.hear.new.skipped.items c.serve-brought.ensures.after
     (c.hear.ensures.heard ∙ ap (λ (handles : List Handle). all_heard c.serve-brought.new.table old.time c.serve-brought.new.rows (Some c.args.place) [] handles
+    c.serve-brought.new.self) c.as_slice.ensures.value)
+    (c.hear.ensures.skipped ∙ ap (λ (handles : List Handle). all_skipped c.serve-brought.new.table old.time c.serve-brought.new.rows (Some c.args.place) [] handles
     c.serve-brought.new.self) c.as_slice.ensures.value)
     c.args.self.now c.self.view_is c.serve-brought.ensures.table c.serve-brought.ensures.bond c.serve-brought.ensures.written
     (subst (λ (it : Option SlotState). IfSome it (λ slot_state. c.handle-handle.result ≡ slot_state.handle)) c.get.ensures c.handle-handle.ensures)
