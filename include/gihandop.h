@@ -7,18 +7,26 @@
  *
  *     cc program.c c/heap.c crates/gihandop_c/out/libgihandop_c.a
  *
- * The program keeps a struct gh_host, opens it, and then, again and again, takes in octets of the
- * controller or a call of its own, and hands back what is owed:
+ * The program keeps a struct gh_host, opens it, and then, again and again, takes in the time, and octets
+ * of the controller or a call of its own, and hands back what is owed:
  *
  *     struct gh_host host = GH_HOST_INIT;
  *     gh_open(&host, ...);
+ *     finish();
  *     for (;;) {
- *         while (gh_next_out(&host, out, sizeof out, &count) == GH_DONE)
- *             send the octets of out, which are count;
- *         take something in: gh_take, gh_update, gh_authorize, gh_disconnect, gh_tick, gh_replace;
- *         while (gh_next_notice(&host, &notice) == GH_DONE)
- *             see what a phone did;
+ *         wait for something to take in, but not beyond gh_deadline;
+ *         gh_tick(&host, now);
+ *         finish();
+ *         take it in: gh_take, gh_update, gh_authorize, gh_disconnect, gh_replace;
+ *         finish();
  *     }
+ *
+ * After each call finish() does this:
+ *
+ *     while (gh_next_notice(&host, &notice) == GH_DONE)
+ *         see what a phone did;
+ *     while (gh_next_out(&host, out, sizeof out, &count) == GH_DONE)
+ *         send the octets of out, which are count;
  *
  * Output is pulled, one packet a call, so the library has no buffer that may overflow, and a
  * controller that is slow stops the loop and not the program. As long as a packet is owed nothing is
@@ -168,8 +176,8 @@ uint32_t gh_disconnect(struct gh_host *host, uint16_t connection);
 
 /*
  * Takes in the time, in milliseconds from any moment on. 45 where it goes back. Call it before each
- * gh_take, since an authorization ends only when the host is told a time past its end; before
- * gh_authorize; and when gh_deadline says.
+ * gh_take and each gh_authorize, and at the time of gh_deadline. An authorization ends only when the
+ * host is told a time at its end or later.
  */
 uint32_t gh_tick(struct gh_host *host, uint64_t time);
 
@@ -206,8 +214,10 @@ uint32_t gh_find(struct gh_host *host, const uint8_t *service, size_t service_le
 uint32_t gh_rows_text(struct gh_host *host, uint8_t *out, size_t room, size_t *count);
 
 /*
- * Puts the least time, in milliseconds, at which an indication that is not confirmed is late into *time.
- * GH_NOTHING where every one is confirmed. It says nothing of when an authorization ends.
+ * Puts the earliest time into *time, in milliseconds, at which an indication that is not confirmed is
+ * late or the authorization of a connection ends. No gh_tick is needed before that time: it would cause
+ * no packet of its own and no notice, and each request is answered as without it. GH_NOTHING if every indication
+ * is confirmed and no connection is authorized.
  */
 uint32_t gh_deadline(struct gh_host *host, uint64_t *time);
 
@@ -258,7 +268,10 @@ enum {
     /* It did not confirm an indication in time, and is told nothing unasked any more. */
     GH_TIMED_OUT = 8,
     /* The host ends it, for a reason of Core 5.0, Vol 2 Part D, 2: reason. */
-    GH_ENDING = 9
+    GH_ENDING = 9,
+    /* It is not sent a notification of a value, since 8 PDUs or more are queued for it: attribute. A
+       notification of a later value of the attribute may be sent. */
+    GH_SKIPPED = 10
 };
 
 /* A notice. Fields that its kind does not have are 0. */

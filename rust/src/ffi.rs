@@ -71,6 +71,7 @@ pub const GH_CONFIGURED: u8 = 6;
 pub const GH_CONFIRMED: u8 = 7;
 pub const GH_TIMED_OUT: u8 = 8;
 pub const GH_ENDING: u8 = 9;
+pub const GH_SKIPPED: u8 = 10;
 
 #[repr(C)]
 #[derive(Debug, Default)]

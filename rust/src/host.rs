@@ -206,9 +206,9 @@ impl Host {
         judged(unsafe { ffi::gh_disconnect(self.raw(), connection) })
     }
 
-    /// Takes in the time, in milliseconds from any moment on. Call it before each packet, since
-    /// an authorization ends only when the host is told a time past its end, and when
-    /// [`Host::deadline`] says.
+    /// Takes in the time, in milliseconds from any moment on. Call it before each packet and at the
+    /// time of [`Host::deadline`]. An authorization ends only when the host is told a time at its
+    /// end or later.
     pub fn tick(&mut self, time: u64) -> Result<(), Error> {
         judged(unsafe { ffi::gh_tick(self.raw(), time) })
     }
@@ -255,8 +255,10 @@ impl Host {
         Connections::of(self)
     }
 
-    /// The least time, in milliseconds, at which an indication that is not confirmed is late.
-    /// It says nothing of when an authorization ends.
+    /// Returns the earliest time, in milliseconds, at which an indication that is not confirmed is
+    /// late or the authorization of a connection ends; `None` if there is neither. No tick is needed
+    /// before that time: it would cause no packet of its own and no notice, and each request is
+    /// answered as without it.
     pub fn deadline(&self) -> Option<u64> {
         let mut time = 0;
         let status = unsafe { ffi::gh_deadline(self.raw(), &mut time) };

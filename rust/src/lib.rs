@@ -65,8 +65,9 @@
 //! let begin = Instant::now();
 //! loop {
 //!     host.send(&mut to)?;
+//!     let received = octets.recv_timeout(Duration::from_millis(250));
 //!     host.tick(begin.elapsed().as_millis() as u64)?;
-//!     if let Ok(octets) = octets.recv_timeout(Duration::from_millis(250)) {
+//!     if let Ok(octets) = received {
 //!         host.feed(&octets, &mut to, |_, notice| println!("{notice:?}"))?;
 //!         host.update(6, &[99])?;
 //!     }

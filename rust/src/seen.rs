@@ -61,6 +61,9 @@ pub enum Notice {
     TimedOut { connection: u16 },
     /// The host ends it, for a reason of Core 5.0, Vol 2 Part D, 2.
     Ending { connection: u16, reason: u8 },
+    /// It is not sent a notification of a value, since 8 PDUs or more are queued for it. A notification of
+    /// a later value of the attribute may be sent.
+    Skipped { connection: u16, attribute: u16 },
 }
 
 impl Notice {
@@ -106,6 +109,10 @@ impl Notice {
                 connection,
                 reason: fields.reason,
             },
+            ffi::GH_SKIPPED => Notice::Skipped {
+                connection,
+                attribute,
+            },
             kind => unreachable!("the archive is not that of this crate: notice {kind}"),
         }
     }
@@ -121,7 +128,8 @@ impl Notice {
             | Notice::Configured { connection, .. }
             | Notice::Confirmed { connection, .. }
             | Notice::TimedOut { connection }
-            | Notice::Ending { connection, .. } => connection,
+            | Notice::Ending { connection, .. }
+            | Notice::Skipped { connection, .. } => connection,
         }
     }
 }

@@ -144,6 +144,19 @@ fn an_indication_is_late_at_the_deadline() {
 }
 
 #[test]
+fn an_authorization_ends_at_the_deadline() {
+    let mut bell = Controller::new(BELL, "");
+    bell.connect(64, TABLET);
+    bell.host.tick(1000).expect("time goes on");
+    bell.host.authorize(64, 6000).expect("it is connected");
+    assert_eq!(bell.host.deadline(), Some(6000));
+    bell.host.tick(5999).expect("time goes on");
+    assert_eq!(bell.host.deadline(), Some(6000));
+    bell.host.tick(6000).expect("time goes on");
+    assert_eq!(bell.host.deadline(), None);
+}
+
+#[test]
 fn a_table_is_replaced() {
     let mut porch = Controller::new(PORCH, "");
     porch

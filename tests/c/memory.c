@@ -126,6 +126,9 @@ static void serving(struct gh_host *host)
     CHECK(heard.count == 1 && heard.octets[0] == 0x1D);
     CHECK(gh_authorize(host, 64, 1) == GH_DONE);
     settle(host, NULL);
+    CHECK(gh_deadline(host, &deadline) == GH_DONE && deadline == 1);
+    CHECK(gh_tick(host, 1) == GH_DONE);
+    settle(host, NULL);
     CHECK(gh_deadline(host, &deadline) == GH_DONE && deadline == 30000);
     CHECK(gh_tick(host, 30000) == GH_DONE);
     settle(host, NULL);

@@ -31,10 +31,11 @@ static void print_notice(const struct gh_notice *it)
     static const char *const words[] = {
         "",        "connected",  "disconnected", "secured",   "unsecured",
         "written", "configured", "confirmed",    "timed-out", "ending",
+        "skipped",
     };
     uint8_t value[GH_LONGEST_VALUE];
     size_t length;
-    CHECK(it->kind >= GH_CONNECTED && it->kind <= GH_ENDING);
+    CHECK(it->kind >= GH_CONNECTED && it->kind <= GH_SKIPPED);
     printf("+ %s %u", words[it->kind], it->connection);
     if (it->kind == GH_CONNECTED) {
         printf(" %u ", it->address_kind);
@@ -43,7 +44,8 @@ static void print_notice(const struct gh_notice *it)
     }
     if (it->kind == GH_SECURED)
         printf(" %u %d %d", it->key_size, it->authenticated, it->secure);
-    if (it->kind == GH_WRITTEN || it->kind == GH_CONFIGURED || it->kind == GH_CONFIRMED)
+    if (it->kind == GH_WRITTEN || it->kind == GH_CONFIGURED || it->kind == GH_CONFIRMED ||
+        it->kind == GH_SKIPPED)
         printf(" %u", it->attribute);
     if (it->kind == GH_CONFIGURED)
         printf(" %u", it->bits);

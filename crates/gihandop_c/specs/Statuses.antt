@@ -62,7 +62,7 @@ abbrev pub connection_status : ℕ → Opened → ℕ
 connection_status place opened = there_status (connection_at opened place)
 
 abbrev pub deadline_status : Opened → ℕ
-deadline_status opened = there_status (slots_deadline opened.host.server.slots)
+deadline_status opened = there_status (slots_deadline opened.host.server.time opened.host.server.slots)
 
 abbrev pub rows_text_status : ℕ → Opened → ℕ
 rows_text_status room opened = room_status (length (rows_text opened.host.server.rows)) room

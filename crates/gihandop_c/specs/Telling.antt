@@ -2,7 +2,7 @@
 use Rattle.std.specs.Prelude.{◌≡◌, ℕ, ◌+◌, ◌-◌, ◌^◌, nat_lt, if◌then◌else◌, false, replicate, slice_get, Option, Some, None}
 use Rattle.std.specs.Option.{option_map}
 use Rattle.gatt_host.specs.Telling.{notices_told}
-use Rattle.gatt_laws.specs.machine.Notice.{Notice, Connected, Disconnected, Secured, Unsecured, Written, Configured, Confirmed, TimedOut, Ending}
+use Rattle.gatt_laws.specs.machine.Notice.{Notice, Connected, Disconnected, Secured, Unsecured, Written, Configured, Confirmed, TimedOut, Ending, Skipped}
 use Rattle.gihandop_c.specs.declared.notices.NoticeFields.{NoticeFields}
 use Rattle.gihandop_c.specs.declared.opened.Opened.{Opened}
 
@@ -37,6 +37,7 @@ notice_fields (Configured handle attribute bits) = fields_of_attribute 6 handle 
 notice_fields (Confirmed handle attribute) = fields_of_attribute 7 handle attribute 0
 notice_fields (TimedOut handle) = fields_of_connection 8 handle
 notice_fields (Ending handle reason) = record (fields_of_connection 9 handle) { reason = reason }
+notice_fields (Skipped handle attribute) = fields_of_attribute 10 handle attribute 0
 
 -- the first notice that has not been handed out, of as many as can be counted
 abbrev pub next_notice : Opened → Option NoticeFields

@@ -18,7 +18,7 @@ use gatt_host::{Host, KeyFacts, Notice, Peer};
 #[derive(Clone, Copy)]
 pub struct NoticeFields {
     /// 1 connected, 2 disconnected, 3 secured, 4 unsecured, 5 written, 6 configured, 7 confirmed,
-    /// 8 timed out, 9 ending.
+    /// 8 timed out, 9 ending, 10 skipped.
     pub kind: u8,
     /// Of 6: the bits of the client characteristic configuration.
     pub bits: u8,
@@ -34,7 +34,7 @@ pub struct NoticeFields {
     pub address: [u8; 6],
     /// The handle of the connection, as it has it in HCI.
     pub connection: u16,
-    /// Of 5, 6 and 7: the handle of the attribute.
+    /// Of 5, 6, 7 and 10: the handle of the attribute.
     pub attribute: u16,
 }
 
@@ -94,6 +94,7 @@ fn fields(notice: Notice<'_>) -> NoticeFields
         Notice::Confirmed { handle, attribute } => of_attribute(7, handle, attribute, 0),
         Notice::TimedOut { handle } => of_connection(8, handle),
         Notice::Ending { handle, reason } => ending(handle, reason),
+        Notice::Skipped { handle, attribute } => of_attribute(10, handle, attribute, 0),
     }
 }
 

@@ -33,11 +33,11 @@ pub(crate) fn value(opened: &Opened, handle: u16, out: &mut [u8], count: &mut us
     stream::copy(table.value(handle), out, count)
 }
 
-/// Puts the time until which none has to be told into `time`.
+/// Puts the time before which no tick is needed into `time`.
 pub(crate) fn deadline(opened: &Opened, time: &mut u64) -> u32
     ensures status { result ≡ deadline_status opened.now }
-    ensures deadline { result ≡ DONE → slots_deadline opened.now.host.server.slots
-        ≡ Some time.new }
+    ensures deadline { result ≡ DONE → slots_deadline opened.now.host.server.time
+        opened.now.host.server.slots ≡ Some time.new }
 {
     match opened.host.deadline() {
         Some(deadline) => {

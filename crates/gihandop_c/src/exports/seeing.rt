@@ -80,13 +80,14 @@ pub extern "C" fn gh_connection(
     connections::connection(open, place, connection)
 }
 
-/// Puts the least time, in milliseconds, at which an indication that is not confirmed is late into
-/// `time`; there is none where every one is confirmed. Until then no time has to be told.
+/// Puts the earliest time, in milliseconds, at which an indication that is not confirmed is late or
+/// the authorization of a connection that serves ends into `time`. No tick is needed before it.
+/// Returns `NOTHING` if there is neither.
 #[unsafe(no_mangle)]
 pub extern "C" fn gh_deadline(host: &mut HostPointer, time: &mut u64) -> u32
     ensures status { result ≡ if_open deadline_status host.old.host }
     ensures deadline { result ≡ DONE → IfSome host.old.host (λ opened.
-        slots_deadline opened.host.server.slots ≡ Some time.new) }
+        slots_deadline opened.host.server.time opened.host.server.slots ≡ Some time.new) }
     ensures unchanged { host.new.host ≡ host.old.host }
 {
     *time = 0;
