@@ -3,4 +3,4 @@
 
 mod notice_text;
 
-pub use notice_text::{add_line, add_number, add_value};
+pub use notice_text::{add_line, add_named_line, add_number, add_value, connection_of};

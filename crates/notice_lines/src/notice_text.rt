@@ -4,7 +4,7 @@ ghost use Rattle.std.specs.Prelude.{◌≡◌, ◌++◌, ◌∷◌, [], OnOk};
 ghost use Rattle.std.specs.Fmt.{decimal};
 ghost use Rattle.hex.specs.Hex.{encode_lower};
 ghost use Rattle.gatt_subs.specs.RowsText.{peer_text};
-ghost use Rattle.notice_lines.specs.NoticeText.{digit_of, facts_text, notice_line, notice_text, of_attribute, of_connection, value_text};
+ghost use Rattle.notice_lines.specs.NoticeText.{connection_of, digit_of, facts_text, named_line, notice_line, notice_text, of_attribute, of_connection, value_text};
 
 use att_policy::KeyFacts;
 use gatt_app::Notice;
@@ -13,78 +13,107 @@ use itoa::Buffer;
 use le_hci::Peer;
 use std::alloc::AllocError;
 
-/// Adds the line of a notice to a text.
+/// Adds the line of a notice to a text. The line names the connection by its handle.
 #[tactic(auto, unfolding(crate::specs::NoticeText::notice_line))]
 pub fn add_line(text: &mut Vec<u8>, notice: &Notice<'_>) -> Result<(), AllocError>
     ensures ok { OnOk result (text.new.items ≡ text.old.items ++ notice_line notice.now) }
 {
-    add_notice(text, notice)?;
+    add_named_line(text, u64::from(connection_of(notice)), notice)
+}
+
+/// Adds the line of a notice to a text. The line names the connection by `name`.
+#[tactic(auto, unfolding(crate::specs::NoticeText::named_line))]
+pub fn add_named_line(text: &mut Vec<u8>, name: u64, notice: &Notice<'_>) -> Result<(), AllocError>
+    ensures ok { OnOk result (text.new.items ≡ text.old.items ++ named_line name notice.now) }
+{
+    add_notice(text, name, notice)?;
     text.extend_from_slice(b"\n")
 }
 
-/// Adds what a notice says.
-fn add_notice(text: &mut Vec<u8>, notice: &Notice<'_>) -> Result<(), AllocError>
-    ensures ok { OnOk result (text.new.items ≡ text.old.items ++ notice_text notice.now) }
+/// Returns the handle of the connection of a notice.
+pub fn connection_of(notice: &Notice<'_>) -> u16
+    ensures { result ≡ connection_of notice.now }
+{
+    match *notice {
+        Notice::Connected { handle, .. }
+        | Notice::Disconnected { handle }
+        | Notice::Secured { handle, .. }
+        | Notice::Unsecured { handle }
+        | Notice::Written { handle, .. }
+        | Notice::Configured { handle, .. }
+        | Notice::Confirmed { handle, .. }
+        | Notice::TimedOut { handle }
+        | Notice::Ending { handle, .. }
+        | Notice::Skipped { handle, .. } => handle,
+    }
+}
+
+/// Adds what a notice says of the connection with this name.
+fn add_notice(text: &mut Vec<u8>, name: u64, notice: &Notice<'_>) -> Result<(), AllocError>
+    ensures ok { OnOk result (text.new.items ≡ text.old.items ++ notice_text name notice.now) }
 {
     match notice {
-        Notice::Connected { handle, peer } => {
-            add_connection(text, b"+ connected ", *handle)?;
+        Notice::Connected { peer, .. } => {
+            add_connection(text, b"+ connected ", name)?;
             add_peer(text, peer)
         }
-        Notice::Disconnected { handle } => add_connection(text, b"+ disconnected ", *handle),
-        Notice::Secured { handle, facts } => {
-            add_connection(text, b"+ secured ", *handle)?;
+        Notice::Disconnected { .. } => add_connection(text, b"+ disconnected ", name),
+        Notice::Secured { facts, .. } => {
+            add_connection(text, b"+ secured ", name)?;
             add_facts(text, facts)
         }
-        Notice::Unsecured { handle } => add_connection(text, b"+ unsecured ", *handle),
+        Notice::Unsecured { .. } => add_connection(text, b"+ unsecured ", name),
         Notice::Written {
-            handle,
             attribute,
             value,
+            ..
         } => {
-            add_attribute(text, b"+ written ", *handle, *attribute)?;
+            add_attribute(text, b"+ written ", name, *attribute)?;
             add_value(text, value)
         }
         Notice::Configured {
-            handle,
             attribute,
             bits,
+            ..
         } => {
-            add_attribute(text, b"+ configured ", *handle, *attribute)?;
+            add_attribute(text, b"+ configured ", name, *attribute)?;
             add_number(text, u64::from(*bits))
         }
-        Notice::Confirmed { handle, attribute } => {
-            add_attribute(text, b"+ confirmed ", *handle, *attribute)
+        Notice::Confirmed { attribute, .. } => {
+            add_attribute(text, b"+ confirmed ", name, *attribute)
         }
-        Notice::TimedOut { handle } => add_connection(text, b"+ timed-out ", *handle),
-        Notice::Ending { handle, reason } => {
-            add_connection(text, b"+ ending ", *handle)?;
+        Notice::TimedOut { .. } => add_connection(text, b"+ timed-out ", name),
+        Notice::Ending { reason, .. } => {
+            add_connection(text, b"+ ending ", name)?;
             text.extend_from_slice(b" ")?;
             add_octet(text, *reason)
+        }
+        Notice::Skipped { attribute, .. } => {
+            add_attribute(text, b"+ skipped ", name, *attribute)
         }
     }
 }
 
-/// Adds what is told, and the handle of the connection.
-fn add_connection(text: &mut Vec<u8>, word: &[u8], handle: u16) -> Result<(), AllocError>
-    ensures ok { OnOk result (text.new.items ≡ text.old.items ++ of_connection word.now handle) }
+/// Adds what is told, and the name of the connection.
+fn add_connection(text: &mut Vec<u8>, word: &[u8], name: u64) -> Result<(), AllocError>
+    ensures ok { OnOk result (text.new.items ≡ text.old.items ++ of_connection word.now name) }
 {
     text.extend_from_slice(word)?;
     let mut digits = Buffer::new();
-    text.extend_from_slice(digits.format(u64::from(handle)).as_bytes())
+    text.extend_from_slice(digits.format(name).as_bytes())
 }
 
-/// Adds what is told, the handle of the connection, and that of an attribute.
+/// Adds what is told, the name of the connection, and the handle of an attribute.
 fn add_attribute(
     text: &mut Vec<u8>,
     word: &[u8],
-    handle: u16,
+    name: u64,
     attribute: u16,
 ) -> Result<(), AllocError>
     ensures ok { OnOk result
-        (text.new.items ≡ text.old.items ++ of_attribute word.now handle attribute) }
+        (text.new.items ≡ text.old.items ++ of_attribute word.now name attribute) }
 {
-    add_connection(text, word, handle)?;
+    add_connection(text, word, name)?;
     add_number(text, u64::from(attribute))
 }
 
