@@ -1,6 +1,7 @@
 //! What the application has said, line by line.
 
-ghost use Rattle.std.specs.Prelude.{◌≡◌, ◌+◌, ◌++◌, [], length};
+ghost use Rattle.std.specs.Prelude.{◌≡◌, ◌+◌, ◌++◌, [], length, take, IfSome, IfNone};
+ghost use Rattle.memchr.specs.Find.{IsFirstByte, is_byte};
 ghost use Rattle.std.specs.Bool.{OnTrue, OnFalse};
 ghost use Rattle.device_lines.specs.Inbox.{NextLine};
 
@@ -61,6 +62,18 @@ impl Inbox {
         ensures nothing { OnFalse result (NextLine Found.Nothing self.now [] self.now) }
     {
         memchr(b'\n', self.octets.as_slice()).is_some() || self.octets.len() > LONGEST
+    }
+
+    /// The first line, without its line feed, if there is one.
+    pub fn first_line(&self) -> Option<&[u8]>
+        ensures front { IfSome result (λ line. line.now ≡ take (length line.now) self.now) }
+        ensures line { IfSome result
+            (λ line. IsFirstByte (is_byte 10) self.now (Some (length line.now))) }
+        ensures none { IfNone result (IsFirstByte (is_byte 10) self.now None) }
+    {
+        let octets = self.octets.as_slice();
+        let end = memchr(b'\n', octets)?;
+        Some(&octets[..end])
     }
 
     /// Takes in octets that follow those before, or answers false where there is no room for them,

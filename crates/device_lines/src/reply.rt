@@ -2,7 +2,7 @@
 
 ghost use Rattle.std.specs.Prelude.{◌≡◌, ◌++◌, OnOk};
 ghost use Rattle.device_lines.specs.Reply.{reply_line, reply_text};
-ghost use Rattle.device_lines.specs.declared.reply.Reply.TheVariants.{Refused, Value, Bad};
+ghost use Rattle.device_lines.specs.declared.reply.Reply.TheVariants.{Refused, Value, Handle, Bad};
 
 use gatt_app::AppFault;
 use notice_lines::{add_number, add_value};
@@ -17,6 +17,8 @@ pub enum Reply<'a> {
     Refused { fault: AppFault, words: &'a str },
     /// The value at a handle.
     Value { handle: u16, value: &'a [u8] },
+    /// The handle that was looked for.
+    Handle(u16),
     /// It asks nothing: what is wrong, in words.
     Bad(&'a str),
 }
@@ -38,6 +40,7 @@ fn add_text(text: &mut Vec<u8>, reply: &Reply<'_>) -> Result<(), AllocError>
         Reply::Done => text.extend_from_slice(b"ok"),
         Reply::Refused { fault, words } => add_refused(text, *fault, words),
         Reply::Value { handle, value } => add_handle_value(text, *handle, value),
+        Reply::Handle(handle) => add_handle(text, *handle),
         Reply::Bad(words) => add_bad(text, words),
     }
 }
@@ -59,6 +62,14 @@ fn add_handle_value(text: &mut Vec<u8>, handle: u16, value: &[u8]) -> Result<(),
     text.extend_from_slice(b"value")?;
     add_number(text, u64::from(handle))?;
     add_value(text, value)
+}
+
+/// Adds the handle that was looked for.
+fn add_handle(text: &mut Vec<u8>, handle: u16) -> Result<(), AllocError>
+    ensures ok { OnOk result (text.new.items ≡ text.old.items ++ reply_text (Handle handle)) }
+{
+    text.extend_from_slice(b"handle")?;
+    add_number(text, u64::from(handle))
 }
 
 /// Adds what is wrong with a line, in words.

@@ -1,11 +1,13 @@
 //! What the application is told without asking.
 
 ghost use Rattle.std.specs.Prelude.{◌≡◌, ◌++◌, OnOk};
-ghost use Rattle.device_lines.specs.Told.{connection_lines, key_line, told_line, words_line};
+ghost use Rattle.device_lines.specs.Told.{attribute_end, connection_lines, key_line, told_line};
+ghost use Rattle.device_lines.specs.Told.{lines_of_connection, subscribed_line, words_line};
 ghost use Rattle.device_lines.specs.declared.told.Told.TheVariants.{Started, Missed};
 
+use crate::names::Names;
 use gatt_app::{Connection, Notice};
-use notice_lines::{add_line, add_number, add_value};
+use notice_lines::{add_named_line, add_number, add_value};
 use std::alloc::AllocError;
 
 /// What the application is told beside the notices of a host.
@@ -23,6 +25,8 @@ pub enum Told<'a> {
     Started(u64),
     /// Phones wrote the value at a handle while no application heard it. It has these octets now.
     Missed { handle: u16, value: &'a [u8] },
+    /// The connection with a name is subscribed to an attribute, by these bits.
+    Subscribed { name: u64, attribute: u16, bits: u8 },
     /// Not all is saved, for what these words say.
     Unsaved(&'a str),
     /// All is saved again.
@@ -40,6 +44,11 @@ pub fn add_told(text: &mut Vec<u8>, told: &Told<'_>) -> Result<(), AllocError>
         Told::Stopped(words) => add_words(text, b"+ stopped: ", words),
         Told::Started(number) => add_started(text, *number),
         Told::Missed { handle, value } => add_missed(text, *handle, value),
+        Told::Subscribed {
+            name,
+            attribute,
+            bits,
+        } => add_subscribed(text, *name, u64::from(*attribute), u64::from(*bits)),
         Told::Unsaved(words) => add_words(text, b"+ unsaved: ", words),
         Told::Saved => text.extend_from_slice(b"+ saved\n"),
     }
@@ -75,29 +84,70 @@ fn add_missed(text: &mut Vec<u8>, handle: u16, value: &[u8]) -> Result<(), Alloc
     text.extend_from_slice(b"\n")
 }
 
-/// Adds the lines of a connection: that it came, and what its key is worth, if it has one.
-pub fn add_connection(text: &mut Vec<u8>, connection: &Connection) -> Result<(), AllocError>
+/// Adds the line of what a connection is subscribed to.
+fn add_subscribed(
+    text: &mut Vec<u8>,
+    name: u64,
+    attribute: u64,
+    bits: u64,
+) -> Result<(), AllocError>
     ensures ok { OnOk result (text.new.items
-        ≡ text.old.items ++ connection_lines connection.now) }
+        ≡ text.old.items ++ subscribed_line name attribute bits) }
 {
-    add_line(
+    text.extend_from_slice(b"+ subscribed")?;
+    add_number(text, name)?;
+    add_attribute(text, attribute, bits)
+}
+
+/// Adds an attribute and the bits by which a connection is subscribed to it.
+fn add_attribute(text: &mut Vec<u8>, attribute: u64, bits: u64) -> Result<(), AllocError>
+    ensures ok { OnOk result (text.new.items ≡ text.old.items ++ attribute_end attribute bits) }
+{
+    add_number(text, attribute)?;
+    add_number(text, bits)?;
+    text.extend_from_slice(b"\n")
+}
+
+/// Adds the lines of the connection with this name: that it came, and what its key is worth, if it has
+/// one.
+fn add_connection(text: &mut Vec<u8>, name: u64, connection: &Connection) -> Result<(), AllocError>
+    ensures ok { OnOk result (text.new.items
+        ≡ text.old.items ++ connection_lines name connection.now) }
+{
+    add_named_line(
         text,
+        name,
         &Notice::Connected {
             handle: connection.handle,
             peer: connection.peer,
         },
     )?;
-    add_key(text, connection)
+    add_key(text, name, connection)
+}
+
+/// Adds the lines of a connection under its name, if it has one.
+pub fn add_if_named(
+    text: &mut Vec<u8>,
+    names: &Names,
+    connection: &Connection,
+) -> Result<(), AllocError>
+    ensures ok { OnOk result (text.new.items
+        ≡ text.old.items ++ lines_of_connection names.now.named connection.now) }
+{
+    match names.name_of(connection.handle) {
+        Some(name) => add_connection(text, name, connection),
+        None => Ok(()),
+    }
 }
 
 /// Adds the line of what the key of a connection is worth, if it has one.
-fn add_key(text: &mut Vec<u8>, connection: &Connection) -> Result<(), AllocError>
+fn add_key(text: &mut Vec<u8>, name: u64, connection: &Connection) -> Result<(), AllocError>
     ensures ok { OnOk result (text.new.items
-        ≡ text.old.items ++ key_line connection.now connection.now.key) }
+        ≡ text.old.items ++ key_line name connection.now connection.now.key) }
 {
     let handle = connection.handle;
     match connection.key {
-        Some(facts) => add_line(text, &Notice::Secured { handle, facts }),
+        Some(facts) => add_named_line(text, name, &Notice::Secured { handle, facts }),
         None => Ok(()),
     }
 }
