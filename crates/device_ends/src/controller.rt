@@ -1,19 +1,33 @@
-//! The controller: how it is reached, and its stream.
+//! The controller: how it is reached, its stream, and what waits to be written to it.
 
 use crate::log::Log;
+use crate::patience::given_up_at;
 use crate::stream::Stream;
 use crate::waiting::{Source, Waiting};
-use crate::way::{RETRY_TIME, Way};
+use crate::way::{CONNECT_TIME, RETRY_TIME, Reach, Way};
+use device_lines::Outbox;
+use std::alloc::Global;
 use std::fs::{File, Files};
 use std::io;
+use std::io::ErrorKind;
 use std::net::{Net, TcpListener, TcpStream};
 use std::time::Clock;
+
+/// How long it takes until a controller that could not be accepted is accepted again, in milliseconds.
+const ACCEPT_TIME: u64 = 1_000;
+
+/// The most octets that wait for a controller.
+const LIMIT: usize = 1_048_576;
 
 /// The controller that is served, if there is one, and how the next one is reached.
 #[derive(Drop)]
 pub struct Controller<'a> {
     way: Way<'a>,
     stream: Option<Stream>,
+    /// The stream of the next one, to which a connection is being made.
+    next: Option<Stream>,
+    /// Set once that connection is made, or has failed.
+    is_answered: bool,
     /// Whether it has come in this turn.
     is_new: bool,
     /// Whether it may be read.
@@ -28,14 +42,35 @@ pub struct Controller<'a> {
     is_held: bool,
     /// Whether one connects that is not taken yet.
     is_knocking: bool,
+    /// How long it may take nothing, and may take to be initialised, in milliseconds.
+    patience: u64,
+    outbox: Outbox,
+    /// Since when it has taken nothing of what waits, in milliseconds.
+    stalled_since: u64,
+    /// When it was reached, in milliseconds.
+    reached_at: u64,
+    /// Whether it is initialised.
+    is_initialised: bool,
+    /// Why it cannot be served any longer, if so.
+    fault: Option<&'static str>,
 }
 
 impl<'a> Controller<'a> {
-    /// None is reached yet.
-    pub fn new(way: Way<'a>) -> Controller<'a> {
+    /// Returns a controller that is not reached yet. It is given up if it takes no octets for `patience`
+    /// milliseconds, or is not initialised within that time. A connection of which nothing was heard for
+    /// twice as long, not even that it is there, is lost.
+    pub fn new(alloc: Global, way: Way<'a>, patience: u64) -> Controller<'a> {
         Controller {
             way,
+            patience,
+            outbox: Outbox::new(alloc, LIMIT),
+            stalled_since: 0,
+            reached_at: 0,
+            is_initialised: false,
+            fault: None,
             stream: None,
+            next: None,
+            is_answered: false,
             is_new: false,
             is_readable: false,
             is_ending: false,
@@ -53,9 +88,54 @@ impl Controller<'_> {
         self.stream.is_some()
     }
 
-    /// Whether it may be read.
-    pub fn is_readable(&self) -> bool {
-        self.is_readable
+    /// Returns whether it may be read, or is to be given up at this time, in milliseconds.
+    pub fn is_readable(&self, now: u64) -> bool {
+        self.is_readable || self.fault.is_some() || self.lapse(now).is_some()
+    }
+
+    /// Returns why it cannot be served any longer, if that is known.
+    pub fn fault(&self) -> Option<&'static str> {
+        self.fault
+    }
+
+    /// Notes that it is initialised. Returns whether that is new.
+    pub fn note_initialised(&mut self) -> bool {
+        let is_new = self.stream.is_some() && !self.is_initialised;
+        self.is_initialised |= is_new;
+        is_new
+    }
+
+    /// Returns whether one is served that is initialised.
+    pub fn is_initialised(&self) -> bool {
+        self.stream.is_some() && self.is_initialised
+    }
+
+    /// Returns when it is given up, in milliseconds, unless it takes octets or is initialised before.
+    pub fn due(&self) -> Option<u64> {
+        self.stream.as_ref()?;
+        let stalled_since = if self.outbox.waiting().is_empty() {
+            None
+        } else {
+            Some(self.stalled_since)
+        };
+        let begun = if self.is_initialised {
+            None
+        } else {
+            Some(self.reached_at)
+        };
+        given_up_at(self.patience, stalled_since, begun)
+    }
+
+    /// Returns why it is given up at this time, in milliseconds, if it is.
+    fn lapse(&self, now: u64) -> Option<&'static str> {
+        if self.due()? > now {
+            return None;
+        }
+        if self.is_initialised {
+            Some("given up: it takes no octets")
+        } else {
+            Some("given up: it is not initialised in time")
+        }
     }
 
     /// Whether it has come since this was asked last.
@@ -67,30 +147,46 @@ impl Controller<'_> {
 
     /// When one is to be tried again, in milliseconds, if none is there and it has to be tried.
     pub fn retry(&self) -> Option<u64> {
-        if self.stream.is_none() && self.way.is_tried() && !self.is_held {
+        let is_due = self.way.is_tried() || self.is_knocking;
+        if self.stream.is_none() && is_due && !self.is_held {
             Some(self.retry)
         } else {
             None
         }
     }
 
-    /// It may be read, and sends no more then, if it is ending.
+    /// Notes that it may be read, and sends no more then, if it is ending.
     pub fn is_ready(&mut self, is_ending: bool) {
-        self.is_readable = true;
+        self.is_readable = self.stream.is_some();
         self.is_ending = self.is_ending || is_ending;
+        self.is_answered = true;
     }
 
-    /// It is served no longer, and the next one may come, which may wait already.
+    /// Serves it no longer. The next one may come, or may wait already.
     pub fn lose(&mut self, waiting: &Waiting) {
         self.stream = None;
         self.is_readable = false;
+        self.is_initialised = false;
+        self.fault = None;
+        self.outbox.clear();
         listen_again(&self.way, waiting);
     }
 
-    /// Reads once: how many octets, or none where nothing is there as yet. What is left is told of as
-    /// ready where it comes; where it may be there already, it is read in a later turn, or has to be
-    /// told of again.
-    pub fn read(&mut self, waiting: &Waiting, buffer: &mut [u8]) -> io::Result<Option<usize>> {
+    /// Reads once at this time, in milliseconds, and returns how many octets: `None` if nothing is there
+    /// as yet. If more may be there, it is read in a later turn, or `Waiting` is asked to tell again. Fails
+    /// also if the controller is given up.
+    pub fn read(
+        &mut self,
+        waiting: &Waiting,
+        now: u64,
+        buffer: &mut [u8],
+    ) -> io::Result<Option<usize>> {
+        if let Some(why) = self.lapse(now) {
+            self.fault = Some(why);
+        }
+        if self.fault.is_some() {
+            return Err(io::Error::from(ErrorKind::TimedOut));
+        }
         let Some(stream) = &mut self.stream else {
             self.is_readable = false;
             return Ok(None);
@@ -103,72 +199,163 @@ impl Controller<'_> {
         if is_short {
             self.is_readable = false;
             if read.is_none() || !stream.is_emptied() {
-                waiting.again(stream, Source::Controller)?;
+                self.watch_again(waiting)?;
             }
         }
         Ok(read)
     }
 
-    /// Writes all of these octets: whether one is there that takes them.
-    pub fn write<R: Clock + Eprint>(
-        &mut self,
-        octets: &[u8],
-        log: &Log<'_, R>,
-    ) -> io::Result<bool> {
-        match &mut self.stream {
-            Some(stream) => {
-                stream.write(octets, log)?;
-                Ok(true)
-            }
-            None => Ok(false),
+    /// Has the stream told again when it may be read, and when it takes more, if octets wait.
+    fn watch_again(&self, waiting: &Waiting) -> io::Result<()> {
+        let source = if self.outbox.waiting().is_empty() {
+            Source::Controller
+        } else {
+            Source::FullController
+        };
+        match &self.stream {
+            Some(stream) => waiting.again(stream, source),
+            None => Ok(()),
         }
     }
 
-    /// Reaches for one, where one connects, or where it is time to try again. None is reached for
-    /// as long as they are held.
+    /// Sends octets behind those that wait at this time, in milliseconds. Returns whether one is there.
+    /// Fails if the controller cannot be written, or too many octets wait.
+    pub fn write(&mut self, octets: &[u8], waiting: &Waiting, now: u64) -> io::Result<bool> {
+        if self.stream.is_none() {
+            return Ok(false);
+        }
+        if self.outbox.waiting().is_empty() {
+            self.stalled_since = now;
+        }
+        if !self.outbox.push(octets) {
+            self.fault = Some("given up: too many octets wait for it");
+            return Err(io::Error::from(ErrorKind::OutOfMemory));
+        }
+        self.write_waiting(waiting, now)?;
+        Ok(true)
+    }
+
+    /// Writes what waits, as far as the controller takes it, at this time in milliseconds.
+    pub fn flush(&mut self, waiting: &Waiting, now: u64) {
+        self.is_answered = true;
+        if self.write_waiting(waiting, now).is_err() {
+            self.fault = Some("gone: it cannot be written");
+        }
+    }
+
+    /// Writes what waits, as far as the controller takes it.
+    fn write_waiting(&mut self, waiting: &Waiting, now: u64) -> io::Result<()> {
+        if self.outbox.waiting().is_empty() {
+            return Ok(());
+        }
+        for _write in 0..u64::MAX {
+            let Some(stream) = &mut self.stream else {
+                return Ok(());
+            };
+            let rest = self.outbox.waiting();
+            if rest.is_empty() {
+                return Ok(());
+            }
+            let Some(count) = stream.write(rest)? else {
+                return self.watch_again(waiting);
+            };
+            let count = count.min(rest.len());
+            self.outbox.sent(count);
+            if count > 0 {
+                self.stalled_since = now;
+            }
+        }
+        Ok(())
+    }
+
+    /// Reaches for one, if one connects, or if it is time to try again, or takes the one to which a
+    /// connection is made. None is reached for as long as they are held.
     pub fn look<
         R: Files<File = File> + Net<Listener = TcpListener, Stream = TcpStream> + Clock + Eprint,
     >(&mut self, connects: bool, is_held: bool, waiting: &Waiting, log: &Log<'_, R>) {
         self.is_held = is_held;
         self.is_knocking |= connects;
-        let is_due = self.is_knocking || self.is_due_again(log);
-        if self.stream.is_none() && !is_held && is_due {
-            self.is_knocking = false;
-            self.reach(waiting, log);
+        if is_held {
+            self.next = None;
+        }
+        if self.is_answered {
+            self.finish(waiting, log);
+        }
+        match self.retry() {
+            Some(due) if due <= log.now() => {
+                self.is_knocking = false;
+                self.reach(waiting, log);
+            }
+            _ => {}
         }
     }
 
-    /// Whether it is time to try again.
-    fn is_due_again<R: Clock + Eprint>(&self, log: &Log<'_, R>) -> bool {
-        self.way.is_tried() && self.retry <= log.now()
+    /// Takes the one to which a connection was made, or notes that this has failed.
+    fn finish<R: Clock + Eprint>(&mut self, waiting: &Waiting, log: &Log<'_, R>) {
+        let Some(stream) = self.next.take() else {
+            return;
+        };
+        self.retry = log.now().saturating_add(RETRY_TIME);
+        if !stream.is_connected() {
+            return self.miss("controller: not there", log);
+        }
+        let watched = waiting.again(&stream, Source::Controller);
+        self.take(stream, watched, log);
     }
 
     /// Reaches for one.
     fn reach<
         R: Files<File = File> + Net<Listener = TcpListener, Stream = TcpStream> + Clock + Eprint,
     >(&mut self, waiting: &Waiting, log: &Log<'_, R>) {
-        self.retry = log.now().saturating_add(RETRY_TIME);
-        let reached = self.way.reach(log.rt);
+        if self.next.take().is_some() {
+            self.miss("controller: not there", log);
+        }
+        let Ok(reached) = self.way.reach(log.rt) else {
+            // It waits on, and is accepted once that can be done.
+            self.is_knocking = true;
+            self.retry = log.now().saturating_add(ACCEPT_TIME);
+            return self.miss("controller: not accepted", log);
+        };
+        if self.way.is_tried() {
+            self.retry = log.now().saturating_add(RETRY_TIME);
+        }
         listen_again(&self.way, waiting);
         match reached {
-            Ok(Some(stream)) => self.take(stream, waiting, log),
-            Ok(None) => {
-                if self.way.is_tried() {
-                    self.miss("controller: not there", log);
-                }
+            Reach::There(stream) => {
+                let watched = waiting.watch(&stream, Source::Controller);
+                self.take(stream, watched, log);
             }
-            Err(_) => log.say("controller: not accepted"),
+            Reach::Begun(stream) => self.begin(stream, waiting, log),
+            Reach::Nobody if self.way.is_tried() => self.miss("controller: not there", log),
+            Reach::Nobody => {}
         }
     }
 
-    /// Takes the stream of one that is reached, where it can be waited for.
-    fn take<R: Clock + Eprint>(&mut self, stream: Stream, waiting: &Waiting, log: &Log<'_, R>) {
-        if waiting.watch(&stream, Source::Controller).is_err() {
-            self.miss("controller: no line or socket that can be waited for", log);
-            return;
+    /// Waits for the connection to one that has begun to be made.
+    fn begin<R: Clock + Eprint>(&mut self, stream: Stream, waiting: &Waiting, log: &Log<'_, R>) {
+        if waiting.watch(&stream, Source::NewController).is_err() {
+            return self.miss("controller: no line or socket that can be waited for", log);
         }
+        self.next = Some(stream);
+        self.is_answered = false;
+        self.retry = log.now().saturating_add(CONNECT_TIME);
+    }
+
+    /// Takes the stream of one that is reached, if it can be waited for.
+    fn take<R: Clock + Eprint>(
+        &mut self,
+        stream: Stream,
+        watched: io::Result<()>,
+        log: &Log<'_, R>,
+    ) {
+        if watched.is_err() {
+            return self.miss("controller: no line or socket that can be waited for", log);
+        }
+        stream.notice_vanished_peer(self.patience.saturating_mul(2));
         self.is_missed = false;
         self.stream = Some(stream);
+        self.reached_at = log.now();
+        self.is_initialised = false;
         self.is_new = true;
         self.is_readable = false;
         self.is_ending = false;

@@ -2,14 +2,18 @@
 //! waits for, its clock and its log, its saved file and its capture.
 #![tactic(auto)]
 
+mod bounded;
 mod controller;
 mod line;
 mod lock;
 mod log;
+mod patience;
 mod recording;
 mod saved_file;
 mod stream;
+mod terminal;
 mod unknown;
+mod vanished;
 mod waiting;
 mod way;
 

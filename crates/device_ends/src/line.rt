@@ -3,15 +3,19 @@
 ghost use Rattle.std.specs.Prelude.{◌≤◌, length, IfOk};
 
 use crate::waiting::{Source, Waiting};
-use std::fs::{Files, Permissions};
+use std::alloc::Global;
+use std::fs::{DirBuilder, FileType, Files, Permissions};
 use std::io::{ErrorKind, Read, Write};
 use std::net::{Net, TcpListener, TcpStream};
-use std::os::unix::fs::{FileTypeExt, PermissionsExt};
+use std::os::unix::fs::{DirBuilderExt, FileTypeExt, MetadataExt, PermissionsExt};
 use std::os::unix::net::{UnixListener, UnixStream};
 use std::{fs, io};
 
 /// What the owner of a socket may do, and nobody else.
 const OWNER_ALONE: u32 = 0o600;
+
+/// What the owner of a folder may do, and nobody else.
+const OWNER_ALONE_ENTERS: u32 = 0o700;
 
 /// Where applications connect.
 #[derive(Drop)]
@@ -23,7 +27,8 @@ pub enum Listener {
 }
 
 impl Listener {
-    /// The next application that connects, if one does.
+    /// Accepts the next application that connects, if one does. After an error `Waiting` does not tell of
+    /// those that wait already: they are accepted later.
     pub fn accept(&self, waiting: &Waiting) -> io::Result<Option<Line>> {
         match self {
             Listener::Path(listener) => accept_at_path(listener, waiting),
@@ -91,47 +96,91 @@ pub fn retry_after(error: &io::Error) -> Retry {
     }
 }
 
-/// Listens at a path, where a socket that was left behind is removed first. Nobody but the owner may
-/// connect.
-pub fn bind_at_path<R: Files + Net>(rt: &R, path: &str) -> io::Result<UnixListener> {
-    if is_served(rt, path) {
+/// Listens at a path. A socket that is there is replaced if it was left behind: it is ours, and nobody
+/// listens there. Nobody but the owner may connect, from the first moment on: the socket is made in a
+/// folder that nobody else may enter, and moved to its path as it is.
+pub fn bind_at_path<R: Files + Net>(rt: &R, alloc: Global, path: &str) -> io::Result<UnixListener> {
+    if is_taken(rt, path)? {
         return Err(io::Error::from(ErrorKind::AddrInUse));
     }
-    remove_left_socket(rt, path);
-    bind(rt, path)
+    let folder = format!(in alloc; "{path}.new")?;
+    let made = format!(in alloc; "{path}.new/s")?;
+    make_folder(rt, folder.as_str(), made.as_str())?;
+    let bound = bind(rt, made.as_str(), path);
+    if bound.is_err() {
+        let _ = fs::remove_file(rt, made.as_str());
+    }
+    let _ = fs::remove_dir(rt, folder.as_str());
+    bound
 }
 
-/// Whether somebody listens at a path.
-fn is_served<R: Net>(rt: &R, path: &str) -> bool {
-    UnixStream::connect(rt, path).is_ok()
-}
-
-/// Removes a socket at a path, and nothing else. Where that cannot be done, whoever then binds the path
-/// is told so.
-fn remove_left_socket<R: Files>(rt: &R, path: &str) {
-    if let Ok(found) = fs::symlink_metadata(rt, path) {
-        if found.file_type().is_socket() {
-            let _ = fs::remove_file(rt, path);
-        }
+/// Returns whether a path has what is not to be replaced: anything but a socket of ours at which nobody
+/// listens.
+fn is_taken<R: Files + Net>(rt: &R, path: &str) -> io::Result<bool> {
+    let found = match fs::symlink_metadata(rt, path) {
+        Ok(found) => found,
+        Err(error) if error.kind() == ErrorKind::NotFound => return Ok(false),
+        Err(error) => return Err(error),
+    };
+    if !found.file_type().is_socket() || found.uid() != libc::geteuid() {
+        return Ok(true);
+    }
+    match UnixStream::connect(rt, path) {
+        Err(error) if error.kind() == ErrorKind::ConnectionRefused => Ok(false),
+        _ => Ok(true),
     }
 }
 
-/// Listens at a path where nothing is. Nobody but the owner may connect.
-fn bind<R: Files + Net>(rt: &R, path: &str) -> io::Result<UnixListener> {
-    let listener = UnixListener::bind(rt, path)?;
-    fs::set_permissions(rt, path, Permissions::from_mode(OWNER_ALONE))?;
+/// Makes a folder that its owner alone may enter. One of ours that was left behind, with the socket that
+/// was made there, is removed first. Fails if anything else is there, such as a link of somebody else.
+fn make_folder<R: Files>(rt: &R, folder: &str, made: &str) -> io::Result<()> {
+    if let Some(kind) = own_kind(rt, folder)
+        && kind.is_dir()
+    {
+        remove_socket(rt, made)?;
+        fs::remove_dir(rt, folder)?;
+    }
+    DirBuilder::new()
+        .mode(OWNER_ALONE_ENTERS)
+        .create(rt, folder)
+}
+
+/// Removes a socket of ours, if it is there, and nothing else.
+fn remove_socket<R: Files>(rt: &R, path: &str) -> io::Result<()> {
+    match own_kind(rt, path) {
+        Some(kind) if kind.is_socket() => fs::remove_file(rt, path),
+        _ => Ok(()),
+    }
+}
+
+/// Returns the kind of the file at a path, which may be a link, if it is there and is ours.
+fn own_kind<R: Files>(rt: &R, path: &str) -> Option<FileType> {
+    let found = fs::symlink_metadata(rt, path).ok()?;
+    if found.uid() == libc::geteuid() {
+        Some(found.file_type())
+    } else {
+        None
+    }
+}
+
+/// Listens at a path where nothing is, and moves the socket to another path. Nobody but the owner may
+/// connect.
+fn bind<R: Files + Net>(rt: &R, made: &str, path: &str) -> io::Result<UnixListener> {
+    let listener = UnixListener::bind(rt, made)?;
+    fs::set_permissions(rt, made, Permissions::from_mode(OWNER_ALONE))?;
     listener.set_nonblocking(true)?;
+    fs::rename(rt, made, path)?;
     Ok(listener)
 }
 
-/// The next application that connects at a path, if one does.
+/// Accepts the next application that connects at a path, if one does.
 fn accept_at_path(listener: &UnixListener, waiting: &Waiting) -> io::Result<Option<Line>> {
-    let accepted = listener.accept();
+    let accepted = match listener.accept() {
+        Ok((stream, _)) => line_at_path(stream)?,
+        Err(error) => nobody(error)?,
+    };
     waiting.again(listener, Source::Applications)?;
-    match accepted {
-        Ok((stream, _)) => line_at_path(stream),
-        Err(error) => nobody(error),
-    }
+    Ok(accepted)
 }
 
 /// The line of an application that has connected at a path.
@@ -140,14 +189,14 @@ fn line_at_path(stream: UnixStream) -> io::Result<Option<Line>> {
     Ok(Some(Line::Path(stream)))
 }
 
-/// The next application that connects at a port, if one does.
+/// Accepts the next application that connects at a port, if one does.
 fn accept_at_port(listener: &TcpListener, waiting: &Waiting) -> io::Result<Option<Line>> {
-    let accepted = listener.accept();
+    let accepted = match listener.accept() {
+        Ok((stream, _)) => line_at_port(stream)?,
+        Err(error) => nobody(error)?,
+    };
     waiting.again(listener, Source::Applications)?;
-    match accepted {
-        Ok((stream, _)) => line_at_port(stream),
-        Err(error) => nobody(error),
-    }
+    Ok(accepted)
 }
 
 /// The line of an application that has connected at a port.

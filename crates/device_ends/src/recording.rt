@@ -1,10 +1,11 @@
 //! The capture of what goes to the controller and comes from it, where one is asked for.
 
+use crate::bounded::Bounded;
 use crate::log::Log;
 use btsnoop::{Capture, CaptureFault};
-use octets::Writer;
 use std::fs::{File, Files};
 use std::io;
+use std::os::fd::AsRawFd;
 use std::os::unix::fs::OpenOptionsExt;
 use std::time::Clock;
 
@@ -14,7 +15,7 @@ const OWNER_ALONE: u32 = 0o600;
 /// A capture, if one is written.
 #[derive(Drop)]
 pub struct Recording {
-    capture: Option<Capture<Writer<File>>>,
+    capture: Option<Capture<Bounded>>,
     /// Whether it was told that no more packets are recorded.
     is_told: bool,
 }
@@ -28,17 +29,19 @@ impl Recording {
         }
     }
 
-    /// Begins a capture in a file at a path, in place of what that had. One that is new is its owner's
-    /// alone: keys go by in it.
-    pub fn begin<R: Files<File = File>>(rt: &R, path: &str) -> io::Result<Recording> {
+    /// Begins a capture in a file at a path, in place of what that had, of so many bytes at most. One that
+    /// is new is its owner's alone: keys go by in it.
+    pub fn begin<R: Files<File = File>>(rt: &R, path: &str, most: u64) -> io::Result<Recording> {
         let file = File::options()
             .write(true)
             .create(true)
             .truncate(true)
             .mode(OWNER_ALONE)
             .open(rt, path)?;
+        // A pipe that nobody reads is written no further. Other files take all.
+        os::set_nonblocking(file.as_raw_fd(), true);
         Ok(Recording {
-            capture: Some(Capture::begin(Writer::new(file))),
+            capture: Some(Capture::begin(Bounded::new(file, most))),
             is_told: false,
         })
     }
@@ -75,6 +78,7 @@ impl Recording {
         let words = match capture.fault() {
             None => return,
             Some(CaptureFault::Packet) => "capture: no packet of at most 1029 octets begins so",
+            Some(_) if capture.sink().is_full() => "capture: full: no more packets are recorded",
             Some(_) => "capture: not written any more",
         };
         if !self.is_told {

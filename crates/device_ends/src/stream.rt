@@ -1,19 +1,16 @@
-//! The stream of a controller.
+//! The stream of a controller. Neither reads nor writes wait.
 
-use crate::log::Log;
+use crate::vanished::notice_vanished_peer;
 use std::fs::File;
 use std::io;
 use std::io::{ErrorKind, Read, Write};
 use std::net::TcpStream;
 use std::os::fd::{AsRawFd, RawFd};
-use std::time::{Clock, Duration};
 
-/// How long a read may take that was said to be ready, in milliseconds.
-const READ_TIME: u64 = 1;
+/// How many octets are dropped at once that came before a line was opened, and how often at most.
+const OLD_OCTETS: usize = 1_024;
 
-/// How long a controller may take over all that there is for it, in milliseconds. A write that is
-/// begun in that time may take as long itself, so one that is too slow is given up within twice that.
-const WRITE_TIME: u64 = 5_000;
+const OLD_READS: u32 = 128;
 
 /// The way to a controller and back.
 #[derive(Drop)]
@@ -25,18 +22,47 @@ pub enum Stream {
 }
 
 impl Stream {
-    /// A connection that was made: its reads and writes come to an end, and it sends at once.
+    /// Returns the stream of a connection, which sends at once.
     pub fn of_socket(socket: TcpStream) -> io::Result<Stream> {
-        set_options(&socket)?;
+        socket.set_nonblocking(true)?;
+        socket.set_nodelay(true)?;
         Ok(Stream::Socket(socket))
     }
 
-    /// Whether a read that does not fill its buffer has taken all that was there.
+    /// Returns the stream of a serial line. Octets that came before are dropped: they may begin in the
+    /// middle of a packet.
+    pub fn of_line(line: File) -> io::Result<Stream> {
+        if os::set_nonblocking(line.as_raw_fd(), true) != 0 {
+            return Err(io::Error::from(ErrorKind::Unsupported));
+        }
+        let mut line = line;
+        drop_input(&mut line);
+        Ok(Stream::Serial(line))
+    }
+
+    /// Returns whether a connection that was begun is made, once its socket has told that it takes octets.
+    pub fn is_connected(&self) -> bool {
+        match self {
+            Stream::Socket(socket) => {
+                matches!(socket.take_error(), Ok(None)) && socket.peer_addr().is_ok()
+            }
+            Stream::Serial(_) => true,
+        }
+    }
+
+    /// Has reads of a connection fail once its peer has vanished for `time` milliseconds, without an end.
+    pub fn notice_vanished_peer(&self, time: u64) {
+        if let Stream::Socket(socket) = self {
+            notice_vanished_peer(socket.as_raw_fd(), time);
+        }
+    }
+
+    /// Returns whether a read that does not fill its buffer has taken all that was there.
     pub fn is_emptied(&self) -> bool {
         matches!(self, Stream::Socket(_))
     }
 
-    /// Reads once. None where nothing is there as yet; no octets at the end.
+    /// Reads once. `None` if nothing is there as yet; no octets at the end.
     pub fn read(&mut self, buffer: &mut [u8]) -> io::Result<Option<usize>> {
         let read = match self {
             Stream::Socket(socket) => socket.read(buffer),
@@ -45,49 +71,40 @@ impl Stream {
         match read {
             Ok(count) => Ok(Some(count)),
             Err(error) => match error.kind() {
-                ErrorKind::Interrupted | ErrorKind::WouldBlock | ErrorKind::TimedOut => Ok(None),
+                ErrorKind::Interrupted | ErrorKind::WouldBlock => Ok(None),
                 _ => Err(error),
             },
         }
     }
 
-    /// Writes all of these octets, or fails where they are taken too slowly.
-    pub fn write<R: Clock + Eprint>(&mut self, octets: &[u8], log: &Log<'_, R>) -> io::Result<()> {
-        let mut rest = octets;
-        let begun = log.now();
-        for _write in 0..u64::MAX {
-            let count = self.write_once(rest)?;
-            rest = rest.split_at(count.min(rest.len())).1;
-            if rest.is_empty() {
-                return Ok(());
-            }
-            if log.now().saturating_sub(begun) >= WRITE_TIME {
-                return Err(io::Error::from(ErrorKind::TimedOut));
-            }
-        }
-        Ok(())
-    }
-
-    /// Writes the front of some octets: how many, which are none where it was interrupted.
-    fn write_once(&mut self, octets: &[u8]) -> io::Result<usize> {
+    /// Writes the front of some octets, and returns how many were written: `None` if no more can be
+    /// written as yet.
+    pub fn write(&mut self, octets: &[u8]) -> io::Result<Option<usize>> {
         let written = match self {
             Stream::Socket(socket) => socket.write(octets),
             Stream::Serial(line) => line.write(octets),
         };
         match written {
             Ok(0) => Err(io::Error::from(ErrorKind::WriteZero)),
-            Err(error) if error.kind() == ErrorKind::Interrupted => Ok(0),
-            _ => written,
+            Ok(count) => Ok(Some(count)),
+            Err(error) => match error.kind() {
+                ErrorKind::Interrupted => Ok(Some(0)),
+                ErrorKind::WouldBlock => Ok(None),
+                _ => Err(error),
+            },
         }
     }
 }
 
-/// Has the reads and writes of a connection come to an end, and has it send at once.
-fn set_options(socket: &TcpStream) -> io::Result<()> {
-    socket.set_nonblocking(false)?;
-    socket.set_nodelay(true)?;
-    socket.set_read_timeout(Some(Duration::from_millis(READ_TIME)))?;
-    socket.set_write_timeout(Some(Duration::from_millis(WRITE_TIME)))
+/// Drops the octets that a line has now, as far as a system holds so many.
+fn drop_input(line: &mut File) {
+    let mut buffer = [0; OLD_OCTETS];
+    for _read in 0..OLD_READS {
+        match line.read(&mut buffer) {
+            Ok(count) if count > 0 => {}
+            _ => return,
+        }
+    }
 }
 
 impl AsRawFd for Stream {

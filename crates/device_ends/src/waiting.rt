@@ -13,6 +13,10 @@ use std::time::Duration;
 pub enum Source {
     /// The stream of the controller.
     Controller,
+    /// The stream of the controller, for which octets wait.
+    FullController,
+    /// The stream of a controller to which a connection is being made.
+    NewController,
     /// Where controllers connect.
     Controllers,
     /// The stream of the application.
@@ -24,7 +28,7 @@ pub enum Source {
 impl Source {
     fn token(self) -> Token {
         Token(match self {
-            Source::Controller => 0,
+            Source::Controller | Source::FullController | Source::NewController => 0,
             Source::Controllers => 1,
             Source::Application => 2,
             Source::Applications => 3,
@@ -37,6 +41,8 @@ impl Source {
 pub struct Ready {
     /// Whether the controller may be read.
     pub controller: bool,
+    /// Whether the controller may take more octets.
+    pub takes_more: bool,
     /// Whether the controller sends no more, once what is there is read.
     pub is_ending: bool,
     /// Whether a controller connects.
@@ -97,6 +103,7 @@ impl Waiting {
         self.poll.poll(&mut self.events, timeout)?;
         let mut ready = Ready {
             controller: false,
+            takes_more: false,
             is_ending: false,
             controllers: false,
             application: false,
@@ -105,7 +112,10 @@ impl Waiting {
         for event in self.events.iter() {
             match event.token().0 {
                 0 => {
-                    ready.controller = true;
+                    ready.controller = event.is_readable()
+                        || event.is_read_closed()
+                        || event.is_error();
+                    ready.takes_more = event.is_writable() || event.is_error();
                     ready.is_ending = event.is_read_closed();
                 }
                 1 => ready.controllers = true,
@@ -117,10 +127,12 @@ impl Waiting {
     }
 }
 
-/// What is wanted of a socket: of that of the application also to hear that it takes more.
+/// Returns what is wanted of a socket: of that of the application, and of a controller for which octets
+/// wait, also to hear that it takes more; of one to which a connection is being made, that alone.
 fn interest(source: Source) -> Interest {
     match source {
-        Source::Application => Interest::READABLE | Interest::WRITABLE,
+        Source::Application | Source::FullController => Interest::READABLE | Interest::WRITABLE,
+        Source::NewController => Interest::WRITABLE,
         _ => Interest::READABLE,
     }
 }

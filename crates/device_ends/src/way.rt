@@ -5,10 +5,9 @@ use std::fs::{File, Files};
 use std::io;
 use std::io::ErrorKind;
 use std::net::{Net, SocketAddr, TcpListener, TcpStream};
-use std::time::Duration;
 
 /// How long a connection may take to be made, in milliseconds.
-const CONNECT_TIME: u64 = 250;
+pub const CONNECT_TIME: u64 = 3_000;
 
 /// How long it takes until a controller that is not there is tried again, in milliseconds.
 pub const RETRY_TIME: u64 = 500;
@@ -24,15 +23,26 @@ pub enum Way<'a> {
     Serial(&'a str),
 }
 
+/// How far a controller is reached.
+#[derive(Drop)]
+pub enum Reach {
+    /// None is there.
+    Nobody,
+    /// The connection to one has begun to be made.
+    Begun(Stream),
+    /// One is there.
+    There(Stream),
+}
+
 impl Way<'_> {
-    /// The stream of the next controller, if one is there.
+    /// Reaches for the next controller, and does not wait for it.
     pub fn reach<R: Files<File = File> + Net<Listener = TcpListener, Stream = TcpStream>>(
         &self,
         rt: &R,
-    ) -> io::Result<Option<Stream>> {
+    ) -> io::Result<Reach> {
         match self {
             Way::Listen(listener) => accept(listener),
-            Way::Connect(address) => connect(rt, address),
+            Way::Connect(address) => Ok(connect(rt, *address)),
             Way::Serial(path) => Ok(open_line(rt, path)),
         }
     }
@@ -43,36 +53,40 @@ impl Way<'_> {
     }
 }
 
-/// The stream of the next controller that connects, if one does.
-fn accept(listener: &TcpListener) -> io::Result<Option<Stream>> {
+/// Accepts the next controller that connects, if one does.
+fn accept(listener: &TcpListener) -> io::Result<Reach> {
     match listener.accept() {
-        Ok((socket, _)) => Ok(Some(Stream::of_socket(socket)?)),
+        Ok((socket, _)) => Ok(Reach::There(Stream::of_socket(socket)?)),
         Err(error) => nobody(error),
     }
 }
 
-/// The stream of a controller that listens at an address, if one does.
-fn connect<R: Net<Listener = TcpListener, Stream = TcpStream>>(
-    rt: &R,
-    address: &SocketAddr,
-) -> io::Result<Option<Stream>> {
-    let timeout = Duration::from_millis(CONNECT_TIME);
-    match TcpStream::connect_timeout(rt, address, timeout) {
-        Ok(socket) => Ok(Some(Stream::of_socket(socket)?)),
-        Err(_) => Ok(None),
+/// Begins to connect to a controller that listens at an address.
+fn connect<R: Net>(rt: &R, address: SocketAddr) -> Reach {
+    let Ok(socket) = mio::net::TcpStream::connect(rt, address) else {
+        return Reach::Nobody;
+    };
+    match Stream::of_socket(TcpStream::from(socket)) {
+        Ok(stream) => Reach::Begun(stream),
+        Err(_) => Reach::Nobody,
     }
 }
 
-/// The stream of a controller at the end of a serial line, if that can be opened.
-fn open_line<R: Files<File = File>>(rt: &R, path: &str) -> Option<Stream> {
-    let line = File::options().read(true).write(true).open(rt, path).ok()?;
-    Some(Stream::Serial(line))
+/// Opens the serial line to a controller, if that can be done.
+fn open_line<R: Files<File = File>>(rt: &R, path: &str) -> Reach {
+    let Ok(line) = File::options().read(true).write(true).open(rt, path) else {
+        return Reach::Nobody;
+    };
+    match Stream::of_line(line) {
+        Ok(stream) => Reach::There(stream),
+        Err(_) => Reach::Nobody,
+    }
 }
 
 /// Nobody connects as yet, or it cannot be told who does.
-fn nobody(error: io::Error) -> io::Result<Option<Stream>> {
+fn nobody(error: io::Error) -> io::Result<Reach> {
     match error.kind() {
-        ErrorKind::WouldBlock | ErrorKind::Interrupted => Ok(None),
+        ErrorKind::WouldBlock | ErrorKind::Interrupted => Ok(Reach::Nobody),
         _ => Err(error),
     }
 }

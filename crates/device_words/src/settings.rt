@@ -8,6 +8,13 @@ use std::net::SocketAddr;
 /// As many phones may there be at once, unless the words say how many.
 const SLOTS: usize = 4;
 
+/// How long a controller may take nothing, or may take to be initialised, in milliseconds, unless the
+/// words say how long.
+const PATIENCE: u64 = 5_000;
+
+/// How many bytes a capture has at most, unless the words say how many: 100 MiB.
+const CAPTURE_SIZE: u64 = 104_857_600;
+
 /// How a controller is to be reached.
 #[derive(Clone, Copy)]
 pub enum Reached<'a> {
@@ -77,6 +84,8 @@ pub struct FileWords<'a> {
     pub drop_unknown: bool,
     /// The path of a capture.
     pub capture: Option<&'a str>,
+    /// How many bytes a capture has at most.
+    pub capture_size: u64,
 }
 
 /// What a host is opened with beside its files.
@@ -114,6 +123,10 @@ pub struct Settings<'a> {
     pub wait_for_application: bool,
     /// How long a stranger may be silent, in milliseconds.
     pub idle: Option<u64>,
+    /// How long a stranger may stay, in milliseconds.
+    pub stranger: Option<u64>,
+    /// How long a controller may take nothing, or may take to be initialised, in milliseconds.
+    pub patience: u64,
     /// What a host is opened with beside its files.
     pub host: HostSettings,
     /// Whether the log has the octets of values that phones write.
@@ -128,7 +141,9 @@ impl<'a> Settings<'a> {
         let reached = read_reached(words.listen, words.connect, words.serial)?;
         let door = read_door(words.application, words.application_port)?;
         let host = HostSettings::read(words)?;
-        let idle = read_idle(words.idle)?;
+        let idle = read_seconds(words.idle, "--idle: a number of seconds")?;
+        let stranger = read_seconds(words.stranger, "--stranger: a number of seconds")?;
+        let patience = read_seconds(words.patience, "--patience: a number of seconds")?;
         let files = file_words(words)?;
         if words.wait_for_application && matches!(door, Door::None) {
             return Err("--wait-for-application: it needs --application or --application-port");
@@ -139,6 +154,8 @@ impl<'a> Settings<'a> {
             door,
             wait_for_application: words.wait_for_application,
             idle,
+            stranger,
+            patience: patience.unwrap_or(PATIENCE),
             host,
             log_values: words.log_values,
             once: words.once,
@@ -154,6 +171,7 @@ fn file_words<'a>(words: &HostWords<'a>) -> Result<FileWords<'a>, &'static str> 
         saved: Saved::read(words)?,
         drop_unknown: words.drop_unknown,
         capture: words.capture,
+        capture_size: read_size(words.capture_size)?,
     })
 }
 
@@ -165,11 +183,13 @@ fn read_reached<'a>(
 ) -> Result<Reached<'a>, &'static str> {
     match (listen, connect, serial) {
         (Some(address), None, None) => {
-            let wrong = "--listen: no address with a port";
+            let wrong =
+                "--listen: an IP address and a port, such as 127.0.0.1:5000, and no host name";
             Ok(Reached::Listen(read_socket_address(address, wrong)?))
         }
         (None, Some(address), None) => {
-            let wrong = "--connect: no address with a port";
+            let wrong =
+                "--connect: an IP address and a port, such as 127.0.0.1:5000, and no host name";
             Ok(Reached::Connect(read_socket_address(address, wrong)?))
         }
         (None, None, Some(path)) => Ok(Reached::Serial(path)),
@@ -183,7 +203,8 @@ fn read_door<'a>(path: Option<&'a str>, port: Option<&str>) -> Result<Door<'a>, 
         (None, None) => Ok(Door::None),
         (Some(path), None) => Ok(Door::Path(path)),
         (None, Some(address)) => {
-            let wrong = "--application-port: no address with a port";
+            let wrong =
+                "--application-port: an IP address and a port, such as 127.0.0.1:5000, and no host name";
             Ok(Door::Port(read_socket_address(address, wrong)?))
         }
         (Some(_), Some(_)) => Err("--application and --application-port: one of them is enough"),
@@ -209,14 +230,25 @@ fn read_slots(word: Option<&str>) -> Result<usize, &'static str> {
     }
 }
 
-/// After how many milliseconds an idle connection ends, or what is wrong with the word.
-fn read_idle(word: Option<&str>) -> Result<Option<u64>, &'static str> {
+/// Returns a time in milliseconds that is given in seconds, if it is given, or what is wrong with the word.
+fn read_seconds(word: Option<&str>, wrong: &'static str) -> Result<Option<u64>, &'static str> {
     let Some(word) = word else {
         return Ok(None);
     };
     match word.parse::<u32>() {
         Ok(seconds) if seconds > 0 => Ok(Some(u64::from(seconds) * 1_000)),
-        _ => Err("--idle: a number of seconds"),
+        _ => Err(wrong),
+    }
+}
+
+/// Returns how many bytes a capture has at most, or what is wrong with the word.
+fn read_size(word: Option<&str>) -> Result<u64, &'static str> {
+    let Some(word) = word else {
+        return Ok(CAPTURE_SIZE);
+    };
+    match word.parse::<u64>() {
+        Ok(size) if size > 0 => Ok(size),
+        _ => Err("--capture-size: a number of bytes"),
     }
 }
 
@@ -224,7 +256,9 @@ fn read_idle(word: Option<&str>) -> Result<Option<u64>, &'static str> {
 fn read_advertising(services: &[&str], name: &str) -> Result<Data, &'static str> {
     match advertising::data(services, name) {
         Some(data) => Ok(data),
-        None => Err("--advertise: no UUID, or more of them than 31 octets have room for"),
+        None => Err(
+            "--advertise: a UUID of four hexadecimal digits without 0x, or of 32, and no more than 31 octets have room for",
+        ),
     }
 }
 

@@ -35,12 +35,18 @@ pub struct HostWords<'a> {
     pub address: Option<&'a str>,
     /// The path of a capture.
     pub capture: Option<&'a str>,
+    /// How many bytes a capture has at most.
+    pub capture_size: Option<&'a str>,
     /// Whether the log has the octets of values that phones write.
     pub log_values: bool,
     /// How many phones there may be at once.
     pub slots: Option<&'a str>,
     /// After how many silent seconds a stranger is sent away.
     pub idle: Option<&'a str>,
+    /// How long a stranger may stay, in seconds.
+    pub stranger: Option<&'a str>,
+    /// How long a controller may take nothing, or may take to be initialised, in seconds.
+    pub patience: Option<&'a str>,
     /// Whether it ends once the first controller is gone.
     pub once: bool,
 }
