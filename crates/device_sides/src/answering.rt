@@ -14,9 +14,24 @@ pub fn add_answer(
 ) -> Result<(), AllocError> {
     match question {
         Question::Call | Question::Update(_) => add_outcome(alloc, text, answer),
-        Question::Bad(words) => add_reply(text, &Reply::Bad(words)),
+        Question::NoText => add_reply(text, &Reply::Bad("the line is no text")),
         Question::TooLong => add_reply(text, &Reply::Bad("the line is too long")),
-        Question::Nothing | Question::Value(_) | Question::Connections => Ok(()),
+        Question::Stop => add_reply(text, &Reply::Done),
+        _ => Ok(()),
+    }
+}
+
+/// Adds the handle of a characteristic, or that there is none.
+pub fn add_handle(text: &mut Vec<u8>, handle: Option<u16>) -> Result<(), AllocError> {
+    match handle {
+        Some(handle) => add_reply(text, &Reply::Handle(handle)),
+        None => add_reply(
+            text,
+            &Reply::Refused {
+                fault: AppFault::NoSuchHandle,
+                words: "there is no such characteristic",
+            },
+        ),
     }
 }
 

@@ -1,8 +1,9 @@
 //! The side of the controller: its stream, the capture of what goes by there, and the strangers among
 //! its phones.
 
-use crate::strangers::Strangers;
+use crate::strangers::{Limits, Strangers};
 use device_ends::{Controller, Log, Recording, Waiting, Way};
+use std::alloc::Global;
 use std::io;
 use std::time::Clock;
 
@@ -15,12 +16,18 @@ pub(crate) struct ControllerSide<'a> {
 }
 
 impl<'a> ControllerSide<'a> {
-    /// None is reached yet. A stranger may be silent so long, in milliseconds, or for ever.
-    pub(crate) fn new(way: Way<'a>, idle: Option<u64>) -> ControllerSide<'a> {
+    /// Returns the side of a controller that is not reached yet. It is given up if it takes no octets for
+    /// `patience` milliseconds, or is not initialised in that time.
+    pub(crate) fn new(
+        alloc: Global,
+        way: Way<'a>,
+        patience: u64,
+        limits: Limits,
+    ) -> ControllerSide<'a> {
         ControllerSide {
-            controller: Controller::new(way),
+            controller: Controller::new(alloc, way, patience),
             recording: Recording::none(),
-            strangers: Strangers::new(idle),
+            strangers: Strangers::new(limits),
         }
     }
 }
@@ -33,10 +40,11 @@ impl ControllerSide<'_> {
         self.controller.lose(waiting);
     }
 
-    /// Until when may be waited, in milliseconds, if there is an end to it: until a stranger is silent
-    /// for too long, or until a controller is tried again.
+    /// Returns until when may be waited, in milliseconds, if there is an end to it: until a stranger is
+    /// silent for too long, until the controller is given up, or until one is tried again.
     pub(crate) fn due(&self) -> Option<u64> {
-        sooner(self.strangers.due(), self.controller.retry())
+        let controller = sooner(self.controller.due(), self.controller.retry());
+        sooner(self.strangers.due(), controller)
     }
 
     /// Reads octets at this time, in milliseconds. None where nothing is there as yet; no octets at the
@@ -48,7 +56,7 @@ impl ControllerSide<'_> {
         now: u64,
         buffer: &'b mut [u8],
     ) -> io::Result<Option<&'b [u8]>> {
-        let Some(count) = self.controller.read(waiting, buffer)? else {
+        let Some(count) = self.controller.read(waiting, now, buffer)? else {
             return Ok(None);
         };
         let octets = buffer.split_at(count.min(buffer.len())).0;
@@ -59,13 +67,14 @@ impl ControllerSide<'_> {
         Ok(Some(octets))
     }
 
-    /// Writes all of these octets: whether a controller is there that takes them.
+    /// Sends these octets. Returns whether a controller is there.
     pub(crate) fn write<R: Clock + Eprint>(
         &mut self,
         octets: &[u8],
+        waiting: &Waiting,
         log: &Log<'_, R>,
     ) -> io::Result<bool> {
-        let is_there = self.controller.write(octets, log)?;
+        let is_there = self.controller.write(octets, waiting, log.now())?;
         if is_there {
             self.recording.went(octets, log);
         }

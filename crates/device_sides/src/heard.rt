@@ -1,11 +1,14 @@
 //! What is heard of the host while a turn is taken.
 
 use crate::places::Places;
+use crate::subscribed::Subscribed;
+use device_lines::{Names, Told, add_told};
 use gatt_app::Notice;
-use notice_lines::{add_line, add_number};
+use notice_lines::{add_named_line, add_number, connection_of};
 use std::alloc::{AllocError, Global};
 
-/// The notices of a turn, as the application hears them and as they are logged.
+/// The notices of a turn, as the application hears them and as they are logged, and the names of the
+/// connections.
 #[derive(Drop)]
 pub struct Heard {
     /// Their lines.
@@ -14,7 +17,11 @@ pub struct Heard {
     /// values are logged.
     pub(crate) log: Vec<u8>,
     logs_values: bool,
+    pub(crate) names: Names,
     places: Places,
+    subscribed: Subscribed,
+    /// The handles of the connections whose links have a key since the turn.
+    secured: Vec<u16>,
     /// The handles of the values that phones wrote in the turn.
     pub(crate) written: Vec<u16>,
     /// Whether memory was refused for one of them.
@@ -22,16 +29,27 @@ pub struct Heard {
 }
 
 impl Heard {
-    /// Nothing is heard yet, and nobody is connected.
+    /// Nothing is heard yet, and nobody was connected.
     pub fn new(alloc: Global, logs_values: bool) -> Heard {
         Heard {
             text: Vec::new(alloc),
             log: Vec::new(alloc),
             logs_values,
+            names: Names::new(),
             places: Places::new(),
+            subscribed: Subscribed::new(alloc),
+            secured: Vec::new(alloc),
             written: Vec::new(alloc),
             is_refused: false,
         }
+    }
+
+    /// Another controller is served: nobody is connected to it yet, and nothing is heard of it.
+    pub fn begin(&mut self) {
+        self.clear();
+        self.names.forget();
+        self.subscribed.forget();
+        self.places = Places::new();
     }
 
     /// Whether nothing was heard.
@@ -44,6 +62,7 @@ impl Heard {
         self.text.clear();
         self.log.clear();
         self.written.clear();
+        self.secured.clear();
         self.is_refused = false;
     }
 
@@ -54,56 +73,103 @@ impl Heard {
         {
             self.is_refused = true;
         }
-        if add_line(&mut self.text, &notice).is_err() || self.add_logged(&notice).is_err() {
+        let handle = connection_of(&notice);
+        if let Notice::Secured { .. } = notice
+            && self.secured.push(handle).is_err()
+        {
             self.is_refused = true;
+        }
+        if self.subscribed.hear(&notice).is_err() {
+            self.is_refused = true;
+        }
+        if let Notice::Connected { .. } = notice {
+            self.names.connect(handle);
+        }
+        // Each connection has a name: a host has no more connections than may have one.
+        if let Some(name) = self.names.name_of(handle)
+            && self.add(name, &notice).is_err()
+        {
+            self.is_refused = true;
+        }
+        if let Notice::Disconnected { .. } = notice {
+            self.names.disconnect(handle);
         }
     }
 
-    /// Adds the line of a notice for the log.
-    fn add_logged(&mut self, notice: &Notice<'_>) -> Result<(), AllocError> {
+    /// The handles of the connections whose links have a key since the turn.
+    pub fn secured(&self) -> &[u16] {
+        self.secured.as_slice()
+    }
+
+    /// Adds the lines of what a connection has subscribed to while its link had no key.
+    pub fn add_own_subscriptions(
+        &self,
+        text: &mut Vec<u8>,
+        name: u64,
+        handle: u16,
+    ) -> Result<(), AllocError> {
+        for place in 0..self.subscribed.count() {
+            if let Some((attribute, bits)) = self.subscribed.at(place, handle) {
+                let line = Told::Subscribed {
+                    name,
+                    attribute,
+                    bits,
+                };
+                add_told(text, &line)?;
+            }
+        }
+        Ok(())
+    }
+
+    /// Adds the lines of a notice of the connection with this name.
+    fn add(&mut self, name: u64, notice: &Notice<'_>) -> Result<(), AllocError> {
+        add_named_line(&mut self.text, name, notice)?;
         match notice {
             Notice::Connected { handle, .. } => {
                 let place = self.places.take(*handle);
-                add_with_slot(&mut self.log, notice, place)
+                add_connected(&mut self.log, name, notice, place)
             }
             Notice::Disconnected { handle } => {
                 self.places.leave(*handle);
-                add_line(&mut self.log, notice)
+                add_named_line(&mut self.log, name, notice)
             }
             Notice::Written {
-                handle,
                 attribute,
                 value,
-            } if !self.logs_values => add_written(&mut self.log, *handle, *attribute, value.len()),
-            _ => add_line(&mut self.log, notice),
+                ..
+            } if !self.logs_values => add_written(&mut self.log, name, *attribute, value.len()),
+            _ => add_named_line(&mut self.log, name, notice),
         }
     }
 }
 
-/// Adds the line of a notice with a slot behind it, if there is one.
-fn add_with_slot(
+/// Adds the line of a connection that has come, and behind it its handle, and its slot if it has one.
+fn add_connected(
     log: &mut Vec<u8>,
+    name: u64,
     notice: &Notice<'_>,
     place: Option<usize>,
 ) -> Result<(), AllocError> {
-    add_line(log, notice)?;
-    let Some(place) = place else {
-        return Ok(());
-    };
+    add_named_line(log, name, notice)?;
     // What follows goes in front of the end of the line.
     log.pop();
-    add_end(log, b" slot", place)
+    log.extend_from_slice(b" handle")?;
+    add_number(log, u64::from(connection_of(notice)))?;
+    match place {
+        Some(place) => add_end(log, b" slot", place),
+        None => log.extend_from_slice(b"\n"),
+    }
 }
 
 /// Adds that a connection has written `count` octets to the attribute at a handle.
 fn add_written(
     log: &mut Vec<u8>,
-    handle: u16,
+    name: u64,
     attribute: u16,
     count: usize,
 ) -> Result<(), AllocError> {
     log.extend_from_slice(b"+ written")?;
-    add_number(log, u64::from(handle))?;
+    add_number(log, name)?;
     add_number(log, u64::from(attribute))?;
     add_end(log, b" octets:", count)
 }

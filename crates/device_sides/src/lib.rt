@@ -2,6 +2,7 @@
 //! them, and who of them has a turn. There is no host in it.
 #![tactic(auto)]
 
+mod acceptance;
 mod answering;
 mod application;
 mod asking;
@@ -13,11 +14,14 @@ mod places;
 mod said;
 mod sides;
 mod strangers;
+mod subscribed;
 mod telling;
 mod turns;
+mod visitor;
 
-pub use answering::{add_answer, add_value};
+pub use answering::{add_answer, add_handle, add_value};
 pub use controller_side::sooner;
 pub use heard::Heard;
-pub use said::Question;
+pub use said::{Question, Wanted};
 pub use sides::Sides;
+pub use strangers::Limits;

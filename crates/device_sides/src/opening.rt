@@ -39,7 +39,7 @@ pub(crate) fn listener_at<
     match door {
         Door::None => Ok(None),
         Door::Path(path) => {
-            let listener = listen_at_path(log, waiting, path)?;
+            let listener = listen_at_path(alloc, log, waiting, path)?;
             Ok(Some(Listener::Path(listener)))
         }
         Door::Port(address) => {
@@ -50,14 +50,15 @@ pub(crate) fn listener_at<
     }
 }
 
-/// Listens for an application at a path, where a socket that was left behind is removed first;
-/// another file is left alone, and nothing is listened for. Nobody but the owner may connect.
+/// Listens for an application at a path. A socket that was left behind is replaced; another file is left
+/// alone, and then this fails. Nobody but the owner may connect.
 fn listen_at_path<R: Net + Files + Clock + Eprint>(
+    alloc: Global,
     log: &Log<'_, R>,
     waiting: &Waiting,
     path: &str,
 ) -> io::Result<UnixListener> {
-    let listener = bind_at_path(log.rt, path)?;
+    let listener = bind_at_path(log.rt, alloc, path)?;
     waiting.watch(&listener, Source::Applications)?;
     log.say_of("listening for an application:", path);
     Ok(listener)
@@ -90,14 +91,15 @@ fn say_address<R: Clock + Eprint>(
     Ok(())
 }
 
-/// Begins a capture in a file at a path, or tells that this cannot be created. Where that cannot be
-/// written, nobody can be told.
+/// Begins a capture in a file at a path, of so many bytes at most, or tells that this cannot be created.
+/// If that cannot be written, nobody can be told.
 pub(crate) fn record_to<R: Files<File = File> + Eprint>(
     rt: &R,
     alloc: Global,
     path: &str,
+    most: u64,
 ) -> io::Result<Recording> {
-    let begun = Recording::begin(rt, path);
+    let begun = Recording::begin(rt, path, most);
     if begun.is_err() {
         tell_not_created(rt, alloc, path);
     }

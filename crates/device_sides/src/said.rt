@@ -1,8 +1,8 @@
 //! What a line of the application says.
 
 use arrayvec::ArrayVec;
-use device_lines::{Asked, read_line};
-use gatt_app::App;
+use device_lines::{Command, Names, Wrong, read_line, without_return};
+use gatt_app::{App, AppFault};
 use std::str;
 
 /// What the application has asked in a turn, which is still to be answered.
@@ -18,19 +18,36 @@ pub enum Question {
     Value(u16),
     /// Who is connected.
     Connections,
-    /// Nothing that can be understood, for this reason.
-    Bad(&'static str),
+    /// What the connection with a name is subscribed to.
+    Subscriptions(u64),
+    /// Which handle a characteristic has.
+    Find(Wanted),
+    /// That the device ends.
+    Stop,
+    /// Nothing that can be understood, since a word is wrong.
+    Wrong(Wrong),
+    /// Nothing, since the line is no text.
+    NoText,
     /// More than a line may have.
     TooLong,
 }
 
-/// What a line says, with its value apart.
+/// A characteristic that is looked for, by the types of its service and of itself, and its number
+/// among those, from 1.
+#[derive(Clone, Copy)]
+pub struct Wanted {
+    pub service: u128,
+    pub characteristic: u128,
+    pub number: u16,
+}
+
+/// What a line says, with its value apart. A connection is named as the application knows it.
 #[derive(Clone, Copy)]
 pub(crate) enum Said {
     Update(u16, usize),
-    Allow(u16, Option<u64>),
-    Deny(u16),
-    Disconnect(u16),
+    Allow(u64, Option<u64>),
+    Deny(u64),
+    Disconnect(u64),
     Question(Question),
 }
 
@@ -45,43 +62,74 @@ impl Said {
     }
 
     /// The call that is made, if one is, at this time, in milliseconds. A value lies in the front of a
-    /// buffer.
-    pub(crate) fn call(self, time: u64, buffer: &[u8]) -> Option<App<'_>> {
-        match self {
+    /// buffer. A name that no connection has is refused.
+    pub(crate) fn call<'b>(
+        self,
+        names: &Names,
+        time: u64,
+        buffer: &'b [u8],
+    ) -> Result<Option<App<'b>>, AppFault> {
+        Ok(Some(match self {
+            Said::Question(_) => return Ok(None),
             Said::Update(handle, count) => {
-                Some(App::Update(handle, buffer.split_at(count.min(buffer.len())).0))
+                App::Update(handle, buffer.split_at(count.min(buffer.len())).0)
             }
-            Said::Allow(handle, Some(lasting)) => {
-                Some(App::Authorize(handle, time.saturating_add(lasting)))
+            Said::Allow(name, Some(lasting)) => {
+                App::Authorize(handle_of(names, name)?, time.saturating_add(lasting))
             }
-            Said::Allow(handle, None) => Some(App::Authorize(handle, u64::MAX)),
-            Said::Deny(handle) => Some(App::Authorize(handle, 0)),
-            Said::Disconnect(handle) => Some(App::Disconnect(handle)),
-            Said::Question(_) => None,
-        }
+            Said::Allow(name, None) => App::Authorize(handle_of(names, name)?, u64::MAX),
+            Said::Deny(name) => App::Authorize(handle_of(names, name)?, 0),
+            Said::Disconnect(name) => App::Disconnect(handle_of(names, name)?),
+        }))
     }
+}
+
+/// The handle of the connection with this name.
+fn handle_of(names: &Names, name: u64) -> Result<u16, AppFault> {
+    names.handle_of(name).ok_or(AppFault::NoSuchConnection)
 }
 
 /// What a line says. A value is put into the front of a buffer.
 pub(crate) fn read_said(line: &[u8], buffer: &mut [u8]) -> Said {
-    let Ok(text) = str::from_utf8(line) else {
-        return Said::Question(Question::Bad("no text"));
-    };
-    let Some(asked) = read_line(text) else {
-        return Said::Question(Question::Bad("not understood"));
-    };
-    match asked {
-        Asked::Update { handle, value } => {
+    match str::from_utf8(without_return(line)) {
+        Ok(text) => read_text(text, buffer),
+        Err(_) => Said::Question(Question::NoText),
+    }
+}
+
+/// What a text says. A value is put into the front of a buffer.
+fn read_text(text: &str, buffer: &mut [u8]) -> Said {
+    match read_line(text) {
+        Ok(Command::Update { handle, value }) => {
             let mut octets = ArrayVec::new();
             value.decode(&mut octets);
             Said::Update(handle, copy_to_front(octets.as_slice(), buffer))
         }
-        Asked::Allow { handle, lasting } => Said::Allow(handle, lasting),
-        Asked::Deny { handle } => Said::Deny(handle),
-        Asked::Disconnect { handle } => Said::Disconnect(handle),
-        Asked::Value { handle } => Said::Question(Question::Value(handle)),
-        Asked::Connections => Said::Question(Question::Connections),
+        Ok(Command::Allow { name, lasting }) => Said::Allow(name, lasting),
+        Ok(Command::Deny { name }) => Said::Deny(name),
+        Ok(Command::Disconnect { name }) => Said::Disconnect(name),
+        Ok(Command::Value { handle }) => Said::Question(Question::Value(handle)),
+        Ok(Command::Connections) => Said::Question(Question::Connections),
+        Ok(Command::Subscriptions { name }) => Said::Question(Question::Subscriptions(name)),
+        Ok(
+            Command::Find {
+                service,
+                characteristic,
+                number,
+            },
+        ) => Said::Question(Question::Find(Wanted {
+            service,
+            characteristic,
+            number,
+        })),
+        Ok(Command::Stop) => Said::Question(Question::Stop),
+        Err(wrong) => Said::Question(Question::Wrong(wrong)),
     }
+}
+
+/// Whether a line makes a call, which only the application may.
+pub(crate) fn is_call(line: &[u8]) -> bool {
+    !matches!(read_said(line, &mut []), Said::Question(_))
 }
 
 /// Puts octets into the front of a buffer, as far as there is room: how many.

@@ -1,5 +1,8 @@
 //! The sides of a device, and what they wait for.
 
+ghost use Rattle.std.specs.Prelude.{◌≡◌};
+
+use crate::acceptance::Acceptance;
 use crate::application::Application;
 use crate::asking::Asking;
 use crate::controller_side::{ControllerSide, sooner};
@@ -7,10 +10,11 @@ use crate::heard::Heard;
 use crate::missed::Missed;
 use crate::opening::{listener_at, record_to, way_to};
 use crate::said::Question;
+use crate::strangers::Limits;
 use crate::telling::{accept, fill, flush, reply, say_or_end, tell, tell_heard};
 use crate::turns::Turns;
 use device_ends::{Log, Ready, Waiting};
-use device_lines::Told;
+use device_lines::{Names, Told};
 use device_words::{Door, Reached};
 use gatt_app::{App, AppFault};
 use std::alloc::{AllocError, Global};
@@ -27,23 +31,27 @@ pub struct Sides<'a, R> {
     waiting: Waiting,
     controller: ControllerSide<'a>,
     application: Application,
+    acceptance: Acceptance,
     /// Whether controllers are served only while an application is connected.
     waits_for_application: bool,
     missed: Missed,
+    /// The names of the connections, as they are once a turn is over.
+    names: Names,
     asking: Asking,
     turns: Turns,
 }
 
 impl<'a, R: Net<Listener = TcpListener, Stream = TcpStream> + Clock + Eprint> Sides<'a, R> {
-    /// Sides of which the controller is reached so, and for which no application connects yet.
-    /// Controllers are served only while one is connected, if that is asked for. A stranger may be
-    /// silent so long, in milliseconds, or for ever.
+    /// Returns sides of which the controller is reached so, and for which no application connects yet.
+    /// Controllers are served only while one is connected, if that is asked for. A controller is given up
+    /// if it takes no octets for `patience` milliseconds, or is not initialised in that time.
     pub fn new(
         log: Log<'a, R>,
         alloc: Global,
         reached: Reached<'a>,
         waits_for_application: bool,
-        idle: Option<u64>,
+        patience: u64,
+        limits: Limits,
     ) -> io::Result<Sides<'a, R>> {
         let waiting = Waiting::new(alloc, log.rt)?;
         let way = way_to(alloc, &log, &waiting, reached)?;
@@ -51,10 +59,12 @@ impl<'a, R: Net<Listener = TcpListener, Stream = TcpStream> + Clock + Eprint> Si
             alloc,
             log,
             waiting,
-            controller: ControllerSide::new(way, idle),
+            controller: ControllerSide::new(alloc, way, patience, limits),
             application: Application::none(alloc),
+            acceptance: Acceptance::new(),
             waits_for_application,
             missed: Missed::new(alloc),
+            names: Names::new(),
             asking: Asking::nothing(),
             turns: Turns::new(),
         })
@@ -72,22 +82,28 @@ impl<'a, R> Sides<'a, R> {
         self.controller.lose(&self.waiting);
     }
 
-    /// Whether the controller is read now. Where others have something too, they take turns.
-    pub fn is_controller_next(&mut self) -> bool {
-        let has_other = self.controller.strangers.is_due(self.turns.time())
-            || self.application.has_something();
-        self.turns
-            .is_read(self.controller.controller.is_readable(), has_other)
-    }
-
     /// What is to be asked of the host, if something is: that a stranger who was silent for too long
     /// is sent away, or what the application asks next. A value lies in the front of a buffer.
     pub fn next_call<'b>(&mut self, buffer: &'b mut [u8]) -> Option<App<'b>> {
         let now = self.turns.time();
-        match self.controller.strangers.next_silent(now) {
+        match self.controller.strangers.next_due(now) {
             Some(handle) => Some(App::Disconnect(handle)),
-            None => self.asking.next_call(&mut self.application, now, buffer),
+            None => self
+                .asking
+                .next_call(&mut self.application, &self.names, now, buffer),
         }
+    }
+
+    /// Takes the names of the connections as they are after what was heard.
+    pub fn know(&mut self, heard: &Heard) {
+        self.names = heard.names.copied();
+    }
+
+    /// The names of the connections.
+    pub fn names(&self) -> &Names
+        ensures names { result.now ≡ self.now.names }
+    {
+        &self.names
     }
 
     /// The call that was asked last is answered so.
@@ -108,6 +124,16 @@ impl<'a, R> Sides<'a, R> {
     /// What the application is still to be answered, which is to be done at once.
     pub fn take_question(&mut self) -> Question {
         self.asking.take_question()
+    }
+
+    /// The word at a place of the line that was asked last, from 0.
+    pub fn word(&self, place: usize) -> &str {
+        self.asking.word(place)
+    }
+
+    /// Lets the one that has asked last wait for its answer, and hears nobody else any more.
+    pub fn hold(&mut self) {
+        self.application.hold();
     }
 
     /// Whether strangers are looked for.
@@ -141,30 +167,58 @@ impl<'a, R> Sides<'a, R> {
         self.application.is_new
     }
 
-    /// Whether a controller is served.
+    /// Returns whether a controller is served.
     pub fn has_controller(&self) -> bool {
         self.controller.controller.is_there()
+    }
+
+    /// Returns whether a controller is served that is initialised.
+    pub fn is_serving(&self) -> bool {
+        self.controller.controller.is_initialised()
     }
 }
 
 impl<R: Clock + Eprint> Sides<'_, R> {
+    /// Returns whether the controller is read now. If others have something too, they take turns. It is not
+    /// read while too much waits for the application, so that no phone has that cut off.
+    pub fn is_controller_next(&mut self) -> bool {
+        let has_other = self.controller.strangers.is_due(self.turns.time())
+            || self.application.has_something();
+        let is_readable = self.is_controller_readable();
+        self.turns.is_read(is_readable, has_other)
+    }
+
+    /// Returns whether the controller may be read.
+    fn is_controller_readable(&self) -> bool {
+        !self.application.is_full() && self.controller.controller.is_readable(self.log.now())
+    }
+
     /// Octets of the controller. None where nothing is there as yet; no octets at the end.
     pub fn read<'b>(&mut self, buffer: &'b mut [u8]) -> io::Result<Option<&'b [u8]>> {
-        let now = self.turns.time();
+        let now = self.log.now();
         self.controller.read(&self.waiting, &self.log, now, buffer)
     }
 
     /// Writes all of these octets to the controller: whether it is there.
     pub fn write(&mut self, octets: &[u8]) -> io::Result<bool> {
-        self.controller.write(octets, &self.log)
+        self.controller.write(octets, &self.waiting, &self.log)
     }
 
-    /// Tells of a controller that has come in a turn.
-    pub fn tell_controller(&mut self) {
+    /// Logs that a controller has come in a turn. Once it is initialised, this is logged, and the application
+    /// is told.
+    pub fn tell_controller(&mut self, is_initialised: bool) {
         if self.controller.controller.has_come() {
             self.log.say("controller");
+        }
+        if is_initialised && self.controller.controller.note_initialised() {
+            self.log.say("serving: the controller is initialised");
             self.tell(&Told::Serving);
         }
+    }
+
+    /// Returns why the controller was given up, or else how its stream failed, in these words.
+    pub fn why_lost(&self, otherwise: &'static str) -> &'static str {
+        self.controller.controller.fault().unwrap_or(otherwise)
     }
 
     /// Writes as much to the application as it takes.
@@ -182,6 +236,14 @@ impl<R: Clock + Eprint> Sides<'_, R> {
         tell_heard(&mut self.application, &mut self.missed, &self.log, heard);
     }
 
+    /// Tells the application lines, where it has heard the ones before.
+    pub fn tell_lines(&mut self, text: Result<Vec<u8>, AllocError>) {
+        if !self.application.is_new {
+            let refused = "memory: refused for an application";
+            say_or_end(&mut self.application, &self.log, text, refused);
+        }
+    }
+
     /// Answers a question with a text.
     pub fn reply(&mut self, question: Question, text: Result<Vec<u8>, AllocError>) {
         reply(&mut self.application, &self.log, question, text);
@@ -194,18 +256,20 @@ impl<R: Clock + Eprint> Sides<'_, R> {
         say_or_end(&mut self.application, &self.log, text, refused);
     }
 
-    /// How long may be waited, if there is an end to it: up to the deadline, until a stranger is
-    /// silent for too long, or until a controller is tried again; and not at all where something is
-    /// there.
+    /// Returns how long may be waited, if there is an end to it: up to the deadline, until a stranger is
+    /// sent away, until a visit is over, or until a controller is given up or tried again, or an
+    /// application is; and not at all if something is there.
     fn timeout(&self, deadline: Option<u64>) -> Option<Duration> {
-        if self.controller.controller.is_readable()
+        if self.is_controller_readable()
             || self.application.has_something()
             || self.application.is_gone()
             || self.lacks_application()
         {
             return Some(Duration::from_millis(0));
         }
-        let due = sooner(deadline, self.controller.due())?;
+        let controller = sooner(self.controller.due(), self.acceptance.due());
+        let due = sooner(self.application.due(), controller);
+        let due = sooner(deadline, due)?;
         Some(Duration::from_millis(due.saturating_sub(self.log.now())))
     }
 }
@@ -220,10 +284,11 @@ impl<
         Ok(())
     }
 
-    /// Writes a capture to a file at a path, if there is one, or tells that this cannot be created.
-    pub fn record(&mut self, path: Option<&str>) -> io::Result<()> {
+    /// Writes a capture to a file at a path, if there is one, of so many bytes at most, or tells that this
+    /// cannot be created.
+    pub fn record(&mut self, path: Option<&str>, most: u64) -> io::Result<()> {
         if let Some(path) = path {
-            self.controller.recording = record_to(self.log.rt, self.alloc, path)?;
+            self.controller.recording = record_to(self.log.rt, self.alloc, path, most)?;
         }
         Ok(())
     }
@@ -244,9 +309,11 @@ impl<
             self.alloc,
             &mut self.application,
             &mut self.missed,
-            &self.waiting,
             &self.log,
         );
+        if self.application.watch(self.log.now()) {
+            self.log.say("application cut off: it does not read");
+        }
         let timeout = self.timeout(deadline);
         if let Ok(ready) = self.waiting.wait(timeout) {
             self.take_in(ready);
@@ -258,13 +325,19 @@ impl<
         if ready.controller {
             self.controller.controller.is_ready(ready.is_ending);
         }
+        if ready.takes_more {
+            self.controller
+                .controller
+                .flush(&self.waiting, self.log.now());
+        }
         if ready.application {
             self.application.is_ready();
         }
-        if ready.applications || self.application.is_knocking() {
+        let connects = ready.applications || self.application.is_knocking();
+        if self.acceptance.is_due(connects, self.log.now()) {
             accept(
                 &mut self.application,
-                &mut self.missed,
+                &mut self.acceptance,
                 &self.waiting,
                 &self.log,
             );

@@ -1,4 +1,4 @@
-//! Phones without a key, and since when each is silent.
+//! Phones without a key, when each came, and since when it is silent.
 
 ghost use Rattle.std.specs.Prelude.{◌≤◌, length, IfSome};
 
@@ -7,28 +7,54 @@ use arrayvec::ArrayVec;
 use gatt_laws::MAX_SLOTS;
 use le_h4::{Deframer, PacketRef};
 
+/// The code of the event that a connection is gone: Core 5.0, Vol 2 Part E, 7.7.5.
+const DISCONNECTION_COMPLETE: u8 = 0x05;
+
 /// A phone without a key.
 #[derive(Clone, Copy, Default)]
 struct Stranger {
     handle: u16,
+    /// When it was found, in milliseconds.
+    found: u64,
     /// When it said something last, in milliseconds.
     since: u64,
+}
+
+/// How long a phone without a key may stay, each in milliseconds. Without a limit it may stay for ever.
+#[derive(Clone, Copy)]
+pub struct Limits {
+    /// How long it may be silent.
+    pub silent: Option<u64>,
+    /// How long it may stay, silent or not.
+    pub staying: Option<u64>,
+}
+
+impl Limits {
+    /// Returns when a phone is to be sent away, if there is an end to it.
+    fn due(&self, stranger: &Stranger) -> Option<u64> {
+        let silent = after(stranger.since, self.silent);
+        sooner(silent, after(stranger.found, self.staying))
+    }
+}
+
+/// Returns the time so long after another, if there is a limit.
+fn after(time: u64, limit: Option<u64>) -> Option<u64> {
+    Some(time.saturating_add(limit?))
 }
 
 /// The phones without a key.
 #[derive(Drop)]
 pub(crate) struct Strangers {
-    /// How long one may be silent, in milliseconds.
-    limit: Option<u64>,
+    limits: Limits,
     known: ArrayVec<Stranger, MAX_SLOTS>,
     deframer: Deframer,
 }
 
 impl Strangers {
-    /// None is known. One may be silent so long, in milliseconds, or for ever.
-    pub(crate) fn new(limit: Option<u64>) -> Strangers {
+    /// Returns that none is known.
+    pub(crate) fn new(limits: Limits) -> Strangers {
         Strangers {
-            limit,
+            limits,
             known: ArrayVec::new(),
             deframer: Deframer::new(),
         }
@@ -40,9 +66,9 @@ impl Strangers {
         self.deframer = Deframer::new();
     }
 
-    /// Octets of the controller come: who of them says something.
+    /// Hears octets of the controller: who of them says something, and who is gone.
     pub(crate) fn hear(&mut self, octets: &[u8], now: u64) {
-        if self.limit.is_none() {
+        if !self.are_looked_for() {
             return;
         }
         let mut rest = octets;
@@ -63,8 +89,10 @@ impl Strangers {
     {
         let fed = self.deframer.feed(octets).ok()?;
         if fed.packet {
-            if let PacketRef::Acl { handle, .. } = self.deframer.packet() {
-                said(&mut self.known, handle, now);
+            match self.deframer.packet() {
+                PacketRef::Acl { handle, .. } => said(&mut self.known, handle, now),
+                PacketRef::Event(event) => leave(&mut self.known, event),
+                PacketRef::Sco => {}
             }
         }
         Some(fed.used)
@@ -72,7 +100,7 @@ impl Strangers {
 
     /// Whether it is looked for them at all.
     pub(crate) fn are_looked_for(&self) -> bool {
-        self.limit.is_some()
+        self.limits.silent.is_some() || self.limits.staying.is_some()
     }
 
     /// These phones have no key, and no others.
@@ -80,18 +108,16 @@ impl Strangers {
         self.known = strangers_of(keyless, self.known.as_slice(), now);
     }
 
-    /// When the first of them has been silent for too long, in milliseconds.
+    /// Returns when the first of them is to be sent away, in milliseconds.
     pub(crate) fn due(&self) -> Option<u64> {
-        let limit = self.limit?;
         let mut due = None;
         for stranger in self.known.as_slice() {
-            let at = stranger.since.saturating_add(limit);
-            due = sooner(due, Some(at));
+            due = sooner(due, self.limits.due(stranger));
         }
         due
     }
 
-    /// Whether one of them has been silent for too long.
+    /// Returns whether one of them is to be sent away.
     pub(crate) fn is_due(&self, now: u64) -> bool {
         match self.due() {
             Some(due) => due <= now,
@@ -99,31 +125,36 @@ impl Strangers {
         }
     }
 
-    /// One that has been silent for too long, which is known no more.
-    pub(crate) fn next_silent(&mut self, now: u64) -> Option<u16> {
-        let place = silent_place(self.known.as_slice(), self.limit?, now)?;
+    /// Returns one that is to be sent away, which is known no more.
+    pub(crate) fn next_due(&mut self, now: u64) -> Option<u16> {
+        let place = place_due(self.known.as_slice(), self.limits, now)?;
         Some(self.known.pop_at(place)?.handle)
     }
 }
 
-/// The place of the first of them who has been silent for so long, in milliseconds.
-fn silent_place(known: &[Stranger], limit: u64, now: u64) -> Option<usize> {
+/// Returns the place of the first of them who is to be sent away.
+fn place_due(known: &[Stranger], limits: Limits, now: u64) -> Option<usize> {
     for (place, stranger) in known.iter().enumerate() {
-        if stranger.since.saturating_add(limit) <= now {
+        if let Some(due) = limits.due(stranger)
+            && due <= now
+        {
             return Some(place);
         }
     }
     None
 }
 
-/// Phones that have no key, of whom some are known.
+/// Returns the phones that have no key, of whom some are known.
 fn strangers_of(keyless: &[u16], known: &[Stranger], now: u64) -> ArrayVec<Stranger, MAX_SLOTS> {
     let mut strangers = ArrayVec::new();
     for handle in keyless {
-        let handle = *handle;
-        let since = since(known, handle).unwrap_or(now);
+        let new = Stranger {
+            handle: *handle,
+            found: now,
+            since: now,
+        };
         // A host has no more connections than there is room for.
-        let _ = strangers.try_push(Stranger { handle, since });
+        let _ = strangers.try_push(find(known, *handle).unwrap_or(new));
     }
     strangers
 }
@@ -137,11 +168,30 @@ fn said(known: &mut ArrayVec<Stranger, MAX_SLOTS>, handle: u16, now: u64) {
     }
 }
 
-/// Since when one of them is silent.
-fn since(known: &[Stranger], handle: u16) -> Option<u64> {
+/// Forgets one of them if an event says that it is gone: another phone may have its handle next.
+fn leave(known: &mut ArrayVec<Stranger, MAX_SLOTS>, event: &[u8]) {
+    if let [DISCONNECTION_COMPLETE, _, 0, low, high, ..] = *event
+        && let Some(place) = place_of(known.as_slice(), u16::from_le_bytes([low, high]))
+    {
+        known.pop_at(place);
+    }
+}
+
+/// Returns the place of the one with a handle.
+fn place_of(known: &[Stranger], handle: u16) -> Option<usize> {
+    for (place, stranger) in known.iter().enumerate() {
+        if stranger.handle == handle {
+            return Some(place);
+        }
+    }
+    None
+}
+
+/// Returns one of them by its handle.
+fn find(known: &[Stranger], handle: u16) -> Option<Stranger> {
     for stranger in known {
         if stranger.handle == handle {
-            return Some(stranger.since);
+            return Some(*stranger);
         }
     }
     None

@@ -1,5 +1,6 @@
 //! What the application is told, and what is logged of that.
 
+use crate::acceptance::Acceptance;
 use crate::application::Application;
 use crate::heard::Heard;
 use crate::missed::Missed;
@@ -10,18 +11,41 @@ use std::alloc::{AllocError, Global};
 use std::str;
 use std::time::Clock;
 
-/// Answers a question. Whose line was too long is ended.
+/// Answers a question of the application or of its visitor. Whose line was too long is ended.
 pub(crate) fn reply<R: Clock + Eprint>(
     application: &mut Application,
     log: &Log<'_, R>,
     question: Question,
     text: Result<Vec<u8>, AllocError>,
 ) {
+    if application.is_visited() {
+        reply_to_visitor(application, log, question, text);
+        return;
+    }
     let is_said = say_or_end(application, log, text, "memory: refused for an answer");
     if is_said && matches!(question, Question::TooLong) {
         application.flush();
         application.end();
         log.say("application ended: its line is too long");
+    }
+}
+
+/// Answers a question of the visitor.
+fn reply_to_visitor<R: Clock + Eprint>(
+    application: &mut Application,
+    log: &Log<'_, R>,
+    question: Question,
+    text: Result<Vec<u8>, AllocError>,
+) {
+    match text {
+        Ok(text) => application.answer_visitor(Some(text.as_slice())),
+        Err(_) => {
+            log.say("memory: refused for an answer");
+            application.answer_visitor(None);
+        }
+    }
+    if matches!(question, Question::TooLong) {
+        application.answer_visitor(None);
     }
 }
 
@@ -97,18 +121,19 @@ pub(crate) fn flush<R: Clock + Eprint>(
     }
 }
 
-/// Reads what the application says, or lets the next one take its place, which it is told.
+/// Reads what the application and its visitor say, or lets the visitor take the application's place,
+/// which this is told.
 pub(crate) fn fill<R: Clock + Eprint>(
     alloc: Global,
     application: &mut Application,
     missed: &mut Missed,
-    waiting: &Waiting,
     log: &Log<'_, R>,
 ) {
+    attend(application, missed, log);
     if application.is_giving_place() {
         tell(alloc, application, log, &Told::Replaced);
     }
-    if application.fill(waiting) {
+    if application.fill() {
         note_end(missed, false, log);
     }
 }
@@ -146,24 +171,32 @@ fn log_lines<R: Clock + Eprint>(log: &Log<'_, R>, lines: &[u8]) {
     }
 }
 
-/// Takes the next application that connects.
-pub(crate) fn accept<R: Clock + Eprint>(
-    application: &mut Application,
-    missed: &mut Missed,
-    waiting: &Waiting,
-    log: &Log<'_, R>,
-) {
+/// Attends to the visitor, which may become the application.
+fn attend<R: Clock + Eprint>(application: &mut Application, missed: &mut Missed, log: &Log<'_, R>) {
     tell_gone(application, log);
     let was_there = application.is_there();
     let has_read_all = application.has_read_all();
-    match application.accept(waiting) {
-        Ok(true) => {
-            if !was_there {
-                note_end(missed, has_read_all, log);
-            }
-            log.say("application");
+    if application.attend(log.now()) {
+        if !was_there {
+            note_end(missed, has_read_all, log);
         }
-        Ok(false) => {}
-        Err(_) => log.say("application: not accepted"),
+        log.say("application");
+    }
+}
+
+/// Accepts the next one that connects. It is logged once that this fails.
+pub(crate) fn accept<R: Clock + Eprint>(
+    application: &mut Application,
+    acceptance: &mut Acceptance,
+    waiting: &Waiting,
+    log: &Log<'_, R>,
+) {
+    match application.accept(waiting, log.now()) {
+        Ok(is_accepted) => acceptance.succeed(is_accepted),
+        Err(_) => {
+            if acceptance.fail(log.now()) {
+                log.say("application: not accepted");
+            }
+        }
     }
 }
