@@ -21,6 +21,8 @@ pub(crate) struct Device<'a, R> {
     pub(crate) keeping: Option<Keeping>,
     /// The connections that are to be ended, since what they changed is not saved.
     pub(crate) ending: ArrayVec<u16, MAX_SLOTS>,
+    /// When the device ends at the latest, in milliseconds, if it is to end.
+    pub(crate) stop: Option<u64>,
     /// The number of this start of the device.
     pub(crate) started: u64,
 }
@@ -48,7 +50,7 @@ impl<
         if let Some(handle) = self.ending.pop() {
             return Next::Call(App::Disconnect(handle));
         }
-        let deadline = sooner(deadline, self.retry());
+        let deadline = sooner(sooner(deadline, self.stop), self.retry());
         next(&mut self.sides, deadline, buffer)
     }
 

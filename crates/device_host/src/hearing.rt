@@ -28,6 +28,13 @@ impl Hearing {
         }
     }
 
+    /// Another controller is served, to which nobody is connected yet.
+    pub(crate) fn begin(&mut self) {
+        self.heard.begin();
+        self.unsaved.clear();
+        self.is_change = false;
+    }
+
     /// Notes whether a notice tells of a change of what is saved. No other notices do.
     fn note(&mut self, notice: &Notice<'_>) {
         self.is_change |= match notice {

@@ -5,6 +5,8 @@
 
 mod device;
 mod ends;
+mod files;
+mod finding;
 mod hearing;
 mod keeping;
 mod opening;
@@ -12,6 +14,7 @@ mod outgoing;
 mod outside;
 mod serving;
 mod stop;
+mod stopping;
 mod telling;
 
 pub use device_words::HostWords;

@@ -1,5 +1,6 @@
 //! The host that is served: what its files say, and what was saved of it before.
 
+use crate::files::{TableFile, read_file, read_keys, read_subscriptions, read_table};
 use crate::keeping::{Contents, Keeping, Served, subscriptions_text};
 use crate::stop::{Stop, refuse};
 use arrayvec::ArrayVec;
@@ -7,7 +8,7 @@ use att_numbers::attribute_type::SERVICE_CHANGED;
 use device_ends::{Lock, LockFault, Log, SavedFile, unknown_peer};
 use device_state::{Saves, State, restore};
 use device_words::{HostSettings, Saved, Settings};
-use gatt_files::{LazyFile, RowsPath, RowsReader, ShellFault, judged_table};
+use gatt_files::{ShellFault, judged_rows, judged_table};
 use gatt_host::{Config, Host, Keys, PacketOctets, Rows, Table};
 use std::alloc::Global;
 use std::fs::{File, Files};
@@ -34,12 +35,11 @@ pub(crate) fn open_host<R: Files<File = File> + Clock + Eprint>(
     settings: &Settings<'_>,
 ) -> Result<(Host, Option<Keeping>), Stop> {
     let files = &settings.files;
-    let text = gatt_files::read_all(alloc, &mut LazyFile::new(log.rt, files.table))?;
-    let table = judged_table(alloc, text.as_slice())?;
-    let keys = gatt_files::read_keys(alloc, &mut LazyFile::new(log.rt, files.keys))?;
+    let TableFile { table, text } = read_table(alloc, log.rt, files.table)?;
+    let keys = read_keys(alloc, log.rt, files.keys)?;
     match files.saved {
         Saved::Nothing => {
-            let rows = read_rows(alloc, log.rt, None)?;
+            let rows = no_rows(alloc)?;
             Ok((open(alloc, table, keys, rows, &settings.host)?, None))
         }
         Saved::Subscriptions(path) => open_with_subscriptions(
@@ -71,7 +71,7 @@ fn open_with_subscriptions<R: Files<File = File> + Clock + Eprint>(
 ) -> Result<(Host, Option<Keeping>), Stop> {
     let file = find_file(alloc, log, path, FOR_ALL)?;
     let lock = lock_file(alloc, log, file.path(), ".lock")?;
-    let rows = read_rows(alloc, log.rt, Some(file.path()))?;
+    let rows = read_subscriptions(alloc, log.rt, file.path())?;
     let host = open_with(alloc, log, settings, table, keys, rows)?;
     let keeping = Keeping::new(alloc, lock, file, Contents::Subscriptions);
     Ok((host, Some(keeping)))
@@ -96,7 +96,7 @@ fn open_with_state<R: Files<File = File> + Clock + Eprint>(
     let host = match find_state(alloc, log, file.path())? {
         Some(state) => resume(alloc, log, settings, state, &served, table, keys)?,
         None => {
-            let rows = read_rows(alloc, log.rt, None)?;
+            let rows = no_rows(alloc)?;
             open(alloc, table, keys, rows, &settings.host)?
         }
     };
@@ -147,9 +147,9 @@ fn lock_file<R: Files<File = File> + Clock + Eprint>(
     }
 }
 
-/// The subscriptions of a file, if there is one.
-fn read_rows<F: Files>(alloc: Global, files: &F, path: Option<&str>) -> Result<Rows, ShellFault> {
-    gatt_files::read_rows(alloc, &mut RowsReader::new(files, RowsPath(path)))
+/// Returns no subscriptions.
+fn no_rows(alloc: Global) -> Result<Rows, ShellFault> {
+    judged_rows(alloc, &[])
 }
 
 /// The state that a file has, if it is there.
@@ -158,15 +158,8 @@ fn find_state<R: Files<File = File> + Clock + Eprint>(
     log: &Log<'_, R>,
     path: &str,
 ) -> Result<Option<State>, Stop> {
-    let mut file = match File::open(log.rt, path) {
-        Ok(file) => file,
-        Err(error) if error.kind() == ErrorKind::NotFound => return Ok(None),
-        Err(error) => {
-            return Err(refuse(log.rt, format!(in alloc; "{path}: {error}").ok()));
-        }
-    };
-    let Ok(octets) = gatt_files::read_all(alloc, &mut file) else {
-        return Err(refuse(log.rt, format!(in alloc; "{path}: cannot be read").ok()));
+    let Some(octets) = read_file(alloc, log.rt, path)? else {
+        return Ok(None);
     };
     match State::read(alloc, octets.as_slice()) {
         Ok(state) => Ok(Some(state)),

@@ -7,6 +7,7 @@ use crate::keeping::Keeping;
 use crate::opening::{open_host, reopen};
 use crate::outgoing::ToController;
 use crate::stop::Stop;
+use crate::stopping::{finish, is_stopped};
 use device_ends::Log;
 use device_lines::Told;
 use device_sides::{Heard, Sides};
@@ -27,13 +28,15 @@ enum Over {
     Gone(&'static str),
     /// The host has stopped.
     Stopped(HostFault),
+    /// The application has asked for the end of the device.
+    Asked,
 }
 
 impl Over {
     /// What it comes to, where no other controller is served.
     fn outcome(self) -> Result<(), Stop> {
         match self {
-            Over::Gone(_) => Ok(()),
+            Over::Gone(_) | Over::Asked => Ok(()),
             Over::Stopped(fault) => Err(Stop::Fault(ShellFault::Host(fault.number()))),
         }
     }
@@ -122,7 +125,9 @@ fn serve_once<
     R: Files<File = File> + Net<Listener = TcpListener, Stream = TcpStream> + Clock + Eprint,
 >(device: &mut Device<'_, R>, host: Host, logs_values: bool) -> Result<(), Stop> {
     let mut host = host;
-    let over = serve_one(device, &mut host, logs_values);
+    let mut hearing = hearing_of(device, logs_values);
+    let over = serve_one(device, &mut host, &mut hearing);
+    drop(hearing);
     drop(host);
     over.outcome()
 }
@@ -132,27 +137,41 @@ fn serve_each<
     R: Files<File = File> + Net<Listener = TcpListener, Stream = TcpStream> + Clock + Eprint,
 >(device: &mut Device<'_, R>, host: Host, settings: &Settings<'_>) -> Result<(), Stop> {
     let mut host = host;
+    let mut hearing = hearing_of(device, settings.log_values);
     for _controller in 0..u64::MAX {
-        serve_one(device, &mut host, settings.log_values);
+        if let Over::Asked = serve_one(device, &mut host, &mut hearing) {
+            break;
+        }
         host = reopen(device.alloc, host, &settings.host)?;
         device.sides.lose();
     }
+    drop(hearing);
     drop(host);
     Ok(())
+}
+
+/// What is heard of a host from now on.
+fn hearing_of<R>(device: &Device<'_, R>, logs_values: bool) -> Hearing {
+    let saves_values = match &device.keeping {
+        Some(keeping) => keeping.contents.has_values(),
+        None => false,
+    };
+    Hearing::new(Heard::new(device.alloc, logs_values), saves_values)
 }
 
 /// Serves a controller, and tells why it is served no longer.
 fn serve_one<
     R: Files<File = File> + Net<Listener = TcpListener, Stream = TcpStream> + Clock + Eprint,
->(device: &mut Device<'_, R>, host: &mut Host, logs_values: bool) -> Over {
-    let saves_values = match &device.keeping {
-        Some(keeping) => keeping.contents.has_values(),
-        None => false,
-    };
-    let mut heard = Hearing::new(Heard::new(device.alloc, logs_values), saves_values);
+>(device: &mut Device<'_, R>, host: &mut Host, hearing: &mut Hearing) -> Over {
+    hearing.begin();
     // They were connections of the controller before.
+    device.sides.know(&hearing.heard);
     device.ending.clear();
-    let over = serve_turns(device, host, &mut heard);
+    let over = serve_turns(device, host, hearing);
+    if device.stop.is_some() {
+        finish(device);
+        return Over::Asked;
+    }
     tell_over(device.alloc, &mut device.sides, over);
     over
 }
@@ -181,15 +200,16 @@ fn over_in_turn<
 ) -> Option<Over> {
     let turn = serve_turn(host, device, out, heard);
     if matches!(turn.sending, Sending::Failed) {
-        return Some(Over::Gone("gone: it cannot be written"));
+        return Some(Over::Gone(device.sides.why_lost("gone: it cannot be written")));
     }
     match turn.served {
         Ok(End::Turns) if device.sides.lacks_application() => {
             Some(Over::Gone("released: no application is connected"))
         }
+        Ok(End::Turns) if is_stopped(device, host) => Some(Over::Asked),
         Ok(End::Turns) => None,
         Ok(End::Ended) => Some(Over::Gone("gone")),
-        Ok(End::Failed) => Some(Over::Gone("gone: it cannot be read")),
+        Ok(End::Failed) => Some(Over::Gone(device.sides.why_lost("gone: it cannot be read"))),
         Err(fault) => Some(Over::Stopped(fault)),
     }
 }
@@ -199,8 +219,11 @@ fn tell_over<R: Clock + Eprint>(alloc: Global, sides: &mut Sides<'_, R>, over: O
     match over {
         Over::Gone(how) => sides.log().say_of("controller", how),
         Over::Stopped(fault) => tell_stopped(alloc, sides, fault),
+        Over::Asked => {}
     }
-    sides.tell(&Told::Waiting);
+    if sides.is_serving() {
+        sides.tell(&Told::Waiting);
+    }
     sides.flush();
 }
 

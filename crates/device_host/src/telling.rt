@@ -3,18 +3,21 @@
 
 ghost use Rattle.std.specs.Prelude.{◌≡◌, ◌++◌, OnOk};
 ghost use Rattle.std.specs.List.{flat_map};
-ghost use Rattle.device_lines.specs.Told.{connection_lines};
+ghost use Rattle.device_lines.specs.Told.{lines_of_connection};
 ghost use Rattle.gatt_slots.specs.Connections.{connections_in};
 
 use crate::device::Device;
+use crate::finding::find;
 use crate::hearing::Hearing;
 use crate::keeping::Keeping;
+use crate::stopping::begin_stop;
 use arrayvec::ArrayVec;
 use att_numbers::limit::MAX_ATTRIBUTES;
-use device_lines::{Reply, Told, add_connection, add_reply, add_told};
-use device_sides::{Question, Sides, add_answer, add_value};
+use att_table::ConfigRow;
+use device_lines::{Names, Reply, Told, add_if_named, add_reply, add_told, add_wrong};
+use device_sides::{Heard, Question, Sides, add_answer, add_handle, add_value};
 use gatt_device::Saving;
-use gatt_host::{AppFault, Host, MAX_SLOTS};
+use gatt_host::{AppFault, Connection, Host, MAX_SLOTS};
 use std::alloc::{AllocError, Global};
 use std::fs::{File, Files};
 use std::time::Clock;
@@ -30,18 +33,25 @@ pub(crate) fn settle<R: Files<File = File> + Clock + Eprint>(
     hearing: &mut Hearing,
 ) -> Saving {
     let sides = &mut device.sides;
-    sides.tell_controller();
+    sides.tell_controller(host.is_initialised());
     if let Some(keeping) = &mut device.keeping {
         note_changes(keeping, sides, host, hearing);
     }
     let saving = save(device, host, hearing);
     let sides = &mut device.sides;
-    answer(device.alloc, sides, host);
+    sides.know(&hearing.heard);
+    if matches!(sides.question(), Question::Stop) {
+        begin_stop(device);
+    } else {
+        answer(device.alloc, sides, host, &hearing.heard);
+    }
+    let sides = &mut device.sides;
     if !hearing.heard.is_nothing() {
         sides.tell_heard(&hearing.heard);
+        tell_subscriptions(device.alloc, sides, host, &hearing.heard);
         hearing.heard.clear();
     }
-    welcome(device, host);
+    welcome(device, host, &hearing.heard);
     let sides = &mut device.sides;
     tell_missed(sides, host);
     look_for_strangers(sides, host);
@@ -86,6 +96,91 @@ fn save<R: Files<File = File> + Clock + Eprint>(
     Saving::Unsaved(unsaved)
 }
 
+/// Tells the application what the connections have subscribed to whose links have a key since the turn.
+fn tell_subscriptions<R: Clock + Eprint>(
+    alloc: Global,
+    sides: &mut Sides<'_, R>,
+    host: &Host,
+    heard: &Heard,
+) {
+    if !heard.secured().is_empty() {
+        let text = secured_text(alloc, sides.names(), host, heard);
+        sides.tell_lines(text);
+    }
+}
+
+/// What the connections have subscribed to whose links have a key since the turn.
+fn secured_text(
+    alloc: Global,
+    names: &Names,
+    host: &Host,
+    heard: &Heard,
+) -> Result<Vec<u8>, AllocError> {
+    let mut text = Vec::new(alloc);
+    for connection in host.connections() {
+        if heard.secured().contains(&connection.handle) {
+            add_subscriptions(&mut text, names, host, heard, &connection)?;
+        }
+    }
+    Ok(text)
+}
+
+/// Adds the lines of what a connection has subscribed to: of its peer's row while its link has a key,
+/// else of its own.
+fn add_subscriptions(
+    text: &mut Vec<u8>,
+    names: &Names,
+    host: &Host,
+    heard: &Heard,
+    connection: &Connection,
+) -> Result<(), AllocError> {
+    let Some(name) = names.name_of(connection.handle) else {
+        return Ok(());
+    };
+    if connection.key.is_none() {
+        return heard.add_own_subscriptions(text, name, connection.handle);
+    }
+    match host.rows().row(&connection.peer) {
+        Some(row) => add_row(text, name, row),
+        None => Ok(()),
+    }
+}
+
+/// Adds the lines of a row of a connection.
+fn add_row(text: &mut Vec<u8>, name: u64, row: &ConfigRow) -> Result<(), AllocError> {
+    for place in 0..row.len() {
+        let (attribute, bits) = row.entry(place);
+        if bits != 0 {
+            let line = Told::Subscribed {
+                name,
+                attribute,
+                bits,
+            };
+            add_told(text, &line)?;
+        }
+    }
+    Ok(())
+}
+
+/// Adds what the connection with a name has subscribed to, or that there is none.
+fn answer_subscriptions(
+    alloc: Global,
+    text: &mut Vec<u8>,
+    name: u64,
+    names: &Names,
+    host: &Host,
+    heard: &Heard,
+) -> Result<(), AllocError> {
+    let handle = names.handle_of(name);
+    for connection in host.connections() {
+        if Some(connection.handle) == handle {
+            add_subscriptions(text, names, host, heard, &connection)?;
+            return add_reply(text, &Reply::Done);
+        }
+    }
+    add_answer(alloc, text, Question::Call, Err(AppFault::NoSuchConnection))
+}
+
 /// Those of some connections that are there and are not being ended.
 fn standing(host: &Host, handles: &[u16]) -> ArrayVec<u16, MAX_SLOTS> {
     let mut standing = ArrayVec::new();
@@ -99,44 +194,50 @@ fn standing(host: &Host, handles: &[u16]) -> ArrayVec<u16, MAX_SLOTS> {
 }
 
 /// Answers the line that was said in a turn.
-fn answer<R: Clock + Eprint>(alloc: Global, sides: &mut Sides<'_, R>, host: &Host) {
+fn answer<R: Clock + Eprint>(alloc: Global, sides: &mut Sides<'_, R>, host: &Host, heard: &Heard) {
     let question = sides.take_question();
     if matches!(question, Question::Nothing) {
         return;
     }
-    let text = answer_text(alloc, question, sides.answer(), host);
+    let text = answer_text(alloc, question, sides, host, heard);
     sides.reply(question, text);
 }
 
 /// What a question is answered, where calls are answered so.
-fn answer_text(
+fn answer_text<R>(
     alloc: Global,
     question: Question,
-    answer: Result<(), AppFault>,
+    sides: &Sides<'_, R>,
     host: &Host,
+    heard: &Heard,
 ) -> Result<Vec<u8>, AllocError> {
     let mut text = Vec::new(alloc);
     match question {
+        Question::Wrong(wrong) => add_wrong(&mut text, sides.word(wrong.place), wrong.fault)?,
+        Question::Find(wanted) => add_handle(&mut text, find(host.table(), wanted))?,
+        Question::Subscriptions(name) => {
+            answer_subscriptions(alloc, &mut text, name, sides.names(), host, heard)?;
+        }
         Question::Value(handle) => {
             add_value(alloc, &mut text, handle, host.table().value_of(handle))?;
         }
-        Question::Connections => add_all_connections(&mut text, host)?,
-        _ => add_answer(alloc, &mut text, question, answer)?,
+        Question::Connections => add_all_connections(&mut text, sides.names(), host)?,
+        _ => add_answer(alloc, &mut text, question, sides.answer())?,
     }
     Ok(text)
 }
 
 /// Adds the lines of all connections of a host, and that these are all.
-fn add_all_connections(text: &mut Vec<u8>, host: &Host) -> Result<(), AllocError> {
-    add_connections(text, host)?;
+fn add_all_connections(text: &mut Vec<u8>, names: &Names, host: &Host) -> Result<(), AllocError> {
+    add_connections(text, names, host)?;
     add_reply(text, &Reply::Done)
 }
 
 /// Tells a new application which start of the device this is, what stands, and what is not saved.
-fn welcome<R: Clock + Eprint>(device: &mut Device<'_, R>, host: &Host) {
+fn welcome<R: Clock + Eprint>(device: &mut Device<'_, R>, host: &Host, heard: &Heard) {
     let sides = &mut device.sides;
     if sides.has_new_application() {
-        let text = standing_text(device.alloc, device.started, sides, host);
+        let text = standing_text(device.alloc, device.started, sides, host, heard);
         sides.welcome(text);
         if let Some(keeping) = &device.keeping {
             keeping.tell_failure(sides);
@@ -150,8 +251,9 @@ fn standing_text<R>(
     started: u64,
     sides: &Sides<'_, R>,
     host: &Host,
+    heard: &Heard,
 ) -> Result<Vec<u8>, AllocError> {
-    let told = if sides.has_controller() {
+    let told = if sides.is_serving() {
         Told::Serving
     } else {
         Told::Waiting
@@ -159,7 +261,10 @@ fn standing_text<R>(
     let mut text = Vec::new(alloc);
     add_told(&mut text, &Told::Started(started))?;
     add_told(&mut text, &told)?;
-    add_connections(&mut text, host)?;
+    add_connections(&mut text, sides.names(), host)?;
+    for connection in host.connections() {
+        add_subscriptions(&mut text, sides.names(), host, heard, &connection)?;
+    }
     Ok(text)
 }
 
@@ -184,12 +289,13 @@ fn tell_missed<R: Clock + Eprint>(sides: &mut Sides<'_, R>, host: &Host) {
 }
 
 /// Adds the lines of all connections of a host, in the order of their slots.
-fn add_connections(text: &mut Vec<u8>, host: &Host) -> Result<(), AllocError>
+fn add_connections(text: &mut Vec<u8>, names: &Names, host: &Host) -> Result<(), AllocError>
     ensures ok { OnOk result (text.new.items
-        ≡ text.old.items ++ flat_map connection_lines (connections_in host.now.server.slots)) }
+        ≡ text.old.items ++ flat_map (lines_of_connection names.now.named)
+        (connections_in host.now.server.slots)) }
 {
     for connection in host.connections() {
-        add_connection(text, &connection)?;
+        add_if_named(text, names, &connection)?;
     }
     Ok(())
 }

@@ -4,4 +4,6 @@
 
 mod show;
 
-pub use show::{ShowPaths, show_files, show_paths};
+pub use show::{
+    ShowPaths, show_files, show_paths, tell_keys_fault, tell_rows_fault, tell_table_fault,
+};

@@ -101,16 +101,26 @@ fn read_table_at<R: Read>(
     }
 }
 
-/// Tells where a refused table file has its fault. One that is too large was not read.
-fn tell_table_fault(alloc: Global, place: &mut Vec<u8>, octets: &[u8]) -> Result<(), AllocError> {
+/// Adds to a text where a table file with these octets has its fault, and what that is. On `Err` memory
+/// was refused, and the text means nothing.
+pub fn tell_table_fault(
+    alloc: Global,
+    place: &mut Vec<u8>,
+    octets: &[u8],
+) -> Result<(), AllocError> {
     if octets.len() > TOML_OCTETS {
         return Ok(place.extend_from_slice(TOO_LARGE)?);
     }
     gatt_show::add_table_fault(alloc, place, octets)
 }
 
-/// Tells where a refused key file has its fault. One that is too large was not read.
-fn tell_keys_fault(alloc: Global, place: &mut Vec<u8>, octets: &[u8]) -> Result<(), AllocError> {
+/// Adds to a text where a key file with these octets has its fault, and what that is, like
+/// `tell_table_fault`.
+pub fn tell_keys_fault(
+    alloc: Global,
+    place: &mut Vec<u8>,
+    octets: &[u8],
+) -> Result<(), AllocError> {
     if octets.len() > TOML_OCTETS {
         return Ok(place.extend_from_slice(TOO_LARGE)?);
     }
@@ -193,6 +203,16 @@ fn judge_keys_at(alloc: Global, octets: &[u8], place: &mut Vec<u8>) -> Result<()
     }
 }
 
+/// Adds to a text where a rows file with these octets has its fault, and what that is, like
+/// `tell_table_fault`.
+pub fn tell_rows_fault(
+    alloc: Global,
+    place: &mut Vec<u8>,
+    octets: &[u8],
+) -> Result<(), AllocError> {
+    gatt_show::add_rows_fault(alloc, place, octets)
+}
+
 /// Reads and judges a rows file.
 fn judge_rows_at<R: Read>(
     alloc: Global,
@@ -210,7 +230,7 @@ fn judge_rows_at<R: Read>(
     match judged_rows(alloc, octets.as_slice()) {
         Ok(_) => Ok(()),
         Err(fault) => {
-            if gatt_show::add_rows_fault(alloc, place, octets.as_slice()).is_err() {
+            if tell_rows_fault(alloc, place, octets.as_slice()).is_err() {
                 place.clear();
             }
             Err(fault)

@@ -2,11 +2,11 @@ use Rattle.std.proofs.Common.{◌≡◌, ◌++◌}
 use Rattle.std.specs.List.{flat_map}
 use Rattle.gatt_slots.specs.Connections.{connections_in}
 use Rattle.device_host.proofs.telling.add_connections.Given as goal
-use Rattle.device_lines.specs.Told.{connection_lines}
+use Rattle.device_lines.specs.Told.{lines_of_connection}
 
 -- what is told of those that the iterator still has is what is missing
 abbrev pub invariant-loop-connection : goal.invariant-loop-connection
 invariant-loop-connection l = record {
-  told : l.text.items ++ flat_map connection_lines l.connection-iterator
-      ≡ l.fn.text.items ++ flat_map connection_lines (connections_in l.fn.host.server.slots);
+  told : l.text.items ++ flat_map (lines_of_connection l.fn.names.named) l.connection-iterator
+      ≡ l.fn.text.items ++ flat_map (lines_of_connection l.fn.names.named) (connections_in l.fn.host.server.slots);
 }

@@ -1,0 +1,118 @@
+//! The files that a device reads at its start. Of one that is refused standard error has the path, and
+//! why and where.
+
+use crate::stop::{Stop, refuse};
+use arrayvec::ArrayVec;
+use gatt_files::{ShellFault, judged_keys, judged_rows, judged_table};
+use gatt_host::{Keys, Rows, Table};
+use show_command::{tell_keys_fault, tell_rows_fault, tell_table_fault};
+use std::alloc::{AllocError, Global};
+use std::fs::{File, Files};
+use std::io::ErrorKind;
+use std::str;
+
+/// A table file, with its octets.
+#[derive(Drop)]
+pub(crate) struct TableFile {
+    /// What it says.
+    pub(crate) table: Table,
+    /// Its octets.
+    pub(crate) text: Vec<u8>,
+}
+
+/// Reads a table file.
+pub(crate) fn read_table<R: Files<File = File> + Eprint>(
+    alloc: Global,
+    rt: &R,
+    path: &str,
+) -> Result<TableFile, Stop> {
+    let Some(text) = read_file(alloc, rt, path)? else {
+        return Err(refuse(rt, format!(in alloc; "{path}: not there").ok()));
+    };
+    match judged_table(alloc, text.as_slice()) {
+        Ok(table) => Ok(TableFile { table, text }),
+        Err(fault) => {
+            let mut place = Vec::new(alloc);
+            let told = tell_table_fault(alloc, &mut place, text.as_slice());
+            Err(refuse_at(alloc, rt, path, fault, told, place.as_slice()))
+        }
+    }
+}
+
+/// Reads a key file.
+pub(crate) fn read_keys<R: Files<File = File> + Eprint>(
+    alloc: Global,
+    rt: &R,
+    path: &str,
+) -> Result<Keys, Stop> {
+    let Some(text) = read_file(alloc, rt, path)? else {
+        return Err(refuse(rt, format!(in alloc; "{path}: not there").ok()));
+    };
+    match judged_keys(alloc, text.as_slice()) {
+        Ok(keys) => Ok(keys),
+        Err(fault) => {
+            let mut place = Vec::new(alloc);
+            let told = tell_keys_fault(alloc, &mut place, text.as_slice());
+            Err(refuse_at(alloc, rt, path, fault, told, place.as_slice()))
+        }
+    }
+}
+
+/// Reads a file of subscriptions. One that is not there has none.
+pub(crate) fn read_subscriptions<R: Files<File = File> + Eprint>(
+    alloc: Global,
+    rt: &R,
+    path: &str,
+) -> Result<Rows, Stop> {
+    let text = read_file(alloc, rt, path)?.unwrap_or(Vec::new(alloc));
+    match judged_rows(alloc, text.as_slice()) {
+        Ok(rows) => Ok(rows),
+        Err(fault) => {
+            let mut place = Vec::new(alloc);
+            let told = tell_rows_fault(alloc, &mut place, text.as_slice());
+            Err(refuse_at(alloc, rt, path, fault, told, place.as_slice()))
+        }
+    }
+}
+
+/// Returns the octets of a file, if it is there.
+pub(crate) fn read_file<R: Files<File = File> + Eprint>(
+    alloc: Global,
+    rt: &R,
+    path: &str,
+) -> Result<Option<Vec<u8>>, Stop> {
+    let mut file = match File::open(rt, path) {
+        Ok(file) => file,
+        Err(error) if error.kind() == ErrorKind::NotFound => return Ok(None),
+        Err(error) => return Err(refuse(rt, format!(in alloc; "{path}: {error}").ok())),
+    };
+    match gatt_files::read_all(alloc, &mut file) {
+        Ok(octets) => Ok(Some(octets)),
+        Err(ShellFault::Memory) => Err(Stop::Fault(ShellFault::Memory)),
+        Err(_) => Err(refuse(rt, format!(in alloc; "{path}: cannot be read").ok())),
+    }
+}
+
+/// Refuses a file for a fault, which is told with its place, if memory was left for that.
+fn refuse_at<R: Eprint>(
+    alloc: Global,
+    rt: &R,
+    path: &str,
+    fault: ShellFault,
+    told: Result<(), AllocError>,
+    place: &[u8],
+) -> Stop {
+    let mut text = ArrayVec::new();
+    gatt_files::text(&fault, &mut text);
+    let words = str::from_utf8(text.as_slice()).unwrap_or("");
+    let place = if told.is_ok() {
+        str::from_utf8(place).unwrap_or("")
+    } else {
+        ""
+    };
+    if place.is_empty() {
+        refuse(rt, format!(in alloc; "{path}: {words}").ok())
+    } else {
+        refuse(rt, format!(in alloc; "{path}: {words}: {place}").ok())
+    }
+}

@@ -1,0 +1,96 @@
+//! The end of a device that is asked for by the line `stop`.
+
+use crate::device::Device;
+use arrayvec::ArrayVec;
+use device_sides::Question;
+use gatt_host::{Host, MAX_SLOTS};
+use std::alloc::{AllocError, Global};
+use std::fs::{File, Files};
+use std::net::{Net, TcpListener, TcpStream};
+use std::time::Clock;
+
+/// After so long the controller is reset at the latest, in milliseconds.
+const ENDING_TIME: u64 = 3_000;
+
+/// For so long the device waits at most for the answer to the Reset, in milliseconds.
+const RESET_TIME: u64 = 1_000;
+
+/// The command Reset: Core 5.0, Vol 2 Part E, 7.3.2.
+const RESET: [u8; 4] = [0x01, 0x03, 0x0C, 0x00];
+
+/// The device is to end: its connections first, and nobody is heard any more.
+pub(crate) fn begin_stop<R: Clock + Eprint>(device: &mut Device<'_, R>) {
+    device.sides.take_question();
+    device.sides.hold();
+    device.sides.log().say("stop");
+    device.stop = Some(device.sides.log().now().saturating_add(ENDING_TIME));
+}
+
+/// Whether a device that is to end has no connection any more, or has waited for that long enough. Its
+/// connections are ended else.
+pub(crate) fn is_stopped<R: Clock + Eprint>(device: &mut Device<'_, R>, host: &Host) -> bool {
+    let Some(stop) = device.stop else {
+        return false;
+    };
+    let is_late = stop <= device.sides.log().now();
+    let mut ending = ArrayVec::new();
+    let mut is_connected = false;
+    for connection in host.connections() {
+        is_connected = true;
+        if !connection.ending {
+            // A host has no more connections than there is room for.
+            let _ = ending.try_push(connection.handle);
+        }
+    }
+    device.ending = ending;
+    is_late || !is_connected || !device.sides.has_controller()
+}
+
+/// Resets the controller, so that it advertises no more, and answers that the device ends.
+pub(crate) fn finish<
+    R: Files<File = File> + Net<Listener = TcpListener, Stream = TcpStream> + Clock + Eprint,
+>(device: &mut Device<'_, R>) {
+    if let Ok(true) = device.sides.write(&RESET) {
+        wait_for_reset(device);
+    }
+    let text = ok_text(device.alloc);
+    device.sides.reply(Question::Stop, text);
+    device.sides.flush();
+    device.sides.log().say("stopped");
+}
+
+/// The answer to `stop`.
+fn ok_text(alloc: Global) -> Result<Vec<u8>, AllocError> {
+    let mut text = Vec::new(alloc);
+    text.extend_from_slice(b"ok\n")?;
+    Ok(text)
+}
+
+/// Waits until the controller says something that may be the answer to the Reset, or is gone. A stream
+/// that is closed before it is read may lose what was written last.
+fn wait_for_reset<
+    R: Files<File = File> + Net<Listener = TcpListener, Stream = TcpStream> + Clock + Eprint,
+>(device: &mut Device<'_, R>) {
+    let until = device.sides.log().now().saturating_add(RESET_TIME);
+    let mut buffer = [0; 256];
+    for _turn in 0..u64::MAX {
+        if until <= device.sides.log().now() {
+            return;
+        }
+        device.sides.next_tick(Some(until));
+        if device.sides.is_controller_next() {
+            match device.sides.read(&mut buffer) {
+                Ok(Some(octets)) if octets.is_empty() || has_reset(octets) => return,
+                Ok(_) => {}
+                Err(_) => return,
+            }
+        }
+    }
+}
+
+/// Whether octets have the opcode of Reset.
+fn has_reset(octets: &[u8]) -> bool {
+    octets
+        .windows(2)
+        .any(|pair| pair == [0x03, 0x0C].as_slice())
+}
