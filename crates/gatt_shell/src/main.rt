@@ -4,6 +4,8 @@
 //! the library which has the command.
 #![tactic(auto)]
 
+mod telling;
+
 ghost use Rattle.std.specs.Prelude.{◌≡◌, Ok, Err, IfErr, true, false};
 ghost use Rattle.gatt_files.specs.Check.{IsCheckFault};
 ghost use Rattle.gatt_files.specs.Fault.{exit_status_of};
@@ -16,6 +18,7 @@ use gatt_commands::{
 };
 use gatt_words::{Choice, HostChoice, Refusal};
 use show_command::ShowPaths;
+use std::fs::File;
 use std::io::{BufWriter, Write};
 use std::process::ExitCode;
 use std::{io, str};
@@ -112,7 +115,30 @@ fn run_show(rt: &HostRuntime, paths: ShowPaths<'_>) -> u8 {
         tell_at(rt, fault, place.as_slice());
         return gatt_commands::status(fault);
     }
+    if matches!(&ran, Err(ShellFault::Unreadable))
+        && let Some(place) = unreadable(rt, paths)
+    {
+        tell_at(rt, &ShellFault::Unreadable, place.as_bytes());
+        return gatt_commands::status(&ShellFault::Unreadable);
+    }
     exit_status(rt, ran)
+}
+
+/// Returns which of the files of `show` cannot be opened, and why, if memory is left for that. The rows file
+/// need not be there.
+fn unreadable(rt: &HostRuntime, paths: ShowPaths<'_>) -> Option<String> {
+    let keys = match paths.keys {
+        Some(KeysPath(path)) => Some(path),
+        None => None,
+    };
+    for path in [Some(paths.table.0), keys, paths.rows.0] {
+        if let Some(path) = path
+            && let Err(error) = File::open(rt, path)
+        {
+            return format!(in rt.alloc(); "{path}: {error}").ok();
+        }
+    }
+    None
 }
 
 /// Runs a script, and prints what its lines bring, which is written out as often as a buffer is full
@@ -144,9 +170,12 @@ fn host_words<'a>(choice: &'a HostChoice<'a>) -> HostWords<'a> {
         advertise: choice.advertise.as_slice(),
         address: choice.address,
         capture: choice.capture,
+        capture_size: choice.capture_size,
         log_values: choice.log_values,
         slots: choice.slots,
         idle: choice.idle,
+        stranger: choice.stranger,
+        patience: choice.patience,
         once: choice.once,
     }
 }
@@ -164,6 +193,7 @@ fn stop_status(rt: &HostRuntime, stop: Stop) -> u8 {
     match stop {
         Stop::Fault(fault) => exit_status(rt, Err(fault)),
         Stop::File => gatt_commands::status(&ShellFault::Unwritten),
+        Stop::Socket => gatt_commands::status(&ShellFault::Listen),
         Stop::Words(wrong) => {
             // Where that cannot be written, nobody can be told.
             let _ = rt.eprintln(wrong);
@@ -172,10 +202,35 @@ fn stop_status(rt: &HostRuntime, stop: Stop) -> u8 {
     }
 }
 
+/// Sends a line to a device, and returns the status of the program.
+fn run_tell<'a>(
+    rt: &HostRuntime,
+    socket: &str,
+    command: &'a str,
+    others: [Option<&'a str>; 3],
+) -> u8 {
+    let mut words: ArrayVec<&str, 4> = ArrayVec::new();
+    words.push(command);
+    for word in others {
+        if let Some(word) = word {
+            // There is room for all of them.
+            let _ = words.try_push(word);
+        }
+    }
+    telling::tell_device(rt, socket, words.as_slice())
+}
+
 /// Carries out the command that the words have chosen, and returns the status of the program.
 fn carry_out(rt: &HostRuntime, choice: &Choice<'_>) -> u8 {
     match *choice {
         Choice::Host(ref choice) => run_host(rt, choice),
+        Choice::Tell {
+            socket,
+            command,
+            first,
+            second,
+            third,
+        } => run_tell(rt, socket, command, [first, second, third]),
         Choice::Att => exit_status(rt, run_att(rt)),
         Choice::Check { table, keys } => {
             exit_status(rt, run_check(rt, TablePath(table), KeysPath(keys)))
@@ -231,7 +286,13 @@ fn carry_out(rt: &HostRuntime, choice: &Choice<'_>) -> u8 {
 fn run_words(rt: &HostRuntime, words: &[String]) -> u8 {
     match gatt_words::chosen(rt.alloc(), words) {
         Ok(choice) => carry_out(rt, &choice),
-        Err(refusal) => refusal_status(rt, &refusal),
+        Err(refusal) => {
+            if let Some(error) = gatt_words::complaint(rt.alloc(), words) {
+                // If that cannot be written, nobody can be told.
+                let _ = rt.eprint(&error);
+            }
+            refusal_status(rt, &refusal)
+        }
     }
 }
 

@@ -7,7 +7,7 @@ use Rattle.gatt_words.specs.declared.argument.Takes.{Takes}
 use Rattle.gatt_words.specs.declared.argument.Takes.TheVariants.{Path, PathIfAny, Value, Values, Nothing}
 use Rattle.gatt_words.specs.declared.subcommand.Subcommand.{Subcommand}
 use Rattle.gatt_words.specs.declared.words.Choice.{Choice}
-use Rattle.gatt_words.specs.declared.words.Choice.TheVariants.{Att, Check, Show, Run, Serve, Host}
+use Rattle.gatt_words.specs.declared.words.Choice.TheVariants.{Att, Check, Show, Run, Serve, Host, Tell}
 
 -- an argument that is a path and has to be there
 abbrev pub file_rule : Text → Rule
@@ -106,10 +106,23 @@ host_shape = shape_with (codes "host") (
     ∷ list_rule (codes "advertise")
     ∷ option_rule (codes "address")
     ∷ option_rule (codes "capture")
+    ∷ option_rule (codes "capture-size")
     ∷ flag_rule (codes "log-values")
     ∷ option_rule (codes "slots")
     ∷ option_rule (codes "idle")
+    ∷ option_rule (codes "stranger")
+    ∷ option_rule (codes "patience")
     ∷ flag_rule (codes "once")
+    ∷ [])
+
+-- the command `tell`, of a socket and one to four words
+abbrev pub tell_shape : Shape
+tell_shape = shape_with (codes "tell") (
+    file_rule (codes "SOCKET")
+    ∷ file_rule (codes "COMMAND")
+    ∷ optional_rule (codes "FIRST")
+    ∷ optional_rule (codes "SECOND")
+    ∷ optional_rule (codes "THIRD")
     ∷ [])
 
 -- the program, which has a version
@@ -125,8 +138,8 @@ program_line = record { top = program_shape; subs = [] }
 
 unfoldable pub command_line : App
 command_line =
-    with_subcommand (with_subcommand (with_subcommand (with_subcommand (with_subcommand (with_subcommand program_line
-    att_shape) check_shape) show_shape) run_shape) serve_shape) host_shape
+    with_subcommand (with_subcommand (with_subcommand (with_subcommand (with_subcommand (with_subcommand (with_subcommand program_line
+    att_shape) check_shape) show_shape) run_shape) serve_shape) host_shape) tell_shape
 
 -- the name that chooses a command
 abbrev pub command_name : Choice → List ℕ
@@ -136,6 +149,7 @@ command_name (Show table keys rows) = codes "show"
 command_name (Run table next keys rows script notices echo) = codes "run"
 command_name (Serve table keys rows address) = codes "serve"
 command_name (Host words) = codes "host"
+command_name (Tell socket command first second third) = codes "tell"
 
 -- an argument is a path, and an option is one or is left out
 abbrev pub IsGiven : List ℕ → List Row → List ℕ → Type 0
@@ -173,6 +187,11 @@ HasFilesOf arguments (Serve table keys rows address) =
     IsGiven (codes "TABLE") arguments table.now × IsGiven (codes "KEYS") arguments keys.now
     × IsGiven (codes "ADDRESS") arguments address.now
     × IsGivenIfAny (codes "rows") arguments (option_map (λ path. path.now) rows)
+HasFilesOf arguments (Tell socket command first second third) =
+    IsGiven (codes "SOCKET") arguments socket.now × IsGiven (codes "COMMAND") arguments command.now
+    × IsGivenIfAny (codes "FIRST") arguments (option_map (λ word. word.now) first)
+    × IsGivenIfAny (codes "SECOND") arguments (option_map (λ word. word.now) second)
+    × IsGivenIfAny (codes "THIRD") arguments (option_map (λ word. word.now) third)
 HasFilesOf arguments (Host words) =
     IsGiven (codes "TABLE") arguments words.table.now × IsGiven (codes "KEYS") arguments words.keys.now
     × IsGivenIfAny (codes "state") arguments (option_map (λ path. path.now) words.state)
@@ -189,9 +208,12 @@ HasFilesOf arguments (Host words) =
     × (map (λ word. word.now) words.advertise.items ≡ take 14 (given (codes "advertise") arguments))
     × IsGivenIfAny (codes "address") arguments (option_map (λ word. word.now) words.address)
     × IsGivenIfAny (codes "capture") arguments (option_map (λ path. path.now) words.capture)
+    × IsGivenIfAny (codes "capture-size") arguments (option_map (λ word. word.now) words.capture_size)
     × IsSetIfGiven (codes "log-values") arguments words.log_values
     × IsGivenIfAny (codes "slots") arguments (option_map (λ word. word.now) words.slots)
     × IsGivenIfAny (codes "idle") arguments (option_map (λ word. word.now) words.idle)
+    × IsGivenIfAny (codes "stranger") arguments (option_map (λ word. word.now) words.stranger)
+    × IsGivenIfAny (codes "patience") arguments (option_map (λ word. word.now) words.patience)
     × IsSetIfGiven (codes "once") arguments words.once
 
 -- the same of a command that is named with its arguments

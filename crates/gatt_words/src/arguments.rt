@@ -23,6 +23,16 @@ pub const NOTICES: &str = "notices";
 
 pub const ECHO: &str = "echo";
 
+pub const SOCKET: &str = "SOCKET";
+
+pub const COMMAND: &str = "COMMAND";
+
+pub const FIRST: &str = "FIRST";
+
+pub const SECOND: &str = "SECOND";
+
+pub const THIRD: &str = "THIRD";
+
 pub const STATE: &str = "state";
 
 pub const SAVE_UPDATES: &str = "save-updates";
@@ -49,11 +59,17 @@ pub const RANDOM_ADDRESS: &str = "address";
 
 pub const CAPTURE: &str = "capture";
 
+pub const CAPTURE_SIZE: &str = "capture-size";
+
 pub const LOG_VALUES: &str = "log-values";
 
 pub const SLOTS: &str = "slots";
 
 pub const IDLE: &str = "idle";
+
+pub const STRANGER: &str = "stranger";
+
+pub const PATIENCE: &str = "patience";
 
 pub const ONCE: &str = "once";
 
@@ -132,7 +148,7 @@ const SERVE_ARGUMENTS: [Argument; 4] = [
 ];
 
 /// The arguments of `host`.
-const HOST_ARGUMENTS: [Argument; 20] = [
+const HOST_ARGUMENTS: [Argument; 23] = [
     TABLE_FILE,
     KEY_FILE,
     Argument {
@@ -202,6 +218,11 @@ const HOST_ARGUMENTS: [Argument; 20] = [
         about: "A capture (btsnoop) of what goes to the controller and comes from it",
     },
     Argument {
+        name: CAPTURE_SIZE,
+        takes: Takes::Value("BYTES"),
+        about: "The most bytes of the capture (104857600)",
+    },
+    Argument {
         name: LOG_VALUES,
         takes: Takes::Nothing,
         about: "Log the octets too that phones write, which are secret elsewhere",
@@ -217,14 +238,53 @@ const HOST_ARGUMENTS: [Argument; 20] = [
         about: "After how many silent seconds a phone without a key is sent away",
     },
     Argument {
+        name: STRANGER,
+        takes: Takes::Value("SECONDS"),
+        about: "After how many seconds a phone without a key is sent away, silent or not",
+    },
+    Argument {
+        name: PATIENCE,
+        takes: Takes::Value("SECONDS"),
+        about: "How long a controller may take nothing, or may take to be initialised (5)",
+    },
+    Argument {
         name: ONCE,
         takes: Takes::Nothing,
         about: "End once the first controller is gone",
     },
 ];
 
+/// The arguments of `tell`.
+const TELL_ARGUMENTS: [Argument; 5] = [
+    Argument {
+        name: SOCKET,
+        takes: Takes::Path,
+        about: "The socket of the device: what it has as --application",
+    },
+    Argument {
+        name: COMMAND,
+        takes: Takes::Path,
+        about: "The first word of the line",
+    },
+    Argument {
+        name: FIRST,
+        takes: Takes::PathIfAny,
+        about: "The word that follows the command, if there is one",
+    },
+    Argument {
+        name: SECOND,
+        takes: Takes::PathIfAny,
+        about: "The next word",
+    },
+    Argument {
+        name: THIRD,
+        takes: Takes::PathIfAny,
+        about: "The last word",
+    },
+];
+
 /// The commands.
-pub const SUBCOMMANDS: [Subcommand; 6] = [
+pub const SUBCOMMANDS: [Subcommand; 7] = [
     Subcommand {
         name: help::ATT,
         about: help::ATT_ABOUT,
@@ -260,5 +320,11 @@ pub const SUBCOMMANDS: [Subcommand; 6] = [
         about: help::HOST_ABOUT,
         details: help::HOST_DETAILS,
         arguments: &HOST_ARGUMENTS,
+    },
+    Subcommand {
+        name: help::TELL,
+        about: help::TELL_ABOUT,
+        details: help::TELL_DETAILS,
+        arguments: &TELL_ARGUMENTS,
     },
 ];

@@ -130,3 +130,21 @@ line `ready` a script can wait for.
   mkdir -p door.state
   gatt_shell host examples/door.toml examples/keys.toml --listen 127.0.0.1:5000 \\
       --application door.socket --state door.state";
+
+/// The name of the command `tell`.
+pub const TELL: &str = "tell";
+
+/// What `tell` does, in a line.
+pub const TELL_ABOUT: &str = "Send one line to a device, and print its answer";
+
+/// What `tell` sends and prints.
+pub const TELL_DETAILS: &str = "\
+Send one line to a device, and print its answer.
+
+The words are one line of an application: docs/DEVICE.md has these lines. A question (`value`,
+`connections`, `subscriptions`, `find`) and `stop` leave the application alone. Any other command
+takes its place. The status is 1 if the device refuses the line, and 2 if it cannot be reached.
+
+  gatt_shell tell door.socket value 10
+  gatt_shell tell door.socket find fff0 fff3 2
+  gatt_shell tell door.socket stop";

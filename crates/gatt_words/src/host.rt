@@ -48,12 +48,18 @@ pub struct HostChoice<'a> {
     pub address: Option<&'a str>,
     /// The file of a capture.
     pub capture: Option<&'a str>,
+    /// How many bytes a capture has at most.
+    pub capture_size: Option<&'a str>,
     /// Whether values that phones write are logged.
     pub log_values: bool,
     /// How many phones there may be.
     pub slots: Option<&'a str>,
     /// How long a stranger may be silent.
     pub idle: Option<&'a str>,
+    /// How long a stranger may stay.
+    pub stranger: Option<&'a str>,
+    /// How long a controller may take nothing, or may take to be initialised.
+    pub patience: Option<&'a str>,
     /// Whether it ends once the first controller is gone.
     pub once: bool,
 }
@@ -81,9 +87,12 @@ pub(crate) fn hosting<'a>(matches: &ArgMatches<'a>) -> Option<Choice<'a>>
         advertise: advertised(matches),
         address: matches.get_str(arguments::RANDOM_ADDRESS),
         capture: matches.get_str(arguments::CAPTURE),
+        capture_size: matches.get_str(arguments::CAPTURE_SIZE),
         log_values: matches.get_flag(arguments::LOG_VALUES),
         slots: matches.get_str(arguments::SLOTS),
         idle: matches.get_str(arguments::IDLE),
+        stranger: matches.get_str(arguments::STRANGER),
+        patience: matches.get_str(arguments::PATIENCE),
         once: matches.get_flag(arguments::ONCE),
     }))
 }

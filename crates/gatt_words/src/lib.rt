@@ -13,4 +13,4 @@ mod words;
 
 pub use given::words_of;
 pub use host::{HostChoice, MOST_SERVICES};
-pub use words::{Choice, Refusal, chosen};
+pub use words::{Choice, Refusal, chosen, complaint};

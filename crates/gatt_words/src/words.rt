@@ -66,6 +66,17 @@ pub enum Choice<'a> {
     },
     /// Serves one controller after another.
     Host(HostChoice<'a>),
+    /// Sends one line to a device.
+    Tell {
+        /// The socket of the device.
+        socket: &'a str,
+        /// The first word of the line.
+        command: &'a str,
+        /// The words that follow it.
+        first: Option<&'a str>,
+        second: Option<&'a str>,
+        third: Option<&'a str>,
+    },
 }
 
 /// Why the words choose no command.
@@ -122,6 +133,7 @@ fn choice_of<'a>(name: &str, matches: &ArgMatches<'a>) -> Option<Choice<'a>>
         help::RUN => running(matches),
         help::SERVE => serving(matches),
         help::HOST => hosting(matches),
+        help::TELL => telling(matches),
         _ => None,
     }
 }
@@ -166,6 +178,21 @@ fn serving<'a>(matches: &ArgMatches<'a>) -> Option<Choice<'a>>
         keys: matches.get_str(arguments::KEYS)?,
         rows: matches.get_str(arguments::ROWS),
         address: matches.get_str(arguments::ADDRESS)?,
+    })
+}
+
+/// The choice of `tell`, with its socket and its words.
+#[tactic(auto, using(crate::proofs::CommandLines::first_in_rows))]
+fn telling<'a>(matches: &ArgMatches<'a>) -> Option<Choice<'a>>
+    ensures name { IfSome result (λ choice. command_name choice ≡ codes "tell") }
+    ensures files { IfSome result (HasFilesOf (rows_of (found_of matches.now))) }
+{
+    Some(Choice::Tell {
+        socket: matches.get_str(arguments::SOCKET)?,
+        command: matches.get_str(arguments::COMMAND)?,
+        first: matches.get_str(arguments::FIRST),
+        second: matches.get_str(arguments::SECOND),
+        third: matches.get_str(arguments::THIRD),
     })
 }
 
@@ -238,5 +265,19 @@ pub fn chosen<'a>(alloc: Global, words: &'a [String]) -> Result<Choice<'a>, Refu
     match command.try_get_matches_from(words) {
         Ok(matches) => choice_in(&matches),
         Err(error) => Err(refusal_of(error)),
+    }
+}
+
+/// Returns the parser's error of words that are not understood, if they name a command that is this
+/// project's own: `host`, `show` or `tell`. The other commands say nothing of such words.
+pub fn complaint(alloc: Global, words: &[String]) -> Option<Error> {
+    let name = words.get(1)?;
+    if !matches!(name.as_str(), help::HOST | help::SHOW | help::TELL) {
+        return None;
+    }
+    let error = command(alloc).ok()?.try_get_matches_from(words).err()?;
+    match error.kind() {
+        ErrorKind::DisplayHelp | ErrorKind::DisplayVersion | ErrorKind::OutOfMemory => None,
+        _ => Some(error),
     }
 }

@@ -1,0 +1,119 @@
+//! The command `tell`: a line is sent to a device, and its answer is printed.
+
+use gatt_commands::ShellFault;
+use gatt_words::Refusal;
+use std::io;
+use std::io::{ErrorKind, Read, Write};
+use std::net::Shutdown;
+use std::os::unix::net::UnixStream;
+use std::time::Duration;
+
+/// For how long an answer is waited for, in seconds. A device may wait for its controller for ten.
+const PATIENCE: u64 = 20;
+
+/// The most octets of an answer. A device has 8 connections and 4,096 subscriptions at most.
+const MOST: usize = 1_048_576;
+
+/// Sends a line of some words to the device at a socket, and prints its answer. Returns the status of
+/// the program: 1 if the line is refused, 2 if the device cannot be reached or does not answer.
+pub(crate) fn tell_device(rt: &HostRuntime, socket: &str, words: &[&str]) -> u8 {
+    for word in words {
+        if word.as_bytes().contains(&b'\n') {
+            // Where that cannot be written, nobody can be told.
+            let _ = rt.eprintln("tell: a word has a line feed");
+            return Refusal::Misunderstood.status();
+        }
+    }
+    match exchange(rt, socket, words) {
+        Ok(text) => print_answer(rt, socket, text.as_slice()),
+        Err(error) => {
+            complain(rt, socket, &error);
+            gatt_commands::status(&ShellFault::Listen)
+        }
+    }
+}
+
+/// Tells why a device cannot be reached.
+fn complain(rt: &HostRuntime, socket: &str, error: &io::Error) {
+    let line = match error.kind() {
+        ErrorKind::NotFound => format!(in rt.alloc(); "tell: {socket}: there is no such socket"),
+        ErrorKind::ConnectionRefused => {
+            format!(in rt.alloc(); "tell: {socket}: no device listens there")
+        }
+        ErrorKind::WouldBlock | ErrorKind::TimedOut => {
+            format!(in rt.alloc(); "tell: {socket}: no answer in {PATIENCE} seconds")
+        }
+        _ => format!(in rt.alloc(); "tell: {socket}: {error}"),
+    };
+    if let Ok(line) = line {
+        let _ = rt.eprintln(line.as_str());
+    }
+}
+
+/// Sends a line to the device at a socket: what this sends until it closes the connection.
+fn exchange(rt: &HostRuntime, socket: &str, words: &[&str]) -> io::Result<Vec<u8>> {
+    let mut line = Vec::new(rt.alloc());
+    for word in words {
+        if !line.is_empty() {
+            line.extend_from_slice(b" ")?;
+        }
+        line.extend_from_slice(word.as_bytes())?;
+    }
+    line.extend_from_slice(b"\n")?;
+    let mut stream = UnixStream::connect(rt, socket)?;
+    stream.set_read_timeout(Some(Duration::from_secs(PATIENCE)))?;
+    stream.write_all(line.as_slice())?;
+    stream.shutdown(Shutdown::Write)?;
+    read_answer(rt, &mut stream)
+}
+
+/// Reads to the end of a connection, or up to a limit.
+fn read_answer(rt: &HostRuntime, stream: &mut UnixStream) -> io::Result<Vec<u8>> {
+    let mut text = Vec::new(rt.alloc());
+    let mut buffer = [0; 1_024];
+    for _read in 0..MOST {
+        let count = stream.read(&mut buffer)?;
+        if count == 0 || text.len() >= MOST {
+            break;
+        }
+        text.extend_from_slice(&buffer[..count])?;
+    }
+    Ok(text)
+}
+
+/// Prints an answer: the status of the program. A line that made a call was sent by an application, and
+/// the notices that an application reads are left out.
+fn print_answer(rt: &HostRuntime, socket: &str, text: &[u8]) -> u8 {
+    let is_application = text.starts_with(b"+ started ");
+    let mut is_answered = false;
+    let mut is_refused = false;
+    for line in text.split(|octet| *octet == b'\n') {
+        if line.is_empty() || is_application && line.starts_with(b"+ ") {
+            continue;
+        }
+        is_answered = true;
+        is_refused = is_refusal(line);
+        if print_line(rt, line).is_err() {
+            return gatt_commands::status(&ShellFault::Unwritten);
+        }
+    }
+    if !is_answered {
+        if let Ok(line) = format!(in rt.alloc(); "tell: {socket}: no answer") {
+            let _ = rt.eprintln(line.as_str());
+        }
+        return gatt_commands::status(&ShellFault::Listen);
+    }
+    u8::from(is_refused)
+}
+
+/// Whether an answer says that the line is refused, or not understood.
+fn is_refusal(line: &[u8]) -> bool {
+    line.starts_with(b"fault ") || line.starts_with(b"bad: ")
+}
+
+/// Prints a line.
+fn print_line(rt: &HostRuntime, line: &[u8]) -> io::Result<()> {
+    let mut out = io::writer(rt);
+    out.write_all(line)?;
+    out.write_all(b"\n")
+}
