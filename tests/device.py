@@ -20,7 +20,7 @@ import time
 sys.dont_write_bytecode = True
 from parties import (
     ADVERTISE_ENABLE, ADVERTISING_DATA, DISCONNECT, GUEST, GUEST_KEY, OWNER, PATIENCE, RANDOM_ADDRESS, ROOT, STRANGER,
-    COUNT, Application, Controller, Device, SerialLine, captured, check, controller_at, end_all, is_one_packet,
+    COUNT, PROGRAM, Application, Controller, Device, SerialLine, captured, check, controller_at, end_all, is_one_packet,
 )
 
 DOOR = [f"{ROOT}/examples/door.toml", f"{ROOT}/examples/keys.toml"]
@@ -41,6 +41,16 @@ def soon(look):
             return found
         time.sleep(0.02)
     return None
+
+
+def look(path, *lines):
+    """The answers to lines of a connection that sends no more, up to its end."""
+    with socket.socket(socket.AF_UNIX) as looker:
+        looker.settimeout(PATIENCE)
+        looker.connect(path)
+        looker.sendall("".join(f"{it}\n" for it in lines).encode())
+        looker.shutdown(socket.SHUT_WR)
+        return looker.makefile().read().splitlines()
 
 
 def is_captured(what, path, since, went, came):
@@ -84,52 +94,52 @@ def a_day(folder):
     check("no value", "fault 1: there is no attribute with the handle", one.ask("value 99"))
     check("nobody", "fault 4: no connection with the handle serves", one.ask("allow 64 1000"))
     check("nobody is connected", "ok", one.ask("connections"))
-    check("no words", "bad: not understood", one.ask("open the door"))
+    check("no words", 'bad: "open" is no command', one.ask("open the door"))
     probe = socket.create_connection(address, PATIENCE)
-    check("a probe", "+ serving", one.line())
+    check("a probe", "", device.said("controller"))
     probe.close()
-    check("it closes", "+ waiting", one.line())
+    check("it closes", True, device.said("controller gone") is not None)
 
     controller = controller_at(device)
-    check("a controller", "+ serving", one.line())
     check("it is initialised", True, controller.is_advertised())
+    check("a controller", "+ serving", one.line())
     controller.connect(64, STRANGER)
-    check("a stranger", "+ connected 64 1 c0:00:00:00:00:0a", one.line())
+    check("a stranger", "+ connected 1 1 c0:00:00:00:00:0a", one.line())
     controller.connect(65, OWNER)
-    check("the owner", "+ connected 65 0 00:11:22:33:44:55", one.line())
+    check("the owner", "+ connected 2 0 00:11:22:33:44:55", one.line())
     check("the owner's key", True, controller.encrypt(65))
-    check("is told", "+ secured 65 16 1 0", one.line())
+    check("is told", "+ secured 2 16 1 0", one.line())
     check("the stranger may not open", "01120a0005", controller.ask(64, "120a0001"))
     check("the owner opens", "13", controller.ask(65, "120a0001"))
-    check("the motor hears", "+ written 65 10 01", one.line())
-    check("the log has no octets", " 65 10 octets: 1", device.said("+ written"))
-    check("the log has slots", [" 64 1 c0:00:00:00:00:0a slot 0", " 65 0 00:11:22:33:44:55 slot 1"],
+    check("the motor hears", "+ written 2 10 01", one.line())
+    check("the log has no octets", " 2 10 octets: 1", device.said("+ written"))
+    check("the log has handles and slots", [" 1 1 c0:00:00:00:00:0a handle 64 slot 0", " 2 0 00:11:22:33:44:55 handle 65 slot 1"],
         [device.said("+ connected", count) for count in (1, 2)])
     check("no rows yet", "", text_of(rows))
     check("the owner subscribes", "13", controller.ask(65, "1207000100"))
     check("it is on the disk", "0 00:11:22:33:44:55 7 1\n", text_of(rows))
-    check("and told", "+ configured 65 7 1", one.line())
+    check("and told", "+ configured 2 7 1", one.line())
     check("the battery", "ok", one.ask("update 6 32"))
     check("the owner hears", "1b060032", controller.hears(65))
     check("the code is kept", "010a0d0008", controller.ask(65, "0a0d00"))
     # A while counts from now, and not from the start of the device.
     time.sleep(max(0, since + 3.2 - time.time()))
-    check("for a while", "ok", one.ask("allow 65 3000"))
+    check("for a while", "ok", one.ask("allow 2 3000"))
     check("the code", "0b31323334", controller.ask(65, "0a0d00"))
     time.sleep(3.2)
     check("the while is over", "010a0d0008", controller.ask(65, "0a0d00"))
-    check("for good", "ok", one.ask("allow 65"))
+    check("for good", "ok", one.ask("allow 2"))
     check("the code again", "0b31323334", controller.ask(65, "0a0d00"))
-    check("no more", "ok", one.ask("deny 65"))
+    check("no more", "ok", one.ask("deny 2"))
     check("denied", "010a0d0008", controller.ask(65, "0a0d00"))
-    check("the stranger goes", "ok", one.ask("disconnect 64"))
-    check("ended", "+ ending 64 13", one.line())
+    check("the stranger goes", "ok", one.ask("disconnect 1"))
+    check("ended", "+ ending 1 13", one.line())
     controller.command(DISCONNECT)
-    check("gone", "+ disconnected 64", one.line())
+    check("gone", "+ disconnected 1", one.line())
 
     two = Application(path)
-    stands = ["+ serving", "+ connected 65 0 00:11:22:33:44:55", "+ secured 65 16 1 0"]
-    check("another application", stands, two.lines(3))
+    stands = ["+ serving", "+ connected 2 0 00:11:22:33:44:55", "+ secured 2 16 1 0"]
+    check("another application", [*stands, "+ subscribed 2 7 1"], two.lines(4))
     check("the first one may not have read this", "+ missed 10 01", two.line())
     check("in place of the first", ["+ replaced", "END"], one.lines(2))
     check("who is connected", stands[1:] + ["ok"], [two.ask("connections")] + two.lines(2))
@@ -142,12 +152,12 @@ def a_day(folder):
     check("no controller again", "+ waiting", three.line())
     check("the value is kept", "value 10 01", three.ask("value 10"))
     controller = controller_at(device)
-    check("another controller", "+ serving", three.line())
     check("it is initialised too", True, controller.is_advertised())
+    check("another controller", "+ serving", three.line())
     controller.connect(70, OWNER)
-    check("the owner is back", "+ connected 70 0 00:11:22:33:44:55", three.line())
+    check("the owner is back", "+ connected 3 0 00:11:22:33:44:55", three.line())
     check("with the key", True, controller.encrypt(70))
-    check("as before", "+ secured 70 16 1 0", three.line())
+    check("as before", ["+ secured 3 16 1 0", "+ subscribed 3 7 1"], three.lines(2))
     check("what was subscribed", "ok", three.ask("update 6 31"))
     check("is heard", "1b060031", controller.hears(70))
 
@@ -158,13 +168,13 @@ def a_day(folder):
     check("the stream is closed", True, controller.until(lambda: controller.is_gone))
     controller.close()
     controller = controller_at(device)
-    check("it serves on", "+ serving", three.line())
-    check("and advertises", True, controller.is_advertised())
+    check("it advertises", True, controller.is_advertised())
+    check("and serves on", "+ serving", three.line())
     other = controller_at(device)
     controller.close()
-    check("one that waited already", ["+ waiting", "+ serving"], three.lines(2))
     controller = other
-    check("is initialised", True, controller.is_advertised())
+    check("one that waited already is initialised", True, controller.is_advertised())
+    check("which is told", ["+ waiting", "+ serving"], three.lines(2))
     three.say("x" * 1_101)
     check("too long", ["bad: the line is too long", "END"], three.lines(2))
     three.close()
@@ -206,7 +216,7 @@ def a_bell(folder):
     controller.connect(64, STRANGER)
     bell.line()
     check("indications", "13", controller.ask(64, "1204000200"))
-    check("are configured", "+ configured 64 4 2", bell.line())
+    check("are configured", "+ configured 1 4 2", bell.line())
     check("the bell", "ok", bell.ask("update 3 01"))
     check("is indicated", "1d030001", controller.hears(64))
     begun = time.monotonic()
@@ -216,7 +226,7 @@ def a_bell(folder):
 
     def later():
         thread.join()
-        check("it is late", "+ timed-out 64", heard[0])
+        check("it is late", "+ timed-out 1", heard[0])
         check("after 30 seconds", True, 29 < heard[1])
         check("nothing more", "ok", bell.ask("update 3 02"))
         check("is told", None, controller.hears(64, 0.5))
@@ -243,11 +253,48 @@ def a_stranger(folder):
     for _ in range(3):
         time.sleep(1)
         controller.ask(64, "0a0300")
-    check("silent", "+ ending 64 13", application.line())
+    check("silent", "+ ending 1 13", application.line())
     check("for three seconds", True, time.monotonic() - begun > 5.8)
     controller.command(DISCONNECT)
-    check("gone", "+ disconnected 64", application.line())
+    check("gone", "+ disconnected 1", application.line())
     check("the owner stays", None, application.line(3.5))
+    device.end()
+    controller.close()
+
+
+def names(folder):
+    """A late command is not for the next phone that has the handle, nor for one of the next controller."""
+    path, gone = f"{folder}/names.socket", "fault 4: no connection with the handle serves"
+    device = Device(*DOOR, "--listen", "127.0.0.1:0", "--application", path)
+    controller = controller_at(device)
+    controller.is_advertised()
+    application = Application(path)
+    application.line()
+    controller.connect(64, OWNER)
+    check("a phone", "+ connected 1 0 00:11:22:33:44:55", application.line())
+    check("its handle is no name", gone, application.ask("disconnect 64"))
+    controller.event(0x05, b"\0\x40\0\x13")
+    check("leaves", "+ disconnected 1", application.line())
+    controller.connect(64, OWNER)
+    check("another one with its handle", "+ connected 2 0 00:11:22:33:44:55", application.line())
+    check("its key", True, controller.encrypt(64))
+    check("is told", "+ secured 2 16 1 0", application.line())
+    for line in ("allow 1", "allow 1 5000", "deny 1", "disconnect 1", "allow 0", "allow 3", "allow 18446744073709551615"):
+        check(f"a late line: {line}", gone, application.ask(line))
+    check("who is connected", ["+ connected 2 0 00:11:22:33:44:55", "+ secured 2 16 1 0", "ok"],
+        [application.ask("connections"), *application.lines(2)])
+    check("the code is kept", "010a0d0008", controller.ask(64, "0a0d00"))
+    check("for this one", "ok", application.ask("allow 2"))
+    check("the code", "0b31323334", controller.ask(64, "0a0d00"))
+    controller.close()
+    check("the controller goes", "+ waiting", application.line())
+    check("and its phones", gone, application.ask("allow 2"))
+    controller = controller_at(device)
+    controller.is_advertised()
+    check("another controller", "+ serving", application.line())
+    controller.connect(64, OWNER)
+    check("names go on", "+ connected 3 0 00:11:22:33:44:55", application.line())
+    check("a name of the controller before", gone, application.ask("disconnect 2"))
     device.end()
     controller.close()
 
@@ -284,13 +331,13 @@ def a_serial_line(folder):
     application = Application(socket_path)
     check("no line yet", "+ waiting", application.line())
     check("which is logged", "", device.said("controller: not there"))
-    for _ in range(2):
+    for name in (1, 2):
         line = SerialLine(path)
         controller = Controller(line)
-        check("a line", "+ serving", application.line())
         check("has a controller", True, controller.is_advertised())
+        check("a line", "+ serving", application.line())
         controller.connect(64, STRANGER)
-        check("and a phone", "+ connected 64 1 c0:00:00:00:00:0a", application.line())
+        check("and a phone", f"+ connected {name} 1 c0:00:00:00:00:0a", application.line())
         check("which reads", "0b4c6f636b", controller.ask(64, "0a0300"))
         line.close()
         check("no line any more", "+ waiting", application.line())
@@ -340,8 +387,8 @@ def a_visit(folder):
     shown = [it.strip() for it in visit.stdout.splitlines() if it.startswith("  ") and "(" not in it]
     check("what it does", said, shown)
     lines = application.lines(6)
-    check("the application hears", ["+ waiting", "+ serving", "+ connected 64 0 00:11:22:33:44:55"], lines[:3])
-    check("of the phone", ["+ secured 64 16 1 0", "+ written 64 10 01", "+ unsecured 64"], lines[3:])
+    check("the application hears", ["+ waiting", "+ serving", "+ connected 1 0 00:11:22:33:44:55"], lines[:3])
+    check("of the phone", ["+ secured 1 16 1 0", "+ written 1 10 01", "+ unsecured 1"], lines[3:])
     device.end()
 
 
@@ -452,7 +499,7 @@ def values(folder):
     controller.connect(65, OWNER)
     controller.encrypt(65)
     check("a value is written", "13", controller.ask(65, "120a0001"))
-    check("and logged", " 65 10 01", device.said("+ written"))
+    check("and logged", " 1 10 01", device.said("+ written"))
     device.end()
     controller.close()
 
@@ -468,7 +515,7 @@ def slots(folder):
     controller.connect(67, OWNER)
     device.said("+ connected", 4)
     found = [device.said("+ connected", count).split() for count in range(1, 5)]
-    check("slots", [("64", "0"), ("65", "1"), ("66", "2"), ("67", "1")], [(it[0], it[-1]) for it in found])
+    check("slots", [("1", "64", "0"), ("2", "65", "1"), ("3", "66", "2"), ("4", "67", "1")], [(it[0], it[4], it[6]) for it in found])
     device.end()
     controller.close()
 
@@ -525,11 +572,7 @@ def sent_and_closed(folder):
     device.port()
 
     def is_now(value):
-        application = Application(path)
-        application.line()
-        found = application.ask("value 21")
-        application.close()
-        return found == f"value 21 {value:04x}"
+        return look(path, "value 21") == [f"value 21 {value:04x}"]
 
     done = []
     for value in range(30):
@@ -543,6 +586,10 @@ def sent_and_closed(folder):
             sender.connect(path)
             sender.sendall("".join(f"update 21 {first + it:04x}\n" for it in range(50)).encode())
             done.append(is_now(first + 49))
+            # Another one takes its place.
+            with socket.socket(socket.AF_UNIX) as other:
+                other.connect(path)
+                other.sendall(b"deny 1\n")
             lines = sender.makefile().read().splitlines()
             check("replaced, and each line done", (50, 1), (lines.count("ok"), lines.count("+ replaced")))
     check("each value", [True] * 40, done)
@@ -550,9 +597,223 @@ def sent_and_closed(folder):
         sender.connect(path)
         sender.sendall(b"value 21\nconnections\n")
         sender.shutdown(socket.SHUT_WR)
-        answers = sender.makefile().read().splitlines()[2:]
+        answers = sender.makefile().read().splitlines()
     check("answers to one that sends no more", ["value 21 05db", "ok"], answers)
     device.end()
+
+
+def looks(folder):
+    """A connection that only asks is answered, and replaces nobody."""
+    path = f"{folder}/looks.socket"
+    device = Device(*DOOR, "--listen", "127.0.0.1:0", "--application", path)
+    controller = controller_at(device)
+    controller.is_advertised()
+    controller.connect(64, OWNER)
+    controller.encrypt(64)
+    controller.ask(64, "120a0001")
+    who = ["+ connected 1 0 00:11:22:33:44:55", "+ secured 1 16 1 0", "ok"]
+    check("a look without an application", ["value 10 01", *who], look(path, "value 10", "connections"))
+    one = Application(path)
+    stands = ["+ serving", *who[:2], "+ missed 10 01"]
+    check("it was no application", stands, one.lines(4))
+    check("a look", ["value 10 01", *who], look(path, "value 10", "connections"))
+    found = look(path, "vale 10")
+    check("what is not understood", ["bad: "], [it[:5] for it in found])
+    check("too long", ["bad: the line is too long"], look(path, "x" * 1_101))
+    check("nothing", [], look(path))
+    with socket.socket(socket.AF_UNIX) as slow:
+        slow.connect(path)
+        slow.sendall(b"val")
+        begun = time.monotonic()
+        time.sleep(0.2)
+        slow.sendall(b"ue 10\n")
+        check("a slow one", "value 10 01\n", slow.makefile().readline())
+        check("is closed", b"", slow.recv(1))
+        check("after a second", True, 0.5 < time.monotonic() - begun < 5)
+    with socket.socket(socket.AF_UNIX) as deaf:
+        deaf.connect(path)
+        deaf.settimeout(PATIENCE)
+        try:
+            while True:
+                deaf.sendall(b"value 10\n" * 1_000)
+        except OSError:
+            pass
+    with socket.socket(socket.AF_UNIX) as silent:
+        silent.connect(path)
+        silent.sendall(b"val")
+        begun = time.monotonic()
+        check("a silent one keeps none out", ["value 10 01"], look(path, "value 10"))
+        check("for long", True, time.monotonic() - begun < 5)
+        check("it is the application now", ["+ replaced", "END"], one.lines(2))
+        silent.sendall(b"ue 10\n")
+        check("and is told what stands", "+ started ", silent.makefile().readline()[:10])
+    two = Application(path)
+    two.lines(4)
+    one = Application(path)
+    check("two of them at a time", ["+ replaced", "END"], two.lines(2))
+    one.lines(3)
+    with socket.socket(socket.AF_UNIX) as first, socket.socket(socket.AF_UNIX) as second:
+        for number, it in ((1, first), (2, second)):
+            it.connect(path)
+            it.sendall(f"update 21 000{number}\n".encode())
+        lines = first.makefile().read().splitlines()
+        check("the first of two", (1, "+ replaced"), (lines.count("ok"), lines[-1]))
+        second.shutdown(socket.SHUT_WR)
+        check("the second", ["ok"], second.makefile().read().splitlines()[-1:])
+    check("both are done", ["value 21 0002"], look(path, "value 21"))
+    check("phones are served", "0b01", controller.ask(64, "0a0a00"))
+    device.end()
+    controller.close()
+
+
+def commands(folder):
+    """What an application may ask, and what it is answered if a word is wrong."""
+    path = f"{folder}/commands.socket"
+    device = Device(*DOOR, "--listen", "127.0.0.1:0", "--application", path)
+    controller = controller_at(device)
+    controller.is_advertised()
+    application = Application(path)
+    application.line()
+    for line, answer in [
+        ("find 180f 2a19", "handle 6"), ("find fff0 fff3", "handle 15"), ("find fff0 fff3 1", "handle 15"),
+        ("find FFF0 fff3 2", "handle 17"), ("find fff0 fff3 3", "handle 19"),
+        ("find 0000fff0-0000-1000-8000-00805f9b34fb fff1", "handle 10"),
+        ("find fff0 fff3 4", "fault 1: there is no such characteristic"),
+        ("find 180f fff3", "fault 1: there is no such characteristic"),
+        ("find 0x180f 2a19", 'bad: "0x180f" is no UUID'), ("find 180f 2a1", 'bad: "2a1" is no UUID'),
+        ("find 180f 2a19 0", 'bad: "0" is no number from 1 on'), ("find 180f 2a19 x", 'bad: "x" is no number from 1 on'),
+        ("find 180f", 'bad: "find" needs more words'), ("find 180f 2a19 1 2", 'bad: "2" is a word too many'),
+        ("alow 7", 'bad: "alow" is no command'), ("", 'bad: "" is no command'),
+        ("allow 7x", 'bad: "7x" is no connection'), ("allow 7 -1", 'bad: "-1" is no time'),
+        ("allow", 'bad: "allow" needs more words'), ("allow 7 1 x", 'bad: "x" is a word too many'),
+        ("update 10 0g", 'bad: "0g" is no value'), ("update 70000 00", 'bad: "70000" is no handle'),
+        ("value  10", 'bad: "10" is a word too many'), ("stop now", 'bad: "now" is a word too many'),
+        ("\x07\u00e9\"" + 40 * "a", 'bad: "???"' + 28 * "a" + '" is no command'),
+        ("value 10\r", "value 10 00"), ("update 21 0102\r", "ok"), ("subscriptions 1", "fault 4: no connection with the handle serves"),
+    ]:
+        check(f"{line!r}", answer, application.ask(line))
+    application.stream.sendall(b"value \xff\n")
+    check("no text", "bad: the line is no text", application.line())
+
+    controller.connect(64, STRANGER)
+    check("a stranger", "+ connected 1 1 c0:00:00:00:00:0a", application.line())
+    check("has subscribed to nothing", "ok", application.ask("subscriptions 1"))
+    check("it subscribes", "13", controller.ask(64, "1207000100"))
+    check("which is told", "+ configured 1 7 1", application.line())
+    check("its subscriptions", ["+ subscribed 1 7 1", "ok"], [application.ask("subscriptions 1"), application.line()])
+    controller.connect(65, OWNER)
+    controller.encrypt(65)
+    check("the owner", ["+ connected 2 0 00:11:22:33:44:55", "+ secured 2 16 1 0"], application.lines(2))
+    for pdu, line in (("1207000100", "+ configured 2 7 1"), ("120b000100", "+ configured 2 11 1"), ("1207000000", "+ configured 2 7 0")):
+        check("configures", "13", controller.ask(65, pdu))
+        check("which is told", line, application.line())
+    check("in force", ["+ subscribed 2 11 1", "ok"], [application.ask("subscriptions 2"), application.line()])
+    check("a look", ["+ subscribed 2 11 1", "ok"], look(path, "subscriptions 2"))
+    controller.event(0x05, b"\0\x40\0\x13")
+    controller.event(0x05, b"\0\x41\0\x13")
+    check("both leave", ["+ disconnected 1", "+ disconnected 2"], application.lines(2))
+    controller.connect(64, STRANGER)
+    check("the stranger is back", "+ connected 3 1 c0:00:00:00:00:0a", application.line())
+    check("with nothing", "ok", application.ask("subscriptions 3"))
+    controller.connect(65, OWNER)
+    check("the owner is back", "+ connected 4 0 00:11:22:33:44:55", application.line())
+    check("without a key", "ok", application.ask("subscriptions 4"))
+    controller.encrypt(65)
+    check("what is in force", ["+ secured 4 16 1 0", "+ subscribed 4 11 1"], application.lines(2))
+    device.end()
+    controller.close()
+
+
+def a_tell(folder):
+    """`tell` sends one line and prints its answer."""
+    path, gone = f"{folder}/tell.socket", f"{folder}/gone.socket"
+    device = Device(*DOOR, "--listen", "127.0.0.1:0", "--application", path)
+    controller = controller_at(device)
+    controller.is_advertised()
+    controller.connect(64, STRANGER)
+
+    def tell(*words):
+        ran = subprocess.run([PROGRAM, "tell", *words], stdin=subprocess.DEVNULL, capture_output=True, text=True, timeout=2 * PATIENCE)
+        # The first line on standard error may be that of a program without proofs.
+        return ran.returncode, ran.stdout, [it for it in ran.stderr.splitlines() if "NOT PROVED" not in it]
+
+    application = Application(path)
+    application.lines(2)
+    who = "+ connected 1 1 c0:00:00:00:00:0a\n"
+    for words, wanted in [
+        (["value", "10"], (0, "value 10 00\n", [])), (["connections"], (0, f"{who}ok\n", [])),
+        (["find", "fff0", "fff3", "2"], (0, "handle 17\n", [])), (["subscriptions", "1"], (0, "ok\n", [])),
+        (["value", "99"], (1, "fault 1: there is no attribute with the handle\n", [])),
+        (["alow", "1"], (1, 'bad: "alow" is no command\n', [])),
+        (["value 10"], (0, "value 10 00\n", [])), (["value", "10\nstop"], (64, "", ["tell: a word has a line feed"])),
+    ]:
+        check(f"tell {words}", wanted, tell(path, *words))
+    for words, wanted in [
+        ([], "error: the following required arguments were not provided:"),
+        (["a", "b", "c", "d", "e"], "error: unexpected argument 'e' found"),
+    ]:
+        status, output, lines = tell(path, *words)
+        check(f"tell {words}", (64, "", wanted), (status, output, lines[0]))
+    check("the application hears nothing of that", None, application.line(0.2))
+    check("an update", (0, "ok\n", []), tell(path, "update", "21", "-"))
+    check("takes its place", ["+ replaced", "END"], application.lines(2))
+    check("the value", (0, "value 21 -\n", []), tell(path, "value", "21"))
+    check("no socket", (2, "", [f"tell: {gone}: there is no such socket"]), tell(gone, "value", "10"))
+    controller.close()
+    check("the end", (0, "ok\n", []), tell(path, "stop"))
+    check("of the device", 0, device.process.wait(PATIENCE))
+    check("no device", (2, "", [f"tell: {path}: no device listens there"]), tell(path, "value", "10"))
+
+
+def a_stop(folder):
+    """`stop` ends the connections, resets the controller, is answered, and ends the program with status 0."""
+    path = f"{folder}/stop.socket"
+    device = Device(*DOOR, "--listen", "127.0.0.1:0", "--application", path)
+    device.port()
+    check("without a controller", ["ok"], look(path, "stop"))
+    check("it ends", 0, device.process.wait(PATIENCE))
+
+    def controlled(controller):
+        """Answers what is asked until the stream ends, as a thread."""
+        thread = threading.Thread(target=lambda: controller.until(lambda: False))
+        thread.start()
+        return thread
+
+    for by_application in (False, True):
+        device = Device(*DOOR, "--listen", "127.0.0.1:0", "--application", path)
+        controller = controller_at(device)
+        controller.is_advertised()
+        controller.connect(64, STRANGER)
+        controller.connect(65, OWNER)
+        application = Application(path)
+        application.lines(3)
+        thread = controlled(controller)
+        if by_application:
+            application.say("stop")
+        else:
+            check("a look", ["ok"], look(path, "stop"))
+        lines = []
+        while (line := application.line()) not in (None, "END"):
+            lines.append(line)
+        ends = ["+ disconnected 1", "+ disconnected 2", "+ ending 1 13", "+ ending 2 13"]
+        check("the phones are sent away", ends, sorted(it for it in lines if it[:2] == "+ "))
+        check("the answer is last", ["ok"] if by_application else [], [it for it in lines if it[:2] != "+ "])
+        check("it ends", 0, device.process.wait(PATIENCE))
+        thread.join()
+        sent = [opcode for opcode, _ in controller.commands]
+        check("a reset is last", (2, 0x0C03), (sent.count(DISCONNECT), sent[-1]))
+        check("for this reason", {"400013", "410013"}, {it[1].hex() for it in controller.commands if it[0] == DISCONNECT})
+        controller.close()
+
+    device = Device(*DOOR, "--listen", "127.0.0.1:0", "--application", path)
+    controller = controller_at(device)
+    controller.is_advertised()
+    controller.connect(64, STRANGER)
+    begun = time.monotonic()
+    check("a controller that answers no more", ["ok"], look(path, "stop"))
+    check("it ends", 0, device.process.wait(PATIENCE))
+    check("within five seconds", True, time.monotonic() - begun < 5)
+    controller.close()
 
 
 def a_confirmation(folder):
@@ -636,7 +897,7 @@ def floods(folder):
             pass
 
     def ask():
-        """Asks on while few answers are unread: an application for which 64 KiB wait is cut off."""
+        """Asks on while few answers are unread."""
         for said in range(0, count, part):
             soon(lambda: len(heard["application"]) >= (said - 2 * part) * len(told))
             application.stream.sendall(asked * part)
@@ -656,6 +917,52 @@ def floods(folder):
     device.end()
     controller.close()
     application.close()
+
+
+LOUD = """[[service]]
+uuid = "fff0"
+[[service.characteristic]]
+uuid = "fff1"
+value = "%s"
+fixed = true
+properties = ["read", "command"]
+""" % ("00" * 512)
+
+
+def a_loud_phone(folder):
+    """No phone has an application cut off that reads, be it slow; one that reads nothing is cut off."""
+    table, path, count = f"{folder}/loud.toml", f"{folder}/loud.socket", 1_700
+    with open(table, "w") as file:
+        file.write(LOUD)
+    device = Device(table, DOOR[1], "--listen", "127.0.0.1:0", "--application", path)
+    controller = controller_at(device)
+    controller.is_advertised()
+    controller.connect(64, STRANGER)
+    application = Application(path)
+    application.lines(2)
+    # 12 octets in, and a line of 1,041 out; 85 of them are one read.
+    flood = threading.Thread(target=controller.stream.sendall, args=(bytes.fromhex("0240200700 03000400 520300") * count,))
+    flood.start()
+    told = f"+ written 1 3 {'00' * 512}"
+    for part in range(17):
+        lines = application.lines(count // 17)
+        if lines != [told] * (count // 17):
+            check(f"all is told, part {part}", told, lines[-1])
+            break
+        time.sleep(0.05)
+    else:
+        check("all is told to a slow application", "", "")
+    flood.join()
+    flood = threading.Thread(target=controller.stream.sendall, args=(bytes.fromhex("0240200700 03000400 520300") * count,))
+    begun = time.monotonic()
+    flood.start()
+    device.said("application cut off: it does not read")
+    check("one that reads nothing is cut off after five seconds", True, 4 < time.monotonic() - begun < 5 + PATIENCE)
+    flood.join()
+    check("the phone is served", "0b" + "00" * 22, controller.ask(64, "0a0300"))
+    application.close()
+    device.end()
+    controller.close()
 
 
 def a_busy_controller(folder):
@@ -751,8 +1058,8 @@ def main():
     with tempfile.TemporaryDirectory() as folder:
         later = a_bell(folder)
         plays = (
-            a_day, a_stranger, a_listener, a_serial_line, a_lock, a_visit, an_example_ends, a_file_in_the_way, once, words, unknown, values,
-            slots, a_full_disk, a_long_value, a_second_device, sent_and_closed, a_confirmation, rows_without_a_folder, floods, a_busy_controller, idle,
+            a_day, names, a_stranger, a_listener, a_serial_line, a_lock, a_visit, an_example_ends, a_file_in_the_way, once, words, unknown, values,
+            slots, a_full_disk, a_long_value, a_second_device, sent_and_closed, looks, commands, a_tell, a_stop, a_confirmation, rows_without_a_folder, floods, a_loud_phone, a_busy_controller, idle,
         )
         for play in plays:
             try:

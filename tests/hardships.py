@@ -18,7 +18,7 @@ import tempfile
 
 sys.dont_write_bytecode = True
 from parties import (
-    COUNT, OWNER, PATIENCE, ROOT, STRANGER, Application, Controller, Device, check, controller_at, end_all, stream_to,
+    COUNT, OWNER, PATIENCE, ROOT, STRANGER, Application, Controller, Device, Visitor, check, controller_at, end_all, stream_to,
 )
 
 DOOR = [f"{ROOT}/examples/door.toml", f"{ROOT}/examples/keys.toml"]
@@ -26,8 +26,8 @@ DOOR = [f"{ROOT}/examples/door.toml", f"{ROOT}/examples/keys.toml"]
 ANSWER = re.compile(r"ok|fault [1-5]: .+|value \d+ (-|([0-9a-f]{2})+)|bad: .+")
 HAPPENS = re.compile(r"\+ [a-z-]+( .*)?|\+ stopped: .+")
 LINES = [
-    "update 10 01", "update 6 32", "update 21 -", "value 10", "value 99", "connections", "allow 65 3000",
-    "deny 65", "allow 65", "disconnect 65", "disconnect 70", "update 10 " + "00" * 512, "open the door", "",
+    "update 10 01", "update 6 32", "update 21 -", "value 10", "value 99", "connections", "allow 2 3000",
+    "deny 2", "allow 2", "disconnect 2", "disconnect 70", "update 10 " + "00" * 512, "open the door", "",
 ]
 # So many requests are asked at once: with 16 PDUs that wait, a phone is sent away.
 AT_ONCE = 8
@@ -121,7 +121,9 @@ def garbage_of_controllers(folder, sessions):
     check("what is heard", [], [it for it in heard if not (HAPPENS.fullmatch(it) or ANSWER.fullmatch(it))])
     comes_and_goes = [it for it in heard if it in ("+ serving", "+ waiting")]
     check("controllers come and go in turns", True, all(a != b for a, b in zip(comes_and_goes, comes_and_goes[1:])))
-    check("each of them is told of", True, abs(comes_and_goes.count("+ serving") - sessions) <= 1)
+    served = sum(it.startswith("serving") for it in device.log)
+    check("each that was initialised is told of", True, abs(comes_and_goes.count("+ serving") - served) <= 1)
+    check("some of them are", True, 0 < served <= sessions)
     controller = controller_at(device)
     check("it serves on", True, controller.is_advertised())
     controller.connect(70, STRANGER)
@@ -141,7 +143,7 @@ def garbage_of_applications(folder, sessions):
     for number in range(sessions):
         lines = "\n".join(random.choices(LINES, k=random.choice([1, 5, 20]))).encode() + b"\n"
         said = changed(lines) if number % 10 else lines
-        application = Application(path)
+        application = Visitor(path)
         try:
             application.stream.sendall(said)
             application.stream.shutdown(socket.SHUT_WR)

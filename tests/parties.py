@@ -245,18 +245,13 @@ class SerialLine:
         os.close(self.master)
 
 
-class Application:
-    """An application, the number of the device's start, and the lines that it hears."""
+class Visitor:
+    """A connection to the socket of the application, and the lines that it hears."""
 
     def __init__(self, path):
         self.stream = socket.socket(socket.AF_UNIX)
         self.stream.connect(path)
         self.octets = b""
-        first = self.line()
-        if first == "END":
-            raise ConnectionResetError("the device ended before its first line")
-        check("an application's first line", "+ started ", (first or "")[:10])
-        self.started = (first or "")[10:]
 
     def line(self, seconds=PATIENCE):
         """The next line; `END` at the end, and none where nothing comes."""
@@ -287,6 +282,21 @@ class Application:
 
     def close(self):
         self.stream.close()
+
+
+class Application(Visitor):
+    """An application, which has heard the number of the device's start: after a second of silence, or at
+    once if it says a line first that only an application may say."""
+
+    def __init__(self, path, line=None):
+        super().__init__(path)
+        if line is not None:
+            self.say(line)
+        first = self.line()
+        if first == "END":
+            raise ConnectionResetError("the device ended before its first line")
+        check("an application's first line", "+ started ", (first or "")[:10])
+        self.started = (first or "")[10:]
 
 
 def captured(path):

@@ -149,11 +149,10 @@ class Home:
 
     def application(self):
         """An application that has read what a new one reads."""
-        application = Application(self.socket)
+        # There is no such connection: the answer ends what a new application reads.
+        application = Application(self.socket, "deny 0")
         application.welcome = []
-        # There is no such handle: the answer ends what a new application reads.
-        application.say("value 99")
-        while (line := application.line()) and line != "END" and not line.startswith("fault 1"):
+        while (line := application.line()) and line != "END" and not line.startswith("fault 4"):
             application.welcome.append(line)
         return application
 
@@ -299,7 +298,7 @@ def nobody_there(folder):
     check("what was missed", [f"+ missed {VALUE} 0203", f"+ missed {LONG} -"], missed(one.welcome))
     check("it comes last", missed(one.welcome), one.welcome[-2:])
     write(controller, VALUE, "04")
-    check("what is told", f"+ written {AT_OWNER} {VALUE} 04", one.line())
+    check("what is told", f"+ written 1 {VALUE} 04", one.line())
     check("it is not told again", [], missed(after(home, device, one).welcome))
     end(device, controller)
 
@@ -712,9 +711,9 @@ def waits_for_an_application(folder):
     controller = controller_at(device)
     check("nobody is advertised", False, controller.until(lambda: controller.commands, 0.5))
     application = Application(home.socket)
-    while application.line() == "+ waiting":
-        pass
+    check("none is initialised yet", "+ waiting", application.line())
     check("is initialised", True, controller.is_advertised())
+    check("and served", "+ serving", application.line())
     owner_comes(controller)
     check("a phone writes", "13", write(controller, VALUE, "01"))
     application.lines(3)
@@ -746,8 +745,7 @@ def a_failed_save(folder, saved):
     unsaved = [it for it in lines if it and it.startswith("+ unsaved: ")]
     check("the application reads it once", 1, len(unsaved))
     check("with the path", True, bool(unsaved) and unsaved[0].startswith(f"+ unsaved: {home.path}: "))
-    check("the others", [f"+ configured {AT_OWNER} {VALUE_CONFIG} 1", f"+ ending {AT_OWNER} 13",
-        f"+ disconnected {AT_OWNER}"], [it for it in lines if it not in unsaved])
+    check("the others", [f"+ configured 1 {VALUE_CONFIG} 1", "+ ending 1 13", "+ disconnected 1"], [it for it in lines if it not in unsaved])
     check("another phone reads", "00", read(controller, VALUE, AT_STRANGER))
     if saved == "state":
         controller.say(AT_STRANGER, f"12{spelled(VALUE)}0a")
