@@ -1,4 +1,5 @@
-//! The clock of the program, and its log on standard error: a line an event, with the time of day in UTC.
+//! The clock of the program, and its log on standard error: a line an event, with the time of day in UTC
+//! unless the reader is the journal of systemd, which notes it.
 //! A reader of the log that does not read stops nothing: lines are dropped then, and counted.
 
 ghost use Rattle.std.specs.Prelude.{◌≡◌, ◌++◌, false, Some};
@@ -6,7 +7,7 @@ ghost use Rattle.jiff_core.specs.DateTime.{civil_nanos};
 ghost use Rattle.jiff_core.specs.declared.civil.datetime.DateTime.{DateTime};
 ghost use Rattle.jiff_fmt.specs.Text.{datetime_text, zulu_text};
 
-use crate::terminal::Terminal;
+use crate::terminal::{STANDARD_ERROR, Terminal};
 use arrayvec::ArrayString;
 use jiff::Timestamp;
 use jiff::fmt::temporal::DateTimePrinter;
@@ -15,8 +16,10 @@ use libc::types::{pollfd, timespec};
 use std::alloc::Global;
 use std::cell::Cell;
 use std::fs::{File, Files};
-use std::io;
+use std::os::unix::fs::MetadataExt;
+use std::rt::Env;
 use std::time::{Clock, SystemTime, UNIX_EPOCH};
+use std::{fs, io};
 
 /// The clock of `clock_gettime` that goes on while the machine is suspended: CLOCK_BOOTTIME of Linux.
 const SINCE_BOOT: i32 = 7;
@@ -37,9 +40,11 @@ pub struct Log<'a, R> {
     dropped: Cell<u64>,
     /// The terminal to which lines go, if it is one.
     terminal: Option<Terminal>,
+    /// Set if the journal of systemd reads the lines, which notes the time of each itself.
+    is_journal: bool,
 }
 
-impl<'a, R: Files<File = File>> Log<'a, R> {
+impl<'a, R: Files<File = File> + Env> Log<'a, R> {
     /// The time begins now.
     pub fn new(rt: &'a R, alloc: Global) -> io::Result<Log<'a, R>> {
         Ok(Log {
@@ -48,6 +53,7 @@ impl<'a, R: Files<File = File>> Log<'a, R> {
             begun: since_boot(),
             dropped: Cell::new(0),
             terminal: Terminal::open(rt),
+            is_journal: is_journal(rt, alloc),
         })
     }
 }
@@ -93,11 +99,14 @@ impl<R: Clock + Eprint> Log<'_, R> {
         is_told
     }
 
-    /// Writes a line with the time of day, cut to the longest line. Returns whether it was
-    /// written.
+    /// Writes a line, with the time of day unless its reader notes that, cut to the longest line. Returns
+    /// whether it was written.
     fn write(&self, words: &str) -> bool {
         if !takes_bytes() {
             return false;
+        }
+        if self.is_journal {
+            return self.write_line(front_of(words));
         }
         let moment = time_of_day(self.rt);
         let time = moment.as_str();
@@ -123,6 +132,23 @@ impl<R: Clock + Eprint> Log<'_, R> {
         if let Ok(line) = format!(in self.alloc; "{words} {what}") {
             self.say(line.as_str());
         }
+    }
+}
+
+/// Returns whether the journal of systemd reads standard error: JOURNAL_STREAM then has the device and the
+/// inode of that stream, in decimal.
+fn is_journal<R: Files<File = File> + Env>(rt: &R, alloc: Global) -> bool {
+    let mut buffer = [0; 64];
+    let Ok(count) = rt.var("JOURNAL_STREAM", &mut buffer) else {
+        return false;
+    };
+    let Ok(found) = fs::metadata(rt, STANDARD_ERROR) else {
+        return false;
+    };
+    let (device, inode) = (found.dev(), found.ino());
+    match format!(in alloc; "{device}:{inode}") {
+        Ok(stream) => buffer.get(..count) == Some(stream.as_bytes()),
+        Err(_) => false,
     }
 }
 

@@ -8,7 +8,7 @@ use std::os::fd::AsRawFd;
 use std::os::unix::fs::{FileTypeExt, MetadataExt};
 
 /// Standard error, as Linux names it.
-const STANDARD_ERROR: &str = "/proc/self/fd/2";
+pub(crate) const STANDARD_ERROR: &str = "/proc/self/fd/2";
 
 /// The major numbers of pseudo-terminals on Linux.
 const FIRST_MAJOR: u64 = 136;

@@ -19,6 +19,7 @@ use std::alloc::Global;
 use std::fs::{File, Files};
 use std::net::{Net, TcpListener, TcpStream};
 use std::random::RandomSource;
+use std::rt::Env;
 use std::time::Clock;
 
 /// Why a controller is served no longer.
@@ -48,6 +49,7 @@ pub fn serve_devices<
         + Net<Listener = TcpListener, Stream = TcpStream>
         + Clock
         + Eprint
+        + Env
         + RandomSource
         + AllocGlobal,
 >(rt: &R, words: &HostWords<'_>) -> Result<(), Stop> {
