@@ -2,7 +2,6 @@
 
 use crate::device::Device;
 use arrayvec::ArrayVec;
-use device_sides::Question;
 use gatt_host::{Host, MAX_SLOTS};
 use std::alloc::{AllocError, Global};
 use std::fs::{File, Files};
@@ -20,7 +19,7 @@ const RESET: [u8; 4] = [0x01, 0x03, 0x0C, 0x00];
 
 /// The device is to end: its connections first, and nobody is heard any more.
 pub(crate) fn begin_stop<R: Clock + Eprint>(device: &mut Device<'_, R>) {
-    device.sides.take_question();
+    device.sides.forget_asked();
     device.sides.hold();
     device.sides.log().say("stop");
     device.stop = Some(device.sides.log().now().saturating_add(ENDING_TIME));
@@ -54,7 +53,7 @@ pub(crate) fn finish<
         wait_for_reset(device);
     }
     let text = ok_text(device.alloc);
-    device.sides.reply(Question::Stop, text);
+    device.sides.reply(text);
     device.sides.flush();
     device.sides.log().say("stopped");
 }

@@ -14,8 +14,8 @@ use crate::stopping::begin_stop;
 use arrayvec::ArrayVec;
 use att_numbers::limit::MAX_ATTRIBUTES;
 use att_table::ConfigRow;
-use device_lines::{Names, Reply, Told, add_if_named, add_reply, add_told, add_wrong};
-use device_sides::{Heard, Question, Sides, add_answer, add_handle, add_value};
+use device_lines::{Command, Names, Reply, Told, add_if_named, add_reply, add_told, add_wrong};
+use device_sides::{Asked, Heard, Sides, add_handle, add_outcome, add_value};
 use gatt_device::Saving;
 use gatt_host::{AppFault, Connection, Host, MAX_SLOTS};
 use std::alloc::{AllocError, Global};
@@ -40,7 +40,7 @@ pub(crate) fn settle<R: Files<File = File> + Clock + Eprint>(
     let saving = save(device, host, hearing);
     let sides = &mut device.sides;
     sides.know(&hearing.heard);
-    if matches!(sides.question(), Question::Stop) {
+    if matches!(sides.asked(), Asked::Command(Command::Stop)) {
         begin_stop(device);
     } else {
         answer(device.alloc, sides, host, &hearing.heard);
@@ -70,8 +70,8 @@ fn note_changes<R: Clock + Eprint>(
         keeping.note_change();
         hearing.is_change = false;
     }
-    if let Question::Update(handle) = sides.question()
-        && sides.answer().is_ok()
+    if sides.answer().is_ok()
+        && let Asked::Command(Command::Update { handle, .. }) = sides.asked()
     {
         keeping.note_update(host.table(), handle);
     }
@@ -178,7 +178,7 @@ fn answer_subscriptions(
             return add_reply(text, &Reply::Done);
         }
     }
-    add_answer(alloc, text, Question::Call, Err(AppFault::NoSuchConnection))
+    add_outcome(alloc, text, Err(AppFault::NoSuchConnection))
 }
 
 /// Those of some connections that are there and are not being ended.
@@ -195,36 +195,59 @@ fn standing(host: &Host, handles: &[u16]) -> ArrayVec<u16, MAX_SLOTS> {
 
 /// Answers the line that was said in a turn.
 fn answer<R: Clock + Eprint>(alloc: Global, sides: &mut Sides<'_, R>, host: &Host, heard: &Heard) {
-    let question = sides.take_question();
-    if matches!(question, Question::Nothing) {
+    if matches!(sides.asked(), Asked::Nothing) {
         return;
     }
-    let text = answer_text(alloc, question, sides, host, heard);
-    sides.reply(question, text);
+    let text = answer_text(alloc, sides, host, heard);
+    sides.reply(text);
 }
 
-/// What a question is answered, where calls are answered so.
+/// Returns what the application is answered.
 fn answer_text<R>(
     alloc: Global,
-    question: Question,
     sides: &Sides<'_, R>,
     host: &Host,
     heard: &Heard,
 ) -> Result<Vec<u8>, AllocError> {
     let mut text = Vec::new(alloc);
-    match question {
-        Question::Wrong(wrong) => add_wrong(&mut text, sides.word(wrong.place), wrong.fault)?,
-        Question::Find(wanted) => add_handle(&mut text, find(host.table(), wanted))?,
-        Question::Subscriptions(name) => {
-            answer_subscriptions(alloc, &mut text, name, sides.names(), host, heard)?;
-        }
-        Question::Value(handle) => {
-            add_value(alloc, &mut text, handle, host.table().value_of(handle))?;
-        }
-        Question::Connections => add_all_connections(&mut text, sides.names(), host)?,
-        _ => add_answer(alloc, &mut text, question, sides.answer())?,
+    match sides.asked() {
+        Asked::Nothing => {}
+        Asked::Command(command) => answer_command(alloc, &mut text, &command, sides, host, heard)?,
+        Asked::Wrong { word, fault } => add_wrong(&mut text, word, fault)?,
+        Asked::NoText => add_reply(&mut text, &Reply::Bad("the line is no text"))?,
+        Asked::TooLong => add_reply(&mut text, &Reply::Bad("the line is too long"))?,
     }
     Ok(text)
+}
+
+/// Adds what a command is answered. If it calls the host, it has done so.
+fn answer_command<R>(
+    alloc: Global,
+    text: &mut Vec<u8>,
+    command: &Command<'_>,
+    sides: &Sides<'_, R>,
+    host: &Host,
+    heard: &Heard,
+) -> Result<(), AllocError> {
+    match command {
+        Command::Value { handle } => add_value(
+            alloc,
+            text,
+            *handle,
+            host.table().value_of(*handle),
+        ),
+        Command::Connections => add_all_connections(text, sides.names(), host),
+        Command::Subscriptions { name } => {
+            answer_subscriptions(alloc, text, *name, sides.names(), host, heard)
+        }
+        Command::Find {
+            service,
+            characteristic,
+            number,
+        } => add_handle(text, find(host.table(), *service, *characteristic, *number)),
+        Command::Stop => add_reply(text, &Reply::Done),
+        _ => add_outcome(alloc, text, sides.answer()),
+    }
 }
 
 /// Adds the lines of all connections of a host, and that these are all.

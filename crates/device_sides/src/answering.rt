@@ -1,23 +1,18 @@
-//! What the application is answered, as far as no host has to be asked.
+//! What a command of the application is answered.
 
-use crate::said::Question;
 use device_lines::{Reply, add_reply};
 use gatt_app::AppFault;
 use std::alloc::{AllocError, Global};
 
-/// Adds what a question is answered for which no host has to be asked, where calls are answered so.
-pub fn add_answer(
+/// Adds what a call of the host is answered.
+pub fn add_outcome(
     alloc: Global,
     text: &mut Vec<u8>,
-    question: Question,
     answer: Result<(), AppFault>,
 ) -> Result<(), AllocError> {
-    match question {
-        Question::Call | Question::Update(_) => add_outcome(alloc, text, answer),
-        Question::NoText => add_reply(text, &Reply::Bad("the line is no text")),
-        Question::TooLong => add_reply(text, &Reply::Bad("the line is too long")),
-        Question::Stop => add_reply(text, &Reply::Done),
-        _ => Ok(()),
+    match answer {
+        Ok(()) => add_reply(text, &Reply::Done),
+        Err(fault) => add_refused(alloc, text, fault),
     }
 }
 
@@ -32,18 +27,6 @@ pub fn add_handle(text: &mut Vec<u8>, handle: Option<u16>) -> Result<(), AllocEr
                 words: "there is no such characteristic",
             },
         ),
-    }
-}
-
-/// Adds what a call is answered.
-fn add_outcome(
-    alloc: Global,
-    text: &mut Vec<u8>,
-    answer: Result<(), AppFault>,
-) -> Result<(), AllocError> {
-    match answer {
-        Ok(()) => add_reply(text, &Reply::Done),
-        Err(fault) => add_refused(alloc, text, fault),
     }
 }
 

@@ -1,18 +1,18 @@
 //! What the application asks, line by line, until it is answered.
 
 use crate::application::Application;
-use crate::said::{Question, Said, read_said};
+use crate::asked::{Asked, call_of, read_asked};
 use arrayvec::ArrayVec;
-use device_lines::{Found, LONGEST, Names, without_return, word_at};
+use device_lines::{Found, LONGEST, Names};
 use gatt_app::{App, AppFault};
-use std::str;
 
 /// What the application has asked, and what its last call was answered.
 #[derive(Drop)]
 pub(crate) struct Asking {
     /// The line that asked last.
     line: ArrayVec<u8, LONGEST>,
-    question: Question,
+    /// Whether there is a line that is still to be answered.
+    found: Found,
     answer: Result<(), AppFault>,
 }
 
@@ -21,7 +21,7 @@ impl Asking {
     pub(crate) fn nothing() -> Asking {
         Asking {
             line: ArrayVec::new(),
-            question: Question::Nothing,
+            found: Found::Nothing,
             answer: Ok(()),
         }
     }
@@ -35,22 +35,17 @@ impl Asking {
         time: u64,
         buffer: &'a mut [u8],
     ) -> Option<App<'a>> {
-        let said = next_said(application, &mut self.line, time, buffer);
-        self.question = said.question();
-        match said.call(names, time, buffer) {
+        self.found = application.next_line(&mut self.line, time);
+        let call = match self.asked() {
+            Asked::Command(command) => call_of(&command, names, time, buffer),
+            _ => Ok(None),
+        };
+        match call {
             Ok(call) => call,
             Err(fault) => {
                 self.answer = Err(fault);
                 None
             }
-        }
-    }
-
-    /// The word of the line that asked last at a place, from 0.
-    pub(crate) fn word(&self, place: usize) -> &str {
-        match str::from_utf8(without_return(self.line.as_slice())) {
-            Ok(line) => word_at(line, place),
-            Err(_) => "",
         }
     }
 
@@ -65,29 +60,21 @@ impl Asking {
     }
 
     /// What the application has asked, which is still to be answered.
-    pub(crate) fn question(&self) -> Question {
-        self.question
+    pub(crate) fn asked(&self) -> Asked<'_> {
+        match self.found {
+            Found::Line => read_asked(self.line.as_slice()),
+            Found::Nothing => Asked::Nothing,
+            Found::TooLong => Asked::TooLong,
+        }
     }
 
-    /// What is to be answered now.
-    pub(crate) fn take_question(&mut self) -> Question {
-        let question = self.question;
-        self.question = Question::Nothing;
-        question
+    /// Whether the application has begun a line that is too long, and was not told so.
+    pub(crate) fn is_too_long(&self) -> bool {
+        matches!(self.found, Found::TooLong)
     }
-}
 
-/// What the application or its visitor says next, at this time, in milliseconds, and its line. A
-/// value is put into the front of a buffer.
-fn next_said(
-    application: &mut Application,
-    line: &mut ArrayVec<u8, LONGEST>,
-    time: u64,
-    buffer: &mut [u8],
-) -> Said {
-    match application.next_line(line, time) {
-        Found::Line => read_said(line.as_slice(), buffer),
-        Found::Nothing => Said::Question(Question::Nothing),
-        Found::TooLong => Said::Question(Question::TooLong),
+    /// Nothing is to be answered any more.
+    pub(crate) fn forget(&mut self) {
+        self.found = Found::Nothing;
     }
 }

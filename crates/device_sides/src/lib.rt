@@ -5,13 +5,13 @@
 mod acceptance;
 mod answering;
 mod application;
+mod asked;
 mod asking;
 mod controller_side;
 mod heard;
 mod missed;
 mod opening;
 mod places;
-mod said;
 mod sides;
 mod strangers;
 mod subscribed;
@@ -19,9 +19,9 @@ mod telling;
 mod turns;
 mod visitor;
 
-pub use answering::{add_answer, add_handle, add_value};
+pub use answering::{add_handle, add_outcome, add_value};
+pub use asked::Asked;
 pub use controller_side::sooner;
 pub use heard::Heard;
-pub use said::{Question, Wanted};
 pub use sides::Sides;
 pub use strangers::Limits;

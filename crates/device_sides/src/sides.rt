@@ -4,12 +4,12 @@ ghost use Rattle.std.specs.Prelude.{◌≡◌};
 
 use crate::acceptance::Acceptance;
 use crate::application::Application;
+use crate::asked::Asked;
 use crate::asking::Asking;
 use crate::controller_side::{ControllerSide, sooner};
 use crate::heard::Heard;
 use crate::missed::Missed;
 use crate::opening::{listener_at, record_to, way_to};
-use crate::said::Question;
 use crate::strangers::Limits;
 use crate::telling::{accept, fill, flush, reply, say_or_end, tell, tell_heard};
 use crate::turns::Turns;
@@ -117,18 +117,13 @@ impl<'a, R> Sides<'a, R> {
     }
 
     /// What the application has asked, which is still to be answered.
-    pub fn question(&self) -> Question {
-        self.asking.question()
+    pub fn asked(&self) -> Asked<'_> {
+        self.asking.asked()
     }
 
-    /// What the application is still to be answered, which is to be done at once.
-    pub fn take_question(&mut self) -> Question {
-        self.asking.take_question()
-    }
-
-    /// The word at a place of the line that was asked last, from 0.
-    pub fn word(&self, place: usize) -> &str {
-        self.asking.word(place)
+    /// What the application has asked is not answered now.
+    pub fn forget_asked(&mut self) {
+        self.asking.forget();
     }
 
     /// Lets the one that has asked last wait for its answer, and hears nobody else any more.
@@ -244,9 +239,11 @@ impl<R: Clock + Eprint> Sides<'_, R> {
         }
     }
 
-    /// Answers a question with a text.
-    pub fn reply(&mut self, question: Question, text: Result<Vec<u8>, AllocError>) {
-        reply(&mut self.application, &self.log, question, text);
+    /// Answers with a text what the application has asked.
+    pub fn reply(&mut self, text: Result<Vec<u8>, AllocError>) {
+        let is_too_long = self.asking.is_too_long();
+        self.asking.forget();
+        reply(&mut self.application, &self.log, is_too_long, text);
     }
 
     /// Tells a new application what stands.

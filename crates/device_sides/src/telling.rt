@@ -4,37 +4,36 @@ use crate::acceptance::Acceptance;
 use crate::application::Application;
 use crate::heard::Heard;
 use crate::missed::Missed;
-use crate::said::Question;
 use device_ends::{Log, Waiting};
 use device_lines::{Told, add_told};
 use std::alloc::{AllocError, Global};
 use std::str;
 use std::time::Clock;
 
-/// Answers a question of the application or of its visitor. Whose line was too long is ended.
+/// Answers the application or its visitor. Whose line is too long is ended.
 pub(crate) fn reply<R: Clock + Eprint>(
     application: &mut Application,
     log: &Log<'_, R>,
-    question: Question,
+    is_too_long: bool,
     text: Result<Vec<u8>, AllocError>,
 ) {
     if application.is_visited() {
-        reply_to_visitor(application, log, question, text);
+        reply_to_visitor(application, log, is_too_long, text);
         return;
     }
     let is_said = say_or_end(application, log, text, "memory: refused for an answer");
-    if is_said && matches!(question, Question::TooLong) {
+    if is_said && is_too_long {
         application.flush();
         application.end();
         log.say("application ended: its line is too long");
     }
 }
 
-/// Answers a question of the visitor.
+/// Answers the visitor.
 fn reply_to_visitor<R: Clock + Eprint>(
     application: &mut Application,
     log: &Log<'_, R>,
-    question: Question,
+    is_too_long: bool,
     text: Result<Vec<u8>, AllocError>,
 ) {
     match text {
@@ -44,7 +43,7 @@ fn reply_to_visitor<R: Clock + Eprint>(
             application.answer_visitor(None);
         }
     }
-    if matches!(question, Question::TooLong) {
+    if is_too_long {
         application.answer_visitor(None);
     }
 }

@@ -1,6 +1,6 @@
 //! A connection at the application's socket that has not taken the application's place.
 
-use crate::said::is_call;
+use crate::asked::is_call;
 use arrayvec::ArrayVec;
 use device_ends::{Line, Retry, retry_after};
 use device_lines::{Found, Inbox, LONGEST};
