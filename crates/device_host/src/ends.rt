@@ -10,6 +10,7 @@ use device_words::{Door, Reached, Settings};
 use std::alloc::Global;
 use std::fs::{File, Files};
 use std::io;
+use std::io::ErrorKind;
 use std::net::{Net, TcpListener, TcpStream};
 use std::time::Clock;
 
@@ -82,11 +83,23 @@ fn refuse_applications<R: Eprint>(
     refuse_socket(
         rt,
         match door {
-            Door::Path(path) => format!(in alloc; "listen: failed: {path}: {error}").ok(),
+            Door::Path(path) => {
+                let suffix = suffix_of(error);
+                format!(in alloc; "listen: failed: {path}{suffix}: {error}").ok()
+            }
             Door::Port(address) => format!(in alloc; "listen: failed: {address}: {error}").ok(),
             Door::None => format!(in alloc; "listen: failed: {error}").ok(),
         },
     )
+}
+
+/// Returns what stands behind the path of a socket in the path that an error is about: the socket is made in
+/// a folder of that name, and nothing else fails since something is there.
+fn suffix_of(error: &io::Error) -> &'static str {
+    match error.kind() {
+        ErrorKind::AlreadyExists | ErrorKind::DirectoryNotEmpty => ".new",
+        _ => "",
+    }
 }
 
 /// Begins a capture, if one is asked for: once nothing else can stop the start.

@@ -91,8 +91,8 @@ fn say_address<R: Clock + Eprint>(
     Ok(())
 }
 
-/// Begins a capture in a file at a path, of so many bytes at most, or tells that this cannot be created.
-/// If that cannot be written, nobody can be told.
+/// Begins a capture in a file at a path, of so many bytes at most, or tells why this cannot be created. If
+/// that cannot be written, nobody can be told.
 pub(crate) fn record_to<R: Files<File = File> + Eprint>(
     rt: &R,
     alloc: Global,
@@ -100,15 +100,15 @@ pub(crate) fn record_to<R: Files<File = File> + Eprint>(
     most: u64,
 ) -> io::Result<Recording> {
     let begun = Recording::begin(rt, path, most);
-    if begun.is_err() {
-        tell_not_created(rt, alloc, path);
+    if let Err(error) = &begun {
+        tell_not_created(rt, alloc, path, error);
     }
     begun
 }
 
-/// Tells that no file can be created at a path.
-fn tell_not_created(rt: &impl Eprint, alloc: Global, path: &str) {
-    if let Ok(line) = format!(in alloc; "capture: cannot be created: {path}") {
+/// Tells that no file can be created at a path, and why.
+fn tell_not_created(rt: &impl Eprint, alloc: Global, path: &str, error: &io::Error) {
+    if let Ok(line) = format!(in alloc; "capture: cannot be created: {path}: {error}") {
         let _ = rt.eprintln(line.as_str());
     }
 }
