@@ -708,6 +708,12 @@ def refused_paths(folder):
         check(f"the {what} stays", True, os.path.lexists(place))
 
 
+def last_of(refusal):
+    """The status of a device that does not start, and the last line that it says."""
+    status, told = refusal
+    return status, told.splitlines()[-1]
+
+
 def a_link_in_the_way(folder):
     """What is in the place of the folder in which the socket is made is not followed, and not removed."""
     path, victim = f"{folder}/linked", f"{folder}/victim"
@@ -715,14 +721,14 @@ def a_link_in_the_way(folder):
     open(f"{victim}/s", "w").close()
     os.symlink(victim, f"{path}.new")
     device = Device(*DOOR, *LISTEN, "--application", path)
-    check("a link in place of the folder", 2, device.process.wait(PATIENCE))
+    check("a link in place of the folder", (2, f"listen: failed: {path}.new: File exists (os error 17)"), last_of(device.refusal()))
     check("the file behind it stays", True, os.path.exists(f"{victim}/s"))
     check("the link stays", True, os.path.islink(f"{path}.new"))
     os.remove(f"{path}.new")
     os.mkdir(f"{path}.new")
     open(f"{path}.new/s", "w").close()
     device = Device(*DOOR, *LISTEN, "--application", path)
-    check("a file in the folder", 2, device.process.wait(PATIENCE))
+    check("a file in the folder", (2, f"listen: failed: {path}.new: Directory not empty (os error 39)"), last_of(device.refusal()))
     check("stays", True, os.path.exists(f"{path}.new/s"))
     os.remove(f"{path}.new/s")
     os.rmdir(f"{path}.new")
@@ -739,8 +745,8 @@ def a_link_in_the_way(folder):
 class Unread:
     """A device whose log goes where the test says, and what is in it once it is read."""
 
-    def __init__(self, where, *words):
-        self.process = subprocess.Popen([PROGRAM, "host", *words], stderr=where)
+    def __init__(self, where, *words, **variables):
+        self.process = subprocess.Popen([PROGRAM, "host", *words], stderr=where, env={**os.environ, **variables})
         Device.started.append(self.process)
 
     def end(self, how=signal.SIGKILL):
@@ -871,6 +877,22 @@ def a_log_in_a_file(folder):
     check("the time is that of the day", now, lines[-1][:13])
 
 
+def a_log_for_the_journal(folder):
+    """A log that the journal of systemd reads has no time, which the journal notes itself."""
+    for place, (what, has_time) in enumerate((("its stream", False), ("another stream", True), ("no stream", True))):
+        reading, writing = os.pipe()
+        found = os.fstat(writing)
+        stream = ("x" * 100, f"{found.st_dev}:{found.st_ino + 1}", f"{found.st_dev}:{found.st_ino}")[2 - place]
+        device = Unread(writing, *DOOR, *LISTEN, "--application", f"{folder}/{place}", JOURNAL_STREAM=stream)
+        os.close(writing)
+        begun_at(f"{folder}/{place}").line()
+        device.end()
+        lines = read_some(reading, 0.5).decode().splitlines()
+        os.close(reading)
+        check(f"{what}: lines with a time", [has_time] * len(lines), [TIME.fullmatch(it) is not None for it in lines])
+        check(f"{what}: a line", True, any(it.endswith("ready") for it in lines))
+
+
 def a_capture_that_is_full(folder):
     """A capture has no more octets than it may have, and the log says so once."""
     path = f"{folder}/capture"
@@ -916,7 +938,7 @@ SCENARIOS = (
     silent_controllers_connect, silent_controllers_listen, a_connection_that_is_never_made, a_silent_serial_line, late_answers, old_octets,
     a_vanished_controller, half_an_initialisation, garbage, a_reader_who_pauses, a_reader_who_stops, a_reader_for_whom_too_much_waits, a_full_read,
     a_hardware_error, strangers_who_talk, a_handle_that_is_used_again, no_descriptors, the_socket, a_log_that_nobody_reads, a_log_without_a_reader,
-    a_log_in_a_file, a_capture_that_is_full, a_capture_that_nobody_reads,
+    a_log_in_a_file, a_log_for_the_journal, a_capture_that_is_full, a_capture_that_nobody_reads,
 )
 
 

@@ -87,6 +87,31 @@ static void notices(void)
     gh_close(&host);
 }
 
+/* A program that tells the time only at the deadline ends an authorization in time. */
+static void authorization(void)
+{
+    static const uint8_t read[] = {0x0A, 13, 0};
+    static const uint8_t code[] = {0x0B, '1', '2', '3', '4'}, refused[] = {0x01, 0x0A, 13, 0, 0x08};
+    struct gh_host host = GH_HOST_INIT;
+    struct heard heard;
+    uint64_t deadline;
+    CHECK(open_host(&host, &table, &keys, NULL, 4) == GH_DONE);
+    connect_phone(&host, 64);
+    encrypt(&host, 64);
+    CHECK(gh_tick(&host, 1000) == GH_DONE);
+    CHECK(gh_authorize(&host, 64, 6000) == GH_DONE);
+    settle(&host, NULL);
+    say(&host, 64, read, sizeof read, &heard);
+    CHECK(is_heard(&heard, code, sizeof code));
+    CHECK(gh_deadline(&host, &deadline) == GH_DONE && deadline == 6000);
+    CHECK(gh_tick(&host, deadline) == GH_DONE);
+    settle(&host, NULL);
+    say(&host, 64, read, sizeof read, &heard);
+    CHECK(is_heard(&heard, refused, sizeof refused));
+    CHECK(gh_deadline(&host, &deadline) == GH_NOTHING);
+    gh_close(&host);
+}
+
 /* A host that has stopped answers this to what is taken in, and 46 to calls. */
 static void stays_stopped(struct gh_host *host, uint32_t status)
 {
@@ -160,6 +185,7 @@ int main(int argc, char **argv)
     read_file(argv[3], &porch);
     refused_calls();
     notices();
+    authorization();
     faults();
     pieces();
     return result();
