@@ -8,58 +8,78 @@ which opens or closes it by hand. If there is no device, or once it has ended, o
 error says so, and the status is 1.
 """
 
-import select
-import socket
+import asyncio
+import os
 import sys
 
-# The handles of the values: the state of the lock, and the level of its battery.
-STATE, BATTERY = "10", "6"
+sys.path.insert(0, os.path.join(os.path.dirname(os.path.realpath(__file__)), "../../python"))
+import gihandop
+
+OPEN, CLOSED = b"\1", b"\0"
 
 
-def turned(state):
-    """Turns the motor."""
-    print("the motor opens the door" if state == "01" else "the motor closes the door", flush=True)
-    return state
+class Lock:
+    """The lock of a door, with the handles of its state and of its battery's level."""
+
+    def __init__(self, device):
+        self.device = device
+        self.state = None
+        self.presses = asyncio.Queue()
+
+    def turn(self, state):
+        """Turns the motor."""
+        self.state = state
+        print("the motor opens the door" if state == OPEN else "the motor closes the door", flush=True)
+
+    def press(self):
+        """Reads presses of the button."""
+        presses = os.read(sys.stdin.fileno(), 4096)
+        for _ in range(presses.count(b"\n")):
+            self.presses.put_nowait(None)
+        if not presses:
+            asyncio.get_running_loop().remove_reader(sys.stdin)
+
+    async def serve_button(self):
+        """Turns the motor at each press, and notifies the phones."""
+        while True:
+            await self.presses.get()
+            self.turn(CLOSED if self.state == OPEN else OPEN)
+            try:
+                await self.device.update(self.handle, self.state)
+            except gihandop.Gone:
+                return
+
+    async def run(self):
+        """Serves the button and the device until the device ends."""
+        self.handle = await self.device.find("fff0", "fff1")
+        self.state = await self.device.value(self.handle)
+        print("the door is open" if self.state == OPEN else "the door is closed", flush=True)
+        await self.device.update(await self.device.find("180f", "2a19"), bytes([90]))
+        try:
+            asyncio.get_running_loop().add_reader(sys.stdin, self.press)
+        except PermissionError:
+            pass  # A file, or /dev/null, has no presses to wait for.
+        button = asyncio.create_task(self.serve_button())
+        try:
+            async for notice in self.device:
+                if isinstance(notice, gihandop.Written) and notice.handle == self.handle:
+                    self.turn(notice.value)
+        finally:
+            button.cancel()
 
 
-def heard(words, state):
-    """Returns the state of the door after a line of the device."""
-    if words[:2] == ["value", STATE]:
-        print("the door is open" if words[2] == "01" else "the door is closed", flush=True)
-        return words[2]
-    if words[:2] == ["+", "written"] and words[3] == STATE:
-        return turned(words[4])
-    return state
-
-
-def run(link):
-    """Serves the button and the device until the device ends."""
-    link.sendall(f"value {STATE}\nupdate {BATTERY} 5a\n".encode())
-    state, rest, sources = None, "", [link, sys.stdin]
-    while True:
-        ready = select.select(sources, [], [])[0]
-        if sys.stdin in ready and not sys.stdin.readline():
-            sources.remove(sys.stdin)
-        elif sys.stdin in ready:
-            state = turned("00" if state == "01" else "01")
-            link.sendall(f"update {STATE} {state}\n".encode())
-        if link in ready:
-            octets = link.recv(4096)
-            if not octets:
-                raise ConnectionError("the device closed the connection")
-            *lines, rest = (rest + octets.decode()).split("\n")
-            for line in lines:
-                state = heard(line.split(), state)
+async def serve(path):
+    async with gihandop.Device(path, retry=None) as device:
+        await Lock(device).run()
+    raise gihandop.Gone("another application has taken the place of this one")
 
 
 def main():
     if len(sys.argv) != 2:
         sys.exit("usage: lock.py SOCKET")
     try:
-        with socket.socket(socket.AF_UNIX) as link:
-            link.connect(sys.argv[1])
-            run(link)
-    except OSError as error:
+        asyncio.run(serve(sys.argv[1]))
+    except (OSError, gihandop.DeviceError) as error:
         sys.exit(f"lock.py: {sys.argv[1]}: {error}")
     except KeyboardInterrupt:
         sys.exit(1)
