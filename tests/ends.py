@@ -18,17 +18,14 @@ import socket
 import stat
 import subprocess
 import sys
-import tempfile
 import threading
 import time
 
-sys.dont_write_bytecode = True
 from parties import (
-    COUNT, OWNER, PATIENCE, PROGRAM, ROOT, STRANGER, Application, Controller, Device, SerialLine, check,
-    controller_at, end_all, stream_to,
+    DOOR, OWNER, PATIENCE, PROGRAM, STRANGER, Application, Controller, Device, SerialLine, check,
+    controller_at, play_all, stream_to,
 )
 
-DOOR = [f"{ROOT}/examples/door.toml", f"{ROOT}/examples/keys.toml"]
 LISTEN = ["--listen", "127.0.0.1:0"]
 # How long a controller may be silent in most scenarios, in seconds.
 SHORT = ["--patience", "1"]
@@ -942,21 +939,5 @@ SCENARIOS = (
 )
 
 
-def main():
-    only = sys.argv[sys.argv.index("--only") + 1] if "--only" in sys.argv else None
-    for scenario in SCENARIOS:
-        if only in (None, scenario.__name__):
-            with tempfile.TemporaryDirectory() as folder:
-                begun = time.monotonic()
-                try:
-                    scenario(folder)
-                except Exception as error:
-                    check(scenario.__name__, "no error", repr(error))
-                end_all()
-                print(f"{scenario.__name__}: {time.monotonic() - begun:.1f} s", flush=True)
-    print("{passed} passed, {failed} failed".format(**COUNT))
-    return COUNT["failed"] != 0
-
-
 if __name__ == "__main__":
-    sys.exit(main())
+    sys.exit(play_all(SCENARIOS))

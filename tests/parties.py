@@ -8,12 +8,15 @@ import socket
 import struct
 import subprocess
 import sys
+import tempfile
 import threading
 import time
 import tty
 
 ROOT = os.path.dirname(os.path.dirname(os.path.realpath(__file__)))
 PROGRAM = os.path.realpath(sys.argv[1]) if len(sys.argv) > 1 else f"{ROOT}/gatt_shell"
+DOOR = [f"{ROOT}/examples/door.toml", f"{ROOT}/examples/keys.toml"]
+BELL = [f"{ROOT}/examples/bell.toml", f"{ROOT}/examples/keys.toml"]
 # How long is waited for what has to come, in seconds.
 PATIENCE = 20
 # The peers of phones: one without a key, one with an authenticated key, and one with a key that is not
@@ -97,9 +100,9 @@ class Device:
             return status, "\n".join(self.lines)
 
 
-def end_all():
-    """Ends what a play has left running."""
-    for process in Device.started:
+def end_all(since=0):
+    """Ends what runs still of the programs that were started, but for so many of the first."""
+    for process in Device.started[since:]:
         if process.poll() is None:
             process.kill()
             process.wait(PATIENCE)
@@ -332,3 +335,50 @@ def stream_to(device):
 
 def controller_at(device):
     return Controller(stream_to(device))
+
+
+def text_of(path):
+    with open(path) as file:
+        return file.read()
+
+
+def soon(look):
+    """What is so at last, once it is so: None where it never is."""
+    end = time.monotonic() + PATIENCE
+    while time.monotonic() < end:
+        found = look()
+        if found:
+            return found
+        time.sleep(0.02)
+    return None
+
+
+def look(path, *lines):
+    """The answers to lines of a connection that sends no more, up to its end."""
+    with socket.socket(socket.AF_UNIX) as looker:
+        looker.settimeout(PATIENCE)
+        looker.connect(path)
+        looker.sendall("".join(f"{it}\n" for it in lines).encode())
+        looker.shutdown(socket.SHUT_WR)
+        return looker.makefile().read().splitlines()
+
+
+def play_all(scenarios, last=None):
+    """Plays scenarios, each in a folder of its own, or the one that the words name, and then what comes last.
+    Says how many checks passed, and returns whether one failed."""
+    only = sys.argv[sys.argv.index("--only") + 1] if "--only" in sys.argv else None
+    for scenario in scenarios:
+        if only in (None, scenario.__name__):
+            with tempfile.TemporaryDirectory() as folder:
+                begun, since = time.monotonic(), len(Device.started)
+                try:
+                    scenario(folder)
+                except Exception as error:
+                    check(scenario.__name__, "no error", repr(error))
+                end_all(since)
+                print(f"{scenario.__name__}: {time.monotonic() - begun:.1f} s", flush=True)
+    if last is not None and only is None:
+        last()
+        end_all()
+    print("{passed} passed, {failed} failed".format(**COUNT))
+    return COUNT["failed"] != 0
