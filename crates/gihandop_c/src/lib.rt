@@ -21,7 +21,9 @@ pub use config::HostConfig;
 pub use connections::ConnectionFields;
 pub use exports::asking::{gh_authorize, gh_disconnect, gh_replace, gh_tick, gh_update};
 pub use exports::opening::{gh_close, gh_open};
-pub use exports::seeing::{gh_connection, gh_deadline, gh_find, gh_rows_text, gh_text, gh_value};
+pub use exports::seeing::{
+    gh_connection, gh_deadline, gh_find, gh_rows_text, gh_text, gh_value, gh_version,
+};
 pub use exports::stream::{gh_next_notice, gh_next_out, gh_take};
 pub use host_pointer::HostPointer;
 pub use notices::NoticeFields;

@@ -13,6 +13,9 @@ use crate::host_pointer::HostPointer;
 use crate::{connections, reading, status, stream, text};
 use std::alloc::Global;
 
+/// The version 0.1.0: the major number times 1,000,000, the minor one times 1,000, and the patch.
+const VERSION: u32 = 1_000;
+
 /// Puts the value at a handle at the front of `out`, where it fits, and its length into `count`.
 /// Of a client characteristic configuration it is empty.
 #[unsafe(no_mangle)]
@@ -137,4 +140,13 @@ pub extern "C" fn gh_text(status: u32, out: &mut [u8], count: &mut usize) -> u32
         Some(text) => stream::copy(text.as_bytes(), out, count),
         None => status::NOTHING,
     }
+}
+
+/// Returns the version of the library: the major number times 1,000,000, the minor one times 1,000, and the
+/// patch.
+#[unsafe(no_mangle)]
+pub extern "C" fn gh_version() -> u32
+    ensures version { result ≡ 1000 }
+{
+    VERSION
 }
