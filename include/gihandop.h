@@ -55,6 +55,10 @@ struct gh_host {
 };
 #define GH_HOST_INIT { NULL }
 
+/* The version of this header, 0.1.0: the major number times 1,000,000, the minor one times 1,000, and
+   the patch. */
+#define GH_VERSION 1000
+
 /* The longest packet that goes out, in octets. */
 #define GH_LONGEST_PACKET 260
 
@@ -121,10 +125,64 @@ enum {
     /* a table has no value that tells of changes, or they have it at different handles. */
     GH_NO_SERVICE_CHANGED = 47,
 
-    /* A file is refused: this and the number of its first fault, as docs/FORMATS.md has them. */
+    /* The table file is refused: this and the number of its first fault, as docs/FORMATS.md has them. */
     GH_BAD_TABLE = 100,
+    /* it is not TOML; */
+    GH_TABLE_NOT_TOML = 101,
+    /* a key that has to be there is not; */
+    GH_TABLE_MISSING = 102,
+    /* a uuid is none, or is one that may not stand there; */
+    GH_TABLE_BAD_UUID = 103,
+    /* a value is not an even number of hexadecimal digits; */
+    GH_TABLE_BAD_HEX = 104,
+    /* a value of more than 512 octets, or a max out of its range; */
+    GH_TABLE_TOO_LONG = 105,
+    /* a need with a key_size out of its range, or with another key; */
+    GH_TABLE_BAD_SECURITY = 106,
+    /* a property that is unknown or not allowed there, or a config with nothing to configure; */
+    GH_TABLE_BAD_PROPERTY = 107,
+    /* more attributes, configurations or octets than a table may have; */
+    GH_TABLE_TOO_MANY = 108,
+    /* an include of a service that is not before it; */
+    GH_TABLE_BAD_INCLUDE = 109,
+    /* memory was refused; */
+    GH_TABLE_OUT_OF_MEMORY = 110,
+    /* a key that is unknown, or of another TOML type than its own. */
+    GH_TABLE_SHAPE = 111,
+
+    /* The key file is refused: this and the number of its first fault, as docs/FORMATS.md has them. */
     GH_BAD_KEYS = 200,
-    GH_BAD_ROWS = 300
+    /* it is not TOML; */
+    GH_KEYS_NOT_TOML = 201,
+    /* a key that each entry has to have is not there; */
+    GH_KEYS_MISSING = 202,
+    /* an address or a kind is none; */
+    GH_KEYS_BAD_ADDRESS = 203,
+    /* a rand or an ltk is not that many hexadecimal digits; */
+    GH_KEYS_BAD_HEX = 204,
+    /* a size is out of its range; */
+    GH_KEYS_BAD_SIZE = 205,
+    /* an earlier entry has the same peer, rand and ediv; */
+    GH_KEYS_TWICE = 206,
+    /* more than 64 entries; */
+    GH_KEYS_TOO_MANY = 207,
+    /* memory was refused; */
+    GH_KEYS_OUT_OF_MEMORY = 208,
+    /* a key that is unknown, or of another TOML type than its own; */
+    GH_KEYS_SHAPE = 209,
+    /* a secure key with another rand or ediv than 0. */
+    GH_KEYS_NOT_ZERO = 210,
+
+    /* The rows file is refused: this and the number of its first fault, as docs/FORMATS.md has them. */
+    GH_BAD_ROWS = 300,
+    /* a line says nothing that a rows file may say; */
+    GH_ROWS_BAD_LINE = 301,
+    /* a line says what an earlier one has said; */
+    GH_ROWS_TWICE = 302,
+    /* more of them than a rows file may have; */
+    GH_ROWS_TOO_MANY = 303,
+    /* memory was refused. */
+    GH_ROWS_OUT_OF_MEMORY = 304
 };
 
 /*
@@ -305,6 +363,12 @@ uint32_t gh_next_notice(struct gh_host *host, struct gh_notice *notice);
  * into *count. GH_NOTHING of a number that no function answers.
  */
 uint32_t gh_text(uint32_t status, uint8_t *out, size_t room, size_t *count);
+
+/*
+ * Returns the version of the library, in the form of GH_VERSION. Before 1.0, compile again if the two
+ * differ.
+ */
+uint32_t gh_version(void);
 
 #ifdef __cplusplus
 }

@@ -8,6 +8,8 @@ pub struct gh_host {
     pub at: *mut c_void,
 }
 
+pub const GH_VERSION: u32 = 1000;
+
 pub const GH_LONGEST_PACKET: usize = 260;
 
 #[repr(C)]
@@ -43,8 +45,33 @@ pub const GH_TIME_WENT_BACK: u32 = 45;
 pub const GH_HAS_STOPPED: u32 = 46;
 pub const GH_NO_SERVICE_CHANGED: u32 = 47;
 pub const GH_BAD_TABLE: u32 = 100;
+pub const GH_TABLE_NOT_TOML: u32 = 101;
+pub const GH_TABLE_MISSING: u32 = 102;
+pub const GH_TABLE_BAD_UUID: u32 = 103;
+pub const GH_TABLE_BAD_HEX: u32 = 104;
+pub const GH_TABLE_TOO_LONG: u32 = 105;
+pub const GH_TABLE_BAD_SECURITY: u32 = 106;
+pub const GH_TABLE_BAD_PROPERTY: u32 = 107;
+pub const GH_TABLE_TOO_MANY: u32 = 108;
+pub const GH_TABLE_BAD_INCLUDE: u32 = 109;
+pub const GH_TABLE_OUT_OF_MEMORY: u32 = 110;
+pub const GH_TABLE_SHAPE: u32 = 111;
 pub const GH_BAD_KEYS: u32 = 200;
+pub const GH_KEYS_NOT_TOML: u32 = 201;
+pub const GH_KEYS_MISSING: u32 = 202;
+pub const GH_KEYS_BAD_ADDRESS: u32 = 203;
+pub const GH_KEYS_BAD_HEX: u32 = 204;
+pub const GH_KEYS_BAD_SIZE: u32 = 205;
+pub const GH_KEYS_TWICE: u32 = 206;
+pub const GH_KEYS_TOO_MANY: u32 = 207;
+pub const GH_KEYS_OUT_OF_MEMORY: u32 = 208;
+pub const GH_KEYS_SHAPE: u32 = 209;
+pub const GH_KEYS_NOT_ZERO: u32 = 210;
 pub const GH_BAD_ROWS: u32 = 300;
+pub const GH_ROWS_BAD_LINE: u32 = 301;
+pub const GH_ROWS_TWICE: u32 = 302;
+pub const GH_ROWS_TOO_MANY: u32 = 303;
+pub const GH_ROWS_OUT_OF_MEMORY: u32 = 304;
 
 pub const GH_LONGEST_VALUE: usize = 512;
 
@@ -127,6 +154,7 @@ unsafe extern "C" {
     pub fn gh_connection(host: *mut gh_host, place: usize, connection: *mut gh_connection) -> u32;
     pub fn gh_next_notice(host: *mut gh_host, notice: *mut gh_notice) -> u32;
     pub fn gh_text(status: u32, out: *mut u8, room: usize, count: *mut usize) -> u32;
+    pub fn gh_version() -> u32;
 }
 
 #[cfg(test)]
@@ -251,7 +279,8 @@ mod tests {
         let mut count = 0;
         for item in header.split("uint32_t gh_").skip(1) {
             let (name, rest) = item.split_once('(').unwrap();
-            let parameters = rest.split(')').next().unwrap().split(',').map(declared);
+            let parameters = rest.split(')').next().unwrap().split(',');
+            let parameters = parameters.filter(|it| *it != "void").map(declared);
             let parameters = parameters.collect::<Vec<_>>().join(", ");
             let text = format!("pub fn gh_{name}({parameters}) -> u32;");
             assert!(flat.contains(&text), "{text}");

@@ -97,3 +97,14 @@ mod seen;
 pub use error::Error;
 pub use host::{Config, Files, Host, LONGEST_PACKET};
 pub use seen::{Connection, Connections, Key, Notice, Notices, Peer, Uuid};
+
+/// Returns the version of the library behind this crate: the major number, the minor one, and the patch.
+pub fn version() -> (u32, u32, u32) {
+    // SAFETY: it takes nothing and changes nothing.
+    let version = unsafe { ffi::gh_version() };
+    (
+        version / 1_000_000,
+        version / 1_000 % 1_000,
+        version % 1_000,
+    )
+}

@@ -300,3 +300,10 @@ fn many_rows_are_given_whole() {
     let host = Controller::new(&table, &rows).host;
     assert_eq!(host.rows().expect("there is memory"), rows);
 }
+
+#[test]
+fn the_version_is_that_of_the_crate() {
+    let (major, minor, patch) = gihandop::version();
+    let version = format!("{major}.{minor}.{patch}");
+    assert_eq!(version, env!("CARGO_PKG_VERSION"));
+}

@@ -283,6 +283,9 @@ static void texts(void)
     CHECK(said == 8 + 4 + 7 + 11 + 10 + 4);
     CHECK(gh_text(UINT32_MAX, text, sizeof text, &count) == GH_NOTHING);
     CHECK(gh_text(GH_DONE, text, 3, &count) == GH_SHORT_BUFFER && count == 4);
+    CHECK(GH_TABLE_SHAPE == GH_BAD_TABLE + 11 && GH_KEYS_NOT_ZERO == GH_BAD_KEYS + 10);
+    CHECK(GH_ROWS_OUT_OF_MEMORY == GH_BAD_ROWS + 4);
+    CHECK(gh_version() == GH_VERSION);
 }
 
 int main(int argc, char **argv)
