@@ -77,6 +77,14 @@ def sent_and_closed(folder):
     device.end()
 
 
+def ended(application):
+    """The lines of an application up to its end."""
+    lines = [application.line()]
+    while lines[-1] not in ("END", None):
+        lines.append(application.line())
+    return lines
+
+
 def looks(folder):
     """A connection that only asks is answered, and replaces nobody."""
     path = f"{folder}/looks.socket"
@@ -136,6 +144,12 @@ def looks(folder):
         second.shutdown(socket.SHUT_WR)
         check("the second", ["ok"], second.makefile().read().splitlines()[-1:])
     check("both are done", ["value 21 0002"], look(path, "value 21"))
+    for line in ("update 21 0003", "allow 9", "deny 9", "disconnect 9"):
+        one, begun = Application(path, "deny 0"), time.monotonic()
+        two = Application(path, line)
+        check(f"{line}: it takes the place at once", True, time.monotonic() - begun < 0.9)
+        check(f"{line}: of the one before", ["+ replaced", "END"], ended(one)[-2:])
+        two.close()
     check("phones are served", "0b01", controller.ask(64, "0a0a00"))
     device.end()
     controller.close()
