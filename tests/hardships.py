@@ -23,11 +23,12 @@ from parties import (
 
 DOOR = [f"{ROOT}/examples/door.toml", f"{ROOT}/examples/keys.toml"]
 # What an application may hear: the answer to a line, or what a phone or a controller does.
-ANSWER = re.compile(r"ok|fault [1-5]: .+|value \d+ (-|([0-9a-f]{2})+)|bad: .+")
+ANSWER = re.compile(r"ok|fault [1-5]: .+|value \d+ (-|([0-9a-f]{2})+)|handle \d+|bad: .+")
 HAPPENS = re.compile(r"\+ [a-z-]+( .*)?|\+ stopped: .+")
 LINES = [
     "update 10 01", "update 6 32", "update 21 -", "value 10", "value 99", "connections", "allow 2 3000",
     "deny 2", "allow 2", "disconnect 2", "disconnect 70", "update 10 " + "00" * 512, "open the door", "",
+    "find 180f 2a19", "find fff0 fff3 2", "find 180f fff3", "find fff0 fff1 65535", "subscriptions 2", "subscriptions 0",
 ]
 # So many requests are asked at once: with 16 PDUs that wait, a phone is sent away.
 AT_ONCE = 8
