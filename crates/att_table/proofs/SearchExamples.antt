@@ -1,5 +1,5 @@
--- What is found in a table of three services, by computing. The second one has a descriptor with the type of its second
--- characteristic, and the third one has the type of the second.
+-- What is found in a table of three services, by computing. The second service has a descriptor with the type of its second
+-- characteristic. The third service has the type of the second one, and so has its characteristic.
 use Rattle.std.specs.Prelude.{◌≡◌, ℕ, refl, true, [], ◌∷◌, Some, None}
 use Rattle.att_numbers.specs.AttributeType.{of_16_bits}
 use Rattle.att_numbers.specs.Types.{Handle, AttributeType}
@@ -31,7 +31,7 @@ table = record {
       ∷ attr 5 CHARACTERISTIC 5 Declaration ∷ attr 6 (of_16_bits 0xFFF1) 1 Value ∷ attr 7 (of_16_bits 0xFFF2) 1 Descriptor
       ∷ attr 8 CHARACTERISTIC 5 Declaration ∷ attr 9 (of_16_bits 0xFFF2) 1 Value
       ∷ attr 10 PRIMARY_SERVICE 2 Declaration
-      ∷ attr 11 CHARACTERISTIC 5 Declaration ∷ attr 12 (of_16_bits 0xFFF3) 1 Value
+      ∷ attr 11 CHARACTERISTIC 5 Declaration ∷ attr 12 (of_16_bits 0xFFF1) 1 Value
       ∷ [];
   values =
       (0x00 ∷ 0x18 ∷ [])
@@ -40,24 +40,30 @@ table = record {
       ∷ (0x02 ∷ 0x06 ∷ 0x00 ∷ 0xF1 ∷ 0xFF ∷ []) ∷ (0x01 ∷ []) ∷ (0x02 ∷ [])
       ∷ (0x02 ∷ 0x09 ∷ 0x00 ∷ 0xF2 ∷ 0xFF ∷ []) ∷ (0x03 ∷ [])
       ∷ (0xF0 ∷ 0xFF ∷ [])
-      ∷ (0x02 ∷ 0x0C ∷ 0x00 ∷ 0xF3 ∷ 0xFF ∷ []) ∷ (0x04 ∷ [])
+      ∷ (0x02 ∷ 0x0C ∷ 0x00 ∷ 0xF1 ∷ 0xFF ∷ []) ∷ (0x04 ∷ [])
       ∷ [];
 }
 
--- a value, and not the descriptor before it
-second : value_found table (of_16_bits 0xFFF0) (of_16_bits 0xFFF2) ≡ Some 9
+-- A value, and not the descriptor before it.
+second : value_found table (of_16_bits 0xFFF0) (of_16_bits 0xFFF2) 1 ≡ Some 9
 second = refl
 
--- a characteristic of another service
-elsewhere : value_found table (of_16_bits 0x1800) (of_16_bits 0xFFF1) ≡ None
+-- A characteristic of another service.
+elsewhere : value_found table (of_16_bits 0x1800) (of_16_bits 0xFFF1) 1 ≡ None
 elsewhere = refl
 
--- one of the second service of the type
-second_service : value_found table (of_16_bits 0xFFF0) (of_16_bits 0xFFF3) ≡ None
+-- The second value of a type is in another service of the same type.
+second_service : value_found table (of_16_bits 0xFFF0) (of_16_bits 0xFFF1) 2 ≡ Some 12
 second_service = refl
 
--- no service has the type
-no_service : value_found table (of_16_bits 0x180F) (of_16_bits 0x2A00) ≡ None
+no_third : value_found table (of_16_bits 0xFFF0) (of_16_bits 0xFFF1) 3 ≡ None
+no_third = refl
+
+no_number : value_found table (of_16_bits 0xFFF0) (of_16_bits 0xFFF1) 0 ≡ None
+no_number = refl
+
+-- No service has the type.
+no_service : value_found table (of_16_bits 0x180F) (of_16_bits 0x2A00) 1 ≡ None
 no_service = refl
 
 first_value : value_where table 3 ≡ Some (0x4C ∷ [])

@@ -116,16 +116,21 @@ impl Table {
         Some(self.value(handle))
     }
 
-    /// The handle of the value of the first characteristic of a type in the first service of a type,
-    /// if there is one. Types are UUIDs as numbers; one of 16 bits is written out in full (Core 5.0,
-    /// Vol 3 Part B, 2.5.1).
-    pub fn find(&self, service: u128, characteristic: u128) -> Option<u16>
-        ensures found { result ≡ value_found self.now service characteristic }
+    /// Returns the handle of a characteristic value: of those with this type in services with this
+    /// type, primary or secondary, in the order of their handles, the one with this number, from 1.
+    /// Types are UUIDs as numbers; one of 16 bits is written out in full (Core 5.0, Vol 3 Part B,
+    /// 2.5.1).
+    pub fn find(&self, service: u128, characteristic: u128, number: u16) -> Option<u16>
+        ensures found { result ≡ value_found self.now service characteristic number }
         ensures value { IfSome result (λ handle. is_value_at self.now.attributes handle ≡ true) }
     {
-        let declaration = find::service_of(&self.attributes, &self.values, service)?;
-        let last = self.group_end(declaration.handle);
-        find::value_among(self.in_range(declaration.handle, last), characteristic)
+        find::find_value(
+            &self.attributes,
+            &self.values,
+            service,
+            characteristic,
+            number,
+        )
     }
 
     /// The last handle of the group that the attribute at a handle begins: of a service up to the

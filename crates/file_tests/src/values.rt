@@ -9,10 +9,11 @@ use std::process::Abort;
 
 /// What is asked of a table, and what it is to answer.
 struct Wanted {
-    /// Types of 16 bits of a service and of a characteristic, and the handle of the value.
-    of_16_bits: &'static [(u16, u16, Option<u16>)],
-    /// Types of any length of a service and of a characteristic, and the handle of the value.
-    of_types: &'static [(u128, u128, Option<u16>)],
+    /// Types of 16 bits of a service and of a characteristic, the number of the value among those of
+    /// these types, and its handle.
+    of_16_bits: &'static [(u16, u16, u16, Option<u16>)],
+    /// The same with types of any length.
+    of_types: &'static [(u128, u128, u16, Option<u16>)],
     /// Values by their handles.
     values: &'static [(u16, Option<&'static [u8]>)],
 }
@@ -61,24 +62,24 @@ const FFF8: u128 = 0x0000_FFF8_0000_1000_8000_0080_5F9B_34FB;
 
 const WANTED_DOOR: Wanted = Wanted {
     of_16_bits: &[
-        (0x1800, 0x2A00, Some(3)),
-        (0x180F, 0x2A19, Some(6)),
-        (0xFFF0, 0xFFF1, Some(10)),
-        (0xFFF0, 0xFFF3, Some(15)),
-        (0xFFF0, 0xFFF4, Some(21)),
+        (0x1800, 0x2A00, 1, Some(3)),
+        (0x180F, 0x2A19, 1, Some(6)),
+        (0xFFF0, 0xFFF1, 1, Some(10)),
+        (0xFFF0, 0xFFF3, 1, Some(15)),
+        (0xFFF0, 0xFFF4, 1, Some(21)),
         // Only in another service.
-        (0x1800, 0x2A19, None),
-        (0xFFF0, 0x2A00, None),
+        (0x1800, 0x2A19, 1, None),
+        (0xFFF0, 0x2A00, 1, None),
         // In none.
-        (0x180F, 0xFFF7, None),
+        (0x180F, 0xFFF7, 1, None),
         // A declaration and a configuration are no values of a characteristic.
-        (0x180F, 0x2803, None),
-        (0x180F, 0x2902, None),
+        (0x180F, 0x2803, 1, None),
+        (0x180F, 0x2902, 1, None),
         // No service has the type.
-        (0xFFF1, 0xFFF1, None),
-        (0x2800, 0x2A00, None),
+        (0xFFF1, 0xFFF1, 1, None),
+        (0x2800, 0x2A00, 1, None),
     ],
-    of_types: &[(CUSTOM, CUSTOM, None)],
+    of_types: &[(CUSTOM, CUSTOM, 1, None)],
     values: &[
         (0, None),
         (1, Some(b"\x00\x18")),
@@ -93,19 +94,25 @@ const WANTED_DOOR: Wanted = Wanted {
 };
 
 const WANTED_BELL: Wanted = Wanted {
-    of_16_bits: &[(0xFFF8, 0xFFF9, Some(3)), (0xFFFA, 0xFFF9, None)],
-    of_types: &[(FFF8, CUSTOM, Some(6)), (CUSTOM, CUSTOM, None)],
+    of_16_bits: &[(0xFFF8, 0xFFF9, 1, Some(3)), (0xFFFA, 0xFFF9, 1, None)],
+    of_types: &[(FFF8, CUSTOM, 1, Some(6)), (CUSTOM, CUSTOM, 1, None)],
     values: &[(6, Some(b"\x07")), (8, Some(b"\xfa\xff")), (10, None)],
 };
 
 const WANTED_ALIKE: Wanted = Wanted {
     of_16_bits: &[
-        (0xFFF0, 0xFFF1, Some(3)),
-        (0xFFF0, 0xFFF2, Some(6)),
+        (0xFFF0, 0xFFF1, 1, Some(3)),
+        (0xFFF0, 0xFFF1, 2, None),
+        (0xFFF0, 0xFFF2, 1, Some(6)),
+        (0xFFF0, 0xFFF2, 2, Some(8)),
+        (0xFFF0, 0xFFF2, 3, None),
+        (0xFFF0, 0xFFF2, 0, None),
+        (0xFFF0, 0xFFF2, 0xFFFF, None),
         // Only in the second service of the type.
-        (0xFFF0, 0xFFF5, None),
+        (0xFFF0, 0xFFF5, 1, Some(11)),
+        (0xFFF0, 0xFFF5, 2, None),
     ],
-    of_types: &[(CUSTOM, FFF5, Some(14))],
+    of_types: &[(CUSTOM, FFF5, 1, Some(14))],
     values: &[(4, Some(b"\x02")), (6, Some(b"\x03")), (14, Some(b"\x06"))],
 };
 
@@ -132,16 +139,17 @@ fn check_file(rt: &impl Abort, alloc: Global, text: &str, wanted: &Wanted) {
     drop(table);
 }
 
-fn check_short_types(rt: &impl Abort, table: &Table, cases: &[(u16, u16, Option<u16>)]) {
-    for (case, &(service, characteristic, wanted)) in cases.iter().enumerate() {
-        let found = table.find(from_16_bits(service), from_16_bits(characteristic));
+fn check_short_types(rt: &impl Abort, table: &Table, cases: &[(u16, u16, u16, Option<u16>)]) {
+    for (case, &(service, characteristic, number, wanted)) in cases.iter().enumerate() {
+        let found = table.find(from_16_bits(service), from_16_bits(characteristic), number);
         assert_at(rt, found == wanted, case);
     }
 }
 
-fn check_types(rt: &impl Abort, table: &Table, cases: &[(u128, u128, Option<u16>)]) {
-    for (case, &(service, characteristic, wanted)) in cases.iter().enumerate() {
-        assert_at(rt, table.find(service, characteristic) == wanted, case);
+fn check_types(rt: &impl Abort, table: &Table, cases: &[(u128, u128, u16, Option<u16>)]) {
+    for (case, &(service, characteristic, number, wanted)) in cases.iter().enumerate() {
+        let found = table.find(service, characteristic, number);
+        assert_at(rt, found == wanted, case);
     }
 }
 

@@ -19,10 +19,10 @@ uuid_of octets =
     else if length octets == 16 then Some (from_le_bytes w128 octets) else None
 
 abbrev pub found_among : Contents → Option ℕ → Option ℕ → Option ℕ
-found_among table (Some service) (Some characteristic) = value_found table service characteristic
+found_among table (Some service) (Some characteristic) = value_found table service characteristic 1
 found_among table service characteristic = None
 
--- the handle of the value of the first characteristic of a type in the first service of a type
+-- the handle of the first value of a characteristic's type in services of a type
 abbrev pub found_by : Contents → Octets → Octets → Option ℕ
 found_by table service characteristic = found_among table (uuid_of service) (uuid_of characteristic)
 

@@ -74,8 +74,7 @@ pub(crate) fn rows_text(alloc: Global, opened: &Opened, out: &mut [u8], count: &
     stream::copy(text.octets.as_slice(), out, count)
 }
 
-/// Puts the handle of the value of the first characteristic of a type in the first service of a
-/// type into `handle`.
+/// Puts the handle of the first value of a characteristic's type in services of a type into `handle`.
 pub(crate) fn find(opened: &Opened, service: &[u8], characteristic: &[u8], handle: &mut u16) -> u32
     ensures status { result ≡ find_status service.now characteristic.now opened.now }
     ensures found { result ≡ DONE
@@ -89,7 +88,7 @@ pub(crate) fn find(opened: &Opened, service: &[u8], characteristic: &[u8], handl
     let Some(characteristic) = uuid(characteristic) else {
         return status::NOTHING;
     };
-    match opened.host.table().find(service, characteristic) {
+    match opened.host.table().find(service, characteristic, 1) {
         Some(found) => {
             *handle = found;
             status::DONE
