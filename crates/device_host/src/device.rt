@@ -4,8 +4,8 @@ ghost use Rattle.std.specs.Prelude.{None};
 
 use crate::keeping::Keeping;
 use arrayvec::ArrayVec;
-use device_sides::{Sides, sooner};
-use gatt_device::{Happenings, Next};
+use device_loop::{Happenings, Next};
+use device_session::{Session, sooner};
 use gatt_host::{App, AppFault, MAX_SLOTS};
 use std::alloc::Global;
 use std::fs::{File, Files};
@@ -16,7 +16,7 @@ use std::time::Clock;
 #[derive(Drop)]
 pub(crate) struct Device<'a, R> {
     pub(crate) alloc: Global,
-    pub(crate) sides: Sides<'a, R>,
+    pub(crate) session: Session<'a, R>,
     /// What is saved, if something is.
     pub(crate) keeping: Option<Keeping>,
     /// The connections that are to be ended, since what they changed is not saved.
@@ -51,11 +51,11 @@ impl<
             return Next::Call(App::Disconnect(handle));
         }
         let deadline = sooner(sooner(deadline, self.stop), self.retry());
-        next(&mut self.sides, deadline, buffer)
+        next(&mut self.session, deadline, buffer)
     }
 
     fn answered(&mut self, answer: Result<(), AppFault>) {
-        self.sides.answered(answer);
+        self.session.answered(answer);
     }
 }
 
@@ -63,22 +63,22 @@ impl<
 fn next<
     'b,
     R: Files<File = File> + Net<Listener = TcpListener, Stream = TcpStream> + Clock + Eprint,
->(sides: &mut Sides<'_, R>, deadline: Option<u64>, buffer: &'b mut [u8]) -> Next<'b> {
-    if let Some(now) = sides.next_tick(deadline) {
+>(session: &mut Session<'_, R>, deadline: Option<u64>, buffer: &'b mut [u8]) -> Next<'b> {
+    if let Some(now) = session.next_tick(deadline) {
         return Next::Call(App::Tick(now));
     }
-    if sides.is_controller_next() {
-        return octets(sides, buffer);
+    if session.is_controller_next() {
+        return octets(session, buffer);
     }
-    match sides.next_call(buffer) {
+    match session.next_call(buffer) {
         Some(call) => Next::Call(call),
         None => Next::Octets(&[]),
     }
 }
 
 /// Octets of the controller.
-fn octets<'b, R: Clock + Eprint>(sides: &mut Sides<'_, R>, buffer: &'b mut [u8]) -> Next<'b> {
-    match sides.read(buffer) {
+fn octets<'b, R: Clock + Eprint>(session: &mut Session<'_, R>, buffer: &'b mut [u8]) -> Next<'b> {
+    match session.read(buffer) {
         Ok(None) => Next::Octets(&[]),
         Ok(Some(octets)) if octets.is_empty() => Next::Ended,
         Ok(Some(octets)) => Next::Octets(octets),

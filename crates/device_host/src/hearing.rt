@@ -1,7 +1,7 @@
 //! What is heard of the host while a turn is taken.
 
-use device_sides::Heard;
-use gatt_device::Unsaved;
+use device_loop::Unsaved;
+use device_session::Heard;
 use gatt_host::{Listener, Notice};
 
 /// Hears the notices of a turn.

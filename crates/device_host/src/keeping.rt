@@ -1,8 +1,8 @@
 //! What of a host is saved, and when.
 
-use device_ends::{Lock, SavedFile};
-use device_lines::Told;
-use device_sides::Sides;
+use app_lines::Told;
+use device_io::{Lock, SavedFile};
+use device_session::Session;
 use device_state::{Saves, may_be_saved, state_text};
 use gatt_host::{Host, Rows, Table};
 use octets::Writer;
@@ -134,12 +134,12 @@ impl Keeping {
     pub(crate) fn save<R: Files<File = File> + Clock + Eprint>(
         &mut self,
         host: &Host,
-        sides: &mut Sides<'_, R>,
+        session: &mut Session<'_, R>,
     ) -> bool {
-        if self.is_due && self.is_time(sides.log().now()) {
-            match self.write(host, sides.log().rt) {
-                Ok(()) => self.succeed(sides),
-                Err(error) => self.fail(sides, &error),
+        if self.is_due && self.is_time(session.log().now()) {
+            match self.write(host, session.log().rt) {
+                Ok(()) => self.succeed(session),
+                Err(error) => self.fail(session, &error),
             }
         }
         !self.is_due
@@ -154,32 +154,32 @@ impl Keeping {
     }
 
     /// Tells the application that not all is saved, and why, if the last save failed.
-    pub(crate) fn tell_failure<R: Clock + Eprint>(&self, sides: &mut Sides<'_, R>) {
+    pub(crate) fn tell_failure<R: Clock + Eprint>(&self, session: &mut Session<'_, R>) {
         if let Some(failure) = &self.failure {
-            sides.tell(&Told::Unsaved(failure.as_str()));
+            session.tell(&Told::Unsaved(failure.as_str()));
         }
     }
 
     /// All is saved.
-    fn succeed<R: Clock + Eprint>(&mut self, sides: &mut Sides<'_, R>) {
+    fn succeed<R: Clock + Eprint>(&mut self, session: &mut Session<'_, R>) {
         self.is_due = false;
         if self.retry.is_some() {
             self.retry = None;
             self.failure = None;
-            sides.log().say_of("saved again:", self.file.path());
-            sides.tell(&Told::Saved);
+            session.log().say_of("saved again:", self.file.path());
+            session.tell(&Told::Saved);
         }
     }
 
     /// Not all is saved, and it is tried again later.
-    fn fail<R: Clock + Eprint>(&mut self, sides: &mut Sides<'_, R>, error: &io::Error) {
+    fn fail<R: Clock + Eprint>(&mut self, session: &mut Session<'_, R>, error: &io::Error) {
         let is_first = self.retry.is_none();
-        self.retry = Some(sides.log().now().saturating_add(RETRY_TIME));
+        self.retry = Some(session.log().now().saturating_add(RETRY_TIME));
         let path = self.file.path();
         if is_first && let Ok(line) = format!(in self.alloc; "{path}: {error}") {
-            sides.log().say_of("not saved:", line.as_str());
+            session.log().say_of("not saved:", line.as_str());
             self.failure = Some(line);
-            self.tell_failure(sides);
+            self.tell_failure(session);
         }
     }
 

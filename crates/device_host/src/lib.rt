@@ -4,19 +4,18 @@
 #![tactic(auto)]
 
 mod device;
-mod ends;
 mod files;
-mod finding;
 mod hearing;
 mod keeping;
 mod opening;
 mod outgoing;
 mod outside;
 mod serving;
+mod starting;
 mod stop;
 mod stopping;
 mod telling;
 
-pub use device_words::HostWords;
+pub use device_options::OptionTexts;
 pub use serving::serve_devices;
 pub use stop::Stop;

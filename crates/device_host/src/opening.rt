@@ -5,9 +5,9 @@ use crate::keeping::{Contents, Keeping, Served, subscriptions_text};
 use crate::stop::{Stop, refuse};
 use arrayvec::ArrayVec;
 use att_numbers::attribute_type::SERVICE_CHANGED;
-use device_ends::{Lock, LockFault, Log, SavedFile, unknown_peer};
+use device_io::{Lock, LockFault, Log, SavedFile, unknown_peer};
+use device_options::{HostOptions, HostSettings, Saved};
 use device_state::{Saves, State, restore};
-use device_words::{HostSettings, Saved, Settings};
 use gatt_files::{ShellFault, judged_rows, judged_table};
 use gatt_host::{Config, Host, Keys, PacketOctets, Rows, Table};
 use std::alloc::Global;
@@ -32,18 +32,18 @@ const MOST_PACKETS: usize = 8;
 pub(crate) fn open_host<R: Files<File = File> + Clock + Eprint>(
     alloc: Global,
     log: &Log<'_, R>,
-    settings: &Settings<'_>,
+    options: &HostOptions<'_>,
 ) -> Result<(Host, Option<Keeping>), Stop> {
-    let files = &settings.files;
+    let files = &options.files;
     let TableFile { table, text } = read_table(alloc, log.rt, files.table)?;
     let keys = read_keys(alloc, log.rt, files.keys)?;
     match files.saved {
         Saved::Nothing => {
             let rows = no_rows(alloc)?;
-            Ok((open(alloc, table, keys, rows, &settings.host)?, None))
+            Ok((open(alloc, table, keys, rows, &options.host)?, None))
         }
         Saved::Subscriptions(path) => open_with_subscriptions(
-            alloc, log, settings, path, table, keys,
+            alloc, log, options, path, table, keys,
         ),
         Saved::State { folder, all_values } => {
             let served = Served {
@@ -55,7 +55,7 @@ pub(crate) fn open_host<R: Files<File = File> + Clock + Eprint>(
                     Saves::Writable
                 },
             };
-            open_with_state(alloc, log, settings, folder, served, keys)
+            open_with_state(alloc, log, options, folder, served, keys)
         }
     }
 }
@@ -64,7 +64,7 @@ pub(crate) fn open_host<R: Files<File = File> + Clock + Eprint>(
 fn open_with_subscriptions<R: Files<File = File> + Clock + Eprint>(
     alloc: Global,
     log: &Log<'_, R>,
-    settings: &Settings<'_>,
+    options: &HostOptions<'_>,
     path: &str,
     table: Table,
     keys: Keys,
@@ -72,7 +72,7 @@ fn open_with_subscriptions<R: Files<File = File> + Clock + Eprint>(
     let file = find_file(alloc, log, path, FOR_ALL)?;
     let lock = lock_file(alloc, log, file.path(), ".lock")?;
     let rows = read_subscriptions(alloc, log.rt, file.path())?;
-    let host = open_with(alloc, log, settings, table, keys, rows)?;
+    let host = open_with(alloc, log, options, table, keys, rows)?;
     let keeping = Keeping::new(alloc, lock, file, Contents::Subscriptions);
     Ok((host, Some(keeping)))
 }
@@ -81,7 +81,7 @@ fn open_with_subscriptions<R: Files<File = File> + Clock + Eprint>(
 fn open_with_state<R: Files<File = File> + Clock + Eprint>(
     alloc: Global,
     log: &Log<'_, R>,
-    settings: &Settings<'_>,
+    options: &HostOptions<'_>,
     folder: &str,
     served: Served,
     keys: Keys,
@@ -94,10 +94,10 @@ fn open_with_state<R: Files<File = File> + Clock + Eprint>(
     let file = find_file(alloc, log, path.as_str(), OWNER_ALONE)?;
     let table = judged_table(alloc, served.text.as_slice())?;
     let host = match find_state(alloc, log, file.path())? {
-        Some(state) => resume(alloc, log, settings, state, &served, table, keys)?,
+        Some(state) => resume(alloc, log, options, state, &served, table, keys)?,
         None => {
             let rows = no_rows(alloc)?;
-            open(alloc, table, keys, rows, &settings.host)?
+            open(alloc, table, keys, rows, &options.host)?
         }
     };
     let keeping = Keeping::new(alloc, lock, file, Contents::State(served));
@@ -171,7 +171,7 @@ fn find_state<R: Files<File = File> + Clock + Eprint>(
 fn resume<R: Files<File = File> + Clock + Eprint>(
     alloc: Global,
     log: &Log<'_, R>,
-    settings: &Settings<'_>,
+    options: &HostOptions<'_>,
     state: State,
     served: &Served,
     table: Table,
@@ -181,16 +181,16 @@ fn resume<R: Files<File = File> + Clock + Eprint>(
     restore_values(alloc, log, &mut table, &state);
     let (before, rows, _) = state.into_parts();
     if before.as_bytes() == served.text.as_slice() {
-        return open_with(alloc, log, settings, table, keys, rows);
+        return open_with(alloc, log, options, table, keys, rows);
     }
     match judged_table(alloc, before.as_bytes()) {
         Ok(before) => {
             let replacement = Replacement { before, table };
-            open_changed(alloc, log, settings, replacement, keys, rows)
+            open_changed(alloc, log, options, replacement, keys, rows)
         }
         Err(_) => {
             log.say("the saved table is no table any more: subscriptions are taken as they stand");
-            open_with(alloc, log, settings, table, keys, rows)
+            open_with(alloc, log, options, table, keys, rows)
         }
     }
 }
@@ -223,16 +223,16 @@ struct Replacement {
 fn open_changed<R: Files<File = File> + Clock + Eprint>(
     alloc: Global,
     log: &Log<'_, R>,
-    settings: &Settings<'_>,
+    options: &HostOptions<'_>,
     replacement: Replacement,
     keys: Keys,
     rows: Rows,
 ) -> Result<Host, Stop> {
     let Replacement { before, table } = replacement;
     log.say("the table has changed");
-    refuse_unknown(alloc, log.rt, settings, &rows, &keys)?;
+    refuse_unknown(alloc, log.rt, options, &rows, &keys)?;
     let saved = saved_lines(alloc, &rows)?;
-    let mut host = open(alloc, before, keys, rows, &settings.host)?;
+    let mut host = open(alloc, before, keys, rows, &options.host)?;
     take_out(&mut host);
     let refused = replace_table(alloc, log, &mut host, table);
     let (mut table, keys, mut rows) = host.into_parts();
@@ -240,7 +240,7 @@ fn open_changed<R: Files<File = File> + Clock + Eprint>(
         rows.keep(&table, &refused);
         table = refused;
     }
-    let host = open(alloc, table, keys, rows, &settings.host)?;
+    let host = open(alloc, table, keys, rows, &options.host)?;
     log_dropped(alloc, log, saved.as_slice(), host.rows());
     Ok(host)
 }
@@ -280,18 +280,18 @@ fn take_out(host: &mut Host) {
 fn open_with<R: Eprint + Clock>(
     alloc: Global,
     log: &Log<'_, R>,
-    settings: &Settings<'_>,
+    options: &HostOptions<'_>,
     table: Table,
     keys: Keys,
     rows: Rows,
 ) -> Result<Host, Stop> {
-    refuse_unknown(alloc, log.rt, settings, &rows, &keys)?;
+    refuse_unknown(alloc, log.rt, options, &rows, &keys)?;
     let saved = saved_lines(alloc, &rows)?;
     let mut table = table;
     if is_change_pending(saved.as_slice()) {
         set_whole_range(&mut table);
     }
-    let host = open(alloc, table, keys, rows, &settings.host)?;
+    let host = open(alloc, table, keys, rows, &options.host)?;
     log_dropped(alloc, log, saved.as_slice(), host.rows());
     Ok(host)
 }
@@ -344,12 +344,12 @@ fn has_line(text: &str, line: &str) -> bool {
 fn refuse_unknown<R: Eprint>(
     alloc: Global,
     rt: &R,
-    settings: &Settings<'_>,
+    options: &HostOptions<'_>,
     rows: &Rows,
     keys: &Keys,
 ) -> Result<(), Stop> {
-    let what = match settings.files.saved {
-        _ if settings.files.drop_unknown => return Ok(()),
+    let what = match options.files.saved {
+        _ if options.files.drop_unknown => return Ok(()),
         Saved::State { .. } => "state",
         Saved::Subscriptions(_) | Saved::Nothing => "rows",
     };
@@ -369,30 +369,30 @@ fn open(
     table: Table,
     keys: Keys,
     rows: Rows,
-    settings: &HostSettings,
+    options: &HostSettings,
 ) -> Result<Host, Stop> {
-    match Host::open(alloc, table, keys, rows, config(settings)) {
+    match Host::open(alloc, table, keys, rows, config(options)) {
         Ok(host) => Ok(host),
         Err(_) => Err(Stop::Fault(ShellFault::Memory)),
     }
 }
 
 /// With what a host is opened beside its files.
-fn config(settings: &HostSettings) -> Config {
+fn config(options: &HostSettings) -> Config {
     let mut advertising = ArrayVec::new();
     advertising
-        .try_extend_from_slice(settings.advertising.as_slice())
+        .try_extend_from_slice(options.advertising.as_slice())
         .unwrap();
     Config {
-        slots: settings.slots,
+        slots: options.slots,
         rx_mtu: RX_MTU,
-        address: settings.address,
+        address: options.address,
         advertising,
     }
 }
 
 /// A host with what another one has left.
-pub(crate) fn reopen(alloc: Global, host: Host, settings: &HostSettings) -> Result<Host, Stop> {
+pub(crate) fn reopen(alloc: Global, host: Host, options: &HostSettings) -> Result<Host, Stop> {
     let (table, keys, rows) = host.into_parts();
-    open(alloc, table, keys, rows, settings)
+    open(alloc, table, keys, rows, options)
 }

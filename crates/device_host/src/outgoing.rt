@@ -2,7 +2,7 @@
 
 ghost use Rattle.std.specs.Prelude.{None, Some};
 
-use gatt_device::{Outgoing, withhold};
+use device_loop::{Outgoing, withhold};
 use octets::{Failed, Sink};
 use std::alloc::Global;
 

@@ -3,7 +3,7 @@
 use crate::device::Device;
 use crate::hearing::Hearing;
 use crate::telling::settle;
-use gatt_device::{Outside, Saving, Sending};
+use device_loop::{Outside, Saving, Sending};
 use gatt_host::Host;
 use std::fs::{File, Files};
 use std::net::{Net, TcpListener, TcpStream};
@@ -16,12 +16,12 @@ impl<
         settle(self, host, listener)
     }
 
-    #[tactic(auto, using(gatt_device::proofs::Unknown::sends_unknown))]
+    #[tactic(auto, using(device_loop::proofs::Unknown::sends_unknown))]
     fn send(&mut self, octets: &[u8]) -> Sending {
         if octets.is_empty() {
             return Sending::Done;
         }
-        match self.sides.write(octets) {
+        match self.session.write(octets) {
             Ok(true) => Sending::Done,
             Ok(false) => Sending::Waits,
             Err(_) => Sending::Failed,

@@ -1,18 +1,18 @@
 //! One controller after another is served.
 
 use crate::device::Device;
-use crate::ends::{begin_capture, reaching};
 use crate::hearing::Hearing;
 use crate::keeping::Keeping;
 use crate::opening::{open_host, reopen};
 use crate::outgoing::ToController;
+use crate::starting::{begin_capture, reaching};
 use crate::stop::Stop;
 use crate::stopping::{finish, is_stopped};
-use device_ends::Log;
-use device_lines::Told;
-use device_sides::{Heard, Sides};
-use device_words::{HostWords, Settings};
-use gatt_device::{End, Sending, serve_turn};
+use app_lines::Told;
+use device_io::Log;
+use device_loop::{End, Sending, serve_turn};
+use device_options::{HostOptions, OptionTexts};
+use device_session::{Heard, Session};
 use gatt_files::ShellFault;
 use gatt_host::{Host, HostFault};
 use std::alloc::Global;
@@ -52,15 +52,15 @@ pub fn serve_devices<
         + Env
         + RandomSource
         + AllocGlobal,
->(rt: &R, words: &HostWords<'_>) -> Result<(), Stop> {
-    let settings = match Settings::read(words) {
-        Ok(settings) => settings,
+>(rt: &R, words: &OptionTexts<'_>) -> Result<(), Stop> {
+    let options = match HostOptions::read(words) {
+        Ok(options) => options,
         Err(wrong) => return Err(Stop::Words(wrong)),
     };
     let Ok(log) = Log::new(rt, rt.alloc()) else {
         return Err(Stop::Fault(ShellFault::Listen));
     };
-    prepare_and_serve(rt.alloc(), log, &settings, number_of_start(rt))
+    prepare_and_serve(rt.alloc(), log, &options, number_of_start(rt))
 }
 
 /// A number that no other start of a device has, as far as chance can tell.
@@ -74,9 +74,9 @@ fn number_of_start<R: RandomSource>(rt: &R) -> u64 {
 /// Reads the files, listens, and serves.
 fn prepare_and_serve<
     R: Files<File = File> + Net<Listener = TcpListener, Stream = TcpStream> + Clock + Eprint,
->(alloc: Global, log: Log<'_, R>, settings: &Settings<'_>, started: u64) -> Result<(), Stop> {
-    let (host, keeping) = open_host(alloc, &log, settings)?;
-    listen_and_serve(alloc, log, settings, host, keeping, started)
+>(alloc: Global, log: Log<'_, R>, options: &HostOptions<'_>, started: u64) -> Result<(), Stop> {
+    let (host, keeping) = open_host(alloc, &log, options)?;
+    listen_and_serve(alloc, log, options, host, keeping, started)
 }
 
 /// Listens, and serves a host. Host and device are dropped as a whole, here and below, for the proof.
@@ -85,14 +85,14 @@ fn listen_and_serve<
 >(
     alloc: Global,
     log: Log<'_, R>,
-    settings: &Settings<'_>,
+    options: &HostOptions<'_>,
     host: Host,
     keeping: Option<Keeping>,
     started: u64,
 ) -> Result<(), Stop> {
-    match reaching(log, alloc, settings, keeping, started) {
+    match reaching(log, alloc, options, keeping, started) {
         Ok(mut device) => {
-            let served = save_and_serve(settings, host, &mut device);
+            let served = save_and_serve(options, host, &mut device);
             drop(device);
             served
         }
@@ -106,19 +106,19 @@ fn listen_and_serve<
 /// Saves a host for the first time, and serves it. If it cannot be saved, that is tried again.
 fn save_and_serve<
     R: Files<File = File> + Net<Listener = TcpListener, Stream = TcpStream> + Clock + Eprint,
->(settings: &Settings<'_>, host: Host, device: &mut Device<'_, R>) -> Result<(), Stop> {
+>(options: &HostOptions<'_>, host: Host, device: &mut Device<'_, R>) -> Result<(), Stop> {
     if let Some(keeping) = &mut device.keeping {
-        keeping.save(&host, &mut device.sides);
+        keeping.save(&host, &mut device.session);
     }
-    if let Err(stop) = begin_capture(&mut device.sides, settings) {
+    if let Err(stop) = begin_capture(&mut device.session, options) {
         drop(host);
         return Err(stop);
     }
-    device.sides.log().say("ready");
-    if settings.once {
-        serve_once(device, host, settings.log_values)
+    device.session.log().say("ready");
+    if options.once {
+        serve_once(device, host, options.log_values)
     } else {
-        serve_each(device, host, settings)
+        serve_each(device, host, options)
     }
 }
 
@@ -137,15 +137,15 @@ fn serve_once<
 /// Serves each controller with what the one before has left.
 fn serve_each<
     R: Files<File = File> + Net<Listener = TcpListener, Stream = TcpStream> + Clock + Eprint,
->(device: &mut Device<'_, R>, host: Host, settings: &Settings<'_>) -> Result<(), Stop> {
+>(device: &mut Device<'_, R>, host: Host, options: &HostOptions<'_>) -> Result<(), Stop> {
     let mut host = host;
-    let mut hearing = hearing_of(device, settings.log_values);
+    let mut hearing = hearing_of(device, options.log_values);
     for _controller in 0..u64::MAX {
         if let Over::Asked = serve_one(device, &mut host, &mut hearing) {
             break;
         }
-        host = reopen(device.alloc, host, &settings.host)?;
-        device.sides.lose();
+        host = reopen(device.alloc, host, &options.host)?;
+        device.session.lose();
     }
     drop(hearing);
     drop(host);
@@ -167,18 +167,18 @@ fn serve_one<
 >(device: &mut Device<'_, R>, host: &mut Host, hearing: &mut Hearing) -> Over {
     hearing.begin();
     // They were connections of the controller before.
-    device.sides.know(&hearing.heard);
+    device.session.know(&hearing.heard);
     device.ending.clear();
     let over = serve_turns(device, host, hearing);
     if device.stop.is_some() {
         finish(device);
         return Over::Asked;
     }
-    tell_over(device.alloc, &mut device.sides, over);
+    tell_over(device.alloc, &mut device.session, over);
     over
 }
 
-/// Serves a controller, once it is reached, until it is gone or the host has stopped.
+/// Serves a controller, once it is address, until it is gone or the host has stopped.
 fn serve_turns<
     R: Files<File = File> + Net<Listener = TcpListener, Stream = TcpStream> + Clock + Eprint,
 >(device: &mut Device<'_, R>, host: &mut Host, heard: &mut Hearing) -> Over {
@@ -202,37 +202,37 @@ fn over_in_turn<
 ) -> Option<Over> {
     let turn = serve_turn(host, device, out, heard);
     if matches!(turn.sending, Sending::Failed) {
-        return Some(Over::Gone(device.sides.why_lost("gone: it cannot be written")));
+        return Some(Over::Gone(device.session.why_lost("gone: it cannot be written")));
     }
     match turn.served {
-        Ok(End::Turns) if device.sides.lacks_application() => {
+        Ok(End::Turns) if device.session.lacks_application() => {
             Some(Over::Gone("released: no application is connected"))
         }
         Ok(End::Turns) if is_stopped(device, host) => Some(Over::Asked),
         Ok(End::Turns) => None,
         Ok(End::Ended) => Some(Over::Gone("gone")),
-        Ok(End::Failed) => Some(Over::Gone(device.sides.why_lost("gone: it cannot be read"))),
+        Ok(End::Failed) => Some(Over::Gone(device.session.why_lost("gone: it cannot be read"))),
         Err(fault) => Some(Over::Stopped(fault)),
     }
 }
 
 /// Tells the log and the application why a controller is served no longer.
-fn tell_over<R: Clock + Eprint>(alloc: Global, sides: &mut Sides<'_, R>, over: Over) {
+fn tell_over<R: Clock + Eprint>(alloc: Global, session: &mut Session<'_, R>, over: Over) {
     match over {
-        Over::Gone(how) => sides.log().say_of("controller", how),
-        Over::Stopped(fault) => tell_stopped(alloc, sides, fault),
+        Over::Gone(how) => session.log().say_of("controller", how),
+        Over::Stopped(fault) => tell_stopped(alloc, session, fault),
         Over::Asked => {}
     }
-    if sides.is_serving() {
-        sides.tell(&Told::Waiting);
+    if session.is_serving() {
+        session.tell(&Told::Waiting);
     }
-    sides.flush();
+    session.flush();
 }
 
 /// Tells the log and the application that the host has stopped.
-fn tell_stopped<R: Clock + Eprint>(alloc: Global, sides: &mut Sides<'_, R>, fault: HostFault) {
+fn tell_stopped<R: Clock + Eprint>(alloc: Global, session: &mut Session<'_, R>, fault: HostFault) {
     if let Ok(words) = format!(in alloc; "{fault}") {
-        sides.log().say_of("stopped:", words.as_str());
-        sides.tell(&Told::Stopped(words.as_str()));
+        session.log().say_of("stopped:", words.as_str());
+        session.tell(&Told::Stopped(words.as_str()));
     }
 }

@@ -19,10 +19,10 @@ const RESET: [u8; 4] = [0x01, 0x03, 0x0C, 0x00];
 
 /// The device is to end: its connections first, and nobody is heard any more.
 pub(crate) fn begin_stop<R: Clock + Eprint>(device: &mut Device<'_, R>) {
-    device.sides.forget_asked();
-    device.sides.hold();
-    device.sides.log().say("stop");
-    device.stop = Some(device.sides.log().now().saturating_add(ENDING_TIME));
+    device.session.forget_asked();
+    device.session.hold();
+    device.session.log().say("stop");
+    device.stop = Some(device.session.log().now().saturating_add(ENDING_TIME));
 }
 
 /// Whether a device that is to end has no connection any more, or has waited for that long enough. Its
@@ -31,7 +31,7 @@ pub(crate) fn is_stopped<R: Clock + Eprint>(device: &mut Device<'_, R>, host: &H
     let Some(stop) = device.stop else {
         return false;
     };
-    let is_late = stop <= device.sides.log().now();
+    let is_late = stop <= device.session.log().now();
     let mut ending = ArrayVec::new();
     let mut is_connected = false;
     for connection in host.connections() {
@@ -42,20 +42,20 @@ pub(crate) fn is_stopped<R: Clock + Eprint>(device: &mut Device<'_, R>, host: &H
         }
     }
     device.ending = ending;
-    is_late || !is_connected || !device.sides.has_controller()
+    is_late || !is_connected || !device.session.has_controller()
 }
 
 /// Resets the controller, so that it advertises no more, and answers that the device ends.
 pub(crate) fn finish<
     R: Files<File = File> + Net<Listener = TcpListener, Stream = TcpStream> + Clock + Eprint,
 >(device: &mut Device<'_, R>) {
-    if let Ok(true) = device.sides.write(&RESET) {
+    if let Ok(true) = device.session.write(&RESET) {
         wait_for_reset(device);
     }
     let text = ok_text(device.alloc);
-    device.sides.reply(text);
-    device.sides.flush();
-    device.sides.log().say("stopped");
+    device.session.reply(text);
+    device.session.flush();
+    device.session.log().say("stopped");
 }
 
 /// The answer to `stop`.
@@ -70,15 +70,15 @@ fn ok_text(alloc: Global) -> Result<Vec<u8>, AllocError> {
 fn wait_for_reset<
     R: Files<File = File> + Net<Listener = TcpListener, Stream = TcpStream> + Clock + Eprint,
 >(device: &mut Device<'_, R>) {
-    let until = device.sides.log().now().saturating_add(RESET_TIME);
+    let until = device.session.log().now().saturating_add(RESET_TIME);
     let mut buffer = [0; 256];
     for _turn in 0..u64::MAX {
-        if until <= device.sides.log().now() {
+        if until <= device.session.log().now() {
             return;
         }
-        device.sides.next_tick(Some(until));
-        if device.sides.is_controller_next() {
-            match device.sides.read(&mut buffer) {
+        device.session.next_tick(Some(until));
+        if device.session.is_controller_next() {
+            match device.session.read(&mut buffer) {
                 Ok(Some(octets)) if octets.is_empty() || has_reset(octets) => return,
                 Ok(_) => {}
                 Err(_) => return,

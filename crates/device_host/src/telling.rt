@@ -3,20 +3,19 @@
 
 ghost use Rattle.std.specs.Prelude.{◌≡◌, ◌++◌, OnOk};
 ghost use Rattle.std.specs.List.{flat_map};
-ghost use Rattle.device_lines.specs.Told.{lines_of_connection};
+ghost use Rattle.app_lines.specs.Told.{lines_of_connection};
 ghost use Rattle.gatt_slots.specs.Connections.{connections_in};
 
 use crate::device::Device;
-use crate::finding::find;
 use crate::hearing::Hearing;
 use crate::keeping::Keeping;
 use crate::stopping::begin_stop;
+use app_lines::{Command, Names, Reply, Told, add_if_named, add_reply, add_told, add_wrong};
 use arrayvec::ArrayVec;
 use att_numbers::limit::MAX_ATTRIBUTES;
 use att_table::ConfigRow;
-use device_lines::{Command, Names, Reply, Told, add_if_named, add_reply, add_told, add_wrong};
-use device_sides::{Asked, Heard, Sides, add_handle, add_outcome, add_value};
-use gatt_device::Saving;
+use device_loop::Saving;
+use device_session::{Asked, Heard, Session, add_handle, add_outcome, add_value};
 use gatt_host::{AppFault, Connection, Host, MAX_SLOTS};
 use std::alloc::{AllocError, Global};
 use std::fs::{File, Files};
@@ -32,37 +31,37 @@ pub(crate) fn settle<R: Files<File = File> + Clock + Eprint>(
     host: &Host,
     hearing: &mut Hearing,
 ) -> Saving {
-    let sides = &mut device.sides;
-    sides.tell_controller(host.is_initialised());
+    let session = &mut device.session;
+    session.tell_controller(host.is_initialised());
     if let Some(keeping) = &mut device.keeping {
-        note_changes(keeping, sides, host, hearing);
+        note_changes(keeping, session, host, hearing);
     }
     let saving = save(device, host, hearing);
-    let sides = &mut device.sides;
-    sides.know(&hearing.heard);
-    if matches!(sides.asked(), Asked::Command(Command::Stop)) {
+    let session = &mut device.session;
+    session.know(&hearing.heard);
+    if matches!(session.asked(), Asked::Command(Command::Stop)) {
         begin_stop(device);
     } else {
-        answer(device.alloc, sides, host, &hearing.heard);
+        answer(device.alloc, session, host, &hearing.heard);
     }
-    let sides = &mut device.sides;
+    let session = &mut device.session;
     if !hearing.heard.is_nothing() {
-        sides.tell_heard(&hearing.heard);
-        tell_subscriptions(device.alloc, sides, host, &hearing.heard);
+        session.tell_heard(&hearing.heard);
+        tell_subscriptions(device.alloc, session, host, &hearing.heard);
         hearing.heard.clear();
     }
     welcome(device, host, &hearing.heard);
-    let sides = &mut device.sides;
-    tell_missed(sides, host);
-    look_for_strangers(sides, host);
-    sides.flush();
+    let session = &mut device.session;
+    tell_missed(session, host);
+    look_for_strangers(session, host);
+    session.flush();
     saving
 }
 
 /// Notes whether a turn has changed something that is saved.
 fn note_changes<R: Clock + Eprint>(
     keeping: &mut Keeping,
-    sides: &Sides<'_, R>,
+    session: &Session<'_, R>,
     host: &Host,
     hearing: &mut Hearing,
 ) {
@@ -70,8 +69,8 @@ fn note_changes<R: Clock + Eprint>(
         keeping.note_change();
         hearing.is_change = false;
     }
-    if sides.answer().is_ok()
-        && let Asked::Command(Command::Update { handle, .. }) = sides.asked()
+    if session.answer().is_ok()
+        && let Asked::Command(Command::Update { handle, .. }) = session.asked()
     {
         keeping.note_update(host.table(), handle);
     }
@@ -84,7 +83,7 @@ fn save<R: Files<File = File> + Clock + Eprint>(
     hearing: &mut Hearing,
 ) -> Saving {
     let is_saved = match &mut device.keeping {
-        Some(keeping) => keeping.save(host, &mut device.sides),
+        Some(keeping) => keeping.save(host, &mut device.session),
         None => true,
     };
     if is_saved {
@@ -99,13 +98,13 @@ fn save<R: Files<File = File> + Clock + Eprint>(
 /// Tells the application what the connections have subscribed to whose links have a key since the turn.
 fn tell_subscriptions<R: Clock + Eprint>(
     alloc: Global,
-    sides: &mut Sides<'_, R>,
+    session: &mut Session<'_, R>,
     host: &Host,
     heard: &Heard,
 ) {
     if !heard.secured().is_empty() {
-        let text = secured_text(alloc, sides.names(), host, heard);
-        sides.tell_lines(text);
+        let text = secured_text(alloc, session.names(), host, heard);
+        session.tell_lines(text);
     }
 }
 
@@ -194,25 +193,32 @@ fn standing(host: &Host, handles: &[u16]) -> ArrayVec<u16, MAX_SLOTS> {
 }
 
 /// Answers the line that was said in a turn.
-fn answer<R: Clock + Eprint>(alloc: Global, sides: &mut Sides<'_, R>, host: &Host, heard: &Heard) {
-    if matches!(sides.asked(), Asked::Nothing) {
+fn answer<R: Clock + Eprint>(
+    alloc: Global,
+    session: &mut Session<'_, R>,
+    host: &Host,
+    heard: &Heard,
+) {
+    if matches!(session.asked(), Asked::Nothing) {
         return;
     }
-    let text = answer_text(alloc, sides, host, heard);
-    sides.reply(text);
+    let text = answer_text(alloc, session, host, heard);
+    session.reply(text);
 }
 
 /// Returns what the application is answered.
 fn answer_text<R>(
     alloc: Global,
-    sides: &Sides<'_, R>,
+    session: &Session<'_, R>,
     host: &Host,
     heard: &Heard,
 ) -> Result<Vec<u8>, AllocError> {
     let mut text = Vec::new(alloc);
-    match sides.asked() {
+    match session.asked() {
         Asked::Nothing => {}
-        Asked::Command(command) => answer_command(alloc, &mut text, &command, sides, host, heard)?,
+        Asked::Command(command) => answer_command(
+            alloc, &mut text, &command, session, host, heard,
+        )?,
         Asked::Wrong { word, fault } => add_wrong(&mut text, word, fault)?,
         Asked::NoText => add_reply(&mut text, &Reply::Bad("the line is no text"))?,
         Asked::TooLong => add_reply(&mut text, &Reply::Bad("the line is too long"))?,
@@ -225,7 +231,7 @@ fn answer_command<R>(
     alloc: Global,
     text: &mut Vec<u8>,
     command: &Command<'_>,
-    sides: &Sides<'_, R>,
+    session: &Session<'_, R>,
     host: &Host,
     heard: &Heard,
 ) -> Result<(), AllocError> {
@@ -236,17 +242,17 @@ fn answer_command<R>(
             *handle,
             host.table().value_of(*handle),
         ),
-        Command::Connections => add_all_connections(text, sides.names(), host),
+        Command::Connections => add_all_connections(text, session.names(), host),
         Command::Subscriptions { name } => {
-            answer_subscriptions(alloc, text, *name, sides.names(), host, heard)
+            answer_subscriptions(alloc, text, *name, session.names(), host, heard)
         }
         Command::Find {
             service,
             characteristic,
             number,
-        } => add_handle(text, find(host.table(), *service, *characteristic, *number)),
+        } => add_handle(text, host.table().find(*service, *characteristic, *number)),
         Command::Stop => add_reply(text, &Reply::Done),
-        _ => add_outcome(alloc, text, sides.answer()),
+        _ => add_outcome(alloc, text, session.answer()),
     }
 }
 
@@ -258,12 +264,12 @@ fn add_all_connections(text: &mut Vec<u8>, names: &Names, host: &Host) -> Result
 
 /// Tells a new application which start of the device this is, what stands, and what is not saved.
 fn welcome<R: Clock + Eprint>(device: &mut Device<'_, R>, host: &Host, heard: &Heard) {
-    let sides = &mut device.sides;
-    if sides.has_new_application() {
-        let text = standing_text(device.alloc, device.started, sides, host, heard);
-        sides.welcome(text);
+    let session = &mut device.session;
+    if session.has_new_application() {
+        let text = standing_text(device.alloc, device.started, session, host, heard);
+        session.welcome(text);
         if let Some(keeping) = &device.keeping {
-            keeping.tell_failure(sides);
+            keeping.tell_failure(session);
         }
     }
 }
@@ -272,11 +278,11 @@ fn welcome<R: Clock + Eprint>(device: &mut Device<'_, R>, host: &Host, heard: &H
 fn standing_text<R>(
     alloc: Global,
     started: u64,
-    sides: &Sides<'_, R>,
+    session: &Session<'_, R>,
     host: &Host,
     heard: &Heard,
 ) -> Result<Vec<u8>, AllocError> {
-    let told = if sides.is_serving() {
+    let told = if session.is_serving() {
         Told::Serving
     } else {
         Told::Waiting
@@ -284,25 +290,25 @@ fn standing_text<R>(
     let mut text = Vec::new(alloc);
     add_told(&mut text, &Told::Started(started))?;
     add_told(&mut text, &told)?;
-    add_connections(&mut text, sides.names(), host)?;
+    add_connections(&mut text, session.names(), host)?;
     for connection in host.connections() {
-        add_subscriptions(&mut text, sides.names(), host, heard, &connection)?;
+        add_subscriptions(&mut text, session.names(), host, heard, &connection)?;
     }
     Ok(text)
 }
 
 /// Tells the application the values that it missed, as they are now, as far as it takes lines.
-fn tell_missed<R: Clock + Eprint>(sides: &mut Sides<'_, R>, host: &Host) {
+fn tell_missed<R: Clock + Eprint>(session: &mut Session<'_, R>, host: &Host) {
     for _handle in 0..MOST_MISSED {
-        match sides.next_missed() {
+        match session.next_missed() {
             Ok(Some(handle)) => {
                 if let Some(value) = host.table().value_of(handle) {
-                    sides.tell(&Told::Missed { handle, value });
+                    session.tell(&Told::Missed { handle, value });
                 }
             }
             Ok(None) => return,
             Err(_) => {
-                sides
+                session
                     .log()
                     .say("memory: refused for values that an application missed");
                 return;
@@ -324,9 +330,9 @@ fn add_connections(text: &mut Vec<u8>, names: &Names, host: &Host) -> Result<(),
 }
 
 /// Looks for strangers among the phones of a host, if that is asked for.
-fn look_for_strangers<R>(sides: &mut Sides<'_, R>, host: &Host) {
-    if sides.looks_for_strangers() {
-        sides.look_for_strangers(keyless(host).as_slice());
+fn look_for_strangers<R>(session: &mut Session<'_, R>, host: &Host) {
+    if session.looks_for_strangers() {
+        session.look_for_strangers(keyless(host).as_slice());
     }
 }
 

@@ -9,16 +9,16 @@ use Rattle.octets.specs.Number.{Octets}
 use Rattle.toml_tables.specs.Reading.{◌>>=◌, require}
 use Rattle.gatt_subs.specs.Rows.{Subscriptions, subscriptions_read}
 use Rattle.gatt_subs.specs.declared.rows_fault.RowsFault.{RowsFault}
-use Rattle.device_state.specs.ReadBack.{IsSavedValue}
 use Rattle.device_state.specs.Reading.{LinesRead, nothing_read, rows_or_fault, state_from}
 use Rattle.device_state.specs.SavedState.{SavedState}
-use Rattle.device_state.specs.SavedValue.{Saved}
-use Rattle.device_state.specs.StateText.{bar, first_line, line_of, subscriptions_heading, table_heading, values_heading}
+use Rattle.saved_values.specs.SavedValue.{Saved, IsSavedValue}
+use Rattle.saved_values.specs.ValuesText.{line_of}
+use Rattle.device_state.specs.StateText.{bar, first_line, subscriptions_heading, table_heading, values_heading}
 use Rattle.device_state.specs.declared.reading.Next.{Next}
 use Rattle.device_state.specs.declared.reading.Next.TheVariants as next
 use Rattle.device_state.specs.declared.state_fault.StateFault.{StateFault}
 use Rattle.device_state.specs.declared.state_fault.StateFault.TheVariants.{BadValue}
-use Rattle.device_state.proofs.ValuesBack.{value_back, value_words}
+use Rattle.saved_values.proofs.ValuesBack.{value_back, value_words}
 
 -- what was read so far, and the state that is read
 abbrev reading : Next → Octets → Octets → ℕ → List Saved → LinesRead

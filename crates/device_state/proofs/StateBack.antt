@@ -28,16 +28,17 @@ use Rattle.gatt_subs.specs.declared.row_entry.RowEntry.{RowEntry}
 use Rattle.gatt_subs.specs.declared.rows_fault.RowsFault.{RowsFault}
 use Rattle.gatt_subs.proofs.LinesBack.{HasNoFeed, entry_ended, entry_feedless, entry_words, owed_ended, owed_feedless, owed_words}
 use Rattle.gatt_subs.proofs.ReadBack.{reads_back as rows_read_back}
-use Rattle.device_state.specs.ReadBack.{IsSavedValue, ReadsBack}
+use Rattle.device_state.specs.ReadBack.{ReadsBack}
 use Rattle.device_state.specs.Reading.{nothing_read, state_from, state_of}
-use Rattle.device_state.specs.SavedValue.{Saved, value_line}
+use Rattle.saved_values.specs.SavedValue.{Saved, value_line, IsSavedValue}
 use Rattle.device_state.specs.State.{is_end, is_ended, end_of, before_end, checksum_in, lines_checked, state_of_lines, state_read}
-use Rattle.device_state.specs.StateText.{checksum, end_line, ended, first_line, line_of, lines_of_state, state_text, piece_line, pieces_of, subscriptions_heading, table_heading, table_lines, values_heading, values_text}
+use Rattle.saved_values.specs.ValuesText.{line_of, pieces_of, values_text}
+use Rattle.device_state.specs.StateText.{checksum, end_line, ended, first_line, lines_of_state, state_text, piece_line, subscriptions_heading, table_heading, table_lines, values_heading}
 use Rattle.device_state.specs.declared.state_fault.StateFault.{StateFault}
 use Rattle.device_state.specs.declared.state_fault.StateFault.TheVariants.{Unended, OtherChecksum, NotText}
 use Rattle.device_state.proofs.LinesTaken.{IsOther, all_lines, behind_rows, behind_table, barred, lines_taken, the_state}
 use Rattle.device_state.proofs.Utf8Lines.{barred_utf8, entry_utf8, heading_utf8, joined_utf8, owed_utf8, pieces_utf8, value_utf8}
-use Rattle.device_state.proofs.ValuesBack.{value_ended, value_feedless, value_words}
+use Rattle.saved_values.proofs.ValuesBack.{value_ended, value_feedless, value_words}
 
 -- lines divide at their line feeds
 divided : (lines : List Octets) → All HasNoFeed lines → pieces_of (flat_map line_of lines) ≡ lines ++ [] ∷ []

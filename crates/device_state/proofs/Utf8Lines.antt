@@ -20,17 +20,16 @@ use Rattle.octets.specs.Number.{Octets}
 use Rattle.octets.proofs.Parts.{only_part}
 use Rattle.le_hci.specs.declared.peer.Peer.{Peer}
 use Rattle.att_numbers.specs.AttributeType.{is_of_16_bits}
-use Rattle.notice_lines.specs.NoticeText.{value_text}
+use Rattle.app_lines.specs.NoticeText.{value_text}
 use Rattle.gatt_subs.specs.ReadBack.{IsConfigured, IsNamed}
 use Rattle.gatt_subs.specs.RowsText.{address_text, joined_by_colons}
 use Rattle.gatt_subs.specs.declared.row_entry.RowEntry.{RowEntry}
 use Rattle.gatt_subs.proofs.LinesBack.{entry_words, owed_words}
-use Rattle.device_state.specs.ReadBack.{IsSavedValue}
-use Rattle.device_state.specs.SavedValue.{Saved}
-use Rattle.device_state.specs.StateText.{pieces_of}
-use Rattle.device_state.specs.TypeText.{short_type_text, long_type_text, type_text}
+use Rattle.saved_values.specs.SavedValue.{Saved, IsSavedValue}
+use Rattle.saved_values.specs.ValuesText.{pieces_of}
+use Rattle.saved_values.specs.TypeText.{short_type_text, long_type_text, type_text}
 use Rattle.device_state.proofs.LinesTaken.{barred}
-use Rattle.device_state.proofs.ValuesBack.{value_words}
+use Rattle.saved_values.proofs.ValuesBack.{value_words}
 
 -- texts that are ASCII
 small : (octet : ℕ) → nat_lt octet 128 ≡ true → octet < 128

@@ -1,10 +1,6 @@
-pub mod Saves
-pub mod TypeText
-pub mod SavedValue
 pub mod SavedState
 pub mod StateText
 pub mod Reading
 pub mod State
-pub mod Restore
 pub mod ReadBack
 pub mod StateFault

@@ -1,21 +1,13 @@
 -- The parts of a state are read from their text: this profile's own.
-use Rattle.std.specs.Prelude.{◌≡◌, ◌<◌, ◌≤◌, ◌^◌, List, length, Ok}
+use Rattle.std.specs.Prelude.{◌≡◌, List, Ok}
 use Rattle.std.specs.List.{All}
 use Rattle.std.specs.Str.{IsUtf8}
 use Rattle.octets.specs.Number.{Octets}
-use Rattle.octets.specs.declared.pdu.TheConstants.{MAX_PDU}
 use Rattle.gatt_subs.specs.ReadBack.{IsOfAFile, written_by}
 use Rattle.gatt_subs.specs.Rows.{Subscriptions, unfitted_rows}
-use Rattle.device_state.specs.SavedValue.{Saved}
+use Rattle.saved_values.specs.SavedValue.{Saved, IsSavedValue}
 use Rattle.device_state.specs.State.{state_read}
 use Rattle.device_state.specs.StateText.{state_text}
-
--- A value that a line can write.
-pub record IsSavedValue (value : Saved) : Type 0 where
-  pub handle : value.handle < 2 ^ 16
-  pub kind : value.kind < 2 ^ 128
-  pub few : length value.octets ≤ MAX_PDU
-  pub octets : All (λ octet. octet < 256) value.octets
 
 -- The text of a state is read as its parts. The subscriptions are not fitted to a table yet.
 abbrev pub ReadsBack : Octets → Subscriptions → List Saved → Type 0

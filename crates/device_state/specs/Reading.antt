@@ -6,8 +6,9 @@ use Rattle.toml_tables.specs.Reading.{◌>>=◌, require}
 use Rattle.gatt_subs.specs.Rows.{Subscriptions, subscriptions_read}
 use Rattle.gatt_subs.specs.declared.rows_fault.RowsFault.{RowsFault}
 use Rattle.device_state.specs.SavedState.{SavedState}
-use Rattle.device_state.specs.SavedValue.{Saved, value_of_line}
-use Rattle.device_state.specs.StateText.{first_line, piece_of, pieces_of, subscriptions_heading, table_heading, values_heading}
+use Rattle.saved_values.specs.SavedValue.{Saved, value_of_line}
+use Rattle.saved_values.specs.ValuesText.{pieces_of}
+use Rattle.device_state.specs.StateText.{first_line, piece_of, subscriptions_heading, table_heading, values_heading}
 use Rattle.device_state.specs.declared.reading.Next.{Next}
 use Rattle.device_state.specs.declared.reading.Next.TheVariants as next
 use Rattle.device_state.specs.declared.state_fault.StateFault.{StateFault}

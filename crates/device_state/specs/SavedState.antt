@@ -2,7 +2,7 @@
 use Rattle.std.specs.Prelude.{List}
 use Rattle.octets.specs.Number.{Octets}
 use Rattle.gatt_subs.specs.Rows.{Subscriptions}
-use Rattle.device_state.specs.SavedValue.{Saved}
+use Rattle.saved_values.specs.SavedValue.{Saved}
 
 pub record SavedState : Type 0 where
   pub table_text : Octets

@@ -1,16 +1,13 @@
 -- The text of a state: this profile's own.
-use Rattle.std.specs.Prelude.{ℕ, ◌==◌, ◌++◌, if◌then◌else◌, List, [], ◌∷◌, map, filter, codes, Option, Some, None}
-use Rattle.std.specs.List.{flat_map, slice_split}
+use Rattle.std.specs.Prelude.{ℕ, ◌==◌, ◌++◌, if◌then◌else◌, List, [], ◌∷◌, codes, Option, Some, None}
+use Rattle.std.specs.List.{flat_map}
 use Rattle.hex.specs.Hex.{encode_lower}
 use Rattle.sha2.specs.Sha256.{sha256}
 use Rattle.octets.specs.Number.{Octets}
-use Rattle.att_attributes.specs.declared.attr.Attr.{Attr}
-use Rattle.att_table.specs.Table.{Contents}
 use Rattle.gatt_subs.specs.Rows.{Subscriptions}
 use Rattle.gatt_subs.specs.RowsText.{rows_text}
-use Rattle.device_state.specs.SavedValue.{Saved, value_line}
-use Rattle.device_state.specs.Saves.{is_saved, value_told}
-use Rattle.device_state.specs.declared.saves.Saves.{Saves}
+use Rattle.saved_values.specs.SavedValue.{Saved}
+use Rattle.saved_values.specs.ValuesText.{line_of, pieces_of, values_text}
 
 -- The first line, and the headings of the sections.
 abbrev pub first_line : Octets
@@ -24,10 +21,6 @@ subscriptions_heading = codes "[subscriptions]"
 
 abbrev pub values_heading : Octets
 values_heading = codes "[values]"
-
--- The pieces of a text between its line feeds.
-abbrev pub pieces_of : Octets → List Octets
-pieces_of text = slice_split (λ octet. octet == 10) text
 
 -- The line of a piece of the table text begins with a bar.
 abbrev pub bar : ℕ
@@ -43,29 +36,6 @@ piece_of (octet ∷ piece) = if octet == bar then Some piece else None
 
 abbrev pub table_lines : Octets → Octets
 table_lines text = flat_map piece_line (pieces_of text)
-
--- The value of an attribute.
-abbrev pub value_of : Contents → Attr → Saved
-value_of table attr = record { handle = attr.handle; kind = attr.kind; octets = value_told table attr.handle }
-
--- The values of some attributes that are saved, in the order of the attributes.
-abbrev pub saved_of : Saves → Contents → Contents → List Attr → List Saved
-saved_of saves table initial attributes = map (value_of table) (filter (is_saved saves table initial) attributes)
-
--- The saved values of a table: `initial` is the table as its file has it.
-abbrev pub saved_values : Saves → Contents → Contents → List Saved
-saved_values saves table initial = saved_of saves table initial table.attributes
-
--- The lines of values, and of the values of some attributes that are saved.
-abbrev pub values_text : List Saved → Octets
-values_text values = flat_map value_line values
-
-abbrev pub saved_lines : Saves → Contents → Contents → List Attr → Octets
-saved_lines saves table initial attributes = values_text (saved_of saves table initial attributes)
-
--- Each line ends with a line feed.
-abbrev pub line_of : Octets → Octets
-line_of words = words ++ 10 ∷ []
 
 -- All lines except the last one: the sections, each after its heading.
 unfoldable pub lines_of_state : Octets → Subscriptions → List Saved → Octets

@@ -3,17 +3,11 @@
 #![tactic(auto)]
 
 mod reading;
-mod restoring;
-mod saved_value;
-mod saves;
 mod state;
 mod state_fault;
 mod state_lines;
-mod type_text;
 
-pub use restoring::restore;
-pub use saved_value::SavedValue;
-pub use saves::{Saves, may_be_saved};
+pub use saved_values::{SavedValue, Saves, may_be_saved, restore};
 pub use state::State;
 pub use state_fault::StateFault;
 pub use state_lines::state_text;

@@ -7,10 +7,10 @@ ghost use Rattle.device_state.specs.Reading.{finished, nothing_read, rows_in, wi
 ghost use Rattle.device_state.specs.StateText.{piece_of};
 ghost use Rattle.device_state.specs.declared.state_fault.StateFault.TheVariants.{OutOfMemory};
 
-use crate::saved_value::{SavedValue, read_value};
 use crate::state::State;
 use crate::state_fault::StateFault;
 use gatt_subs::{Rows, RowsFault};
+use saved_values::{SavedValue, read_value};
 use std::alloc::{AllocError, Global};
 use std::marker::Model;
 

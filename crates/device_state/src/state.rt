@@ -8,10 +8,10 @@ ghost use Rattle.device_state.specs.State.{is_end, lines_checked, state_of_lines
 ghost use Rattle.device_state.specs.declared.state_fault.StateFault.TheVariants.{OutOfMemory};
 
 use crate::reading::Reading;
-use crate::saved_value::SavedValue;
 use crate::state_fault::StateFault;
-use crate::state_lines::{checksum, first_piece};
+use crate::state_lines::checksum;
 use gatt_subs::Rows;
+use saved_values::{SavedValue, first_piece};
 use std::alloc::Global;
 use std::marker::Model;
 use std::str;

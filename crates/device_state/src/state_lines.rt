@@ -1,15 +1,15 @@
 //! The text of a state.
 
-ghost use Rattle.std.specs.Prelude.{◌≡◌, ◌<◌, ◌++◌, ◌∷◌, [], length, Some, None, IfOk, OnOk, IfSome, IfNone};
+ghost use Rattle.std.specs.Prelude.{◌≡◌, ◌++◌, Some, None, IfOk, OnOk};
 ghost use Rattle.gatt_subs.specs.RowsText.{rows_text};
 ghost use Rattle.device_state.specs.ReadBack.{ReadsBack};
-ghost use Rattle.device_state.specs.StateText.{checksum, end_line, lines_of_state, piece_line, pieces_of, saved_lines, saved_values, state_text, table_lines, values_text};
+ghost use Rattle.saved_values.specs.ValuesText.{saved_values};
+ghost use Rattle.device_state.specs.StateText.{checksum, end_line, lines_of_state, piece_line, state_text, table_lines};
 
-use crate::saved_value::add_value_line;
-use crate::saves::{Saves, is_saved, value_told};
-use att_table::{Attr, Table};
+use att_table::Table;
 use gatt_subs::Rows;
 use octets::{Failed, Sink};
+use saved_values::{Saves, add_values, first_piece};
 use sha2::{Digest, Sha256};
 use std::alloc::{AllocError, Global};
 
@@ -113,16 +113,6 @@ fn add_table(text: &mut Vec<u8>, table_text: &str) -> Result<(), AllocError>
     add_piece(text, rest)
 }
 
-/// Splits a text at its first line feed.
-pub fn first_piece(text: &str) -> Option<(&str, &str)>
-    ensures first { IfSome result
-        (λ parts. pieces_of text.now ≡ parts.0.now ∷ pieces_of parts.1.now) }
-    ensures only { IfNone result (pieces_of text.now ≡ text.now ∷ []) }
-    ensures shorter { IfSome result (λ parts. length parts.1.now < length text.now) }
-{
-    text.split_once('\n')
-}
-
 /// Adds a piece of a table text, in a line.
 #[tactic(auto, unfolding(crate::specs::StateText::piece_line))]
 fn add_piece(text: &mut Vec<u8>, piece: &str) -> Result<(), AllocError>
@@ -131,62 +121,6 @@ fn add_piece(text: &mut Vec<u8>, piece: &str) -> Result<(), AllocError>
     text.extend_from_slice(b"|")?;
     text.extend_from_slice(piece.as_bytes())?;
     text.extend_from_slice(b"\n")
-}
-
-/// Adds the lines of the values that are saved.
-fn add_values(
-    text: &mut Vec<u8>,
-    table: &Table,
-    initial: &Table,
-    saves: Saves,
-) -> Result<(), AllocError>
-    ensures ok { OnOk result (text.new.items ≡ text.old.items
-        ++ values_text (saved_values saves table.now initial.now)) }
-{
-    add_values_of(text, all_attributes(table), table, initial, saves)
-}
-
-/// Returns all attributes of a table.
-#[tactic(auto, using(crate::proofs::Writing::all_attributes))]
-fn all_attributes(table: &Table) -> &[Attr]
-    ensures { result.now ≡ table.now.attributes }
-{
-    table.in_range(1, table.len() as u16)
-}
-
-/// Adds the lines of the values of some attributes that are saved.
-fn add_values_of(
-    text: &mut Vec<u8>,
-    attributes: &[Attr],
-    table: &Table,
-    initial: &Table,
-    saves: Saves,
-) -> Result<(), AllocError>
-    ensures ok { OnOk result (text.new.items ≡ text.old.items
-        ++ saved_lines saves table.now initial.now attributes.now) }
-{
-    for attr in attributes {
-        add_saved(text, attr, table, initial, saves)?;
-    }
-    Ok(())
-}
-
-/// Adds the line of the value of an attribute, if it is saved.
-fn add_saved(
-    text: &mut Vec<u8>,
-    attr: &Attr,
-    table: &Table,
-    initial: &Table,
-    saves: Saves,
-) -> Result<(), AllocError>
-    ensures ok { OnOk result (text.new.items ≡ text.old.items
-        ++ saved_lines saves table.now initial.now (attr.now ∷ [])) }
-{
-    if is_saved(attr, table, initial, saves) {
-        add_value_line(text, attr.handle, attr.kind, value_told(table, attr.handle))
-    } else {
-        Ok(())
-    }
 }
 
 /// Adds the last line, with the checksum of a text.

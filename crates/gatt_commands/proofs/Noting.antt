@@ -8,7 +8,7 @@ use Rattle.gatt_host.specs.Notices.{HasTheValue, notice_of}
 use Rattle.gatt_laws.specs.machine.Notice as law
 use Rattle.octets.specs.Number.{Octets}
 use Rattle.gatt_commands.specs.declared.notes.Notes.{Notes}
-use Rattle.notice_lines.specs.NoticeText.{notice_line}
+use Rattle.app_lines.specs.NoticeText.{notice_line}
 use Rattle.gatt_commands.specs.Notices.{HaveTheirValues, NotesOne}
 
 values-append : (table : Contents) (first : List Notice) (notice : Notice) → HaveTheirValues table first → HasTheValue table notice

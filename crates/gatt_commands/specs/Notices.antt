@@ -7,7 +7,7 @@ use Rattle.gatt_host.specs.Notices.{HasTheValue, notice_of}
 use Rattle.gatt_host.specs.Telling.{notices_told}
 use Rattle.gatt_host.specs.HostModel.{HostModel}
 use Rattle.gatt_laws.specs.machine.Notice as law
-use Rattle.notice_lines.specs.NoticeText.{notice_line}
+use Rattle.app_lines.specs.NoticeText.{notice_line}
 use Rattle.gatt_commands.specs.declared.notes.Notes.{Notes}
 
 -- nothing is noted yet

@@ -3,8 +3,8 @@
 ghost use Rattle.std.specs.Prelude.{◌≡◌, true};
 ghost use Rattle.gatt_commands.specs.Notices.{NotesWhatIsTold, NotesNothingYet, NotesOne};
 
+use app_lines::add_line;
 use gatt_host::{Host, Notice};
-use notice_lines::add_line;
 use std::alloc::Global;
 
 /// The lines of the notices of a line of a script, where they are shown.

@@ -11,7 +11,7 @@ ghost use Rattle.gatt_files.specs.Check.{IsCheckFault};
 ghost use Rattle.gatt_files.specs.Fault.{exit_status_of};
 
 use arrayvec::ArrayVec;
-use device_host::{HostWords, Stop};
+use device_host::{OptionTexts, Stop};
 use gatt_commands::{
     Address, KeysPath, NextPath, RowsPath, RunPaths, ScriptPath, ServePaths, ShellFault, Shows,
     TablePath,
@@ -152,8 +152,8 @@ fn run_script(rt: &HostRuntime, paths: RunPaths<'_>) -> Result<(), ShellFault> {
 }
 
 /// What the words of `host` say, as they are given to the host.
-fn host_words<'a>(choice: &'a HostChoice<'a>) -> HostWords<'a> {
-    HostWords {
+fn host_words<'a>(choice: &'a HostChoice<'a>) -> OptionTexts<'a> {
+    OptionTexts {
         table: choice.table,
         keys: choice.keys,
         rows: choice.rows,

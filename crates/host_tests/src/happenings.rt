@@ -6,7 +6,7 @@ use crate::listening::Expects;
 use crate::player::{Setting, ready};
 use crate::tables::File::Bell;
 use crate::wire::spelled;
-use gatt_device::{End, Happenings, Next, serve_happenings};
+use device_loop::{End, Happenings, Next, serve_happenings};
 use gatt_host::{App, AppFault, HostFault, Notice, Peer};
 use octets::{ArraySink, Sink};
 use std::alloc::Global;

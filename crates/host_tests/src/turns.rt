@@ -5,7 +5,7 @@ ghost use Rattle.std.specs.Prelude.{None, Some};
 use crate::player::{Setting, ready};
 use crate::tables::File::Bell;
 use arrayvec::ArrayVec;
-use gatt_device::{
+use device_loop::{
     End, Happenings, Next, Outgoing, Outside, Saving, Sending, serve_turn, withhold,
 };
 use gatt_host::{App, AppFault, Host, Listener, Notice};
@@ -103,7 +103,7 @@ impl Outside<Hearing> for Listed {
         Saving::Unsaved(unsaved)
     }
 
-    #[tactic(auto, using(gatt_device::proofs::Unknown::sends_unknown))]
+    #[tactic(auto, using(device_loop::proofs::Unknown::sends_unknown))]
     fn send(&mut self, octets: &[u8]) -> Sending {
         let Some(&(_, _, wanted, sending)) = self.turns.get(self.over) else {
             return Sending::Done;

@@ -1,7 +1,7 @@
 use Rattle.std.proofs.Common.{◌++◌, ap, ◌∙◌}
 use Rattle.std.specs.List.{flat_map}
 use Rattle.device_host.proofs.telling.add_connections.Goals as goal
-use Rattle.device_lines.specs.Told.{lines_of_connection}
+use Rattle.app_lines.specs.Told.{lines_of_connection}
 
 pub loop-connection-init : goal.loop-connection-init
 loop-connection-init c = record {

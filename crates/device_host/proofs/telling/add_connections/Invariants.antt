@@ -2,7 +2,7 @@ use Rattle.std.proofs.Common.{◌≡◌, ◌++◌}
 use Rattle.std.specs.List.{flat_map}
 use Rattle.gatt_slots.specs.Connections.{connections_in}
 use Rattle.device_host.proofs.telling.add_connections.Given as goal
-use Rattle.device_lines.specs.Told.{lines_of_connection}
+use Rattle.app_lines.specs.Told.{lines_of_connection}
 
 -- what is told of those that the iterator still has is what is missing
 abbrev pub invariant-loop-connection : goal.invariant-loop-connection

@@ -2,7 +2,7 @@ use Rattle.std.proofs.Common.{◌≡◌, ◌+◌, ◌≤◌, length}
 use denote.Text.{Utf8}
 use denote.Shadow.{shadow}
 use Rattle.device_state.specs.Reading.{state_from, state_of}
-use Rattle.device_state.specs.StateText.{pieces_of}
+use Rattle.saved_values.specs.ValuesText.{pieces_of}
 use Rattle.device_state.proofs.state.State.read_lines.Given as goal
 
 -- says that each `&str` the loop changes is text

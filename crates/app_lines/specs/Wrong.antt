@@ -1,0 +1,28 @@
+-- The answers to lines that are wrong: this profile's own.
+use Rattle.std.specs.Prelude.{ℕ, ◌++◌, ◌&&◌, nat_le, if◌then◌else◌, [], ◌∷◌, map, take, codes}
+use Rattle.octets.specs.Number.{Octets}
+use Rattle.app_lines.specs.declared.wrong.Fault.{Fault}
+use Rattle.app_lines.specs.declared.wrong.Fault.TheVariants.{NoCommand, NoHandle, NoConnection, NoValue, NoTime, NoType, NoNumber, TooFew, TooMany}
+use Rattle.app_lines.specs.declared.wrong.TheConstants.{MOST_QUOTED}
+
+-- The fault of a word, in words that follow it.
+abbrev pub words_of_fault : Fault → Octets
+words_of_fault NoCommand = codes "is no command"
+words_of_fault NoHandle = codes "is no handle"
+words_of_fault NoConnection = codes "is no connection"
+words_of_fault NoValue = codes "is no value"
+words_of_fault NoTime = codes "is no time"
+words_of_fault NoType = codes "is no UUID"
+words_of_fault NoNumber = codes "is no number from 1 on"
+words_of_fault TooFew = codes "needs more words"
+words_of_fault TooMany = codes "is a word too many"
+
+-- A word as it is quoted: its first characters, with a question mark for each octet that is no printable ASCII.
+abbrev pub printable : ℕ → ℕ
+printable octet = if nat_le 32 octet && nat_le octet 126 then octet else 63
+
+abbrev pub quoted : Octets → Octets
+quoted word = map printable (take MOST_QUOTED word)
+
+unfoldable pub wrong_line : Octets → Fault → Octets
+wrong_line word fault = codes "bad: \"" ++ quoted word ++ codes "\" " ++ words_of_fault fault ++ 10 ∷ []

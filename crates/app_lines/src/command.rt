@@ -1,0 +1,286 @@
+//! What a line of the application asks.
+
+ghost use Rattle.std.specs.Prelude.{◌≡◌};
+ghost use Rattle.app_lines.specs.Command.{allow_of, command_of, count_at, fault_by_count, find_of};
+ghost use Rattle.app_lines.specs.Command.{four_words, handle_at, most_words, name_at, one_word};
+ghost use Rattle.app_lines.specs.Command.{three_words, two_words, type_at, update_of, without_return};
+
+use crate::type_text::read_type;
+use crate::wrong::{Fault, Wrong};
+use scripts::{Payload, first_word, read_u16, read_u64};
+
+/// What the application asks.
+#[derive(Drop)]
+pub enum Command<'a> {
+    /// The value at a handle is to be updated.
+    Update {
+        handle: u16,
+        value: Payload<'a>,
+    },
+    /// The connection with a name is to be authorized: for so many milliseconds from now on, or for
+    /// good.
+    Allow {
+        name: u64,
+        lasting: Option<u64>,
+    },
+    /// The connection with a name is not to be authorized any more.
+    Deny {
+        name: u64,
+    },
+    /// The connection with a name is to be ended.
+    Disconnect {
+        name: u64,
+    },
+    /// What the value at a handle is.
+    Value {
+        handle: u16,
+    },
+    /// Who is connected.
+    Connections,
+    /// What the connection with a name has subscribed to.
+    Subscriptions {
+        name: u64,
+    },
+    /// Which handle the value of a characteristic has: of those with this type in services with this
+    /// type, the one with this number, from 1.
+    Find {
+        service: u128,
+        characteristic: u128,
+        number: u16,
+    },
+    /// The device is to end.
+    Stop,
+}
+
+/// What a line asks, or which of its words is wrong.
+#[tactic(auto, unfolding(crate::specs::Command::command_of))]
+pub fn read_line(line: &str) -> Result<Command<'_>, Wrong>
+    ensures { result ≡ command_of line.now }
+{
+    let Some((first, rest)) = first_word(line) else {
+        return read_one(line);
+    };
+    let Some((second, rest)) = first_word(rest) else {
+        return read_two(first, rest);
+    };
+    let Some((third, rest)) = first_word(rest) else {
+        return read_three(first, second, rest);
+    };
+    match first_word(rest) {
+        None => read_four(first, second, third, rest),
+        Some(_) => Err(miscounted(first, 5)),
+    }
+}
+
+/// Returns a line without the carriage return at its end, if it has one.
+pub fn without_return(line: &[u8]) -> &[u8]
+    ensures { result.now ≡ without_return line.now }
+{
+    let end = line.len().saturating_sub(1);
+    if end < line.len() && line[end] == b'\r' {
+        &line[..end]
+    } else {
+        line
+    }
+}
+
+/// What a word asks alone.
+#[tactic(auto, unfolding(crate::specs::Command::one_word))]
+fn read_one(first: &str) -> Result<Command<'_>, Wrong>
+    ensures { result ≡ one_word first.now }
+{
+    match first {
+        "connections" => Ok(Command::Connections),
+        "stop" => Ok(Command::Stop),
+        _ => Err(miscounted(first, 1)),
+    }
+}
+
+/// What two words ask.
+#[tactic(auto, unfolding(crate::specs::Command::two_words))]
+fn read_two<'a>(first: &str, second: &'a str) -> Result<Command<'a>, Wrong>
+    ensures { result ≡ two_words first.now second.now }
+{
+    match first {
+        "allow" => match name_at(1, second) {
+            Ok(name) => Ok(Command::Allow {
+                name,
+                lasting: None,
+            }),
+            Err(wrong) => Err(wrong),
+        },
+        "deny" => match name_at(1, second) {
+            Ok(name) => Ok(Command::Deny { name }),
+            Err(wrong) => Err(wrong),
+        },
+        "disconnect" => match name_at(1, second) {
+            Ok(name) => Ok(Command::Disconnect { name }),
+            Err(wrong) => Err(wrong),
+        },
+        "value" => match handle_at(1, second) {
+            Ok(handle) => Ok(Command::Value { handle }),
+            Err(wrong) => Err(wrong),
+        },
+        "subscriptions" => match name_at(1, second) {
+            Ok(name) => Ok(Command::Subscriptions { name }),
+            Err(wrong) => Err(wrong),
+        },
+        _ => Err(miscounted(first, 2)),
+    }
+}
+
+/// What three words ask.
+#[tactic(auto, unfolding(crate::specs::Command::three_words))]
+fn read_three<'a>(first: &str, second: &str, third: &'a str) -> Result<Command<'a>, Wrong>
+    ensures { result ≡ three_words first.now second.now third.now }
+{
+    match first {
+        "update" => read_update(second, third),
+        "allow" => read_allow(second, third),
+        "find" => read_find(second, third, 1),
+        _ => Err(miscounted(first, 3)),
+    }
+}
+
+/// What four words ask.
+#[tactic(auto, unfolding(crate::specs::Command::four_words))]
+fn read_four<'a>(
+    first: &str,
+    second: &str,
+    third: &'a str,
+    fourth: &str,
+) -> Result<Command<'a>, Wrong>
+    ensures { result ≡ four_words first.now second.now third.now fourth.now }
+{
+    match first {
+        "find" => match count_at(3, fourth) {
+            Ok(number) => read_find(second, third, number),
+            Err(wrong) => Err(wrong),
+        },
+        _ => Err(miscounted(first, 4)),
+    }
+}
+
+/// What `update` asks.
+fn read_update<'a>(handle: &str, value: &'a str) -> Result<Command<'a>, Wrong>
+    ensures { result ≡ update_of handle.now value.now }
+{
+    match handle_at(1, handle) {
+        Ok(handle) => match Payload::read(value) {
+            Some(value) => Ok(Command::Update { handle, value }),
+            None => Err(wrong(Fault::NoValue, 2)),
+        },
+        Err(wrong) => Err(wrong),
+    }
+}
+
+/// What `allow` asks with a time.
+fn read_allow<'a>(name: &str, time: &'a str) -> Result<Command<'a>, Wrong>
+    ensures { result ≡ allow_of name.now time.now }
+{
+    match name_at(1, name) {
+        Ok(name) => match read_u64(time) {
+            Some(lasting) => Ok(Command::Allow {
+                name,
+                lasting: Some(lasting),
+            }),
+            None => Err(wrong(Fault::NoTime, 2)),
+        },
+        Err(wrong) => Err(wrong),
+    }
+}
+
+/// What `find` asks.
+fn read_find<'a>(service: &str, characteristic: &'a str, number: u16) -> Result<Command<'a>, Wrong>
+    ensures { result ≡ find_of service.now characteristic.now number }
+{
+    match type_at(1, service) {
+        Ok(service) => match type_at(2, characteristic) {
+            Ok(characteristic) => Ok(Command::Find {
+                service,
+                characteristic,
+                number,
+            }),
+            Err(wrong) => Err(wrong),
+        },
+        Err(wrong) => Err(wrong),
+    }
+}
+
+/// The name of a connection that the word at a place is.
+fn name_at(place: usize, word: &str) -> Result<u64, Wrong>
+    ensures { result ≡ name_at place word.now }
+{
+    match read_u64(word) {
+        Some(name) => Ok(name),
+        None => Err(wrong(Fault::NoConnection, place)),
+    }
+}
+
+/// The handle that the word at a place is.
+fn handle_at(place: usize, word: &str) -> Result<u16, Wrong>
+    ensures { result ≡ handle_at place word.now }
+{
+    match read_u16(word) {
+        Some(handle) => Ok(handle),
+        None => Err(wrong(Fault::NoHandle, place)),
+    }
+}
+
+/// The type that the word at a place is.
+fn type_at(place: usize, word: &str) -> Result<u128, Wrong>
+    ensures { result ≡ type_at place word.now }
+{
+    match read_type(word) {
+        Some(kind) => Ok(kind),
+        None => Err(wrong(Fault::NoType, place)),
+    }
+}
+
+/// The number from 1 on that the word at a place is.
+fn count_at(place: usize, word: &str) -> Result<u16, Wrong>
+    ensures { result ≡ count_at place word.now }
+{
+    match read_u16(word) {
+        Some(0) | None => Err(wrong(Fault::NoNumber, place)),
+        Some(number) => Ok(number),
+    }
+}
+
+/// What is wrong with so many words of which this is the first.
+fn miscounted(first: &str, count: usize) -> Wrong
+    ensures { result ≡ fault_by_count (most_words first.now) count }
+{
+    match most_words(first) {
+        None => wrong(Fault::NoCommand, 0),
+        Some(most) if most < count => wrong(Fault::TooMany, most),
+        Some(_) => wrong(Fault::TooFew, 0),
+    }
+}
+
+/// How many words a command has at most, with its own.
+#[tactic(auto, unfolding(crate::specs::Command::most_words))]
+fn most_words(first: &str) -> Option<usize>
+    ensures { result ≡ most_words first.now }
+{
+    match first {
+        "update" => Some(3),
+        "allow" => Some(3),
+        "deny" => Some(2),
+        "disconnect" => Some(2),
+        "value" => Some(2),
+        "connections" => Some(1),
+        "subscriptions" => Some(2),
+        "find" => Some(4),
+        "stop" => Some(1),
+        _ => None,
+    }
+}
+
+/// What is wrong with the word at a place.
+fn wrong(fault: Fault, place: usize) -> Wrong
+    ensures fault { result.fault ≡ fault }
+    ensures place { result.place ≡ place }
+{
+    Wrong { fault, place }
+}

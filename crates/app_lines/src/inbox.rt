@@ -1,0 +1,118 @@
+//! What the application has said, line by line.
+
+ghost use Rattle.std.specs.Prelude.{◌≡◌, ◌+◌, ◌++◌, [], length, take, IfSome, IfNone};
+ghost use Rattle.memchr.specs.Find.{IsFirstByte, is_byte};
+ghost use Rattle.std.specs.Bool.{OnTrue, OnFalse};
+ghost use Rattle.app_lines.specs.Inbox.{NextLine};
+
+use arrayvec::ArrayVec;
+use memchr::memchr;
+use std::marker::Model;
+
+/// The longest line that an application may say, in octets.
+pub const LONGEST: usize = 1_100;
+
+/// As many octets as are kept at most.
+const ROOM: usize = 2_048;
+
+/// Whether there is a line.
+#[derive(Clone, Copy)]
+pub enum Found {
+    /// There is one.
+    Line,
+    /// There is none as yet.
+    Nothing,
+    /// The one that has begun is too long.
+    TooLong,
+}
+
+/// Octets that the application has said.
+#[derive(Drop)]
+pub struct Inbox {
+    octets: ArrayVec<u8, ROOM>,
+}
+
+impl Model for Inbox {
+    ghost use Rattle.octets.specs.Number.{Octets};
+
+    ghost Value = { Octets };
+
+    ghost view = { λ inbox. inbox.octets.items };
+}
+
+impl Inbox {
+    /// Nothing was said yet.
+    pub fn new() -> Inbox
+        ensures none { result ≡ [] }
+    {
+        Inbox {
+            octets: ArrayVec::new(),
+        }
+    }
+
+    /// For how many octets there is room.
+    pub fn room(&self) -> usize
+        ensures { result + length self.now ≡ ROOM }
+    {
+        self.octets.remaining_capacity()
+    }
+
+    /// Whether there is a line, or one that is too long.
+    pub fn has_line(&self) -> bool
+        ensures nothing { OnFalse result (NextLine Found.Nothing self.now [] self.now) }
+    {
+        memchr(b'\n', self.octets.as_slice()).is_some() || self.octets.len() > LONGEST
+    }
+
+    /// The first line, without its line feed, if there is one.
+    pub fn first_line(&self) -> Option<&[u8]>
+        ensures front { IfSome result (λ line. line.now ≡ take (length line.now) self.now) }
+        ensures line { IfSome result
+            (λ line. IsFirstByte (is_byte 10) self.now (Some (length line.now))) }
+        ensures none { IfNone result (IsFirstByte (is_byte 10) self.now None) }
+    {
+        let octets = self.octets.as_slice();
+        let end = memchr(b'\n', octets)?;
+        Some(&octets[..end])
+    }
+
+    /// Takes in octets that follow those before, or answers false where there is no room for them,
+    /// and changes nothing.
+    pub fn take(&mut self, octets: &[u8]) -> bool
+        ensures taken { OnTrue result (self.new ≡ self.old ++ octets.now) }
+        ensures unchanged { OnFalse result (self.new ≡ self.old) }
+    {
+        self.octets.try_extend_from_slice(octets).is_ok()
+    }
+
+    /// Takes the next line out, without its line feed, and puts it in place of what `line` holds;
+    /// or says why there is none, and changes nothing.
+    pub fn next_line(&mut self, line: &mut ArrayVec<u8, LONGEST>) -> Found
+        ensures { NextLine result self.old line.new.items self.new }
+    {
+        let said = self.octets.as_slice();
+        let Some(end) = memchr(b'\n', said) else {
+            return if said.len() > LONGEST {
+                Found::TooLong
+            } else {
+                Found::Nothing
+            };
+        };
+        if end > LONGEST {
+            return Found::TooLong;
+        }
+        line.clear();
+        line.try_extend_from_slice(&said[..end]).unwrap();
+        let mut rest = ArrayVec::new();
+        rest.try_extend_from_slice(&said[end + 1..]).unwrap();
+        self.octets = rest;
+        Found::Line
+    }
+
+    /// Drops all that was said.
+    pub fn clear(&mut self)
+        ensures none { self.new ≡ [] }
+    {
+        self.octets.clear();
+    }
+}

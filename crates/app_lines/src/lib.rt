@@ -1,0 +1,23 @@
+//! The lines by which a device and its application speak: what the application asks, what it is answered
+//! and what it is told; and the lines of notices, as a run prints them. There is no socket in it.
+#![tactic(auto)]
+
+mod command;
+mod inbox;
+mod names;
+mod notice_text;
+mod outbox;
+mod reply;
+mod told;
+mod type_text;
+mod wrong;
+
+pub use command::{Command, read_line, without_return};
+pub use inbox::{Found, Inbox, LONGEST};
+pub use names::{Named, Names};
+pub use notice_text::{add_line, add_named_line, add_number, add_value, connection_of};
+pub use outbox::Outbox;
+pub use reply::{Reply, add_reply};
+pub use told::{Told, add_if_named, add_told};
+pub use type_text::read_type;
+pub use wrong::{Fault, Wrong, add_wrong, word_at};

@@ -1,0 +1,98 @@
+//! What waits to be sent.
+
+ghost use Rattle.std.specs.Prelude.{◌≡◌, ◌+◌, ◌≤◌, ◌++◌, [], length, drop, None, Some};
+ghost use Rattle.std.specs.Bool.{OnTrue, OnFalse};
+
+use octets::{Failed, Sink};
+use std::alloc::Global;
+use std::marker::Model;
+
+/// Octets that wait to be sent, of which there are never more than a limit.
+#[derive(Drop)]
+pub struct Outbox {
+    octets: Vec<u8>,
+    limit: usize,
+}
+
+impl Model for Outbox {
+    ghost use Rattle.std.specs.Prelude.{◌≤◌, length};
+    ghost use Rattle.app_lines.specs.Outbox.{Waiting};
+
+    ghost Value = { Waiting };
+
+    ghost view = { λ outbox. record { octets = outbox.octets.items; limit = outbox.limit } };
+
+    ghost invariant = { λ outbox. length outbox.octets.items ≤ outbox.limit };
+}
+
+impl Outbox {
+    /// Nothing waits yet, and never more octets than a limit will.
+    pub fn new(alloc: Global, limit: usize) -> Outbox
+        ensures none { result.octets ≡ [] }
+        ensures limit { result.limit ≡ limit }
+    {
+        Outbox {
+            octets: Vec::new(alloc),
+            limit,
+        }
+    }
+
+    /// The octets that wait, the next to be sent first.
+    pub fn waiting(&self) -> &[u8]
+        ensures octets { result.now ≡ self.now.octets }
+        ensures few { length result.now ≤ self.now.limit }
+    {
+        self.octets.as_slice()
+    }
+
+    /// For how many octets more there is room.
+    pub fn room(&self) -> usize
+        ensures { result + length self.now.octets ≡ self.now.limit }
+    {
+        self.limit - self.octets.len()
+    }
+
+    /// Has a text wait behind what waits, or answers false where that would be too much, or where
+    /// memory is refused, and changes nothing.
+    pub fn push(&mut self, text: &[u8]) -> bool
+        ensures pushed { OnTrue result (self.new.octets ≡ self.old.octets ++ text.now) }
+        ensures unchanged { OnFalse result (self.new.octets ≡ self.old.octets) }
+        ensures limit { self.new.limit ≡ self.old.limit }
+        ensures fits { OnTrue result (length self.old.octets + length text.now ≤ self.old.limit) }
+    {
+        text.len() <= self.room() && self.octets.extend_from_slice(text).is_ok()
+    }
+
+    /// So many octets were sent.
+    pub fn sent(&mut self, count: usize)
+        requires { count ≤ length self.old.octets }
+        ensures left { self.new.octets ≡ drop count self.old.octets }
+        ensures limit { self.new.limit ≡ self.old.limit }
+    {
+        let left = self.octets.len() - count;
+        self.octets.rotate_left(count);
+        self.octets.truncate(left);
+    }
+
+    /// Nothing waits any more.
+    pub fn clear(&mut self)
+        ensures none { self.new.octets ≡ [] }
+        ensures limit { self.new.limit ≡ self.old.limit }
+    {
+        self.octets.clear();
+    }
+}
+
+impl Sink for Outbox {
+    ghost contents = { λ outbox. Some outbox.octets };
+
+    ghost failures = { λ _. None };
+
+    fn write(&mut self, buf: &[u8]) -> Result<usize, Failed> {
+        if self.push(buf) {
+            Ok(buf.len())
+        } else {
+            Err(Failed)
+        }
+    }
+}

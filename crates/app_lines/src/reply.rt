@@ -1,0 +1,81 @@
+//! What the application is answered.
+
+ghost use Rattle.std.specs.Prelude.{◌≡◌, ◌++◌, OnOk};
+ghost use Rattle.app_lines.specs.Reply.{reply_line, reply_text};
+ghost use Rattle.app_lines.specs.declared.reply.Reply.TheVariants.{Refused, Value, Handle, Bad};
+
+use crate::notice_text::{add_number, add_value};
+use gatt_app::AppFault;
+use std::alloc::AllocError;
+
+/// What one line of the application is answered.
+#[derive(Clone, Copy)]
+pub enum Reply<'a> {
+    /// It is done.
+    Done,
+    /// It is refused, for this fault, which these words name.
+    Refused { fault: AppFault, words: &'a str },
+    /// The value at a handle.
+    Value { handle: u16, value: &'a [u8] },
+    /// The handle that was looked for.
+    Handle(u16),
+    /// It asks nothing: what is wrong, in words.
+    Bad(&'a str),
+}
+
+/// Adds the line of an answer to a text.
+#[tactic(auto, unfolding(crate::specs::Reply::reply_line))]
+pub fn add_reply(text: &mut Vec<u8>, reply: &Reply<'_>) -> Result<(), AllocError>
+    ensures ok { OnOk result (text.new.items ≡ text.old.items ++ reply_line reply.now) }
+{
+    add_text(text, reply)?;
+    text.extend_from_slice(b"\n")
+}
+
+/// Adds what an answer says.
+fn add_text(text: &mut Vec<u8>, reply: &Reply<'_>) -> Result<(), AllocError>
+    ensures ok { OnOk result (text.new.items ≡ text.old.items ++ reply_text reply.now) }
+{
+    match reply {
+        Reply::Done => text.extend_from_slice(b"ok"),
+        Reply::Refused { fault, words } => add_refused(text, *fault, words),
+        Reply::Value { handle, value } => add_handle_value(text, *handle, value),
+        Reply::Handle(handle) => add_handle(text, *handle),
+        Reply::Bad(words) => add_bad(text, words),
+    }
+}
+
+/// Adds that a line is refused, for this fault, which these words name.
+fn add_refused(text: &mut Vec<u8>, fault: AppFault, words: &str) -> Result<(), AllocError>
+    ensures ok { OnOk result (text.new.items ≡ text.old.items ++ reply_text (Refused fault words.entry)) }
+{
+    text.extend_from_slice(b"fault")?;
+    add_number(text, u64::from(fault.number()))?;
+    text.extend_from_slice(b": ")?;
+    text.extend_from_slice(words.as_bytes())
+}
+
+/// Adds the value at a handle.
+fn add_handle_value(text: &mut Vec<u8>, handle: u16, value: &[u8]) -> Result<(), AllocError>
+    ensures ok { OnOk result (text.new.items ≡ text.old.items ++ reply_text (Value handle value.entry)) }
+{
+    text.extend_from_slice(b"value")?;
+    add_number(text, u64::from(handle))?;
+    add_value(text, value)
+}
+
+/// Adds the handle that was looked for.
+fn add_handle(text: &mut Vec<u8>, handle: u16) -> Result<(), AllocError>
+    ensures ok { OnOk result (text.new.items ≡ text.old.items ++ reply_text (Handle handle)) }
+{
+    text.extend_from_slice(b"handle")?;
+    add_number(text, u64::from(handle))
+}
+
+/// Adds what is wrong with a line, in words.
+fn add_bad(text: &mut Vec<u8>, words: &str) -> Result<(), AllocError>
+    ensures ok { OnOk result (text.new.items ≡ text.old.items ++ reply_text (Bad words.entry)) }
+{
+    text.extend_from_slice(b"bad: ")?;
+    text.extend_from_slice(words.as_bytes())
+}

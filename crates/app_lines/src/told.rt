@@ -1,0 +1,153 @@
+//! What the application is told without asking.
+
+ghost use Rattle.std.specs.Prelude.{◌≡◌, ◌++◌, OnOk};
+ghost use Rattle.app_lines.specs.Told.{attribute_end, connection_lines, key_line, told_line};
+ghost use Rattle.app_lines.specs.Told.{lines_of_connection, subscribed_line, words_line};
+ghost use Rattle.app_lines.specs.declared.told.Told.TheVariants.{Started, Missed};
+
+use crate::names::Names;
+use crate::notice_text::{add_named_line, add_number, add_value};
+use gatt_app::{Connection, Notice};
+use std::alloc::AllocError;
+
+/// What the application is told beside the notices of a host.
+#[derive(Clone, Copy)]
+pub enum Told<'a> {
+    /// A controller is served.
+    Serving,
+    /// There is no controller, and so no connection.
+    Waiting,
+    /// The host has stopped, for what these words say.
+    Stopped(&'a str),
+    /// Another application takes the place of this one.
+    Replaced,
+    /// The number of this start of the device, which no other start has.
+    Started(u64),
+    /// Phones wrote the value at a handle while no application heard it. It has these octets now.
+    Missed { handle: u16, value: &'a [u8] },
+    /// The connection with a name is subscribed to an attribute, by these bits.
+    Subscribed { name: u64, attribute: u16, bits: u8 },
+    /// Not all is saved, for what these words say.
+    Unsaved(&'a str),
+    /// All is saved again.
+    Saved,
+}
+
+/// Adds the line of what is told to a text.
+pub fn add_told(text: &mut Vec<u8>, told: &Told<'_>) -> Result<(), AllocError>
+    ensures ok { OnOk result (text.new.items ≡ text.old.items ++ told_line told.now) }
+{
+    match told {
+        Told::Serving => text.extend_from_slice(b"+ serving\n"),
+        Told::Waiting => text.extend_from_slice(b"+ waiting\n"),
+        Told::Replaced => text.extend_from_slice(b"+ replaced\n"),
+        Told::Stopped(words) => add_words(text, b"+ stopped: ", words),
+        Told::Started(number) => add_started(text, *number),
+        Told::Missed { handle, value } => add_missed(text, *handle, value),
+        Told::Subscribed {
+            name,
+            attribute,
+            bits,
+        } => add_subscribed(text, *name, u64::from(*attribute), u64::from(*bits)),
+        Told::Unsaved(words) => add_words(text, b"+ unsaved: ", words),
+        Told::Saved => text.extend_from_slice(b"+ saved\n"),
+    }
+}
+
+/// Adds a line of some words behind what they are about.
+fn add_words(text: &mut Vec<u8>, about: &[u8], words: &str) -> Result<(), AllocError>
+    ensures ok { OnOk result (text.new.items
+        ≡ text.old.items ++ words_line about.now words.now) }
+{
+    text.extend_from_slice(about)?;
+    text.extend_from_slice(words.as_bytes())?;
+    text.extend_from_slice(b"\n")
+}
+
+/// Adds the line with the number of this start.
+fn add_started(text: &mut Vec<u8>, number: u64) -> Result<(), AllocError>
+    ensures ok { OnOk result (text.new.items ≡ text.old.items ++ told_line (Started number)) }
+{
+    text.extend_from_slice(b"+ started")?;
+    add_number(text, number)?;
+    text.extend_from_slice(b"\n")
+}
+
+/// Adds the line of a value that phones wrote while no application heard it.
+fn add_missed(text: &mut Vec<u8>, handle: u16, value: &[u8]) -> Result<(), AllocError>
+    ensures ok { OnOk result (text.new.items
+        ≡ text.old.items ++ told_line (Missed handle value.entry)) }
+{
+    text.extend_from_slice(b"+ missed")?;
+    add_number(text, u64::from(handle))?;
+    add_value(text, value)?;
+    text.extend_from_slice(b"\n")
+}
+
+/// Adds the line of what a connection is subscribed to.
+fn add_subscribed(
+    text: &mut Vec<u8>,
+    name: u64,
+    attribute: u64,
+    bits: u64,
+) -> Result<(), AllocError>
+    ensures ok { OnOk result (text.new.items
+        ≡ text.old.items ++ subscribed_line name attribute bits) }
+{
+    text.extend_from_slice(b"+ subscribed")?;
+    add_number(text, name)?;
+    add_attribute(text, attribute, bits)
+}
+
+/// Adds an attribute and the bits by which a connection is subscribed to it.
+fn add_attribute(text: &mut Vec<u8>, attribute: u64, bits: u64) -> Result<(), AllocError>
+    ensures ok { OnOk result (text.new.items ≡ text.old.items ++ attribute_end attribute bits) }
+{
+    add_number(text, attribute)?;
+    add_number(text, bits)?;
+    text.extend_from_slice(b"\n")
+}
+
+/// Adds the lines of the connection with this name: that it came, and what its key is worth, if it has
+/// one.
+fn add_connection(text: &mut Vec<u8>, name: u64, connection: &Connection) -> Result<(), AllocError>
+    ensures ok { OnOk result (text.new.items
+        ≡ text.old.items ++ connection_lines name connection.now) }
+{
+    add_named_line(
+        text,
+        name,
+        &Notice::Connected {
+            handle: connection.handle,
+            peer: connection.peer,
+        },
+    )?;
+    add_key(text, name, connection)
+}
+
+/// Adds the lines of a connection under its name, if it has one.
+pub fn add_if_named(
+    text: &mut Vec<u8>,
+    names: &Names,
+    connection: &Connection,
+) -> Result<(), AllocError>
+    ensures ok { OnOk result (text.new.items
+        ≡ text.old.items ++ lines_of_connection names.now.named connection.now) }
+{
+    match names.name_of(connection.handle) {
+        Some(name) => add_connection(text, name, connection),
+        None => Ok(()),
+    }
+}
+
+/// Adds the line of what the key of a connection is worth, if it has one.
+fn add_key(text: &mut Vec<u8>, name: u64, connection: &Connection) -> Result<(), AllocError>
+    ensures ok { OnOk result (text.new.items
+        ≡ text.old.items ++ key_line name connection.now connection.now.key) }
+{
+    let handle = connection.handle;
+    match connection.key {
+        Some(facts) => add_named_line(text, name, &Notice::Secured { handle, facts }),
+        None => Ok(()),
+    }
+}

@@ -1,0 +1,115 @@
+//! The start of a device, as its options ask for it.
+
+use crate::device::Device;
+use crate::keeping::Keeping;
+use crate::stop::{Stop, refuse_socket};
+use arrayvec::ArrayVec;
+use device_io::Log;
+use device_options::{ApplicationAddress, ControllerAddress, HostOptions};
+use device_session::{Limits, Session};
+use std::alloc::Global;
+use std::fs::{File, Files};
+use std::io;
+use std::io::ErrorKind;
+use std::net::{Net, TcpListener, TcpStream};
+use std::time::Clock;
+
+/// A device that waits for its controller and its application. Nothing is written yet, so a start
+/// that fails here changes no file.
+pub(crate) fn reaching<
+    'a,
+    R: Files<File = File> + Net<Listener = TcpListener, Stream = TcpStream> + Clock + Eprint,
+>(
+    log: Log<'a, R>,
+    alloc: Global,
+    options: &HostOptions<'a>,
+    keeping: Option<Keeping>,
+    started: u64,
+) -> Result<Device<'a, R>, Stop> {
+    let rt = log.rt;
+    let opened = Session::new(
+        log,
+        alloc,
+        options.controller,
+        options.wait_for_application,
+        options.patience,
+        Limits {
+            silent: options.idle,
+            staying: options.stranger,
+        },
+    );
+    let mut session = match opened {
+        Ok(session) => session,
+        Err(error) => return Err(refuse_controllers(alloc, rt, options.controller, &error)),
+    };
+    if let Err(error) = session.listen_for_applications(options.application) {
+        return Err(refuse_applications(alloc, rt, options.application, &error));
+    }
+    Ok(Device {
+        alloc,
+        session,
+        keeping,
+        ending: ArrayVec::new(),
+        stop: None,
+        started,
+    })
+}
+
+/// Tells on standard error why controllers cannot be served.
+fn refuse_controllers<R: Eprint>(
+    alloc: Global,
+    rt: &R,
+    address: ControllerAddress<'_>,
+    error: &io::Error,
+) -> Stop {
+    refuse_socket(
+        rt,
+        match address {
+            ControllerAddress::Listen(address) => format!(in alloc;
+                "listen: failed: {address}: {error}"
+            ).ok(),
+            _ => format!(in alloc; "listen: failed: {error}").ok(),
+        },
+    )
+}
+
+/// Tells on standard error why no application can connect.
+fn refuse_applications<R: Eprint>(
+    alloc: Global,
+    rt: &R,
+    address: ApplicationAddress<'_>,
+    error: &io::Error,
+) -> Stop {
+    refuse_socket(
+        rt,
+        match address {
+            ApplicationAddress::Path(path) => {
+                let suffix = suffix_of(error);
+                format!(in alloc; "listen: failed: {path}{suffix}: {error}").ok()
+            }
+            ApplicationAddress::Port(address) => format!(in alloc;
+                "listen: failed: {address}: {error}"
+            ).ok(),
+            ApplicationAddress::None => format!(in alloc; "listen: failed: {error}").ok(),
+        },
+    )
+}
+
+/// Returns what stands behind the path of a socket in the path that an error is about: the socket is made in
+/// a folder of that name, and nothing else fails since something is there.
+fn suffix_of(error: &io::Error) -> &'static str {
+    match error.kind() {
+        ErrorKind::AlreadyExists | ErrorKind::DirectoryNotEmpty => ".new",
+        _ => "",
+    }
+}
+
+/// Begins a capture, if one is asked for: once nothing else can stop the start.
+pub(crate) fn begin_capture<
+    R: Files<File = File> + Net<Listener = TcpListener, Stream = TcpStream> + Clock + Eprint,
+>(session: &mut Session<'_, R>, options: &HostOptions<'_>) -> Result<(), Stop> {
+    match session.record(options.files.capture, options.files.capture_size) {
+        Ok(()) => Ok(()),
+        Err(_) => Err(Stop::File),
+    }
+}

@@ -1,7 +1,0 @@
-pub mod Command
-pub mod Inbox
-pub mod Names
-pub mod Outbox
-pub mod Reply
-pub mod Told
-pub mod Wrong

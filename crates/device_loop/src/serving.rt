@@ -1,0 +1,137 @@
+//! A host is served by what happens.
+
+ghost use Rattle.std.specs.Prelude.{◌≡◌, ◌∷◌, [], true, None, Some, IsSome, IsOk, IfErr};
+ghost use Rattle.gatt_host.specs.Calls.{call_of};
+ghost use Rattle.gatt_host.specs.Feeding.{is_of_feeding, is_write_fault, Feeds, WritesAllThatIsDue};
+ghost use Rattle.gatt_host.specs.Listening.{Listens};
+ghost use Rattle.gatt_host.specs.Promises.{KeepsConnectionsApart, KeepsThePolicy};
+ghost use Rattle.gatt_host.specs.HostModel.{all_out, fault_outcome};
+ghost use Rattle.gatt_laws.specs.machine.Input.{ACall};
+ghost use Rattle.octets.specs.Stream.{CountsIf};
+ghost use Rattle.device_loop.specs.Serving.{known, RecordsTheAnswer, ServesDevice};
+ghost use Rattle.device_loop.specs.Time.{KeepsTheTime};
+
+use crate::happenings::{Happenings, Next};
+use gatt_host::{App, Host, HostFault, Listener, deliver_notices, feed, feed_to};
+use octets::Sink;
+
+/// As much room as there is for octets that come at once, or for a value.
+const ROOM: usize = 1024;
+
+/// Why a host is served no longer, although it has not stopped.
+#[derive(Clone, Copy, PartialEq, Eq)]
+pub enum End {
+    /// The stream from its controller has ended.
+    Ended,
+    /// The stream from its controller cannot be read.
+    Failed,
+    /// As many turns are over as there may be.
+    Turns,
+}
+
+/// Serves a host by what happens: writes what is owed, and then waits in each turn for what happens
+/// next, takes it in, and writes what it brings, before the next is waited for. A call is answered
+/// as soon as it is taken in, then what it tells is heard, and then what it brings is written. A
+/// tick that goes back is answered `AppFault::TimeWentBack`, as other calls that are refused, and
+/// changes nothing. After a fault of the host it answers that, and waits for nothing more.
+pub fn serve_happenings<H: Happenings, W: Sink, L: Listener>(
+    host: &mut Host,
+    happenings: &mut H,
+    out: &mut W,
+    listener: &mut L,
+    turns: u64,
+) -> Result<End, HostFault>
+    ensures serves { host.old.fault ≡ None → ServesDevice result turns host.old host.new
+        (known (H.octets happenings.old) (H.calls happenings.old) (H.history happenings.old))
+        (known (H.octets happenings.new) (H.calls happenings.new) (H.history happenings.new))
+        (W.contents out.old) (W.contents out.new) (L.heard listener.old) (L.heard listener.new) }
+    ensures going_on { IsOk result → host.new.fault ≡ None }
+    ensures fault { IfErr result (λ fault. host.new.fault ≡ Some fault) }
+    ensures feeding { host.old.fault ≡ None
+        → IfErr result (λ fault. is_of_feeding fault ≡ true) }
+    ensures out { IsOk result → all_out host.new ≡ true }
+    ensures due { host.old.fault ≡ None → WritesAllThatIsDue host.new.fault host.new }
+    ensures failures { host.old.fault ≡ None
+        → CountsIf (is_write_fault host.new.fault) (W.failures out.old) (W.failures out.new) }
+    ensures stopped { IsSome host.old.fault → host.new ≡ host.old }
+    ensures happenings_stopped { IsSome host.old.fault → happenings.new ≡ happenings.old }
+    ensures sink_stopped { IsSome host.old.fault → out.new ≡ out.old }
+    ensures listener_stopped { IsSome host.old.fault → listener.new ≡ listener.old }
+    // And of all that is taken in, for every start and input:
+    ensures policy { KeepsThePolicy }
+    ensures apart { KeepsConnectionsApart }
+    ensures time { KeepsTheTime }
+{
+    serve_turns(host, happenings, out, listener, turns)
+}
+
+/// Serves a host by what happens in so many turns, of which the public call says what holds of every
+/// run besides. It stands apart for its proof.
+fn serve_turns<H: Happenings, W: Sink, L: Listener>(
+    host: &mut Host,
+    happenings: &mut H,
+    out: &mut W,
+    listener: &mut L,
+    turns: u64,
+) -> Result<End, HostFault>
+    ensures serves { host.old.fault ≡ None → ServesDevice result turns host.old host.new
+        (known (H.octets happenings.old) (H.calls happenings.old) (H.history happenings.old))
+        (known (H.octets happenings.new) (H.calls happenings.new) (H.history happenings.new))
+        (W.contents out.old) (W.contents out.new) (L.heard listener.old) (L.heard listener.new) }
+    ensures going_on { IsOk result → host.new.fault ≡ None }
+    ensures fault { IfErr result (λ fault. host.new.fault ≡ Some fault) }
+    ensures feeding { host.old.fault ≡ None
+        → IfErr result (λ fault. is_of_feeding fault ≡ true) }
+    ensures out { IsOk result → all_out host.new ≡ true }
+    ensures due { host.old.fault ≡ None → WritesAllThatIsDue host.new.fault host.new }
+    ensures failures { host.old.fault ≡ None
+        → CountsIf (is_write_fault host.new.fault) (W.failures out.old) (W.failures out.new) }
+    ensures stopped { IsSome host.old.fault → host.new ≡ host.old }
+    ensures happenings_stopped { IsSome host.old.fault → happenings.new ≡ happenings.old }
+    ensures sink_stopped { IsSome host.old.fault → out.new ≡ out.old }
+    ensures listener_stopped { IsSome host.old.fault → listener.new ≡ listener.old }
+{
+    feed(host, &[], out)?;
+    let mut buffer = [0; ROOM];
+    for _turn in 0..turns {
+        match happenings.next(host.deadline(), &mut buffer) {
+            Next::Octets(octets) => feed_to(host, octets, out, listener)?,
+            Next::Call(call) => take_call(host, call, happenings, out, listener)?,
+            Next::Ended => return Ok(End::Ended),
+            Next::Failed => return Ok(End::Failed),
+        }
+    }
+    Ok(End::Turns)
+}
+
+/// Does what the application asks, or refuses it, and answers which; tells what it tells, and then
+/// writes what it brings.
+fn take_call<H: Happenings, W: Sink, L: Listener>(
+    host: &mut Host,
+    call: App<'_>,
+    happenings: &mut H,
+    out: &mut W,
+    listener: &mut L,
+) -> Result<(), HostFault>
+    requires none { host.old.fault ≡ None }
+    requires drained { all_out host.old ≡ true }
+    ensures feeds { Feeds (ACall (call_of call.entry) ∷ []) host.old host.new
+        (W.contents out.old) (W.contents out.new) host.new.fault }
+    ensures heard { Listens (ACall (call_of call.entry) ∷ []) host.old host.new host.new.fault
+        (L.heard listener.old) (L.heard listener.new) }
+    ensures answer { RecordsTheAnswer (call_of call.entry) host.old
+        (H.history happenings.old) (H.history happenings.new) }
+    ensures octets { H.octets happenings.new ≡ H.octets happenings.old }
+    ensures calls { H.calls happenings.new ≡ H.calls happenings.old }
+    ensures outcome { result ≡ fault_outcome host.new.fault }
+    ensures feeding { IfErr result (λ fault. is_of_feeding fault ≡ true) }
+    ensures out { IsOk result → all_out host.new ≡ true }
+    ensures due { WritesAllThatIsDue host.new.fault host.new }
+    ensures failures { CountsIf (is_write_fault host.new.fault) (W.failures out.old)
+        (W.failures out.new) }
+{
+    let answer = host.app(call);
+    happenings.answered(answer);
+    deliver_notices(host, listener);
+    feed(host, &[], out)
+}

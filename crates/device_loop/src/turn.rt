@@ -1,0 +1,89 @@
+//! One turn of a device: it accepts what happens, then saves what that changes, and only then sends
+//! what waits.
+
+ghost use Rattle.std.specs.Prelude.{◌≡◌, true, None, Some, IsSome, IsOk, IfErr, option_map};
+ghost use Rattle.gatt_host.specs.Feeding.{is_of_feeding, is_write_fault, WritesAllThatIsDue};
+ghost use Rattle.gatt_host.specs.HostModel.{all_out};
+ghost use Rattle.octets.specs.Number.{Octets};
+ghost use Rattle.octets.specs.Stream.{CountsIf};
+ghost use Rattle.device_loop.specs.Outside.{octets_to_send, waits_after};
+ghost use Rattle.device_loop.specs.Serving.{known};
+ghost use Rattle.device_loop.specs.Turn.{StaysInOrder, TakesATurn};
+
+use crate::outside::{Outgoing, Outside, Saving, Sending};
+use crate::serving::{End, serve_happenings};
+use gatt_host::{Host, HostFault, Listener};
+
+/// What a turn has come to.
+#[derive(Drop)]
+pub struct Turn {
+    /// That the turn is over, or why the host is served no longer.
+    pub served: Result<End, HostFault>,
+    /// Whether all is saved that the host has changed.
+    pub saving: Saving,
+    /// How what waited was sent.
+    pub sending: Sending,
+}
+
+/// Serves a host by what happens in one turn, as `serve_happenings` does. Then saves its rows and
+/// values, and only then sends what waits. If saving fails, drops the ACL data for the connections
+/// whose changes are not saved, and sends all else. End those connections, since they lack that
+/// data. What was not sent, since nobody is there or sending fails, waits on. Once sending has failed,
+/// a front may have gone, and no more is to be sent there. After a fault of the host nothing more
+/// happens, but its state is saved, and what waits is sent.
+pub fn serve_turn<O: Outside<L>, W: Outgoing, L: Listener>(
+    host: &mut Host,
+    outside: &mut O,
+    out: &mut W,
+    listener: &mut L,
+) -> Turn
+    ensures turn { TakesATurn result host.old host.new
+        (known (O.octets outside.old) (O.calls outside.old) (O.history outside.old))
+        (known (O.octets outside.new) (O.calls outside.new) (O.history outside.new))
+        (W.contents out.old) (W.contents out.new) (L.heard listener.old) (L.heard listener.new) }
+    ensures order { StaysInOrder host.old (O.history outside.old) (O.history outside.new) }
+    ensures going_on { IsOk result.served → host.new.fault ≡ None }
+    ensures fault { IfErr result.served (λ fault. host.new.fault ≡ Some fault) }
+    ensures feeding { host.old.fault ≡ None
+        → IfErr result.served (λ fault. is_of_feeding fault ≡ true) }
+    ensures out { IsOk result.served → all_out host.new ≡ true }
+    ensures due { host.old.fault ≡ None → WritesAllThatIsDue host.new.fault host.new }
+    ensures failures { host.old.fault ≡ None
+        → CountsIf (is_write_fault host.new.fault) (W.failures out.old) (W.failures out.new) }
+    ensures stopped { IsSome host.old.fault → host.new ≡ host.old }
+{
+    let served = serve_happenings(host, outside, out, listener, 1);
+    let saving = outside.save(host, listener);
+    withhold_unsaved(out, &saving);
+    let sending = outside.send(out.waiting());
+    drop_sent(out, sending);
+    Turn {
+        served,
+        saving,
+        sending,
+    }
+}
+
+/// Drops the data for the connections whose changes are not saved.
+fn withhold_unsaved<W: Outgoing>(out: &mut W, saving: &Saving)
+    ensures left { W.contents out.new
+        ≡ option_map (octets_to_send saving.now) (W.contents out.old) }
+    ensures failures { W.failures out.new ≡ W.failures out.old }
+{
+    match saving {
+        Saving::Saved => {}
+        Saving::Unsaved(connections) => out.withhold(connections),
+    }
+}
+
+/// What was sent waits no more.
+fn drop_sent<W: Outgoing>(out: &mut W, sending: Sending)
+    ensures left { (octets : Octets) → W.contents out.old ≡ Some octets
+        → W.contents out.new ≡ Some (waits_after sending octets) }
+    ensures failures { W.failures out.new ≡ W.failures out.old }
+{
+    match sending {
+        Sending::Done => out.clear(),
+        Sending::Waits | Sending::Failed => {}
+    }
+}

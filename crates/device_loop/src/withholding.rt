@@ -1,0 +1,89 @@
+//! Octets that wait for a controller, without the data for some connections.
+
+ghost use Rattle.std.specs.Prelude.{◌≡◌, ◌≤◌, length, take};
+ghost use Rattle.octets.specs.Number.{Octets};
+ghost use Rattle.device_loop.specs.Withholding.{first_size, IsCutIntoPackets, handle_of_data, is_data_for, packet_size, without_data_for};
+
+use le_h4::indicator;
+
+/// Removes the ACL data for these connections from octets that are whole H4 packets of a host. The
+/// other packets stay in their order, and so do octets at the end that are no whole packet.
+pub fn withhold(octets: &mut Vec<u8>, connections: &[u16])
+    ensures left { octets.new.items ≡ without_data_for connections.now octets.old.items }
+    // And of all octets:
+    ensures packets { (octets : Octets) → IsCutIntoPackets octets }
+{
+    let left = move_others(octets.as_mut_slice(), connections);
+    octets.truncate(left);
+}
+
+/// Moves all that stays to the front, and returns how many octets it is.
+fn move_others(octets: &mut [u8], connections: &[u16]) -> usize
+    ensures left { take result octets.new ≡ without_data_for connections.now octets.old }
+    ensures length { length octets.new ≡ length octets.old }
+{
+    let mut left = 0;
+    let mut at = 0;
+    while let Some(size) = first_size(&octets[at..]) {
+        if !is_data_for(&octets[at..at + size], connections) {
+            octets.copy_within(at..at + size, left);
+            left += size;
+        }
+        at += size;
+    }
+    let count = octets.len() - at;
+    octets.copy_within(at..at + count, left);
+    left + count
+}
+
+/// Returns how many octets the packet has that octets begin with, if it is whole.
+fn first_size(octets: &[u8]) -> Option<usize>
+    ensures { result ≡ first_size octets.now }
+{
+    let size = packet_size(octets)?;
+    if size <= octets.len() {
+        Some(size)
+    } else {
+        None
+    }
+}
+
+/// Returns how many octets a packet has, by its header, if the header is there.
+fn packet_size(octets: &[u8]) -> Option<usize>
+    ensures { result ≡ packet_size octets.now }
+{
+    let [indicator, rest @ ..] = octets else {
+        return None;
+    };
+    match *indicator {
+        indicator::COMMAND => match rest {
+            [_, _, size, ..] => Some(4 + usize::from(*size)),
+            _ => None,
+        },
+        indicator::ACL => match rest {
+            [_, _, low, high, ..] => Some(5 + usize::from(u16::from_le_bytes([*low, *high]))),
+            _ => None,
+        },
+        _ => None,
+    }
+}
+
+/// Whether a packet is data for one of these connections.
+fn is_data_for(packet: &[u8], connections: &[u16]) -> bool
+    ensures { result ≡ is_data_for connections.now packet.now }
+{
+    match handle_of_data(packet) {
+        Some(handle) => connections.contains(&handle),
+        None => false,
+    }
+}
+
+/// Returns the connection of a packet, if it is data.
+fn handle_of_data(packet: &[u8]) -> Option<u16>
+    ensures { result ≡ handle_of_data packet.now }
+{
+    match packet {
+        [indicator::ACL, low, high, ..] => Some(u16::from_le_bytes([*low, *high]) & 0x0FFF),
+        _ => None,
+    }
+}

@@ -1,0 +1,11 @@
+//! The options of the command `host`: as texts, and what they mean.
+#![tactic(auto)]
+
+mod advertising;
+mod options;
+mod texts;
+
+pub use options::{
+    ApplicationAddress, ControllerAddress, FileOptions, HostOptions, HostSettings, Saved,
+};
+pub use texts::OptionTexts;

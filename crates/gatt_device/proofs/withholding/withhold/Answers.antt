@@ -1,5 +1,0 @@
-use Rattle.gatt_device.proofs.Packets.{cut_into_packets}
-use Rattle.gatt_device.proofs.withholding.withhold.Goals as goal
-
-pub returns-clause-packets : goal.returns-clause-packets
-returns-clause-packets c = cut_into_packets

@@ -1,0 +1,2 @@
+pub mod ValuesBack
+pub mod Writing

@@ -1,0 +1,5 @@
+pub mod Saves
+pub mod TypeText
+pub mod SavedValue
+pub mod ValuesText
+pub mod Restore

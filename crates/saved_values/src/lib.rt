@@ -1,0 +1,15 @@
+//! The lines in which the values of a table are saved, and from which they are restored.
+#![tactic(auto)]
+
+mod pieces;
+mod restoring;
+mod saved_lines;
+mod saved_value;
+mod saves;
+mod type_text;
+
+pub use pieces::first_piece;
+pub use restoring::{BadLine, restore, restore_lines};
+pub use saved_lines::{add_values, values_text};
+pub use saved_value::{SavedValue, read_value};
+pub use saves::{Saves, may_be_saved};

@@ -1,0 +1,81 @@
+//! The text of the values of a table that are saved.
+
+ghost use Rattle.std.specs.Prelude.{◌≡◌, ◌++◌, ◌∷◌, [], IfOk, OnOk};
+ghost use Rattle.saved_values.specs.ValuesText.{saved_lines, saved_values, values_text};
+
+use crate::saved_value::add_value_line;
+use crate::saves::{Saves, is_saved, value_told};
+use att_table::{Attr, Table};
+use std::alloc::{AllocError, Global};
+
+/// Returns the text of the values of a table that differ from those of `initial`, the table as its file
+/// has it: a line for each, in the order of the handles. Fails if memory is refused.
+pub fn values_text(
+    alloc: Global,
+    table: &Table,
+    initial: &Table,
+    saves: Saves,
+) -> Result<Vec<u8>, AllocError>
+    ensures { IfOk result (λ text. text.items
+        ≡ values_text (saved_values saves table.now initial.now)) }
+{
+    let mut text = Vec::new(alloc);
+    add_values(&mut text, table, initial, saves)?;
+    Ok(text)
+}
+
+/// Adds the lines of the values of a table that are saved. `initial` is the table as its file has it.
+pub fn add_values(
+    text: &mut Vec<u8>,
+    table: &Table,
+    initial: &Table,
+    saves: Saves,
+) -> Result<(), AllocError>
+    ensures ok { OnOk result (text.new.items ≡ text.old.items
+        ++ values_text (saved_values saves table.now initial.now)) }
+{
+    add_values_of(text, all_attributes(table), table, initial, saves)
+}
+
+/// Returns all attributes of a table.
+#[tactic(auto, using(crate::proofs::Writing::all_attributes))]
+fn all_attributes(table: &Table) -> &[Attr]
+    ensures { result.now ≡ table.now.attributes }
+{
+    table.in_range(1, table.len() as u16)
+}
+
+/// Adds the lines of the values of some attributes that are saved.
+fn add_values_of(
+    text: &mut Vec<u8>,
+    attributes: &[Attr],
+    table: &Table,
+    initial: &Table,
+    saves: Saves,
+) -> Result<(), AllocError>
+    ensures ok { OnOk result (text.new.items ≡ text.old.items
+        ++ saved_lines saves table.now initial.now attributes.now) }
+{
+    for attr in attributes {
+        add_saved(text, attr, table, initial, saves)?;
+    }
+    Ok(())
+}
+
+/// Adds the line of the value of an attribute, if it is saved.
+fn add_saved(
+    text: &mut Vec<u8>,
+    attr: &Attr,
+    table: &Table,
+    initial: &Table,
+    saves: Saves,
+) -> Result<(), AllocError>
+    ensures ok { OnOk result (text.new.items ≡ text.old.items
+        ++ saved_lines saves table.now initial.now (attr.now ∷ [])) }
+{
+    if is_saved(attr, table, initial, saves) {
+        add_value_line(text, attr.handle, attr.kind, value_told(table, attr.handle))
+    } else {
+        Ok(())
+    }
+}
