@@ -22,7 +22,7 @@ ARCHIVE = crates/gihandop_c/out/libgihandop_c.a
 PROGRAM = crates/gatt_shell/out/gatt_shell
 BUILD = out
 
-all: $(ARCHIVE) $(PROGRAM) $(BUILD)/libgihandop_heap.a $(BUILD)/gihandop.pc
+all: $(ARCHIVE) $(PROGRAM) $(BUILD)/libgihandop_heap.a $(BUILD)/gihandop.pc $(BUILD)/hci_bridge
 
 $(ARCHIVE):
 	@echo 'there is no $@: `rt lib` in crates/gihandop_c proves the host and makes it' >&2; exit 1
@@ -37,6 +37,11 @@ $(BUILD)/libgihandop_heap.a: c/heap.c
 	rm -f $@
 	$(AR) rcs $@ $(BUILD)/heap.o
 
+# The serial line to a controller of Linux.
+$(BUILD)/hci_bridge: bridge/hci_bridge.c bridge/user_channel.c bridge/channel.h
+	mkdir -p $(BUILD)
+	$(CC) -std=c11 $(CPPFLAGS) $(CFLAGS) -o $@ bridge/hci_bridge.c bridge/user_channel.c
+
 .PHONY: all install uninstall check $(BUILD)/gihandop.pc
 
 # The folders may be others than those of the last time.
@@ -49,6 +54,7 @@ install: all
 	$(INSTALL) -d $(DESTDIR)$(BINDIR) $(DESTDIR)$(LIBDIR)/pkgconfig $(DESTDIR)$(INCLUDEDIR) \
 	    $(DESTDIR)$(DATADIR)/gihandop $(DESTDIR)$(DATADIR)/man/man1
 	$(INSTALL) -m 755 $(PROGRAM) $(DESTDIR)$(BINDIR)/gatt_shell
+	$(INSTALL) -m 755 $(BUILD)/hci_bridge $(DESTDIR)$(BINDIR)/hci_bridge
 	$(INSTALL) -m 644 $(ARCHIVE) $(DESTDIR)$(LIBDIR)/libgihandop_c.a
 	$(INSTALL) -m 644 $(BUILD)/libgihandop_heap.a $(DESTDIR)$(LIBDIR)/libgihandop_heap.a
 	$(INSTALL) -m 644 $(BUILD)/gihandop.pc $(DESTDIR)$(LIBDIR)/pkgconfig/gihandop.pc
@@ -57,7 +63,7 @@ install: all
 	$(INSTALL) -m 644 docs/gatt_shell.1 $(DESTDIR)$(DATADIR)/man/man1/gatt_shell.1
 
 uninstall:
-	rm -f $(DESTDIR)$(BINDIR)/gatt_shell $(DESTDIR)$(LIBDIR)/libgihandop_c.a \
+	rm -f $(DESTDIR)$(BINDIR)/gatt_shell $(DESTDIR)$(BINDIR)/hci_bridge $(DESTDIR)$(LIBDIR)/libgihandop_c.a \
 	    $(DESTDIR)$(LIBDIR)/libgihandop_heap.a $(DESTDIR)$(LIBDIR)/pkgconfig/gihandop.pc \
 	    $(DESTDIR)$(INCLUDEDIR)/gihandop.h $(DESTDIR)$(DATADIR)/man/man1/gatt_shell.1
 	rm -rf $(DESTDIR)$(DATADIR)/gihandop

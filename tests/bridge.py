@@ -1,0 +1,302 @@
+#!/usr/bin/env -S python3 -B
+"""Tries `hci_bridge` between `gatt_shell host` and a simulated controller.
+
+usage: tests/bridge.py [PROGRAM] [--only SCENARIO]     PROGRAM in place of ./gatt_shell
+
+The bridge is compiled with tests/c/test_channel.c in place of the user channel of Linux, which only a kernel
+with a controller has: interop/kernel tries that one. Without a C compiler nothing is tried, and the tool says
+so. The last line is 'N passed, M failed'.
+"""
+
+import os
+import select
+import shutil
+import signal
+import socket
+import stat
+import subprocess
+import sys
+import tempfile
+import time
+
+from parties import (
+    DOOR, OWNER, PATIENCE, ROOT, STRANGER, Application, Controller, Device, check, is_one_packet, play_all, soon,
+)
+
+# The bridge, compiled for these tests.
+BRIDGE = []
+RESET = "01030c00"
+
+
+class Channel:
+    """The connection of a bridge to its controller, which has one packet at a time."""
+
+    def __init__(self, stream):
+        self.stream = stream
+        self.packets = []
+
+    def fileno(self):
+        return self.stream.fileno()
+
+    def sendall(self, octets):
+        self.stream.send(octets)
+
+    def recv(self, _count):
+        packet = self.stream.recv(70_000)
+        if packet:
+            self.packets.append(packet)
+        return packet
+
+    def close(self):
+        self.stream.close()
+
+
+class Bridge:
+    """A bridge, its line, and the controller behind it."""
+
+    def __init__(self, folder):
+        self.line = f"{folder}/line"
+        self.path = f"{folder}/controller"
+        self.log = open(f"{folder}/log", "w+")
+        self.listener = None
+        self.process = None
+
+    def begin(self):
+        self.process = subprocess.Popen(
+            [*BRIDGE, "hci0", self.line], stderr=self.log, env={**os.environ, "CONTROLLER": self.path}
+        )
+        Device.started.append(self.process)
+        check("the line is there", True, soon(lambda: os.path.islink(self.line)))
+        return self
+
+    def plug_in(self):
+        """There is a controller from now on."""
+        self.listener = socket.socket(socket.AF_UNIX, socket.SOCK_SEQPACKET)
+        self.listener.bind(self.path)
+        self.listener.listen(1)
+        self.listener.settimeout(PATIENCE)
+
+    def unplug(self):
+        self.listener.close()
+        os.remove(self.path)
+
+    def controller(self):
+        """The controller that the bridge opens next."""
+        return Controller(Channel(self.listener.accept()[0]))
+
+    def is_opened(self):
+        return bool(select.select([self.listener], [], [], 0.3)[0])
+
+    def said(self):
+        with open(self.log.name) as file:
+            return file.read().splitlines()
+
+    def end(self):
+        self.process.send_signal(signal.SIGTERM)
+        return self.process.wait(PATIENCE)
+
+
+def bridged(folder):
+    """A bridge with a controller, and a device over it that serves."""
+    bridge = Bridge(folder)
+    bridge.plug_in()
+    bridge.begin()
+    device = Device(*DOOR, "--serial", bridge.line)
+    controller = bridge.controller()
+    check("it is advertised", True, controller.is_advertised())
+    return bridge, device, controller
+
+
+def gone(controller):
+    """What a controller received last, once its channel is closed."""
+    controller.until(lambda: controller.is_gone)
+    return controller.stream.packets[-1].hex() if controller.is_gone else None
+
+
+def a_host(folder):
+    """A phone reads and writes over the bridge. Nobody else can open the line, and each packet goes alone."""
+    bridge, device, controller = bridged(folder)
+    terminal = os.stat(bridge.line)
+    check("only the owner opens the line", "0o600", oct(stat.S_IMODE(terminal.st_mode)))
+    controller.connect(64, OWNER)
+    check("a phone reads", "0b4c6f636b", controller.ask(64, "0a0300"))
+    check("its link is encrypted", True, controller.encrypt(64))
+    check("it writes", "13", controller.ask(64, "120a0001"))
+    check("500 answers", {"0b4c6f636b"}, {controller.ask(64, "0a0300") for _request in range(500)})
+    check("each packet is one", [], [it.hex() for it in controller.stream.packets if not is_one_packet(it)])
+    device.end()
+    check("a killed host leaves a reset", RESET, gone(controller))
+    check("the bridge ends", 0, bridge.end())
+    check("and its line", False, os.path.lexists(bridge.line))
+
+
+def hosts_in_turn(folder):
+    """While no host is there, the controller is free. A host that is killed or ends makes room for the next."""
+    bridge = Bridge(folder)
+    bridge.plug_in()
+    bridge.begin()
+    check("no host, no controller", False, bridge.is_opened())
+    for how in (signal.SIGKILL, signal.SIGTERM, signal.SIGKILL):
+        device = Device(*DOOR, "--serial", bridge.line)
+        controller = bridge.controller()
+        check("it is advertised", True, controller.is_advertised())
+        controller.connect(64, STRANGER)
+        check("a phone reads", "0b4c6f636b", controller.ask(64, "0a0300"))
+        device.process.send_signal(how)
+        check("the controller is reset", RESET, gone(controller))
+        device.process.wait(PATIENCE)
+        check("the controller is free", False, bridge.is_opened())
+    bridge.end()
+
+
+def a_controller_that_goes(folder):
+    """A controller that goes away ends the host's line, and the host reaches the next one by itself."""
+    bridge, device, controller = bridged(folder)
+    controller.connect(64, STRANGER)
+    check("a phone reads", "0b4c6f636b", controller.ask(64, "0a0300"))
+    bridge.unplug()
+    controller.close()
+    check("the log says so", True, soon(lambda: "hci_bridge: hci0: gone: it cannot be read" in bridge.said()))
+    time.sleep(2)
+    check("it is tried quietly", 1, len([it for it in bridge.said() if "refused" in it or "No such file" in it]))
+    bridge.plug_in()
+    controller = bridge.controller()
+    check("it is advertised again", True, controller.is_advertised())
+    controller.connect(65, STRANGER)
+    check("a phone reads again", "0b4c6f636b", controller.ask(65, "0a0300"))
+    device.end()
+    bridge.end()
+
+
+def a_busy_controller(folder):
+    """A host waits for a controller that cannot be opened yet."""
+    bridge = Bridge(folder)
+    bridge.begin()
+    device = Device(*DOOR, "--serial", bridge.line, "--patience", "30")
+    time.sleep(1)
+    bridge.plug_in()
+    check("it is advertised", True, bridge.controller().is_advertised())
+    device.end()
+    bridge.end()
+
+
+def garbage(folder):
+    """A host that sends octets that begin no packet is cut off, and the next one is served."""
+    bridge = Bridge(folder)
+    bridge.plug_in()
+    bridge.begin()
+    host = os.open(bridge.line, os.O_RDWR | os.O_NOCTTY)
+    stream = bridge.controller().stream
+    os.write(host, b"\x01\x03\x0c\x00\xff")
+    check("the packet before it goes, and no other", [RESET, ""], [stream.recv(0).hex() for _packet in range(2)])
+    check("the line ends", b"", soon(lambda: [read_end(host)])[0])
+    os.close(host)
+    device = Device(*DOOR, "--serial", bridge.line)
+    check("the next host is served", True, bridge.controller().is_advertised())
+    device.end()
+    bridge.end()
+
+
+def read_end(host):
+    """What a line has at its end."""
+    try:
+        while os.read(host, 4096):
+            pass
+    except OSError:
+        pass
+    return b""
+
+
+def pieces(folder):
+    """Packets that come octet by octet, and the longest one, go as they are. A host that reads slowly loses
+    nothing."""
+    bridge = Bridge(folder)
+    bridge.plug_in()
+    bridge.begin()
+    host = os.open(bridge.line, os.O_RDWR | os.O_NOCTTY)
+    stream = bridge.controller().stream
+    for octet in bytes.fromhex(RESET):
+        os.write(host, bytes([octet]))
+        time.sleep(0.01)
+    longest = b"\x02\x40\x20\xff\xff" + bytes(range(251)) * 261 + bytes(24)
+    longest = longest[: 5 + 65535]
+    sender = os.fork()
+    if sender == 0:
+        at = 0
+        while at < len(longest):
+            at += os.write(host, longest[at:])
+        os._exit(0)
+    check("pieces make a packet", RESET, stream.recv(0).hex())
+    check("the longest packet", True, stream.recv(0) == longest)
+    os.waitpid(sender, 0)
+    events = [bytes([4, 0xFF, 200]) + bytes([number % 256]) * 200 for number in range(300)]
+    sender = os.fork()
+    if sender == 0:
+        for event in events:
+            stream.sendall(event)
+        os._exit(0)
+    time.sleep(1)
+    heard = b""
+    while len(heard) < 203 * 300:
+        heard += os.read(host, 64)
+    check("a slow host", True, heard == b"".join(events))
+    os.waitpid(sender, 0)
+    os.close(host)
+    bridge.end()
+
+
+def a_file_in_the_way(folder):
+    """A path with a file is refused, and the file stays. Words that are not understood say how it is called."""
+    bridge = Bridge(folder)
+    with open(bridge.line, "w") as file:
+        file.write("mine")
+    ended = subprocess.run([*BRIDGE, "hci0", bridge.line], capture_output=True, text=True)
+    check("a file", (71, f"hci_bridge: {bridge.line}: File exists\n"), (ended.returncode, ended.stderr))
+    with open(bridge.line) as file:
+        check("it stays", "mine", file.read())
+    for words in ([], ["hci0"], ["eth0", "x"], ["--up", "hci0", "x"], ["hci0", "x", "y"]):
+        ended = subprocess.run([*BRIDGE, *words], capture_output=True, text=True)
+        check(" ".join(words), (64, "usage: hci_bridge [--down] hciN PATH\n"), (ended.returncode, ended.stderr))
+    ended = subprocess.run([*BRIDGE, "hci0", f"{folder}/none/line"], capture_output=True, text=True)
+    check("no folder", 71, ended.returncode)
+
+
+def an_idle_bridge(folder):
+    """A bridge takes no processor time while no host is there, or while nothing goes by."""
+    bridge, device, controller = bridged(folder)
+    device.end()
+    gone(controller)
+    before = taken(bridge.process.pid)
+    time.sleep(2)
+    check("without a host", 0, taken(bridge.process.pid) - before)
+    bridge.end()
+
+
+def taken(pid):
+    """The processor time that a process has taken, in hundredths of a second."""
+    with open(f"/proc/{pid}/stat") as file:
+        fields = file.read().rsplit(")", 1)[1].split()
+    return int(fields[11]) + int(fields[12])
+
+
+def main():
+    compiler = shutil.which("cc") or shutil.which("gcc") or shutil.which("clang")
+    if compiler is None:
+        print("skipped: no C compiler")
+        return 0
+    with tempfile.TemporaryDirectory() as folder:
+        bridge = f"{folder}/hci_bridge"
+        subprocess.run(
+            [compiler, "-std=c11", "-O1", "-g", "-Wall", "-Wextra", "-Werror", "-fsanitize=address,undefined",
+             f"-I{ROOT}/bridge", f"{ROOT}/bridge/hci_bridge.c", f"{ROOT}/tests/c/test_channel.c", "-o", bridge],
+            check=True,
+        )
+        BRIDGE.append(bridge)
+        return play_all([
+            a_host, hosts_in_turn, a_controller_that_goes, a_busy_controller, garbage, pieces, a_file_in_the_way,
+            an_idle_bridge,
+        ])
+
+
+if __name__ == "__main__":
+    sys.exit(main())
