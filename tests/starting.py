@@ -32,6 +32,28 @@ def a_file_in_the_way(folder):
         device.end()
 
 
+def no_files_in_the_way(folder):
+    """A pipe, a folder or a link in the place of a state, a lock or subscriptions is refused at once."""
+    state, rows = f"{folder}/state", f"{folder}/rows"
+    for name in ("state", "lock"):
+        for make in (os.mkfifo, os.mkdir):
+            os.mkdir(state)
+            make(f"{state}/{name}")
+            device = Device(*DOOR, "--listen", "127.0.0.1:0", "--state", state)
+            check(f"{make.__name__} as {name}", (1, f"{state}/{name}: not a file"), device.refusal())
+            shutil.rmtree(state)
+    os.mkdir(state)
+    os.symlink(f"{folder}/other", f"{state}/lock")
+    device = Device(*DOOR, "--listen", "127.0.0.1:0", "--state", state)
+    check("a link as lock", (1, f"{state}/lock: not a file"), device.refusal())
+    check("is not followed", False, os.path.exists(f"{folder}/other"))
+    for make in (os.mkfifo, os.mkdir):
+        make(rows)
+        device = Device(*DOOR, "--listen", "127.0.0.1:0", "--rows", rows)
+        check(f"{make.__name__} as rows", (1, f"{rows}: not a file"), device.refusal())
+        os.rmdir(rows) if make is os.mkdir else os.remove(rows)
+
+
 def words(folder):
     """What is no command."""
     for given, status in [
@@ -143,7 +165,7 @@ def rows_without_a_folder(folder):
 
 
 SCENARIOS = (
-    a_file_in_the_way, words, unknown, values, slots, a_full_disk, rows_without_a_folder,
+    a_file_in_the_way, no_files_in_the_way, words, unknown, values, slots, a_full_disk, rows_without_a_folder,
 )
 
 

@@ -112,6 +112,9 @@ fn find_file<R: Files<File = File> + Clock + Eprint>(
     mode: u32,
 ) -> Result<SavedFile, Stop> {
     match SavedFile::at(log.rt, alloc, path, mode) {
+        Ok(file) if file.is_taken(log.rt) => {
+            Err(refuse(log.rt, format!(in alloc; "{path}: not a file").ok()))
+        }
         Ok(file) => Ok(file),
         Err(error) => Err(refuse(log.rt, format!(in alloc; "{path}: {error}").ok())),
     }
@@ -135,6 +138,9 @@ fn lock_file<R: Files<File = File> + Clock + Eprint>(
             log.rt,
             format!(in alloc; "{place}: locked: another device uses {path}").ok(),
         )),
+        Err(LockFault::NotAFile) => {
+            Err(refuse(log.rt, format!(in alloc; "{place}: not a file").ok()))
+        }
         Err(LockFault::Failed(error)) => match error.kind() {
             ErrorKind::StorageFull | ErrorKind::QuotaExceeded | ErrorKind::ReadOnlyFilesystem => {
                 if let Ok(line) = format!(in alloc; "{place}: {error}") {
@@ -348,16 +354,19 @@ fn refuse_unknown<R: Eprint>(
     rows: &Rows,
     keys: &Keys,
 ) -> Result<(), Stop> {
-    let what = match options.files.saved {
+    let (path, end) = match options.files.saved {
         _ if options.files.drop_unknown => return Ok(()),
-        Saved::State { .. } => "state",
-        Saved::Subscriptions(_) | Saved::Nothing => "rows",
+        Saved::State { folder, .. } => (folder, "/state"),
+        Saved::Subscriptions(path) => (path, ""),
+        Saved::Nothing => ("rows", ""),
     };
     match unknown_peer(alloc, rows, keys) {
         Ok(None) => Ok(()),
         Ok(Some(peer)) => Err(refuse(
             rt,
-            format!(in alloc; "{what}: no key of the peer {peer} (--drop-unknown drops it)").ok(),
+            format!(in alloc;
+                "{path}{end}: no key of the peer {peer} (--drop-unknown drops it)"
+            ).ok(),
         )),
         Err(_) => Err(Stop::Fault(ShellFault::Memory)),
     }

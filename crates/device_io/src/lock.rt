@@ -1,8 +1,8 @@
 //! A lock that one process has at a time.
 
 use std::fs::{File, Files, TryLockError};
-use std::io;
 use std::os::unix::fs::OpenOptionsExt;
+use std::{fs, io};
 
 /// A lock file may be opened by its owner alone.
 const OWNER_ALONE: u32 = 0o600;
@@ -18,6 +18,8 @@ pub struct Lock {
 pub enum LockFault {
     /// Another process has the lock.
     Taken,
+    /// The path is that of a folder, a link, a pipe or something else that is not a file.
+    NotAFile,
     /// The file cannot be opened or locked.
     Failed(io::Error),
 }
@@ -25,6 +27,11 @@ pub enum LockFault {
 impl Lock {
     /// Locks the file at a path, which is created if it does not exist.
     pub fn take<R: Files<File = File>>(files: &R, path: &str) -> Result<Lock, LockFault> {
+        if let Ok(found) = fs::symlink_metadata(files, path)
+            && !found.is_file()
+        {
+            return Err(LockFault::NotAFile);
+        }
         let opened = File::options()
             .write(true)
             .create(true)

@@ -32,6 +32,14 @@ impl SavedFile {
         })
     }
 
+    /// Returns whether the path is that of a folder, a pipe or something else that is not a file.
+    pub fn is_taken<R: Files>(&self, files: &R) -> bool {
+        match fs::metadata(files, self.path.as_str()) {
+            Ok(found) => !found.is_file(),
+            Err(_) => false,
+        }
+    }
+
     /// The path of the file itself, behind any link.
     pub fn path(&self) -> &str {
         self.path.as_str()
