@@ -1,27 +1,40 @@
 -- What the application can see of the connections of slots, in their order.
-use Rattle.std.specs.Prelude.{◌≡◌, ℕ, not, List, [], ◌∷◌, drop, filter_map, Option, Some, None}
+use Rattle.std.specs.Prelude.{◌≡◌, ℕ, ◌+◌, not, List, [], ◌∷◌, drop, get_or, Option, Some, None}
+use Rattle.std.specs.List.{cons_option}
 use Rattle.std.specs.Option.{option_map}
 use Rattle.gatt_app.specs.declared.connection.Connection.{Connection}
+use Rattle.gatt_slots.specs.declared.arrivals.Arrivals.{Arrivals}
 use Rattle.gatt_slots.specs.SlotState.{SlotState}
 use Rattle.gatt_slots.specs.Slots.{SlotStates}
 
-abbrev pub connection_shown : SlotState → Connection
-connection_shown slot_state = record {
+-- The connection of the slot at a place.
+abbrev pub connection_shown : Arrivals → ℕ → SlotState → Connection
+connection_shown arrivals place slot_state = record {
+  ordinal = get_or arrivals.ordinals place 0;
+  slot = place;
   handle = slot_state.handle;
   peer = slot_state.peer;
   mtu = slot_state.mtu;
   key = slot_state.link.key;
   authorized_until = slot_state.until;
   ending = not slot_state.live;
+  heard = get_or arrivals.heard place 0;
 }
 
-abbrev pub slot_seen : Option SlotState → Option Connection
-slot_seen slot = option_map connection_shown slot
+abbrev pub slot_seen : Arrivals → ℕ → Option SlotState → Option Connection
+slot_seen arrivals place slot = option_map (connection_shown arrivals place) slot
 
-abbrev pub connections_in : SlotStates → List Connection
-connections_in slots = filter_map slot_seen slots
+-- What is read of each of a list by its place, if anything is: the first is at a place.
+abbrev pub read_from : {A B : Type 0} → (ℕ → A → Option B) → ℕ → List A → List B
+read_from read place [] = []
+read_from read place (x ∷ xs) = cons_option (read place x) (read_from read (place + 1) xs)
 
--- the first of those from a place on, and the place from which on the others are
-abbrev pub FindsNext : SlotStates → ℕ → Option (ℕ × Connection) → Type 0
-FindsNext slots from None = connections_in (drop from slots) ≡ []
-FindsNext slots from (Some found) = connections_in (drop from slots) ≡ found.1 ∷ connections_in (drop found.0 slots)
+-- The connections of the slots from a place on.
+abbrev pub connections_left : SlotStates → Arrivals → ℕ → List Connection
+connections_left slots arrivals place = read_from (slot_seen arrivals) place (drop place slots)
+
+-- The first of them, and the place from which on the others are.
+abbrev pub FindsNext : SlotStates → Arrivals → ℕ → Option (ℕ × Connection) → Type 0
+FindsNext slots arrivals from None = connections_left slots arrivals from ≡ []
+FindsNext slots arrivals from (Some found) =
+    connections_left slots arrivals from ≡ found.1 ∷ connections_left slots arrivals found.0

@@ -10,4 +10,5 @@ pub mod OfTable
 pub mod Places
 pub mod Handles
 pub mod Lending
+pub mod Arrivals
 pub mod Connections

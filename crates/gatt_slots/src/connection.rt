@@ -1,37 +1,47 @@
 //! What the application can see of a connection.
 
-ghost use Rattle.std.specs.Prelude.{◌≡◌};
-ghost use Rattle.std.specs.Option.{option_map};
-ghost use Rattle.gatt_slots.specs.Connections.{connection_shown, FindsNext};
+ghost use Rattle.std.specs.Prelude.{◌≡◌, ◌<◌, ◌≤◌, length};
+ghost use Rattle.gatt_slots.specs.Connections.{slot_seen, FindsNext};
+ghost use Rattle.gatt_laws.specs.declared.TheConstants.{MAX_SLOTS};
 
+use crate::arrivals::Arrivals;
 use crate::slot::{Slot, Use};
 use gatt_app::Connection;
 
 impl Slot {
-    /// Its connection, if it has one.
-    fn connection(&self) -> Option<Connection>
-        ensures { result ≡ option_map connection_shown self.now }
+    /// Its connection, if it has one. The slot is that at a place.
+    fn connection(&self, arrivals: &Arrivals, place: usize) -> Option<Connection>
+        requires { place < MAX_SLOTS }
+        ensures { result ≡ slot_seen arrivals.now place self.now }
     {
         if self.used == Use::Free {
             return None;
         }
         Some(Connection {
+            ordinal: arrivals.ordinals[place],
+            slot: place,
             handle: self.handle,
             peer: self.peer,
             mtu: self.conn.mtu(),
             key: self.link.facts(),
             authorized_until: self.until,
             ending: self.used == Use::Ending,
+            heard: arrivals.heard[place],
         })
     }
 }
 
 /// The first connection of slots from a place on, and the place behind its slot.
-pub(crate) fn next_connection(slots: &[Slot], from: usize) -> Option<(usize, Connection)>
-    ensures { FindsNext slots.now from result }
+pub(crate) fn next_connection(
+    slots: &[Slot],
+    arrivals: &Arrivals,
+    from: usize,
+) -> Option<(usize, Connection)>
+    requires { length slots.now ≤ MAX_SLOTS }
+    ensures { FindsNext slots.now arrivals.now from result }
 {
     for place in from..slots.len() {
-        if let Some(connection) = slots[place].connection() {
+        if let Some(connection) = slots[place].connection(arrivals, place) {
             return Some((place + 1, connection));
         }
     }

@@ -11,6 +11,8 @@ ghost use Rattle.gatt_slots.specs.Hearing.{row_by_key, slot_row_in_force, delive
 ghost use Rattle.gatt_slots.specs.OfTable.{HasBondsOfTable, SlotIsOfTable};
 ghost use Rattle.gatt_slots.specs.Places.{waits};
 ghost use Rattle.gatt_slots.specs.Slots.{slot_heard, slot_notified, slot_notified_alone};
+ghost use Rattle.gatt_laws.specs.machine.Heard.{att_pdu};
+ghost use Rattle.gatt_subs.specs.Alone.{telling_of};
 ghost use Rattle.gatt_subs.specs.Rows.{owes, row_of};
 ghost use Rattle.le_acl.specs.Outgoing.{with_pdu};
 ghost use Rattle.octets.specs.Number.{two_octets};
@@ -55,6 +57,23 @@ fn indicate(
             sender,
         );
     }
+}
+
+/// Queues the notification or the indication of a value.
+#[inline(always)]
+fn queue_telling(telling: Telling, raised: &Raised<'_>, mtu: u16, sender: &mut Sender)
+    requires least { MIN_MTU ≤ mtu }
+    requires most { mtu ≤ MAX_MTU }
+    requires room { length sender.old.outgoing.queue < MAX_PDUS }
+    ensures { sender.new.outgoing
+        ≡ with_pdu sender.old.outgoing (att_pdu
+        (telling_of raised.now.table.values raised.now.handle mtu telling)) }
+{
+    let opcode = match telling {
+        Telling::Notification => HANDLE_VALUE_NOTIFICATION,
+        Telling::Indication => HANDLE_VALUE_INDICATION,
+    };
+    queue_value(opcode, raised.handle(), raised.octets(), mtu, sender);
 }
 
 /// Queues a PDU that tells a value: its opcode, the handle, and as much of the value as fits.
@@ -159,17 +178,7 @@ impl Slot {
         else {
             return false;
         };
-        let opcode = match telling {
-            Telling::Notification => HANDLE_VALUE_NOTIFICATION,
-            Telling::Indication => HANDLE_VALUE_INDICATION,
-        };
-        queue_value(
-            opcode,
-            raised.handle(),
-            raised.octets(),
-            self.conn.mtu(),
-            &mut self.sender,
-        );
+        queue_telling(telling, raised, self.conn.mtu(), &mut self.sender);
         true
     }
 

@@ -2,6 +2,7 @@
 //! goes out on it.
 #![tactic(auto)]
 
+mod arrivals;
 mod at_place;
 mod connection;
 mod each;
@@ -18,6 +19,7 @@ mod slot;
 mod slots;
 mod telling;
 
+pub use arrivals::Arrivals;
 pub use moment::Moment;
 pub use request::Brought;
 pub use skipped::{MAX_SKIPPED, Skipped, Skips};

@@ -18,6 +18,7 @@ ghost use Rattle.gatt_slots.specs.Slots.{slots_after_entries, all_after_table, a
 ghost use Rattle.gatt_subs.specs.Rows.{row_of, ChangesBond, Subscriptions};
 ghost use Rattle.le_hci.specs.Event.{completed_packets_of};
 
+use crate::arrivals::Arrivals;
 use crate::connection::next_connection;
 use crate::each::{
     find_free, find_serving, first_deadline, packets_completed, replace_all, tick_all,
@@ -129,10 +130,10 @@ impl Slots {
     }
 
     /// The first connection of a slot from a place on, and the place behind that slot.
-    pub fn next_connection(&self, from: usize) -> Option<(usize, Connection)>
-        ensures { FindsNext self.now from result }
+    pub fn next_connection(&self, arrivals: &Arrivals, from: usize) -> Option<(usize, Connection)>
+        ensures { FindsNext self.now arrivals.now from result }
     {
-        next_connection(self.slots.as_slice(), from)
+        next_connection(self.slots.as_slice(), arrivals, from)
     }
 
     /// The slot at a place.

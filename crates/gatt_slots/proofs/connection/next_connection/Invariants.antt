@@ -1,7 +1,7 @@
-use Rattle.std.proofs.Common.{◌≡◌, drop}
-use Rattle.gatt_slots.specs.Connections.{connections_in}
+use Rattle.std.proofs.Common.{◌≡◌}
+use Rattle.gatt_slots.specs.Connections.{connections_left}
 use Rattle.gatt_slots.proofs.connection.next_connection.Given as goal
 
 -- there was none in the slots before
 abbrev pub invariant-loop-place : goal.invariant-loop-place
-invariant-loop-place l = connections_in (drop l.from l.slots) ≡ connections_in (drop l.place l.slots)
+invariant-loop-place l = connections_left l.slots l.arrivals l.from ≡ connections_left l.slots l.arrivals l.place

@@ -25,7 +25,7 @@ returns-clause-told c =
     let a = c.args in
     let inside = c.self.inside in
     waits_as_before inside.used inside.handle inside.peer inside.key_known inside.until inside.row inside.link inside.conn inside.pending c.raise_alone.new.self inside.sender
-    c.queue_value.new.sender inside.reply inside.reason
+    c.queue_telling.new.sender inside.reply inside.reason
     (ap (λ (it : Indications). it.waiting) c.raise_alone.ensures.pending
     ∙ told_stays inside.pending a.raised.now.table.attributes c.row_in_force-row.result.now c.standing-standing.result a.raised.now.handle c.backlog-backlog.result a.moment.now
     c.in-Some.telling (sym c.raise_alone.ensures.told ∙ c.in-Some.is))
