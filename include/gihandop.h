@@ -36,7 +36,8 @@
  * compiler of C cannot test is owed by the program: each pointer is to as many octets as the length
  * beside it says, and is not NULL where that is 0; what is written lies apart from all else that is
  * passed; a struct gh_host begins as GH_HOST_INIT, and is changed by these functions alone; one call
- * at a time for each host, none of a signal handler; and 40 KiB of stack.
+ * at a time for each host, none of a signal handler; and 40 KiB of stack. For a text without octets, as
+ * rows at the first start, give GH_EMPTY and 0.
  */
 #ifndef GIHANDOP_H
 #define GIHANDOP_H
@@ -55,15 +56,24 @@ struct gh_host {
 };
 #define GH_HOST_INIT { NULL }
 
-/* The version of this header, 0.1.0: the major number times 1,000,000, the minor one times 1,000, and
+/* The version of this header, 0.2.0: the major number times 1,000,000, the minor one times 1,000, and
    the patch. */
-#define GH_VERSION 1000
+#define GH_VERSION 2000
 
 /* The longest packet that goes out, in octets. */
 #define GH_LONGEST_PACKET 260
 
-/* What a host is opened with. */
+/* A pointer to no octets that is not NULL. */
+#define GH_EMPTY ((const uint8_t *)"")
+
+/*
+ * What a host is opened with. Begin with GH_CONFIG_INIT, which has 4 connections, 247 octets, the public
+ * address, and the flags of a device that anybody may find and that has no BR/EDR, and change the fields
+ * after size that you want otherwise.
+ */
 struct gh_config {
+    /* The size of this structure, in octets: GH_CONFIG_INIT sets it. */
+    size_t size;
     /* As many connections as there may be at once: 1 to 8. */
     size_t slots;
     /* The largest PDU of the Attribute Protocol that is received, in octets: 23 to 517. */
@@ -78,6 +88,7 @@ struct gh_config {
     /* Advertising data: Core 5.0, Vol 3 Part C, 11. */
     uint8_t advertising[31];
 };
+#define GH_CONFIG_INIT { sizeof(struct gh_config), 4, 247, 0, {0}, 3, {0x02, 0x01, 0x06} }
 
 /* What a function answers. */
 enum {
@@ -94,8 +105,10 @@ enum {
     GH_SHORT_BUFFER = 5,
     /* Memory was refused. */
     GH_OUT_OF_MEMORY = 6,
-    /* The configuration is out of its limits. */
+    /* The configuration is out of its limits, or its size is smaller than that of the library. */
     GH_BAD_CONFIG = 7,
+    /* The size of a structure is smaller than that of the library. */
+    GH_BAD_SIZE = 8,
 
     /* The host has stopped for good, and nothing is taken in any more: */
     GH_STOPPED = 20,
@@ -182,17 +195,39 @@ enum {
     /* more of them than a rows file may have; */
     GH_ROWS_TOO_MANY = 303,
     /* memory was refused. */
-    GH_ROWS_OUT_OF_MEMORY = 304
+    GH_ROWS_OUT_OF_MEMORY = 304,
+
+    /* The values text is refused: */
+    GH_BAD_VALUES = 400,
+    /* a line is not a handle, a type, and octets in hexadecimal or "-". */
+    GH_VALUES_BAD_LINE = 401
 };
 
 /*
- * Opens a host with the octets of a table file, a key file and a rows file (docs/FORMATS.md), of which
- * the last two may be empty. Where it answers anything but GH_DONE, everything is as it was: so too
- * for GH_ALREADY_OPEN. Of files with faults the first is told, in the order of the arguments.
+ * Opens a host with the octets of a table file, a key file, a rows file and a values text
+ * (docs/FORMATS.md), of which the last three may be empty. rows is what gh_rows_text wrote for an earlier
+ * host, and values what gh_values_text wrote: the values are restored before anything is served. *left_out
+ * is how many of them do not fit the table: their attribute is not there, or it has another type or another
+ * length. Such a value stays as the table file has it.
+ *
+ * Of texts with faults the first is reported, in the order of the arguments: gh_explain has its place. If
+ * it answers anything but GH_DONE, *host is as it was, also for GH_ALREADY_OPEN, and *left_out is 0.
  */
 uint32_t gh_open(struct gh_host *host, const uint8_t *table, size_t table_length,
                  const uint8_t *keys, size_t keys_length, const uint8_t *rows, size_t rows_length,
-                 const struct gh_config *config);
+                 const uint8_t *values, size_t values_length, const struct gh_config *config,
+                 size_t *left_out);
+
+/*
+ * Puts what the first fault of these texts is, and where, at the front of out, and its length into *count:
+ * a line without a line feed or a zero at its end, as "table: service 2, uuid: the key is missing". The
+ * words are those of `gatt_shell show`. GH_NOTHING if gh_open accepts all of them, and *count is 0 then;
+ * GH_SHORT_BUFFER if *count is more than room. The texts of gh_open in its order; for gh_replace give the
+ * table and nothing else. It takes memory until it returns, and as much time as reading the file 100 times.
+ */
+uint32_t gh_explain(const uint8_t *table, size_t table_length, const uint8_t *keys, size_t keys_length,
+                    const uint8_t *rows, size_t rows_length, const uint8_t *values,
+                    size_t values_length, uint8_t *out, size_t room, size_t *count);
 
 /* Ends a host and gives its memory back. GH_CLOSED where none is open. */
 uint32_t gh_close(struct gh_host *host);
@@ -257,12 +292,14 @@ uint32_t gh_replace(struct gh_host *host, const uint8_t *table, size_t length);
 uint32_t gh_value(struct gh_host *host, uint16_t handle, uint8_t *out, size_t room, size_t *count);
 
 /*
- * Puts the handle of the value of the first characteristic of a type in the first service of a type into
- * *handle. Types are UUIDs as octets, the lowest first: 2 for one of 16 bits, or 16. GH_NOTHING where
- * there is none, or a length is another.
+ * Puts the handle of the value of a characteristic of a type, in a service of a type, into *handle: of all
+ * such values, in the order of their handles, the one with this number, from 1. Types are UUIDs as octets,
+ * the lowest first: 2 for one of 16 bits, or 16. GH_NOTHING where there are fewer, where the number is 0,
+ * or where a length is another, and *handle is 0 then.
  */
 uint32_t gh_find(struct gh_host *host, const uint8_t *service, size_t service_length,
-                 const uint8_t *characteristic, size_t characteristic_length, uint16_t *handle);
+                 const uint8_t *characteristic, size_t characteristic_length, uint16_t number,
+                 uint16_t *handle);
 
 /*
  * Puts what peers have configured, and who is owed that the table has changed, at the front of out, and
@@ -272,6 +309,14 @@ uint32_t gh_find(struct gh_host *host, const uint8_t *service, size_t service_le
 uint32_t gh_rows_text(struct gh_host *host, uint8_t *out, size_t room, size_t *count);
 
 /*
+ * Puts the values that differ from those of the table file at the front of out, and their length into
+ * *count: a values text, for the next gh_open. If all is 0, they are the characteristic values and
+ * descriptors that a phone may write, else all characteristic values and descriptors. GH_SHORT_BUFFER if
+ * *count is more than room. It takes memory until it returns.
+ */
+uint32_t gh_values_text(struct gh_host *host, uint8_t all, uint8_t *out, size_t room, size_t *count);
+
+/*
  * Puts the earliest time into *time, in milliseconds, at which an indication that is not confirmed is
  * late or the authorization of a connection ends. No gh_tick is needed before that time: it would cause
  * no packet of its own and no notice, and each request is answered as without it. GH_NOTHING if every indication
@@ -279,8 +324,10 @@ uint32_t gh_rows_text(struct gh_host *host, uint8_t *out, size_t room, size_t *c
  */
 uint32_t gh_deadline(struct gh_host *host, uint64_t *time);
 
-/* A connection as it stands. */
+/* A connection as it stands. Begin with GH_CONNECTION_INIT. */
 struct gh_connection {
+    /* The size of this structure, in octets: GH_CONNECTION_INIT sets it, and no function changes it. */
+    size_t size;
     /* As it has it in HCI. */
     uint16_t handle;
     /* The ATT_MTU, in octets. */
@@ -299,10 +346,12 @@ struct gh_connection {
     /* It is authorized while the time is below this, in milliseconds. */
     uint64_t authorized_until;
 };
+#define GH_CONNECTION_INIT { sizeof(struct gh_connection), 0, 0, 0, {0}, 0, false, false, false, 0 }
 
 /*
  * Puts the connection at a place into *connection. Places count from 0, in the order of the slots, and
- * there are as many as connections: GH_NOTHING from there on.
+ * there are as many as connections: GH_NOTHING from there on. GH_BAD_SIZE where connection->size is
+ * smaller than the library's. Where it answers anything but GH_DONE, *connection is as it was.
  */
 uint32_t gh_connection(struct gh_host *host, size_t place, struct gh_connection *connection);
 
@@ -332,8 +381,10 @@ enum {
     GH_SKIPPED = 10
 };
 
-/* A notice. Fields that its kind does not have are 0. */
+/* A notice. Begin with GH_NOTICE_INIT. Fields that its kind does not have are 0. */
 struct gh_notice {
+    /* The size of this structure, in octets: GH_NOTICE_INIT sets it, and no function changes it. */
+    size_t size;
     uint8_t kind;
     uint8_t bits;
     uint8_t reason;
@@ -350,11 +401,13 @@ struct gh_notice {
     /* The handle of the attribute. */
     uint16_t attribute;
 };
+#define GH_NOTICE_INIT { sizeof(struct gh_notice), 0, 0, 0, 0, false, false, 0, {0}, 0, 0 }
 
 /*
  * Puts the next notice of what was taken in last into *notice: of the octets of gh_take, or of one of
- * the calls. GH_NOTHING where each has been handed out. The notices of one function are gone once the
- * next has taken something in, so they are fetched before it.
+ * the calls. GH_NOTHING where each has been handed out, and GH_BAD_SIZE where notice->size is smaller than
+ * the library's. Where it answers anything but GH_DONE, *notice is as it was. The notices of one function
+ * are gone once the next has taken something in, so they are fetched before it.
  */
 uint32_t gh_next_notice(struct gh_host *host, struct gh_notice *notice);
 

@@ -36,8 +36,11 @@ int main(int argc, char **argv)
     fclose(file);
 
     struct gh_host host = GH_HOST_INIT;
-    struct gh_config config = {.slots = 1, .rx_mtu = 247};
-    uint32_t status = gh_open(&host, table, length, table, 0, table, 0, &config);
+    struct gh_config config = GH_CONFIG_INIT;
+    size_t left_out;
+    config.slots = 1;
+    uint32_t status = gh_open(&host, table, length, GH_EMPTY, 0, GH_EMPTY, 0, GH_EMPTY, 0, &config,
+                              &left_out);
     if (status != GH_DONE) {
         uint8_t text[128];
         size_t count;

@@ -92,7 +92,7 @@ static void turn_motor(bool is_open)
 /* Does what phones ask of the lock, and keeps what they have configured. */
 static void hear(void)
 {
-    struct gh_notice notice;
+    struct gh_notice notice = GH_NOTICE_INIT;
     uint8_t value[GH_LONGEST_VALUE];
     size_t length;
     bool is_any = false;
@@ -131,7 +131,7 @@ static bool send_owed(void)
 /* Ends a connection that is to go: any at the end, else one that stayed without a key. */
 static bool send_away(uint64_t time, bool all)
 {
-    struct gh_connection phone;
+    struct gh_connection phone = GH_CONNECTION_INIT;
     for (size_t place = 0; gh_connection(&host, place, &phone) == GH_DONE; place++)
         if (!phone.ending
             && (all || (phone.key_size == 0 && came[phone.handle % CONNECTIONS] + PATIENCE < time)))
@@ -182,7 +182,7 @@ static bool act(uint64_t time, bool is_ending)
 /* How long nothing has to be done, in milliseconds, unless something comes; -1 is for ever. */
 static int leisure(uint64_t time, uint64_t end)
 {
-    struct gh_connection phone;
+    struct gh_connection phone = GH_CONNECTION_INIT;
     uint64_t deadline;
     if (end != 0)
         return (int)(end - time);
@@ -207,7 +207,7 @@ static bool read_some(const struct pollfd *polled, void *into, size_t room, size
    controller is there and waits for the next packet. */
 static bool serve(int signals)
 {
-    struct gh_connection phone;
+    struct gh_connection phone = GH_CONNECTION_INIT;
     struct pollfd polled[3] = {{line, 0, 0}, {STDIN_FILENO, 0, 0}, {signals, POLLIN, 0}};
     uint64_t end = 0;
     for (;;) {
@@ -247,10 +247,8 @@ static void open_host(const char *table_path, const char *keys_path)
 {
     static uint8_t table[FILE_ROOM], keys[FILE_ROOM];
     static const uint8_t lock[] = {0xF0, 0xFF}, lock_state[] = {0xF1, 0xFF};
-    /* Anybody may find it, and it has no BR/EDR. */
-    const struct gh_config config
-        = {.slots = 4, .rx_mtu = 247, .advertising_length = 3, .advertising = {0x02, 0x01, 0x06}};
-    size_t table_length, keys_length;
+    const struct gh_config config = GH_CONFIG_INIT;
+    size_t table_length, keys_length, left_out;
     if (!read_file(table_path, false, table, sizeof table, &table_length))
         fail_by_system(table_path);
     if (!read_file(keys_path, false, keys, sizeof keys, &keys_length))
@@ -258,10 +256,10 @@ static void open_host(const char *table_path, const char *keys_path)
     if (rows_path != NULL && !read_file(rows_path, true, saved, sizeof saved, &saved_length))
         fail_by_system(rows_path);
     uint32_t status = gh_open(&host, table, table_length, keys, keys_length, saved, saved_length,
-                              &config);
+                              GH_EMPTY, 0, &config, &left_out);
     if (status != GH_DONE)
         fail("opening", status);
-    status = gh_find(&host, lock, sizeof lock, lock_state, sizeof lock_state, &state);
+    status = gh_find(&host, lock, sizeof lock, lock_state, sizeof lock_state, 1, &state);
     if (status != GH_DONE)
         fail("the lock's state", status);
 }

@@ -14,8 +14,8 @@ static void refused_calls(void)
 {
     struct gh_host host = GH_HOST_INIT;
     uint8_t value[513] = {0};
-    struct gh_connection connection;
-    struct gh_notice notice;
+    struct gh_connection connection = GH_CONNECTION_INIT;
+    struct gh_notice notice = GH_NOTICE_INIT;
     uint64_t time;
     uint16_t handle;
     CHECK(open_host(&host, &table, &keys, NULL, 4) == GH_DONE);
@@ -42,19 +42,27 @@ static void refused_calls(void)
     const uint8_t lock[] = {0xF0, 0xFF}, state[] = {0xF1, 0xFF};
     const uint8_t long_lock[16]
         = {0xFB, 0x34, 0x9B, 0x5F, 0x80, 0, 0, 0x80, 0, 0x10, 0, 0, 0xF0, 0xFF};
-    CHECK(gh_find(&host, lock, 2, state, 2, &handle) == GH_DONE && handle == 10);
-    CHECK(gh_find(&host, long_lock, 16, state, 2, &handle) == GH_DONE && handle == 10);
-    CHECK(gh_find(&host, state, 2, lock, 2, &handle) == GH_NOTHING && handle == 0);
-    CHECK(gh_find(&host, lock, 1, state, 2, &handle) == GH_NOTHING);
-    CHECK(gh_find(&host, lock, 2, state, 0, &handle) == GH_NOTHING);
-    CHECK(gh_find(&host, long_lock, 15, state, 2, &handle) == GH_NOTHING);
+    CHECK(gh_find(&host, lock, 2, state, 2, 1, &handle) == GH_DONE && handle == 10);
+    CHECK(gh_find(&host, long_lock, 16, state, 2, 1, &handle) == GH_DONE && handle == 10);
+    CHECK(gh_find(&host, state, 2, lock, 2, 1, &handle) == GH_NOTHING && handle == 0);
+    CHECK(gh_find(&host, lock, 1, state, 2, 1, &handle) == GH_NOTHING && handle == 0);
+    CHECK(gh_find(&host, lock, 2, state, 0, 1, &handle) == GH_NOTHING);
+    CHECK(gh_find(&host, long_lock, 15, state, 2, 1, &handle) == GH_NOTHING);
+    /* Of three values of one type each has a number. */
+    const uint8_t log[] = {0xF3, 0xFF};
+    CHECK(gh_find(&host, lock, 2, log, 2, 1, &handle) == GH_DONE && handle == 15);
+    CHECK(gh_find(&host, lock, 2, log, 2, 2, &handle) == GH_DONE && handle == 17);
+    CHECK(gh_find(&host, lock, 2, log, 2, 3, &handle) == GH_DONE && handle == 19);
+    CHECK(gh_find(&host, lock, 2, log, 2, 4, &handle) == GH_NOTHING && handle == 0);
+    CHECK(gh_find(&host, lock, 2, log, 2, 0, &handle) == GH_NOTHING && handle == 0);
+    CHECK(gh_find(&host, lock, 2, log, 2, UINT16_MAX, &handle) == GH_NOTHING && handle == 0);
     gh_close(&host);
 }
 
 static void notices(void)
 {
     struct gh_host host = GH_HOST_INIT;
-    struct gh_connection seen;
+    struct gh_connection seen = GH_CONNECTION_INIT;
     CHECK(open_host(&host, &table, &keys, NULL, 4) == GH_DONE);
     connect_phone(&host, 64);
     CHECK(noticed_count == 1 && noticed[0].kind == GH_CONNECTED && noticed[0].connection == 64);
@@ -76,7 +84,7 @@ static void notices(void)
     say(&host, 64, (const uint8_t *)"\x12\x03\x00\x01", 4, NULL);
     CHECK(noticed_count == 0);
     CHECK(gh_disconnect(&host, 64) == GH_DONE);
-    struct gh_notice notice;
+    struct gh_notice notice = GH_NOTICE_INIT;
     CHECK(gh_next_notice(&host, &notice) == GH_DONE && notice.kind == GH_ENDING);
     CHECK(notice.connection == 64 && notice.reason == 0x13);
     CHECK(gh_next_notice(&host, &notice) == GH_NOTHING);

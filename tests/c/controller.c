@@ -114,8 +114,9 @@ static uint32_t take_whole(struct gh_host *host, const uint8_t *octets, size_t l
         if (status != GH_DONE)
             return status;
         at += used;
-        while (noticed_count < 64 && gh_next_notice(host, &noticed[noticed_count]) == GH_DONE)
-            noticed_count++;
+        struct gh_notice notice = GH_NOTICE_INIT;
+        while (noticed_count < 64 && gh_next_notice(host, &notice) == GH_DONE)
+            noticed[noticed_count++] = notice;
         status = drain(host, heard);
         if (status != GH_DONE)
             return status;
@@ -181,10 +182,14 @@ bool is_heard(const struct heard *heard, const uint8_t *pdu, size_t length)
 uint32_t begin_host(struct gh_host *host, const struct file *table, const struct file *keys,
                     const struct file *rows, size_t slots)
 {
-    const struct gh_config config = {.slots = slots, .rx_mtu = 247};
-    const uint8_t *text = rows != NULL ? rows->octets : table->octets;
-    return gh_open(host, table->octets, table->length, keys->octets, keys->length, text,
-                   rows != NULL ? rows->length : 0, &config);
+    struct gh_config config = GH_CONFIG_INIT;
+    size_t left_out = 1000;
+    config.slots = slots;
+    uint32_t status = gh_open(host, table->octets, table->length, keys->octets, keys->length,
+                              rows != NULL ? rows->octets : GH_EMPTY, rows != NULL ? rows->length : 0,
+                              GH_EMPTY, 0, &config, &left_out);
+    CHECK(left_out == 0);
+    return status;
 }
 
 uint32_t open_host(struct gh_host *host, const struct file *table, const struct file *keys,

@@ -14,14 +14,14 @@ static struct file table, keys, none;
 static uint8_t out[GH_LONGEST_PACKET];
 
 /* What each function answers for a host, in the order of the header, but gh_open and gh_close. */
-static void each(struct gh_host *host, uint32_t statuses[13])
+static void each(struct gh_host *host, uint32_t statuses[14])
 {
     const uint8_t type[] = {0xF0, 0xFF};
     size_t count = 1000;
     uint16_t handle = 1000;
     uint64_t time = 1000;
-    struct gh_connection connection;
-    struct gh_notice notice;
+    struct gh_connection connection = GH_CONNECTION_INIT;
+    struct gh_notice notice = GH_NOTICE_INIT;
     statuses[0] = gh_take(host, reset_complete, sizeof reset_complete, &count);
     CHECK(statuses[0] == GH_DONE || count == 0 || count == sizeof reset_complete);
     statuses[1] = gh_next_out(host, out, sizeof out, &count);
@@ -31,19 +31,20 @@ static void each(struct gh_host *host, uint32_t statuses[13])
     statuses[5] = gh_tick(host, 1);
     statuses[6] = gh_replace(host, table.octets, table.length);
     statuses[7] = gh_value(host, 3, out, sizeof out, &count);
-    statuses[8] = gh_find(host, type, sizeof type, type, sizeof type, &handle);
+    statuses[8] = gh_find(host, type, sizeof type, type, sizeof type, 1, &handle);
     statuses[9] = gh_rows_text(host, out, sizeof out, &count);
     statuses[10] = gh_deadline(host, &time);
     statuses[11] = gh_connection(host, 0, &connection);
     statuses[12] = gh_next_notice(host, &notice);
+    statuses[13] = gh_values_text(host, 1, out, sizeof out, &count);
 }
 
 static void closed_handles(void)
 {
     struct gh_host host = GH_HOST_INIT;
-    uint32_t statuses[13];
+    uint32_t statuses[14];
     each(&host, statuses);
-    for (int at = 0; at < 13; at++)
+    for (int at = 0; at < 14; at++)
         CHECK(statuses[at] == GH_CLOSED);
     CHECK(gh_close(&host) == GH_CLOSED);
 
@@ -52,7 +53,7 @@ static void closed_handles(void)
     CHECK(host.at == NULL);
     CHECK(gh_close(&host) == GH_CLOSED);
     each(&host, statuses);
-    for (int at = 0; at < 13; at++)
+    for (int at = 0; at < 14; at++)
         CHECK(statuses[at] == GH_CLOSED);
 }
 
@@ -60,10 +61,13 @@ static uint32_t opened(const char *a, size_t a_length, const char *b, size_t b_l
                        const char *c, size_t c_length)
 {
     struct gh_host host = GH_HOST_INIT;
-    const struct gh_config config = {.slots = 1, .rx_mtu = 23};
+    struct gh_config config = GH_CONFIG_INIT;
+    size_t left_out = 1000;
+    config.rx_mtu = 23;
     uint32_t status = gh_open(&host, (const uint8_t *)a, a_length, (const uint8_t *)b, b_length,
-                              (const uint8_t *)c, c_length, &config);
+                              (const uint8_t *)c, c_length, GH_EMPTY, 0, &config, &left_out);
     CHECK((status == GH_DONE) == (host.at != NULL));
+    CHECK(left_out == 0);
     gh_close(&host);
     return status;
 }
@@ -71,9 +75,11 @@ static uint32_t opened(const char *a, size_t a_length, const char *b, size_t b_l
 static uint32_t configured(struct gh_config config)
 {
     struct gh_host host = GH_HOST_INIT;
+    size_t left_out = 1000;
     uint32_t status = gh_open(&host, table.octets, table.length, keys.octets, keys.length,
-                              none.octets, 0, &config);
+                              GH_EMPTY, 0, GH_EMPTY, 0, &config, &left_out);
     CHECK((status == GH_DONE) == (host.at != NULL));
+    CHECK(left_out == 0);
     gh_close(&host);
     return status;
 }
@@ -94,15 +100,21 @@ static void refused_openings(void)
     CHECK(opened("service = ", 10, "other = 1", 9, "no row\n", 7) == GH_BAD_TABLE + 1);
     CHECK(opened(nothing, 12, "other = 1", 9, "no row\n", 7) == GH_BAD_KEYS + 9);
 
-    const struct gh_config good = {
-        .slots = 8,
-        .rx_mtu = 517,
-        .is_random = 1,
-        .address = {1, 2, 3, 4, 5, 0xC6},
-        .advertising_length = 31,
-    };
-    struct gh_config bad;
+    struct gh_config good = GH_CONFIG_INIT, bad;
     CHECK(configured(good) == GH_DONE);
+    good.slots = 8;
+    good.rx_mtu = 517;
+    good.is_random = 1;
+    memcpy(good.address, "\1\2\3\4\5\xC6", 6);
+    good.advertising_length = 31;
+    CHECK(configured(good) == GH_DONE);
+    /* A program may have a newer header than the library, and not an older one. */
+    bad = good, bad.size++;
+    CHECK(configured(bad) == GH_DONE);
+    bad = good, bad.size--;
+    CHECK(configured(bad) == GH_BAD_CONFIG);
+    bad = good, bad.size = 0;
+    CHECK(configured(bad) == GH_BAD_CONFIG);
     bad = good, bad.slots = 0;
     CHECK(configured(bad) == GH_BAD_CONFIG);
     bad = good, bad.slots = 9;
@@ -126,15 +138,17 @@ static void refused_openings(void)
 static void open_over_open(void)
 {
     struct gh_host host = GH_HOST_INIT;
-    struct gh_config config = {.slots = 1, .rx_mtu = 23};
+    struct gh_config config = GH_CONFIG_INIT;
     struct heard heard;
+    size_t left_out = 1000;
     CHECK(open_host(&host, &table, &keys, NULL, 4) == GH_DONE);
     connect_phone(&host, 64);
     void *at = host.at;
-    const uint8_t *text = none.octets;
-    CHECK(gh_open(&host, text, 0, text, 0, text, 0, &config) == GH_ALREADY_OPEN);
-    text = table.octets;
-    CHECK(gh_open(&host, text, table.length, text, 0, text, 0, &config) == GH_ALREADY_OPEN);
+    const uint8_t *text = GH_EMPTY;
+    CHECK(gh_open(&host, text, 0, text, 0, text, 0, text, 0, &config, &left_out) == GH_ALREADY_OPEN);
+    CHECK(left_out == 0);
+    CHECK(gh_open(&host, table.octets, table.length, text, 0, text, 0, text, 0, &config, &left_out)
+          == GH_ALREADY_OPEN);
     CHECK(host.at == at);
     say(&host, 64, (const uint8_t *)"\x0A\x03\x00", 3, &heard);
     CHECK(is_heard(&heard, (const uint8_t *)"\x0BLock", 5));
@@ -144,7 +158,7 @@ static void open_over_open(void)
 static void output_that_is_owed(void)
 {
     struct gh_host host = GH_HOST_INIT;
-    uint32_t statuses[13];
+    uint32_t statuses[14];
     size_t count;
     CHECK(begin_host(&host, &table, &keys, NULL, 4) == GH_DONE);
     /* Reset is owed. */
@@ -194,6 +208,34 @@ static void short_buffers(void)
     gh_close(&host);
 }
 
+/* Structures that are larger than the library's are accepted, and smaller ones refused. */
+static void sizes(void)
+{
+    struct gh_host host = GH_HOST_INIT;
+    struct gh_connection connection = GH_CONNECTION_INIT;
+    struct gh_notice notice = GH_NOTICE_INIT;
+    size_t used;
+    const uint8_t complete[] = {
+        0x04, 0x3E, 19, 0x01, 0, 64, 0, 1, 0, 0x55, 0x44, 0x33, 0x22, 0x11, 0x00, 24, 0, 0, 0, 200, 0, 0,
+    };
+    CHECK(open_host(&host, &table, &keys, NULL, 4) == GH_DONE);
+    CHECK(gh_take(&host, complete, sizeof complete, &used) == GH_DONE);
+    connection.size--;
+    CHECK(gh_connection(&host, 0, &connection) == GH_BAD_SIZE && connection.handle == 0);
+    CHECK(gh_connection(&host, 9, &connection) == GH_BAD_SIZE);
+    connection.size = SIZE_MAX;
+    CHECK(gh_connection(&host, 0, &connection) == GH_DONE && connection.handle == 64);
+    CHECK(connection.size == SIZE_MAX);
+    notice.size--;
+    CHECK(gh_next_notice(&host, &notice) == GH_BAD_SIZE && notice.kind == 0);
+    notice.size = sizeof notice + 8;
+    CHECK(gh_next_notice(&host, &notice) == GH_DONE && notice.kind == GH_CONNECTED);
+    CHECK(notice.size == sizeof notice + 8);
+    notice.size = 0;
+    CHECK(gh_next_notice(&host, &notice) == GH_BAD_SIZE);
+    gh_close(&host);
+}
+
 /* The texts of the statuses, from the first of each group on. */
 static const struct {
     uint32_t first;
@@ -208,6 +250,7 @@ static const struct {
         "the buffer is too short",
         "memory was refused",
         "the configuration is out of its limits",
+        "a structure is smaller than that of the library",
     }},
     {21, {
         "host: an octet stands where a packet begins, and begins none",
@@ -256,6 +299,9 @@ static const struct {
         "rows: more of them than a rows file may have",
         "rows: memory was refused",
     }},
+    {401, {
+        "values: a line is not a handle, a type, and octets in hexadecimal or `-`",
+    }},
 };
 
 /* The text of a status, or NULL if no function answers it. */
@@ -280,11 +326,11 @@ static void texts(void)
         CHECK(!wanted || memcmp(text, wanted, count) == 0);
         said += wanted != NULL;
     }
-    CHECK(said == 8 + 4 + 7 + 11 + 10 + 4);
+    CHECK(said == 9 + 4 + 7 + 11 + 10 + 4 + 1);
     CHECK(gh_text(UINT32_MAX, text, sizeof text, &count) == GH_NOTHING);
     CHECK(gh_text(GH_DONE, text, 3, &count) == GH_SHORT_BUFFER && count == 4);
     CHECK(GH_TABLE_SHAPE == GH_BAD_TABLE + 11 && GH_KEYS_NOT_ZERO == GH_BAD_KEYS + 10);
-    CHECK(GH_ROWS_OUT_OF_MEMORY == GH_BAD_ROWS + 4);
+    CHECK(GH_ROWS_OUT_OF_MEMORY == GH_BAD_ROWS + 4 && GH_VALUES_BAD_LINE == GH_BAD_VALUES + 1);
     CHECK(gh_version() == GH_VERSION);
 }
 
@@ -299,6 +345,7 @@ int main(int argc, char **argv)
     open_over_open();
     output_that_is_owed();
     short_buffers();
+    sizes();
     texts();
     return result();
 }

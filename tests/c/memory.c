@@ -139,17 +139,38 @@ static void serving(struct gh_host *host)
     CHECK(asked == 0);
 }
 
-static void rows_and_replacing(struct gh_host *host)
+/* The texts that are saved, and the words for a fault, take memory that is given back. */
+static void texts(struct gh_host *host)
 {
+    static const char faulty[] = "service = [{ uuid = \"1800\" }, { uuid = \"18\" }]";
     uint8_t text[256];
     size_t length, before = live;
     uint32_t status = GH_NOTHING;
     refuse(1);
-    CHECK(gh_rows_text(host, text, sizeof text, &length) == GH_OUT_OF_MEMORY);
+    CHECK(gh_rows_text(host, text, sizeof text, &length) == GH_OUT_OF_MEMORY && length == 0);
+    CHECK(gh_values_text(host, 1, text, sizeof text, &length) == GH_OUT_OF_MEMORY && length == 0);
     CHECK(live == before);
     refuse(UINT32_MAX);
     CHECK(gh_rows_text(host, text, sizeof text, &length) == GH_DONE && length > 0);
+    CHECK(gh_values_text(host, 1, text, sizeof text, &length) == GH_DONE && length > 0);
     CHECK(live == before);
+
+    unsigned at;
+    for (at = 1; at < 10000 && status != GH_DONE; at++) {
+        refuse(at);
+        status = gh_explain((const uint8_t *)faulty, sizeof faulty - 1, GH_EMPTY, 0, GH_EMPTY, 0,
+                            GH_EMPTY, 0, text, sizeof text, &length);
+        CHECK(status == GH_DONE || (status == GH_OUT_OF_MEMORY && length == 0));
+        CHECK(live == before);
+    }
+    CHECK(status == GH_DONE);
+    printf("explaining: %u allocations\n", asked);
+}
+
+static void replacing(struct gh_host *host)
+{
+    size_t before = live;
+    uint32_t status = GH_NOTHING;
 
     unsigned at;
     for (at = 1; at < 10000 && status != GH_DONE; at++) {
@@ -176,7 +197,8 @@ int main(int argc, char **argv)
     opening(8);
     CHECK(begin_host(&host, &table, &keys, &rows, 4) == GH_DONE);
     serving(&host);
-    rows_and_replacing(&host);
+    texts(&host);
+    replacing(&host);
     CHECK(gh_close(&host) == GH_DONE);
     CHECK(blocks == 0 && live == 0);
     return result();

@@ -63,7 +63,7 @@ static void print_notice(const struct gh_notice *it)
 /* Prints what came of something: notices first, since the answer may follow them. */
 static void print_outcome(uint32_t status)
 {
-    struct gh_notice notice;
+    struct gh_notice notice = GH_NOTICE_INIT;
     uint8_t packet[GH_LONGEST_PACKET];
     size_t count;
     if (status != GH_DONE)
@@ -129,8 +129,8 @@ static void obey(char *line)
 int main(int argc, char **argv)
 {
     /* That of gatt_shell. */
-    const struct gh_config config = {
-        .slots = 4, .rx_mtu = 247, .advertising_length = 3, .advertising = {0x02, 0x01, 0x06}};
+    const struct gh_config config = GH_CONFIG_INIT;
+    size_t left_out;
     static char line[1 << 17];
     if (argc < 3)
         return 64;
@@ -139,8 +139,8 @@ int main(int argc, char **argv)
     tables[1] = tables[0];
     if (argc > 3)
         read_file(argv[3], &tables[1]);
-    const uint8_t *table = tables[0].octets;
-    if (gh_open(&host, table, tables[0].length, keys.octets, keys.length, table, 0, &config) != 0)
+    if (gh_open(&host, tables[0].octets, tables[0].length, keys.octets, keys.length, GH_EMPTY, 0,
+                GH_EMPTY, 0, &config, &left_out) != GH_DONE)
         return 1;
     print_outcome(GH_DONE);
     do {

@@ -81,6 +81,24 @@ static void *reading(void *unused)
     return unused;
 }
 
+static void *saving(void *unused)
+{
+    static uint8_t text[256];
+    size_t count;
+    CHECK(gh_values_text(&host, 1, text, sizeof text, &count) == GH_DONE && count > 0);
+    return unused;
+}
+
+static void *explaining(void *unused)
+{
+    static const char faulty[] = "service = [{ uuid = \"1800\" }, { uuid = \"18\" }]";
+    static uint8_t text[256];
+    size_t count;
+    CHECK(gh_explain((const uint8_t *)faulty, sizeof faulty - 1, keys.octets, keys.length, GH_EMPTY, 0,
+                     GH_EMPTY, 0, text, sizeof text, &count) == GH_DONE);
+    return unused;
+}
+
 int main(int argc, char **argv)
 {
     if (argc != 4)
@@ -97,13 +115,17 @@ int main(int argc, char **argv)
     settle(&host, NULL);
     size_t tick = used_by(telling_the_time) - thread;
     size_t rows = used_by(reading) - thread;
+    CHECK(gh_update(&host, 10, table.octets, 1) == GH_DONE);
+    settle(&host, NULL);
+    size_t values = used_by(saving) - thread;
     size_t replace = used_by(replacing) - thread;
-    printf("octets of stack: gh_open %zu, gh_take %zu, gh_next_out %zu, gh_tick %zu, "
-           "gh_rows_text %zu, gh_replace %zu\n",
-           open, take, hand, tick, rows, replace);
+    size_t explain = used_by(explaining) - thread;
+    printf("octets of stack: gh_open %zu, gh_take %zu, gh_next_out %zu, gh_tick %zu, gh_rows_text %zu, "
+           "gh_values_text %zu, gh_replace %zu, gh_explain %zu\n",
+           open, take, hand, tick, rows, values, replace, explain);
     /* What the header asks for. */
-    CHECK(open < 40 * 1024 && replace < 40 * 1024);
-    CHECK(take < 4096 && hand < 4096 && tick < 4096 && rows < 4096);
+    CHECK(open < 40 * 1024 && replace < 40 * 1024 && explain < 40 * 1024);
+    CHECK(take < 4096 && hand < 4096 && tick < 4096 && rows < 4096 && values < 4096);
     gh_close(&host);
     return result();
 }

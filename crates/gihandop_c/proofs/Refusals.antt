@@ -1,5 +1,5 @@
 -- The status of what refuses to open a host is that of its first fault.
-use Rattle.std.proofs.Common.{◌≡◌, ◌≢◌, ◌∙◌, ℕ, ◌+◌, nat_eq, nat_lt, T, if◌then◌else◌, Bool, true, false, Result, Ok, Err, refl, ap, subst, sym}
+use Rattle.std.proofs.Common.{◌≡◌, ◌≢◌, ◌∙◌, ℕ, ◌+◌, nat_eq, T, if◌then◌else◌, Bool, true, false, Result, Ok, Err, refl, ap, subst, sym}
 use Rattle.att_table.specs.declared.table_fault.TableFault.{TableFault}
 use Rattle.att_table.specs.declared.table_fault.TableFault.TheVariants.{OutOfMemory as NoMemoryForTheTable}
 use Rattle.att_table.specs.Table.{Contents}
@@ -11,9 +11,8 @@ use Rattle.gatt_subs.specs.RowsFault.{rows_fault_number}
 use Rattle.gihandop_c.specs.declared.config.HostConfig.{HostConfig}
 use Rattle.gihandop_c.specs.declared.status.TheConstants.{BAD_CONFIG, BAD_KEYS, BAD_ROWS, BAD_TABLE, DONE}
 use Rattle.gihandop_c.specs.Files.{keys_status, rows_status, table_status}
-use Rattle.gihandop_c.specs.Opening.{config_given, config_status, IsNotOfMemory, IsStatusOf}
+use Rattle.gihandop_c.specs.Opening.{config_given, config_status, is_unreadable, IsNotOfMemory, IsStatusOf}
 use Rattle.host_files.specs.Files.{keys_in, rows_in, table_in}
-use Rattle.le_hci.specs.declared.command.TheConstants.{MAX_ADVERTISING_DATA}
 use Rattle.le_security.specs.declared.key_fault.KeyFault.{KeyFault}
 use Rattle.le_security.specs.declared.key_fault.KeyFault.TheVariants.{OutOfMemory as NoMemoryForTheKeys}
 use Rattle.le_security.specs.KeyFault.{key_fault_number}
@@ -51,21 +50,21 @@ table_refused_for read fault status is refused enough = is enough 0 ∙ ap (λ r
 
 -- by the two tests of a configuration
 abbrev status_by : Bool → Bool → ℕ
-status_by too_long configured = if too_long then BAD_CONFIG else if configured then DONE else BAD_CONFIG
+status_by unreadable configured = if unreadable then BAD_CONFIG else if configured then DONE else BAD_CONFIG
 
 accepted : (configured : Bool) → configured ≢ false → status_by false configured ≡ DONE
 accepted true not = refl
 accepted false not = absurd (not refl)
 
-pub config_accepted : (config : HostConfig) → nat_lt MAX_ADVERTISING_DATA config.advertising_length ≡ false
+pub config_accepted : (config : HostConfig) → is_unreadable config ≡ false
     → is_configured (config_given config) ≢ false → config_status config ≡ DONE
-config_accepted config fits is =
-    ap (λ test. status_by test (is_configured (config_given config))) fits ∙ accepted (is_configured (config_given config)) is
+config_accepted config readable is =
+    ap (λ test. status_by test (is_configured (config_given config))) readable ∙ accepted (is_configured (config_given config)) is
 
-pub config_refused : (config : HostConfig) → nat_lt MAX_ADVERTISING_DATA config.advertising_length ≡ false
+pub config_refused : (config : HostConfig) → is_unreadable config ≡ false
     → is_configured (config_given config) ≡ false → config_status config ≡ BAD_CONFIG
-config_refused config fits is =
-    ap (λ test. status_by test (is_configured (config_given config))) fits ∙ ap (status_by false) is
+config_refused config readable is =
+    ap (λ test. status_by test (is_configured (config_given config))) readable ∙ ap (status_by false) is
 
-pub config_too_long : (config : HostConfig) → nat_lt MAX_ADVERTISING_DATA config.advertising_length ≡ true → config_status config ≡ BAD_CONFIG
-config_too_long config long = ap (λ test. status_by test (is_configured (config_given config))) long
+pub config_unreadable : (config : HostConfig) → is_unreadable config ≡ true → config_status config ≡ BAD_CONFIG
+config_unreadable config is = ap (λ test. status_by test (is_configured (config_given config))) is

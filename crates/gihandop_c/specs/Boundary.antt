@@ -47,10 +47,18 @@ HostTellsItems items = OfTheHost (TellsItems items)
 abbrev pub HostTellsItem : Item → Option Opened → Option Opened → Type 0
 HostTellsItem item = OfTheHost (TellsItem item)
 
--- the notices that have not been handed out stay, and so does the table with their values
+-- the table of the table file stays
+abbrev pub KeepsInitial : Opened → Opened → Type 0
+KeepsInitial old new = new.initial ≡ old.initial
+
+abbrev pub HostKeepsInitial : Option Opened → Option Opened → Type 0
+HostKeepsInitial = OfTheHost KeepsInitial
+
+-- the notices that have not been handed out stay, and so do the table with their values and that of the table file
 pub record KeepsNotices (old new : Opened) : Type 0 where
   pub notices : untold new ≡ untold old
   pub table : new.host.server.table ≡ old.host.server.table
+  pub initial : new.initial ≡ old.initial
 
 -- the host stays as it is, and so does how many notices were handed out
 pub record Stays (old new : Opened) : Type 0 where

@@ -6,10 +6,13 @@ use Rattle.att_table.specs.TableFault.{table_fault_number}
 use Rattle.gatt_subs.specs.declared.rows_fault.RowsFault.{RowsFault}
 use Rattle.gatt_subs.specs.Rows.{Subscriptions}
 use Rattle.gatt_subs.specs.RowsFault.{rows_fault_number}
-use Rattle.gihandop_c.specs.declared.status.TheConstants.{BAD_KEYS, BAD_ROWS, BAD_TABLE}
+use Rattle.gihandop_c.specs.declared.status.TheConstants.{BAD_KEYS, BAD_ROWS, BAD_TABLE, VALUES_BAD_LINE}
+use Rattle.gihandop_c.specs.Values.{values_in}
 use Rattle.le_security.specs.declared.entry.Entry.{Entry}
 use Rattle.le_security.specs.declared.key_fault.KeyFault.{KeyFault}
 use Rattle.le_security.specs.KeyFault.{key_fault_number}
+use Rattle.octets.specs.Number.{Octets}
+use Rattle.saved_values.specs.declared.restoring.BadLine.{BadLine}
 
 -- the status of a file: that of its first fault, and else what comes behind it
 abbrev pub table_status : Result Contents TableFault → ℕ → ℕ
@@ -23,3 +26,12 @@ keys_status (Err fault) behind = BAD_KEYS + key_fault_number fault
 abbrev pub rows_status : Result Subscriptions RowsFault → ℕ → ℕ
 rows_status (Ok rows) behind = behind
 rows_status (Err fault) behind = BAD_ROWS + rows_fault_number fault
+
+abbrev pub values_status : Result (Contents × ℕ) BadLine → ℕ → ℕ
+values_status (Ok restored) behind = behind
+values_status (Err line) behind = VALUES_BAD_LINE
+
+-- that of a values text for a table, if there is one
+abbrev pub values_status_for : Result Contents TableFault → Octets → ℕ → ℕ
+values_status_for (Ok contents) values behind = values_status (values_in values contents) behind
+values_status_for (Err fault) values behind = behind

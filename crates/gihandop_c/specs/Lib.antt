@@ -1,5 +1,6 @@
 -- What the contracts of this crate cite.
 pub mod Boundary
+pub mod Explaining
 pub mod Files
 pub mod Lending
 pub mod Opening
@@ -7,3 +8,4 @@ pub mod Owned
 pub mod Seeing
 pub mod Statuses
 pub mod Telling
+pub mod Values

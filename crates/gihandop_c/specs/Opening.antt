@@ -1,19 +1,21 @@
 -- How a host is opened with the octets of its files: this profile's own.
-use Rattle.std.specs.Prelude.{◌≡◌, ◌≢◌, ℕ, ◌+◌, ◌==◌, nat_lt, if◌then◌else◌, take, List, [], Option, Some, None, Ok}
+use Rattle.std.specs.Prelude.{◌≡◌, ◌≢◌, ℕ, ◌+◌, ◌==◌, nat_lt, Bool, ◌||◌, if◌then◌else◌, take, List, [], Option, Some, None, Ok}
 use Rattle.att_table.specs.declared.table_fault.TableFault.TheVariants.{OutOfMemory as NoMemoryForTheTable}
 use Rattle.att_table.specs.Table.{Contents}
 use Rattle.att_table.specs.TableFault.{table_fault_number}
 use Rattle.gatt_host.specs.declared.config.Config.{Config}
 use Rattle.gatt_host.specs.Opening.{is_configured, start_of}
-use Rattle.gatt_host.specs.HostModel.{RefinesRun, HostModel}
+use Rattle.gatt_host.specs.HostModel.{RefinesRun}
 use Rattle.gatt_laws.specs.machine.Input.{run}
 use Rattle.gatt_subs.specs.declared.rows_fault.RowsFault.TheVariants.{OutOfMemory as NoMemoryForTheRows}
 use Rattle.gatt_subs.specs.Rows.{Subscriptions}
 use Rattle.gatt_subs.specs.RowsFault.{rows_fault_number}
 use Rattle.gihandop_c.specs.declared.config.HostConfig.{HostConfig}
+use Rattle.gihandop_c.specs.declared.config.TheConstants.{CONFIG_SIZE}
 use Rattle.gihandop_c.specs.declared.opened.Opened.{Opened}
 use Rattle.gihandop_c.specs.declared.status.TheConstants.{BAD_CONFIG, BAD_KEYS, BAD_ROWS, BAD_TABLE, DONE, OUT_OF_MEMORY}
-use Rattle.gihandop_c.specs.Files.{keys_status, rows_status, table_status}
+use Rattle.gihandop_c.specs.Files.{keys_status, rows_status, table_status, values_status_for}
+use Rattle.gihandop_c.specs.Values.{values_in}
 use Rattle.host_files.specs.Files.{keys_in, rows_in, table_in}
 use Rattle.le_hci.specs.declared.command.TheConstants.{MAX_ADVERTISING_DATA}
 use Rattle.le_security.specs.declared.entry.Entry.{Entry}
@@ -30,27 +32,38 @@ config_given config = record {
   advertising = record { items = take config.advertising_length config.advertising };
 }
 
--- the host is where its files and its configuration have it start, and nothing has gone out
-abbrev pub IsOpenedByFiles : Octets → Octets → Octets → HostConfig → HostModel → Type 0
-IsOpenedByFiles table keys rows config whole = (contents : Contents) (entries : List Entry) (said : Subscriptions)
-    → table_in table ≡ Ok contents → keys_in keys ≡ Ok entries → rows_in rows ≡ Ok said
-    → RefinesRun (run (start_of contents entries said (config_given config)) []) [] whole
+-- a host that was opened with a table file, a key file, a rows file, a values text and a configuration
+pub record IsOpenedWith (table keys rows values : Octets) (config : HostConfig) (omitted : ℕ) (opened : Opened) : Type 0 where
+  -- it is where they have it start, with the values restored, and nothing has gone out
+  pub host : (contents restored : Contents) (entries : List Entry) (said : Subscriptions) (count : ℕ)
+      → table_in table ≡ Ok contents → keys_in keys ≡ Ok entries → rows_in rows ≡ Ok said → values_in values contents ≡ Ok (restored, count)
+      → RefinesRun (run (start_of restored entries said (config_given config)) []) [] opened.host
+  -- so many values do not fit the table
+  pub left_out : (contents restored : Contents) (count : ℕ)
+      → table_in table ≡ Ok contents → values_in values contents ≡ Ok (restored, count) → omitted ≡ count
+  -- the table of its file is noted without the values
+  pub initial : (contents : Contents) → table_in table ≡ Ok contents → opened.initial ≡ contents
 
 -- and it is the one that is open
-abbrev pub IsOpenWith : Octets → Octets → Octets → HostConfig → Option Opened → Type 0
-IsOpenWith table keys rows config (Some opened) = IsOpenedByFiles table keys rows config opened.host
-IsOpenWith table keys rows config None = ⊥
+abbrev pub IsOpenWith : Octets → Octets → Octets → Octets → HostConfig → ℕ → Option Opened → Type 0
+IsOpenWith table keys rows values config left_out (Some opened) = IsOpenedWith table keys rows values config left_out opened
+IsOpenWith table keys rows values config left_out None = ⊥
 
--- the status of a configuration: the advertising data have a limit
+-- the structure of the program is smaller than this one, or it has more advertising data than there may be
+abbrev pub is_unreadable : HostConfig → Bool
+is_unreadable config = nat_lt config.size CONFIG_SIZE || nat_lt MAX_ADVERTISING_DATA config.advertising_length
+
+-- the status of a configuration
 abbrev pub config_status : HostConfig → ℕ
 config_status config =
-    if nat_lt MAX_ADVERTISING_DATA config.advertising_length then BAD_CONFIG
+    if is_unreadable config then BAD_CONFIG
     else if is_configured (config_given config) then DONE else BAD_CONFIG
 
 -- the status of opening, where memory suffices: the first fault of the first file that has one, and else the configuration's
-abbrev pub open_status : Octets → Octets → Octets → HostConfig → ℕ
-open_status table keys rows config =
-    table_status (table_in table) (keys_status (keys_in keys) (rows_status (rows_in rows) (config_status config)))
+abbrev pub open_status : Octets → Octets → Octets → Octets → HostConfig → ℕ
+open_status table keys rows values config =
+    table_status (table_in table) (keys_status (keys_in keys)
+    (rows_status (rows_in rows) (values_status_for (table_in table) values (config_status config))))
 
 -- it is none of the four statuses that say that memory was refused
 pub record IsNotOfMemory (status : ℕ) : Type 0 where

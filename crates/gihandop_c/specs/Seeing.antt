@@ -18,17 +18,18 @@ uuid_of octets =
     if length octets == 2 then Some (of_16_bits (from_le_bytes w16 octets))
     else if length octets == 16 then Some (from_le_bytes w128 octets) else None
 
-abbrev pub found_among : Contents → Option ℕ → Option ℕ → Option ℕ
-found_among table (Some service) (Some characteristic) = value_found table service characteristic 1
-found_among table service characteristic = None
+abbrev pub found_among : Contents → Option ℕ → Option ℕ → ℕ → Option ℕ
+found_among table (Some service) (Some characteristic) number = value_found table service characteristic number
+found_among table service characteristic number = None
 
--- the handle of the first value of a characteristic's type in services of a type
-abbrev pub found_by : Contents → Octets → Octets → Option ℕ
-found_by table service characteristic = found_among table (uuid_of service) (uuid_of characteristic)
+-- the handle of the value with a number, from 1, among those of a characteristic's type in services of a type
+abbrev pub found_by : Contents → Octets → Octets → ℕ → Option ℕ
+found_by table service characteristic number = found_among table (uuid_of service) (uuid_of characteristic) number
 
--- a connection without the key of its link
-abbrev pub without_a_key : Connection → ConnectionFields
-without_a_key connection = record {
+-- a connection without the key of its link, in a structure of some size
+abbrev pub without_a_key : ℕ → Connection → ConnectionFields
+without_a_key size connection = record {
+  size = size;
   handle = connection.handle;
   mtu = connection.mtu;
   address_kind = connection.peer.kind;
@@ -46,9 +47,9 @@ with_the_key None fields = fields
 with_the_key (Some facts) fields =
     record fields { key_size = facts.size; authenticated = facts.authenticated; secure = facts.secure }
 
-abbrev pub connection_fields : Connection → ConnectionFields
-connection_fields connection = with_the_key connection.key (without_a_key connection)
+abbrev pub connection_fields : ℕ → Connection → ConnectionFields
+connection_fields size connection = with_the_key connection.key (without_a_key size connection)
 
 -- the connection at a place, in the order of the slots, if there are so many
-abbrev pub connection_at : Opened → ℕ → Option ConnectionFields
-connection_at opened place = option_map connection_fields (slice_get (connections_in opened.host.server.slots) place)
+abbrev pub connection_at : ℕ → Opened → ℕ → Option ConnectionFields
+connection_at size opened place = option_map (connection_fields size) (slice_get (connections_in opened.host.server.slots) place)

@@ -7,10 +7,14 @@ use Rattle.gatt_host.specs.HostModel.{all_out}
 use Rattle.gatt_slots.specs.Slots.{slots_deadline}
 use Rattle.gatt_subs.specs.RowsText.{rows_text}
 use Rattle.gihandop_c.specs.declared.opened.Opened.{Opened}
-use Rattle.gihandop_c.specs.declared.status.TheConstants.{CLOSED, DONE, NOTHING, OUTPUT_OWED, SHORT_BUFFER}
+use Rattle.gihandop_c.specs.declared.status.TheConstants.{BAD_SIZE, CLOSED, DONE, NOTHING, OUTPUT_OWED, SHORT_BUFFER}
+use Rattle.gihandop_c.specs.declared.connections.TheConstants.{CONNECTION_SIZE}
+use Rattle.gihandop_c.specs.declared.notices.TheConstants.{NOTICE_SIZE}
 use Rattle.gihandop_c.specs.Boundary.{fault_status}
 use Rattle.gihandop_c.specs.Seeing.{connection_at, found_by}
 use Rattle.gihandop_c.specs.Telling.{next_notice}
+use Rattle.gihandop_c.specs.Values.{values_saved}
+use Rattle.gihandop_c.specs.declared.faulty_text.FaultyText.{FaultyText}
 use Rattle.octets.specs.Number.{Octets}
 use Rattle.gihandop_c.specs.declared.stream.TheConstants.{LONGEST_PACKET}
 
@@ -44,9 +48,13 @@ WaitsForOutput status opened = (status ≡ OUTPUT_OWED) ↔ (all_out opened.host
 abbrev pub out_status : ℕ → Opened → ℕ
 out_status room opened = if all_out opened.host then NOTHING else room_status LONGEST_PACKET room
 
+-- of a structure that the program has: whether it is large enough comes first
+abbrev pub sized_status : ℕ → ℕ → ℕ → ℕ
+sized_status size needed status = if nat_lt size needed then BAD_SIZE else status
+
 -- of the next notice
-abbrev pub notice_status : Opened → ℕ
-notice_status opened = there_status (next_notice opened)
+abbrev pub notice_status : ℕ → Opened → ℕ
+notice_status size opened = sized_status size NOTICE_SIZE (there_status (next_notice size opened))
 
 -- of the value at a handle: whether there is an attribute comes first
 abbrev pub value_status : ℕ → ℕ → Opened → ℕ
@@ -55,11 +63,12 @@ value_status handle room opened =
     else room_status (length (value_at opened.host.server.table.values handle)) room
 
 -- of what is looked up
-abbrev pub find_status : Octets → Octets → Opened → ℕ
-find_status service characteristic opened = there_status (found_by opened.host.server.table service characteristic)
+abbrev pub find_status : Octets → Octets → ℕ → Opened → ℕ
+find_status service characteristic number opened =
+    there_status (found_by opened.host.server.table service characteristic number)
 
-abbrev pub connection_status : ℕ → Opened → ℕ
-connection_status place opened = there_status (connection_at opened place)
+abbrev pub connection_status : ℕ → ℕ → Opened → ℕ
+connection_status size place opened = sized_status size CONNECTION_SIZE (there_status (connection_at size opened place))
 
 abbrev pub deadline_status : Opened → ℕ
 deadline_status opened = there_status (slots_deadline opened.host.server.time opened.host.server.slots)
@@ -67,14 +76,23 @@ deadline_status opened = there_status (slots_deadline opened.host.server.time op
 abbrev pub rows_text_status : ℕ → Opened → ℕ
 rows_text_status room opened = room_status (length (rows_text opened.host.server.rows)) room
 
+abbrev pub values_text_status : ℕ → ℕ → Opened → ℕ
+values_text_status all room opened = room_status (length (values_saved all opened)) room
+
+-- of the words for a fault: whether there is a fault comes first
+abbrev pub explain_status : Option FaultyText → ℕ → ℕ → ℕ
+explain_status None length room = NOTHING
+explain_status (Some faulty) length room = room_status length room
+
 -- a function answers it
 abbrev pub is_between : ℕ → ℕ → ℕ → Bool
 is_between first last status = nat_le first status && nat_le status last
 
 abbrev pub is_status : ℕ → Bool
 is_status status =
-    is_between 0 7 status || is_between 21 24 status || is_between 41 47 status
+    is_between 0 8 status || is_between 21 24 status || is_between 41 47 status
     || is_between 101 111 status || is_between 201 210 status || is_between 301 304 status
+    || is_between 401 401 status
 
 -- of a text
 abbrev pub text_status : ℕ → ℕ → ℕ → ℕ

@@ -6,9 +6,10 @@ use Rattle.gatt_laws.specs.machine.Notice.{Notice, Connected, Disconnected, Secu
 use Rattle.gihandop_c.specs.declared.notices.NoticeFields.{NoticeFields}
 use Rattle.gihandop_c.specs.declared.opened.Opened.{Opened}
 
--- a kind, and a connection; and nothing else
-abbrev pub fields_of_connection : ℕ → ℕ → NoticeFields
-fields_of_connection kind handle = record {
+-- a kind, and a connection, in a structure of some size; and nothing else
+abbrev pub fields_of_connection : ℕ → ℕ → ℕ → NoticeFields
+fields_of_connection size kind handle = record {
+  size = size;
   kind = kind;
   bits = 0;
   reason = 0;
@@ -22,30 +23,31 @@ fields_of_connection kind handle = record {
 }
 
 -- and an attribute, with bits
-abbrev pub fields_of_attribute : ℕ → ℕ → ℕ → ℕ → NoticeFields
-fields_of_attribute kind handle attribute bits = record (fields_of_connection kind handle) { attribute = attribute; bits = bits }
+abbrev pub fields_of_attribute : ℕ → ℕ → ℕ → ℕ → ℕ → NoticeFields
+fields_of_attribute size kind handle attribute bits = record (fields_of_connection size kind handle) { attribute = attribute; bits = bits }
 
-abbrev pub notice_fields : Notice → NoticeFields
-notice_fields (Connected handle peer) =
-    record (fields_of_connection 1 handle) { address_kind = peer.kind; address = peer.address }
-notice_fields (Disconnected handle) = fields_of_connection 2 handle
-notice_fields (Secured handle facts) =
-    record (fields_of_connection 3 handle) { key_size = facts.size; authenticated = facts.authenticated; secure = facts.secure }
-notice_fields (Unsecured handle) = fields_of_connection 4 handle
-notice_fields (Written handle attribute) = fields_of_attribute 5 handle attribute 0
-notice_fields (Configured handle attribute bits) = fields_of_attribute 6 handle attribute bits
-notice_fields (Confirmed handle attribute) = fields_of_attribute 7 handle attribute 0
-notice_fields (TimedOut handle) = fields_of_connection 8 handle
-notice_fields (Ending handle reason) = record (fields_of_connection 9 handle) { reason = reason }
-notice_fields (Skipped handle attribute) = fields_of_attribute 10 handle attribute 0
+abbrev pub notice_fields : ℕ → Notice → NoticeFields
+notice_fields size (Connected handle peer) =
+    record (fields_of_connection size 1 handle) { address_kind = peer.kind; address = peer.address }
+notice_fields size (Disconnected handle) = fields_of_connection size 2 handle
+notice_fields size (Secured handle facts) =
+    record (fields_of_connection size 3 handle) { key_size = facts.size; authenticated = facts.authenticated; secure = facts.secure }
+notice_fields size (Unsecured handle) = fields_of_connection size 4 handle
+notice_fields size (Written handle attribute) = fields_of_attribute size 5 handle attribute 0
+notice_fields size (Configured handle attribute bits) = fields_of_attribute size 6 handle attribute bits
+notice_fields size (Confirmed handle attribute) = fields_of_attribute size 7 handle attribute 0
+notice_fields size (TimedOut handle) = fields_of_connection size 8 handle
+notice_fields size (Ending handle reason) = record (fields_of_connection size 9 handle) { reason = reason }
+notice_fields size (Skipped handle attribute) = fields_of_attribute size 10 handle attribute 0
 
 -- the first notice that has not been handed out, of as many as can be counted
-abbrev pub next_notice : Opened → Option NoticeFields
-next_notice opened =
-    if nat_lt opened.told (2 ^ 64 - 1) then option_map notice_fields (slice_get (notices_told opened.host) opened.told) else None
+abbrev pub next_notice : ℕ → Opened → Option NoticeFields
+next_notice size opened =
+    if nat_lt opened.told (2 ^ 64 - 1) then option_map (notice_fields size) (slice_get (notices_told opened.host) opened.told) else None
 
 -- it is handed out, and counted
-pub record HandsOut (fields : NoticeFields) (old new : Opened) : Type 0 where
-  pub gives : next_notice old ≡ Some fields
+pub record HandsOut (size : ℕ) (fields : NoticeFields) (old new : Opened) : Type 0 where
+  pub gives : next_notice size old ≡ Some fields
   pub counts : new.told ≡ old.told + 1
   pub host : new.host ≡ old.host
+  pub initial : new.initial ≡ old.initial

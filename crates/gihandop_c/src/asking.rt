@@ -6,7 +6,7 @@ ghost use Rattle.att_table.specs.Table.{Contents};
 ghost use Rattle.att_table.specs.TableFault.{table_fault_number};
 ghost use Rattle.gatt_host.specs.Calls.{call_of};
 ghost use Rattle.gatt_laws.specs.machine.Input.{ACall, ATable};
-ghost use Rattle.gihandop_c.specs.Boundary.{AnswersCall, AnswersTable, FallsSilent, OpenedRefines, TellsItem};
+ghost use Rattle.gihandop_c.specs.Boundary.{AnswersCall, AnswersTable, FallsSilent, KeepsInitial, OpenedRefines, TellsItem};
 ghost use Rattle.gihandop_c.specs.Opening.{IsNotOfMemory};
 ghost use Rattle.gihandop_c.specs.Statuses.{WaitsForOutput};
 ghost use Rattle.gihandop_c.specs.declared.status.TheConstants.{BAD_TABLE, DONE, HAS_STOPPED, OUTPUT_OWED};
@@ -28,6 +28,7 @@ pub(crate) fn call(opened: &mut Opened, call: App<'_>) -> u32
     ensures refused { result ≢ DONE → result ≢ OUTPUT_OWED
         → FallsSilent opened.old opened.new }
     ensures stopped { IsSome opened.old.host.fault → result ≡ HAS_STOPPED }
+    ensures initial { KeepsInitial opened.old opened.new }
     ensures owes { WaitsForOutput result opened.old }
     ensures owed { result ≡ OUTPUT_OWED → opened.new ≡ opened.old }
 {
@@ -61,6 +62,9 @@ pub(crate) fn replace_by(alloc: Global, opened: &mut Opened, file: &[u8]) -> u32
         → result ≡ BAD_TABLE + table_fault_number fault }
     ensures refused { result ≢ DONE → result < BAD_TABLE → result ≢ OUTPUT_OWED
         → FallsSilent opened.old opened.new }
+    ensures initial { (contents : Contents) → table_in file.now ≡ Ok contents → result ≡ DONE
+        → opened.new.initial ≡ contents }
+    ensures keeps { result ≢ DONE → KeepsInitial opened.old opened.new }
     ensures owes { WaitsForOutput result opened.old }
     ensures owed { result ≡ OUTPUT_OWED → opened.new ≡ opened.old }
     ensures unread { BAD_TABLE < result → opened.new ≡ opened.old }
@@ -68,21 +72,24 @@ pub(crate) fn replace_by(alloc: Global, opened: &mut Opened, file: &[u8]) -> u32
     if !opened.is_drained() {
         return status::OUTPUT_OWED;
     }
-    match opening::read_table(alloc, file) {
-        Ok(table) => replace(opened, table),
+    match opening::read_twice(alloc, file) {
+        Ok(tables) => replace(opened, tables),
         Err(status) => status,
     }
 }
 
-/// Replaces the table, once all is out.
-fn replace(opened: &mut Opened, table: Table) -> u32
+/// Replaces the table, once all is out. There are two, of one file: the first is served, and the second
+/// stays as the file has it.
+fn replace(opened: &mut Opened, tables: (Table, Table)) -> u32
     ensures takes { result ≢ OUTPUT_OWED
-        → OpenedRefines (ATable table ∷ []) [] opened.old opened.new }
-    ensures tells { result ≢ OUTPUT_OWED → TellsItem (ATable table) opened.old opened.new }
-    ensures answers { result ≢ OUTPUT_OWED → AnswersTable table result opened.old }
+        → OpenedRefines (ATable tables.0 ∷ []) [] opened.old opened.new }
+    ensures tells { result ≢ OUTPUT_OWED → TellsItem (ATable tables.0) opened.old opened.new }
+    ensures answers { result ≢ OUTPUT_OWED → AnswersTable tables.0 result opened.old }
     ensures stopped { IsSome opened.old.host.fault → result ≡ HAS_STOPPED }
     ensures refused { result ≢ DONE → result ≢ OUTPUT_OWED
         → FallsSilent opened.old opened.new }
+    ensures initial { result ≡ DONE → opened.new.initial ≡ tables.1 }
+    ensures keeps { result ≢ DONE → KeepsInitial opened.old opened.new }
     ensures below { result < BAD_TABLE }
     ensures owes { WaitsForOutput result opened.old }
     ensures owed { result ≡ OUTPUT_OWED → opened.new ≡ opened.old }
@@ -90,10 +97,14 @@ fn replace(opened: &mut Opened, table: Table) -> u32
     if !opened.is_drained() {
         return status::OUTPUT_OWED;
     }
+    let (table, initial) = tables;
     opened.drained = false;
     opened.told = 0;
     match opened.host.replace(table) {
-        Ok(_) => status::DONE,
+        Ok(_) => {
+            opened.initial = initial;
+            status::DONE
+        }
         Err((fault, _)) => status::of_refusal(fault),
     }
 }

@@ -1,8 +1,7 @@
 //! What a host is opened with, as a program in C gives it.
 
-ghost use Rattle.std.specs.Prelude.{◌≡◌, nat_lt, false, true, IfSome, IsNone, IsSome};
-ghost use Rattle.gihandop_c.specs.Opening.{config_given};
-ghost use Rattle.le_hci.specs.declared.command.TheConstants.{MAX_ADVERTISING_DATA};
+ghost use Rattle.std.specs.Prelude.{◌≡◌, false, true, IfSome, IsNone, IsSome};
+ghost use Rattle.gihandop_c.specs.Opening.{config_given, is_unreadable};
 
 use arrayvec::ArrayVec;
 use gatt_host::{Config, MAX_ADVERTISING_DATA};
@@ -10,6 +9,8 @@ use gatt_host::{Config, MAX_ADVERTISING_DATA};
 /// How many connections a host may have, what it receives, and how it advertises.
 #[repr(C)]
 pub struct HostConfig {
+    /// The size of the structure that the program has, in octets: at least `CONFIG_SIZE`.
+    pub size: usize,
     /// As many connections as there may be at once: 1 to 8.
     pub slots: usize,
     /// The largest PDU of the Attribute Protocol that is received, in octets: 23 to 517.
@@ -25,14 +26,19 @@ pub struct HostConfig {
     pub advertising: [u8; MAX_ADVERTISING_DATA],
 }
 
-/// The configuration as a host takes it; none where the advertising data is too long.
+/// The size of a configuration in this version, in octets.
+const CONFIG_SIZE: usize = size_of::<HostConfig>();
+
+/// The configuration as a host takes it; none where the structure is too small for it, or the
+/// advertising data is too long.
 pub(crate) fn to_config(config: &HostConfig) -> Option<Config>
     ensures config { IfSome result (λ given. given ≡ config_given config.now) }
-    ensures fits { IsSome result
-        → nat_lt MAX_ADVERTISING_DATA config.now.advertising_length ≡ false }
-    ensures too_long { IsNone result
-        → nat_lt MAX_ADVERTISING_DATA config.now.advertising_length ≡ true }
+    ensures readable { IsSome result → is_unreadable config.now ≡ false }
+    ensures unreadable { IsNone result → is_unreadable config.now ≡ true }
 {
+    if config.size < CONFIG_SIZE {
+        return None;
+    }
     let octets = config
         .advertising
         .get(..usize::from(config.advertising_length))?;

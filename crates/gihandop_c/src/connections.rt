@@ -15,6 +15,8 @@ use gatt_host::{Connection, Host, KeyFacts};
 #[repr(C)]
 #[derive(Clone, Copy)]
 pub struct ConnectionFields {
+    /// The size of the structure that the program has, in octets: at least `CONNECTION_SIZE`.
+    pub size: usize,
     /// As it has it in HCI.
     pub handle: u16,
     /// The ATT_MTU, in octets.
@@ -34,13 +36,20 @@ pub struct ConnectionFields {
     pub authorized_until: u64,
 }
 
-/// Puts the connection at a place into `connection`, if there are so many.
+/// The size of a connection in this version, in octets.
+const CONNECTION_SIZE: usize = size_of::<ConnectionFields>();
+
+/// Puts the connection at a place into `connection`, if there are so many and it has the size for it.
 pub(crate) fn connection(opened: &Opened, place: usize, connection: &mut ConnectionFields) -> u32
-    ensures status { result ≡ connection_status place opened.now }
-    ensures there { result ≡ DONE → connection_at opened.now place ≡ Some connection.new }
+    ensures status { result ≡ connection_status connection.old.size place opened.now }
+    ensures there { result ≡ DONE
+        → connection_at connection.old.size opened.now place ≡ Some connection.new }
     ensures untouched { result ≢ DONE → connection.new ≡ connection.old }
 {
-    match at(&opened.host, place) {
+    if connection.size < CONNECTION_SIZE {
+        return status::BAD_SIZE;
+    }
+    match at(&opened.host, place, connection.size) {
         Some(there) => {
             *connection = there;
             status::DONE
@@ -50,14 +59,14 @@ pub(crate) fn connection(opened: &Opened, place: usize, connection: &mut Connect
 }
 
 /// The connection at a place, counted from 0, in the order of the slots.
-fn at(host: &Host, place: usize) -> Option<ConnectionFields>
-    ensures { result
-        ≡ option_map connection_fields (slice_get (connections_in host.now.server.slots) place) }
+fn at(host: &Host, place: usize, size: usize) -> Option<ConnectionFields>
+    ensures { result ≡ option_map (connection_fields size)
+        (slice_get (connections_in host.now.server.slots) place) }
 {
     let mut left = place;
     for connection in host.connections() {
         if left == 0 {
-            return Some(fields(connection));
+            return Some(fields(connection, size));
         }
         left -= 1;
     }
@@ -65,18 +74,19 @@ fn at(host: &Host, place: usize) -> Option<ConnectionFields>
 }
 
 /// The fields of a connection.
-fn fields(connection: Connection) -> ConnectionFields
-    ensures { result ≡ connection_fields connection }
+fn fields(connection: Connection, size: usize) -> ConnectionFields
+    ensures { result ≡ connection_fields size connection }
 {
-    keyed(connection.key, without_key(connection))
+    keyed(connection.key, without_key(connection, size))
 }
 
 /// All but those of its key.
-fn without_key(connection: Connection) -> ConnectionFields
-    ensures { result ≡ without_a_key connection }
+fn without_key(connection: Connection, size: usize) -> ConnectionFields
+    ensures { result ≡ without_a_key size connection }
 {
     let address = connection.peer.address;
     ConnectionFields {
+        size,
         handle: connection.handle,
         mtu: connection.mtu,
         address_kind: connection.peer.kind,

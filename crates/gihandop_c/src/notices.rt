@@ -17,6 +17,8 @@ use gatt_host::{Host, KeyFacts, Notice, Peer};
 #[repr(C)]
 #[derive(Clone, Copy)]
 pub struct NoticeFields {
+    /// The size of the structure that the program has, in octets: at least `NOTICE_SIZE`.
+    pub size: usize,
     /// 1 connected, 2 disconnected, 3 secured, 4 unsecured, 5 written, 6 configured, 7 confirmed,
     /// 8 timed out, 9 ending, 10 skipped.
     pub kind: u8,
@@ -38,17 +40,24 @@ pub struct NoticeFields {
     pub attribute: u16,
 }
 
-/// Puts the next notice into `notice`, if there is one.
+/// The size of a notice in this version, in octets.
+const NOTICE_SIZE: usize = size_of::<NoticeFields>();
+
+/// Puts the next notice into `notice`, if there is one and it has the size for it.
 pub(crate) fn next(opened: &mut Opened, notice: &mut NoticeFields) -> u32
-    ensures status { result ≡ notice_status opened.old }
-    ensures gives { result ≡ DONE → HandsOut notice.new opened.old opened.new }
+    ensures status { result ≡ notice_status notice.old.size opened.old }
+    ensures gives { result ≡ DONE
+        → HandsOut notice.old.size notice.new opened.old opened.new }
     ensures unchanged { result ≢ DONE → opened.new ≡ opened.old }
     ensures untouched { result ≢ DONE → notice.new ≡ notice.old }
 {
+    if notice.size < NOTICE_SIZE {
+        return status::BAD_SIZE;
+    }
     let Some(behind) = opened.told.checked_add(1) else {
         return status::NOTHING;
     };
-    match at(&opened.host, opened.told) {
+    match at(&opened.host, opened.told, notice.size) {
         Some(next) => {
             opened.told = behind;
             *notice = next;
@@ -59,13 +68,14 @@ pub(crate) fn next(opened: &mut Opened, notice: &mut NoticeFields) -> u32
 }
 
 /// The notice at a place, counted from 0.
-fn at(host: &Host, place: usize) -> Option<NoticeFields>
-    ensures { result ≡ option_map notice_fields (slice_get (notices_told host.now) place) }
+fn at(host: &Host, place: usize, size: usize) -> Option<NoticeFields>
+    ensures { result
+        ≡ option_map (notice_fields size) (slice_get (notices_told host.now) place) }
 {
     let mut left = place;
     for notice in host.notices() {
         if left == 0 {
-            return Some(fields(notice));
+            return Some(fields(notice, size));
         }
         left -= 1;
     }
@@ -73,36 +83,37 @@ fn at(host: &Host, place: usize) -> Option<NoticeFields>
 }
 
 /// What a notice says.
-fn fields(notice: Notice<'_>) -> NoticeFields
-    ensures { result ≡ notice_fields (notice_of notice.entry) }
+fn fields(notice: Notice<'_>, size: usize) -> NoticeFields
+    ensures { result ≡ notice_fields size (notice_of notice.entry) }
 {
     match notice {
-        Notice::Connected { handle, peer } => connected(handle, peer),
-        Notice::Disconnected { handle } => of_connection(2, handle),
-        Notice::Secured { handle, facts } => secured(handle, facts),
-        Notice::Unsecured { handle } => of_connection(4, handle),
+        Notice::Connected { handle, peer } => connected(size, handle, peer),
+        Notice::Disconnected { handle } => of_connection(size, 2, handle),
+        Notice::Secured { handle, facts } => secured(size, handle, facts),
+        Notice::Unsecured { handle } => of_connection(size, 4, handle),
         Notice::Written {
             handle,
             attribute,
             ..
-        } => of_attribute(5, handle, attribute, 0),
+        } => of_attribute(size, 5, handle, attribute, 0),
         Notice::Configured {
             handle,
             attribute,
             bits,
-        } => of_attribute(6, handle, attribute, bits),
-        Notice::Confirmed { handle, attribute } => of_attribute(7, handle, attribute, 0),
-        Notice::TimedOut { handle } => of_connection(8, handle),
-        Notice::Ending { handle, reason } => ending(handle, reason),
-        Notice::Skipped { handle, attribute } => of_attribute(10, handle, attribute, 0),
+        } => of_attribute(size, 6, handle, attribute, bits),
+        Notice::Confirmed { handle, attribute } => of_attribute(size, 7, handle, attribute, 0),
+        Notice::TimedOut { handle } => of_connection(size, 8, handle),
+        Notice::Ending { handle, reason } => ending(size, handle, reason),
+        Notice::Skipped { handle, attribute } => of_attribute(size, 10, handle, attribute, 0),
     }
 }
 
 /// Of a notice with nothing but its connection.
-fn of_connection(kind: u8, handle: u16) -> NoticeFields
-    ensures { result ≡ fields_of_connection kind handle }
+fn of_connection(size: usize, kind: u8, handle: u16) -> NoticeFields
+    ensures { result ≡ fields_of_connection size kind handle }
 {
     NoticeFields {
+        size,
         kind,
         bits: 0,
         reason: 0,
@@ -117,31 +128,31 @@ fn of_connection(kind: u8, handle: u16) -> NoticeFields
 }
 
 /// Of a notice of an attribute.
-fn of_attribute(kind: u8, handle: u16, attribute: u16, bits: u8) -> NoticeFields
-    ensures { result ≡ fields_of_attribute kind handle attribute bits }
+fn of_attribute(size: usize, kind: u8, handle: u16, attribute: u16, bits: u8) -> NoticeFields
+    ensures { result ≡ fields_of_attribute size kind handle attribute bits }
 {
-    let mut said = of_connection(kind, handle);
+    let mut said = of_connection(size, kind, handle);
     said.attribute = attribute;
     said.bits = bits;
     said
 }
 
 /// A client has connected.
-fn connected(handle: u16, peer: Peer) -> NoticeFields
-    ensures { result ≡ notice_fields (Connected handle peer) }
+fn connected(size: usize, handle: u16, peer: Peer) -> NoticeFields
+    ensures { result ≡ notice_fields size (Connected handle peer) }
 {
     let address = peer.address;
-    let mut said = of_connection(1, handle);
+    let mut said = of_connection(size, 1, handle);
     said.address_kind = peer.kind;
     said.address = address;
     said
 }
 
 /// A connection was encrypted with a key.
-fn secured(handle: u16, facts: KeyFacts) -> NoticeFields
-    ensures { result ≡ notice_fields (Secured handle facts) }
+fn secured(size: usize, handle: u16, facts: KeyFacts) -> NoticeFields
+    ensures { result ≡ notice_fields size (Secured handle facts) }
 {
-    let mut said = of_connection(3, handle);
+    let mut said = of_connection(size, 3, handle);
     said.key_size = facts.size;
     said.authenticated = facts.authenticated;
     said.secure = facts.secure;
@@ -149,10 +160,10 @@ fn secured(handle: u16, facts: KeyFacts) -> NoticeFields
 }
 
 /// A connection is to end.
-fn ending(handle: u16, reason: u8) -> NoticeFields
-    ensures { result ≡ notice_fields (Ending handle reason) }
+fn ending(size: usize, handle: u16, reason: u8) -> NoticeFields
+    ensures { result ≡ notice_fields size (Ending handle reason) }
 {
-    let mut said = of_connection(9, handle);
+    let mut said = of_connection(size, 9, handle);
     said.reason = reason;
     said
 }

@@ -1,44 +1,88 @@
-//! A host is opened with the octets of its three files.
+//! A host is opened with the octets of its files.
 
-ghost use Rattle.std.specs.Prelude.{◌≡◌, ◌<◌, [], IfOk, IfErr, IsOk, Ok};
+ghost use Rattle.std.specs.Prelude.{◌≡◌, ◌<◌, ℕ, [], IfOk, IfErr, IsOk, Ok};
 ghost use Rattle.gatt_host.specs.Opening.{start_of};
 ghost use Rattle.gatt_host.specs.HostModel.{RefinesRun};
 ghost use Rattle.gatt_laws.specs.machine.Input.{run};
-ghost use Rattle.gihandop_c.specs.Files.{keys_status, rows_status, table_status};
-ghost use Rattle.gihandop_c.specs.Opening.{config_given, config_status, open_status, IsNotOfMemory, IsOpenedByFiles, IsStatusOf};
+ghost use Rattle.gihandop_c.specs.Files.{keys_status, rows_status, table_status, values_status};
+ghost use Rattle.gihandop_c.specs.Opening.{config_given, config_status, open_status, IsNotOfMemory, IsOpenedWith, IsStatusOf};
+ghost use Rattle.gihandop_c.specs.Values.{values_in};
 ghost use Rattle.gihandop_c.specs.declared.status.TheConstants.{BAD_TABLE, DONE};
 ghost use Rattle.host_files.specs.Files.{keys_in, rows_in, table_in};
 
 use crate::config::{HostConfig, to_config};
+use crate::opened::Opened;
 use crate::status;
 use gatt_host::{Host, Keys, OpenFault, Rows, Table};
 use host_files::{keys_in, rows_in, table_in};
+use saved_values::restore_lines;
 use std::alloc::Global;
+use std::str;
 
-/// A host that serves a table to peers with these keys, and what they have configured; or the
-/// status of the first file with a fault, and of the first fault there.
+/// A host that serves a table with these values to peers with these keys, and what they have
+/// configured; or the status of the first text with a fault, and of the first fault there. How many
+/// values do not fit the table goes into `left_out`, which is 0 where no host is opened.
 pub(crate) fn open(
     alloc: Global,
     table: &[u8],
     keys: &[u8],
     rows: &[u8],
+    values: &[u8],
     config: &HostConfig,
-) -> Result<Host, u32>
-    ensures opened { IfOk result (IsOpenedByFiles table.now keys.now rows.now config.now) }
+    left_out: &mut usize,
+) -> Result<Opened, u32>
+    ensures opened { IfOk result
+        (IsOpenedWith table.now keys.now rows.now values.now config.now left_out.new) }
+    ensures none { IfErr result (λ _. left_out.new ≡ 0) }
     ensures accepted { IsOk result
-        → open_status table.now keys.now rows.now config.now ≡ DONE }
+        → open_status table.now keys.now rows.now values.now config.now ≡ DONE }
     ensures refused { IfErr result (λ status. 0 < status) }
     ensures status { IfErr result (λ status. IsNotOfMemory status
-        → status ≡ open_status table.now keys.now rows.now config.now) }
+        → status ≡ open_status table.now keys.now rows.now values.now config.now) }
 {
-    let table = read_table(alloc, table)?;
+    *left_out = 0;
+    let (mut served, initial) = read_twice(alloc, table)?;
     let keys = read_keys(alloc, keys)?;
     let rows = read_rows(alloc, rows)?;
-    open_with(alloc, table, keys, rows, config)
+    let count = restore_values(&mut served, values)?;
+    let host = open_with(alloc, served, keys, rows, config)?;
+    *left_out = count;
+    Ok(Opened::new(host, initial))
+}
+
+/// The table of a table file, twice, or the status of its first fault.
+pub(crate) fn read_twice(alloc: Global, octets: &[u8]) -> Result<(Table, Table), u32>
+    ensures first { IfOk result (λ tables. table_in octets.now ≡ Ok tables.0) }
+    ensures second { IfOk result (λ tables. table_in octets.now ≡ Ok tables.1) }
+    ensures refused { IfErr result (λ status. BAD_TABLE < status) }
+    ensures status { IfErr result (IsStatusOf (table_status (table_in octets.now))) }
+{
+    let first = read_table(alloc, octets)?;
+    let second = read_table(alloc, octets)?;
+    Ok((first, second))
+}
+
+/// Restores the values of a text into a table, and says how many do not fit; or the status of its
+/// first fault.
+#[tactic(auto, using(host_files::proofs::Texts::of_text, host_files::proofs::Texts::of_no_text))]
+fn restore_values(table: &mut Table, octets: &[u8]) -> Result<usize, u32>
+    ensures restored { IfOk result (λ left_out.
+        values_in octets.now table.old ≡ Ok (table.new, left_out)) }
+    ensures refused { IfErr result (λ status. 0 < status) }
+    ensures status { IfErr result (λ status. (behind : ℕ)
+        → status ≡ values_status (values_in octets.now table.old) behind) }
+{
+    let Ok(text) = str::from_utf8(octets) else {
+        return Err(status::VALUES_BAD_LINE);
+    };
+    match restore_lines(table, text) {
+        Ok(left_out) => Ok(left_out),
+        Err(_) => Err(status::VALUES_BAD_LINE),
+    }
 }
 
 /// A host of what the files have, or the status of the configuration.
-#[tactic(auto, using(crate::proofs::Refusals::config_accepted, crate::proofs::Refusals::config_refused, crate::proofs::Refusals::config_too_long))]
+#[tactic(auto, using(crate::proofs::Refusals::config_refused, crate::proofs::Refusals::config_unreadable))]
 fn open_with(
     alloc: Global,
     table: Table,
@@ -65,7 +109,7 @@ fn open_with(
 
 /// The table of a table file, or the status of its first fault.
 #[tactic(auto, using(crate::proofs::Refusals::table_refused))]
-pub(crate) fn read_table(alloc: Global, octets: &[u8]) -> Result<Table, u32>
+fn read_table(alloc: Global, octets: &[u8]) -> Result<Table, u32>
     ensures table { IfOk result (λ table. table_in octets.now ≡ Ok table) }
     ensures refused { IfErr result (λ status. BAD_TABLE < status) }
     ensures status { IfErr result (IsStatusOf (table_status (table_in octets.now))) }

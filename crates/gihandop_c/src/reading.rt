@@ -5,13 +5,15 @@ ghost use Rattle.att_table.specs.Table.{value_at};
 ghost use Rattle.gatt_slots.specs.Slots.{slots_deadline};
 ghost use Rattle.gatt_subs.specs.RowsText.{rows_text};
 ghost use Rattle.gihandop_c.specs.Seeing.{found_by, uuid_of};
-ghost use Rattle.gihandop_c.specs.Statuses.{deadline_status, find_status, rows_text_status, value_status};
+ghost use Rattle.gihandop_c.specs.Statuses.{deadline_status, find_status, rows_text_status, value_status, values_text_status};
+ghost use Rattle.gihandop_c.specs.Values.{saves_of, values_saved};
 ghost use Rattle.gihandop_c.specs.declared.status.TheConstants.{DONE, OUT_OF_MEMORY, SHORT_BUFFER};
 
 use crate::opened::Opened;
 use crate::rows_text::RowsText;
 use crate::{status, stream};
 use gatt_host::from_16_bits;
+use saved_values::{Saves, values_text as saved_text};
 use std::alloc::Global;
 
 /// Puts the value at a handle at the front of `out`, where it fits, and its length into `count`.
@@ -74,12 +76,55 @@ pub(crate) fn rows_text(alloc: Global, opened: &Opened, out: &mut [u8], count: &
     stream::copy(text.octets.as_slice(), out, count)
 }
 
-/// Puts the handle of the first value of a characteristic's type in services of a type into `handle`.
-pub(crate) fn find(opened: &Opened, service: &[u8], characteristic: &[u8], handle: &mut u16) -> u32
-    ensures status { result ≡ find_status service.now characteristic.now opened.now }
+/// Puts the values that differ from those of the table file, as a values text, at the front of `out`,
+/// where it fits, and its length into `count`: those that a peer may write, or, if `all` is not 0, all.
+pub(crate) fn values_text(
+    alloc: Global,
+    opened: &Opened,
+    all: u8,
+    out: &mut [u8],
+    count: &mut usize,
+) -> u32
+    ensures status { result ≢ OUT_OF_MEMORY
+        → result ≡ values_text_status all (length out.old) opened.now }
+    ensures values { result ≡ DONE → take count.new out.new ≡ values_saved all opened.now }
+    ensures within { result ≡ DONE → count.new ≤ length out.old }
+    ensures needs { result ≡ SHORT_BUFFER → count.new ≡ length (values_saved all opened.now) }
+    ensures none { result ≢ DONE → result ≢ SHORT_BUFFER → count.new ≡ 0 }
+    ensures untouched { result ≢ DONE → out.new ≡ out.old }
+{
+    *count = 0;
+    match saved_text(alloc, opened.host.table(), &opened.initial, saves(all)) {
+        Ok(text) => stream::copy(text.as_slice(), out, count),
+        Err(_) => status::OUT_OF_MEMORY,
+    }
+}
+
+/// Which values are saved.
+fn saves(all: u8) -> Saves
+    ensures { result ≡ saves_of all }
+{
+    if all == 0 {
+        Saves::Writable
+    } else {
+        Saves::All
+    }
+}
+
+/// Puts the handle of a value into `handle`: of those of a characteristic's type in services of a
+/// type, in the order of their handles, the one with this number, from 1.
+pub(crate) fn find(
+    opened: &Opened,
+    service: &[u8],
+    characteristic: &[u8],
+    number: u16,
+    handle: &mut u16,
+) -> u32
+    ensures status { result ≡ find_status service.now characteristic.now number opened.now }
     ensures found { result ≡ DONE
-        → found_by opened.now.host.server.table service.now characteristic.now
+        → found_by opened.now.host.server.table service.now characteristic.now number
         ≡ Some handle.new }
+    ensures none { result ≢ DONE → handle.new ≡ 0 }
 {
     *handle = 0;
     let Some(service) = uuid(service) else {
@@ -88,7 +133,7 @@ pub(crate) fn find(opened: &Opened, service: &[u8], characteristic: &[u8], handl
     let Some(characteristic) = uuid(characteristic) else {
         return status::NOTHING;
     };
-    match opened.host.table().find(service, characteristic, 1) {
+    match opened.host.table().find(service, characteristic, number) {
         Some(found) => {
             *handle = found;
             status::DONE

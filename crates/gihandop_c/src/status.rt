@@ -28,6 +28,8 @@ pub(crate) const SHORT_BUFFER: u32 = 5;
 pub(crate) const OUT_OF_MEMORY: u32 = 6;
 /// The configuration is out of its limits.
 pub(crate) const BAD_CONFIG: u32 = 7;
+/// A structure of the program is smaller than the library's.
+pub(crate) const BAD_SIZE: u32 = 8;
 
 /// The host has stopped for good: this and the number of its fault, 1 to 7.
 pub(crate) const STOPPED: u32 = 20;
@@ -46,6 +48,12 @@ pub(crate) const BAD_KEYS: u32 = 200;
 
 /// The rows file is refused: this and the number of its first fault, 1 to 4.
 pub(crate) const BAD_ROWS: u32 = 300;
+
+/// The values text is refused: this and the number of its first fault, which is 1.
+pub(crate) const BAD_VALUES: u32 = 400;
+
+/// A line of the values text is not a value.
+pub(crate) const VALUES_BAD_LINE: u32 = 401;
 
 /// The status of a host that a fault has stopped.
 pub(crate) fn of_host_fault(fault: HostFault) -> u32

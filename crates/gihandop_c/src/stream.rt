@@ -3,7 +3,7 @@
 ghost use Rattle.std.specs.Prelude.{◌≡◌, ◌≢◌, ◌<◌, ◌≤◌, ◌∷◌, [], length, take, true, if◌then◌else◌};
 ghost use Rattle.gatt_host.specs.Feeding.{octet_items, TakesUpToAPacket};
 ghost use Rattle.gatt_host.specs.HostModel.{all_out};
-ghost use Rattle.gihandop_c.specs.Boundary.{KeepsNotices, OpenedRefines, StaysIfStopped, TellsItems};
+ghost use Rattle.gihandop_c.specs.Boundary.{KeepsInitial, KeepsNotices, OpenedRefines, StaysIfStopped, TellsItems};
 ghost use Rattle.gihandop_c.specs.Statuses.{out_status, room_status, take_status};
 ghost use Rattle.gihandop_c.specs.declared.status.TheConstants.{DONE, NOTHING, OUTPUT_OWED, SHORT_BUFFER};
 
@@ -28,6 +28,7 @@ pub(crate) fn take(opened: &mut Opened, octets: &[u8], used: &mut usize) -> u32
     ensures all { result ≢ DONE → result ≢ OUTPUT_OWED → used.new ≡ length octets.now }
     ensures none { result ≡ OUTPUT_OWED → used.new ≡ 0 }
     ensures status { result ≡ take_status opened.old opened.new }
+    ensures initial { KeepsInitial opened.old opened.new }
     ensures owed { result ≡ OUTPUT_OWED → opened.new ≡ opened.old }
     ensures stopped { StaysIfStopped opened.old opened.new }
 {

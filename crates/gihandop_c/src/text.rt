@@ -13,6 +13,7 @@ const LIBRARY: &[&str] = &[
     "the buffer is too short",
     "memory was refused",
     "the configuration is out of its limits",
+    "a structure is smaller than that of the library",
 ];
 
 /// Why a host has stopped, from 21.
@@ -71,17 +72,23 @@ const ROWS: &[&str] = &[
     "rows: memory was refused",
 ];
 
+/// The faults of a values text, from 401.
+const VALUES: &[&str] = &[
+    "values: a line is not a handle, a type, and octets in hexadecimal or `-`",
+];
+
 /// What a status says, in ASCII; none of a number that no function answers.
 pub(crate) fn text(status: u32) -> Option<&'static str>
     ensures { is_some result ≡ is_status status }
 {
     match status {
-        0..=7 => Some(LIBRARY[status as usize]),
+        0..=8 => Some(LIBRARY[status as usize]),
         21..=24 => Some(HOST[status as usize - 21]),
         41..=47 => Some(CALLS[status as usize - 41]),
         101..=111 => Some(TABLE[status as usize - 101]),
         201..=210 => Some(KEYS[status as usize - 201]),
         301..=304 => Some(ROWS[status as usize - 301]),
+        401..=401 => Some(VALUES[status as usize - 401]),
         _ => None,
     }
 }

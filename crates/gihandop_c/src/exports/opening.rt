@@ -1,17 +1,19 @@
-//! A host is opened and closed.
+//! A host is opened and closed, and why it is not opened is explained.
 
-ghost use Rattle.std.specs.Prelude.{◌≡◌, ◌≢◌, IsSome, None};
+ghost use Rattle.std.specs.Prelude.{◌≡◌, ◌≢◌, ◌≤◌, length, take, IfSome, IsSome, None};
+ghost use Rattle.gihandop_c.specs.Explaining.{first_faulty, name_of, BeginsWith};
 ghost use Rattle.gihandop_c.specs.Opening.{open_status, IsNotOfMemory, IsOpenWith};
-ghost use Rattle.gihandop_c.specs.declared.status.TheConstants.{ALREADY_OPEN, CLOSED, DONE};
+ghost use Rattle.gihandop_c.specs.Statuses.{explain_status};
+ghost use Rattle.gihandop_c.specs.declared.status.TheConstants.{ALREADY_OPEN, CLOSED, DONE, OUT_OF_MEMORY, SHORT_BUFFER};
 
 use crate::config::HostConfig;
 use crate::host_pointer::HostPointer;
-use crate::opened::Opened;
-use crate::{opening, status};
+use crate::{explaining, opening, status};
 use std::alloc::Global;
 
-/// Opens a host with the octets of a table file, a key file and a rows file. Where it answers
-/// another status than that it is done, everything is as it was.
+/// Opens a host with the octets of a table file, a key file, a rows file and a values text. How many
+/// values do not fit the table goes into `left_out`. Where it answers another status than that it is
+/// done, everything else is as it was, and `left_out` is 0.
 #[unsafe(no_mangle)]
 pub extern "C" fn gh_open(
     alloc: Global,
@@ -19,24 +21,29 @@ pub extern "C" fn gh_open(
     table: &[u8],
     keys: &[u8],
     rows: &[u8],
+    values: &[u8],
     config: &HostConfig,
+    left_out: &mut usize,
 ) -> u32
     ensures already { IsSome host.old.host → result ≡ ALREADY_OPEN }
     ensures status { host.old.host ≡ None → IsNotOfMemory result
-        → result ≡ open_status table.now keys.now rows.now config.now }
+        → result ≡ open_status table.now keys.now rows.now values.now config.now }
     ensures opened { result ≡ DONE
-        → IsOpenWith table.now keys.now rows.now config.now host.new.host }
+        → IsOpenWith table.now keys.now rows.now values.now config.now left_out.new host.new.host }
+    ensures none { result ≢ DONE → left_out.new ≡ 0 }
     ensures unchanged { result ≢ DONE → host.new.host ≡ host.old.host }
 {
+    *left_out = 0;
     if let Some(open) = host.take(alloc) {
         host.put(open);
         return status::ALREADY_OPEN;
     }
-    let opened = match opening::open(alloc, table, keys, rows, config) {
-        Ok(host) => Opened::new(host),
+    let opened = match opening::open(alloc, table, keys, rows, values, config, left_out) {
+        Ok(opened) => opened,
         Err(status) => return status,
     };
     let Ok(boxed) = Box::new(alloc, opened) else {
+        *left_out = 0;
         return status::OUT_OF_MEMORY;
     };
     host.put(boxed);
@@ -54,4 +61,28 @@ pub extern "C" fn gh_close(alloc: Global, host: &mut HostPointer) -> u32
         Some(_) => status::DONE,
         None => status::CLOSED,
     }
+}
+
+/// Puts the words for the first fault of a table file, a key file, a rows file and a values text, with
+/// its place, at the front of `out`, where they fit, and their length into `count`. There is nothing
+/// where `gh_open` accepts them all.
+#[unsafe(no_mangle)]
+pub extern "C" fn gh_explain(
+    alloc: Global,
+    table: &[u8],
+    keys: &[u8],
+    rows: &[u8],
+    values: &[u8],
+    out: &mut [u8],
+    count: &mut usize,
+) -> u32
+    ensures status { result ≢ OUT_OF_MEMORY → result ≡ explain_status
+        (first_faulty table.now keys.now rows.now values.now) count.new (length out.old) }
+    ensures names { result ≡ DONE → IfSome (first_faulty table.now keys.now rows.now values.now)
+        (λ faulty. BeginsWith (name_of faulty) (take count.new out.new)) }
+    ensures within { result ≡ DONE → count.new ≤ length out.old }
+    ensures none { result ≢ DONE → result ≢ SHORT_BUFFER → count.new ≡ 0 }
+    ensures untouched { result ≢ DONE → out.new ≡ out.old }
+{
+    explaining::explain(alloc, table, keys, rows, values, out, count)
 }

@@ -5,7 +5,8 @@ ghost use Rattle.att_table.specs.Table.{value_at};
 ghost use Rattle.gatt_slots.specs.Slots.{slots_deadline};
 ghost use Rattle.gatt_subs.specs.RowsText.{rows_text};
 ghost use Rattle.gihandop_c.specs.Seeing.{connection_at, found_by};
-ghost use Rattle.gihandop_c.specs.Statuses.{connection_status, deadline_status, find_status, if_open, rows_text_status, text_status, value_status};
+ghost use Rattle.gihandop_c.specs.Statuses.{connection_status, deadline_status, find_status, if_open, rows_text_status, text_status, value_status, values_text_status};
+ghost use Rattle.gihandop_c.specs.Values.{values_saved};
 ghost use Rattle.gihandop_c.specs.declared.status.TheConstants.{CLOSED, DONE, OUT_OF_MEMORY, SHORT_BUFFER};
 
 use crate::connections::ConnectionFields;
@@ -13,8 +14,8 @@ use crate::host_pointer::HostPointer;
 use crate::{connections, reading, status, stream, text};
 use std::alloc::Global;
 
-/// The version 0.1.0: the major number times 1,000,000, the minor one times 1,000, and the patch.
-const VERSION: u32 = 1_000;
+/// The version 0.2.0: the major number times 1,000,000, the minor one times 1,000, and the patch.
+const VERSION: u32 = 2_000;
 
 /// Puts the value at a handle at the front of `out`, where it fits, and its length into `count`.
 /// Of a client characteristic configuration it is empty.
@@ -42,38 +43,44 @@ pub extern "C" fn gh_value(
     reading::value(open, handle, out, count)
 }
 
-/// Puts the handle of the value of the first characteristic of a type in the first service of a
-/// type into `handle`. Types are UUIDs as octets, the lowest first: 2 for one of 16 bits, or 16.
+/// Puts the handle of a value into `handle`: of those of a characteristic's type in services of a
+/// type, in the order of their handles, the one with this number, from 1. Types are UUIDs as octets,
+/// the lowest first: 2 for one of 16 bits, or 16.
 #[unsafe(no_mangle)]
 pub extern "C" fn gh_find(
     host: &mut HostPointer,
     service: &[u8],
     characteristic: &[u8],
+    number: u16,
     handle: &mut u16,
 ) -> u32
-    ensures status { result ≡ if_open (find_status service.now characteristic.now) host.old.host }
+    ensures status { result
+        ≡ if_open (find_status service.now characteristic.now number) host.old.host }
     ensures found { result ≡ DONE → IfSome host.old.host (λ opened.
-        found_by opened.host.server.table service.now characteristic.now ≡ Some handle.new) }
+        found_by opened.host.server.table service.now characteristic.now number
+        ≡ Some handle.new) }
+    ensures none { result ≢ DONE → handle.new ≡ 0 }
     ensures unchanged { host.new.host ≡ host.old.host }
 {
     *handle = 0;
     let Some(open) = host.as_mut() else {
         return status::CLOSED;
     };
-    reading::find(open, service, characteristic, handle)
+    reading::find(open, service, characteristic, number, handle)
 }
 
 /// Puts the connection at a place, counted from 0, in the order of the slots, into `connection`,
-/// if there are so many.
+/// if there are so many and its `size` is that of the structure at least.
 #[unsafe(no_mangle)]
 pub extern "C" fn gh_connection(
     host: &mut HostPointer,
     place: usize,
     connection: &mut ConnectionFields,
 ) -> u32
-    ensures status { result ≡ if_open (connection_status place) host.old.host }
-    ensures there { result ≡ DONE
-        → IfSome host.old.host (λ opened. connection_at opened place ≡ Some connection.new) }
+    ensures status { result
+        ≡ if_open (connection_status connection.old.size place) host.old.host }
+    ensures there { result ≡ DONE → IfSome host.old.host (λ opened.
+        connection_at connection.old.size opened place ≡ Some connection.new) }
     ensures unchanged { host.new.host ≡ host.old.host }
     ensures untouched { result ≢ DONE → connection.new ≡ connection.old }
 {
@@ -128,6 +135,36 @@ pub extern "C" fn gh_rows_text(
     reading::rows_text(alloc, open, out, count)
 }
 
+/// Puts the characteristic values and descriptors that differ from those of the table file at the
+/// front of `out` as a values text, where it fits, and its length into `count`: those that a peer may
+/// write, or, if `all` is not 0, all.
+#[unsafe(no_mangle)]
+pub extern "C" fn gh_values_text(
+    alloc: Global,
+    host: &mut HostPointer,
+    all: u8,
+    out: &mut [u8],
+    count: &mut usize,
+) -> u32
+    ensures closed { host.old.host ≡ None → result ≡ CLOSED }
+    ensures status { result ≢ OUT_OF_MEMORY
+        → result ≡ if_open (values_text_status all (length out.old)) host.old.host }
+    ensures values { result ≡ DONE → IfSome host.old.host (λ opened.
+        take count.new out.new ≡ values_saved all opened) }
+    ensures within { result ≡ DONE → count.new ≤ length out.old }
+    ensures needs { result ≡ SHORT_BUFFER → IfSome host.old.host (λ opened.
+        count.new ≡ length (values_saved all opened)) }
+    ensures none { result ≢ DONE → result ≢ SHORT_BUFFER → count.new ≡ 0 }
+    ensures unchanged { host.new.host ≡ host.old.host }
+    ensures untouched { result ≢ DONE → out.new ≡ out.old }
+{
+    *count = 0;
+    let Some(open) = host.as_mut() else {
+        return status::CLOSED;
+    };
+    reading::values_text(alloc, open, all, out, count)
+}
+
 /// Puts what a status says, a line of ASCII, at the front of `out`, where it fits, and its length
 /// into `count`. There is nothing of a number that no function answers.
 #[unsafe(no_mangle)]
@@ -146,7 +183,7 @@ pub extern "C" fn gh_text(status: u32, out: &mut [u8], count: &mut usize) -> u32
 /// patch.
 #[unsafe(no_mangle)]
 pub extern "C" fn gh_version() -> u32
-    ensures version { result ≡ 1000 }
+    ensures version { result ≡ 2000 }
 {
     VERSION
 }

@@ -2,7 +2,7 @@
 
 ghost use Rattle.std.specs.Prelude.{◌≡◌, ◌≢◌, ◌<◌, ◌≤◌, ◌∷◌, [], length, take, IfSome, Some, None};
 ghost use Rattle.gatt_host.specs.Feeding.{octet_items, TakesUpToAPacket};
-ghost use Rattle.gihandop_c.specs.Boundary.{HostRefines, HostStays, HostStaysIfStopped, HostTellsItems, KeepsNotices, OfTheHost};
+ghost use Rattle.gihandop_c.specs.Boundary.{HostKeepsInitial, HostRefines, HostStays, HostStaysIfStopped, HostTellsItems, KeepsNotices, OfTheHost};
 ghost use Rattle.gihandop_c.specs.Statuses.{if_open, notice_status, out_status, take_status};
 ghost use Rattle.gihandop_c.specs.Telling.{HandsOut};
 ghost use Rattle.gihandop_c.specs.declared.status.TheConstants.{CLOSED, DONE, OUTPUT_OWED, SHORT_BUFFER};
@@ -32,6 +32,7 @@ pub extern "C" fn gh_take(host: &mut HostPointer, octets: &[u8], used: &mut usiz
     ensures closed_none { host.old.host ≡ None → used.new ≡ 0 }
     ensures status { OfTheHost (λ old new. result ≡ take_status old new)
         host.old.host host.new.host }
+    ensures initial { HostKeepsInitial host.old.host host.new.host }
     ensures owed { result ≡ OUTPUT_OWED → host.new.host ≡ host.old.host }
     ensures stopped { HostStaysIfStopped host.old.host host.new.host }
 {
@@ -67,12 +68,13 @@ pub extern "C" fn gh_next_out(host: &mut HostPointer, out: &mut [u8], count: &mu
     stream::next_out(open, out, count)
 }
 
-/// Puts the next notice of what was taken in last into `notice`.
+/// Puts the next notice of what was taken in last into `notice`, if its `size` is that of the
+/// structure at least.
 #[unsafe(no_mangle)]
 pub extern "C" fn gh_next_notice(host: &mut HostPointer, notice: &mut NoticeFields) -> u32
-    ensures status { result ≡ if_open notice_status host.old.host }
+    ensures status { result ≡ if_open (notice_status notice.old.size) host.old.host }
     ensures gives { result ≡ DONE
-        → OfTheHost (HandsOut notice.new) host.old.host host.new.host }
+        → OfTheHost (HandsOut notice.old.size notice.new) host.old.host host.new.host }
     ensures unchanged { result ≢ DONE → host.new.host ≡ host.old.host }
     ensures untouched { result ≢ DONE → notice.new ≡ notice.old }
 {

@@ -28,4 +28,5 @@ pub returns-in-Some-clause-notices : goal.returns-in-Some-clause-notices
 returns-in-Some-clause-notices c = record {
   notices = ap (λ (notices : List Notice). drop c.args.opened.now.told notices) c.next_into.ensures.notices;
   table = c.next_into.ensures.table;
+  initial = refl;
 }
