@@ -1,4 +1,4 @@
-"""Plays a controller with phones to examples/c/lockd.c, and looks what the lock does and keeps.
+"""Plays a controller with phones to examples/c/lockd.c, and looks what the lock does and saves.
 
 usage: tests/lockd.py COMMAND ..       the words that start lockd, as valgrind ./lockd
 
@@ -23,8 +23,8 @@ from controller import PATIENCE, Controller, free_port, joined  # noqa: E402
 from phones import OWNER, STRANGER, TABLET  # noqa: E402
 
 TABLE, KEYS = f"{ROOT}/examples/door.toml", f"{ROOT}/examples/keys.toml"
-# Handles of the door: its state, the configuration of that, and that of its battery.
-STATE, CONFIGURATION, BATTERY = b"\x0a\x00", b"\x0b\x00", b"\x07\x00"
+# Handles of the door: its state, the configuration of that, and a value of any octets.
+STATE, CONFIGURATION, NOTE = b"\x0a\x00", b"\x0b\x00", b"\x15\x00"
 READ, WRITE, WRITTEN, TOLD = b"\x0a", b"\x12", b"\x13", b"\x1b"
 RESET = 0x0C03
 COUNT = {"passed": 0, "failed": 0, "skipped": 0}
@@ -54,8 +54,8 @@ class Terminal:
 class Door(Controller):
     """A lock and its controller. `motor` has what the motor did, and `sent` the opcodes of all commands."""
 
-    def __init__(self, words, line, join, rows=None):
-        started = [*words, TABLE, KEYS, line] + ([rows] if rows else [])
+    def __init__(self, words, line, join, folder=None):
+        started = [*words, TABLE, KEYS, line] + ([folder] if folder else [])
         self.serving = subprocess.Popen(started, stdin=subprocess.PIPE, stdout=subprocess.PIPE, stderr=subprocess.PIPE)
         self.motor, self.sent = queue.Queue(), []
         threading.Thread(target=self.hear_motor, daemon=True).start()
@@ -87,12 +87,12 @@ class Door(Controller):
         return status, self.serving.stderr.read().decode()
 
 
-def listening(words, rows=None):
+def listening(words, folder=None):
     port = free_port()
-    return Door(words, f"listen:127.0.0.1:{port}", lambda serving: joined(port, serving), rows)
+    return Door(words, f"listen:127.0.0.1:{port}", lambda serving: joined(port, serving), folder)
 
 
-def connecting(words, rows=None):
+def connecting(words, folder=None):
     with socket.create_server(("127.0.0.1", 0)) as server:
         port = server.getsockname()[1]
 
@@ -101,7 +101,7 @@ def connecting(words, rows=None):
             stream.setsockopt(socket.IPPROTO_TCP, socket.TCP_NODELAY, 1)
             return stream
 
-        return Door(words, f"connect:127.0.0.1:{port}", join, rows)
+        return Door(words, f"connect:127.0.0.1:{port}", join, folder)
 
 
 def text_of(path):
@@ -116,21 +116,29 @@ def row(phone, handle):
     return f"{phone.kind} {phone.address} {handle} 1\n"
 
 
+def made(folder):
+    os.mkdir(folder)
+    return folder
+
+
 def a_day(words, room):
-    """Phones come to a lock that was never there, and to the next one."""
-    rows = f"{room}/day.rows"
-    door = listening(words, rows)
+    """Phones come to a lock that was never there, and to the next ones."""
+    folder = made(f"{room}/day")
+    rows, values = f"{folder}/rows", f"{folder}/values"
+    door = listening(words, folder)
+    check(door.turned() == "motor: shut", "the motor is where the table has it")
     tablet = door.connect(TABLET)
     check(tablet.ask(WRITE + STATE + b"\x01") == b"\x01\x12\x0a\x00\x0f", "without its key the tablet may not open")
     check(tablet.encrypt(), "the tablet has its key")
     check(tablet.ask(WRITE + CONFIGURATION + b"\x01\x00") == WRITTEN, "the tablet subscribes")
-    check(text_of(rows) == row(TABLET, 11), "that is kept as soon as it is answered")
+    check(text_of(rows) == row(TABLET, 11), "that is saved as soon as it is answered")
     check(tablet.ask(WRITE + STATE + b"\x01") == WRITTEN, "the tablet opens")
+    check(text_of(values) == "10 fff1 01\n", "that is saved as soon as it is answered, too")
     check(door.turned() == "motor: open", "the motor opens")
     owner = door.connect(OWNER)
     check(owner.encrypt(), "the owner has a key")
     check(owner.ask(WRITE + CONFIGURATION + b"\x01\x00") == WRITTEN, "the owner subscribes")
-    check(text_of(rows) == row(TABLET, 11) + row(OWNER, 11), "that is kept too")
+    check(text_of(rows) == row(TABLET, 11) + row(OWNER, 11), "that is saved too")
     check(owner.ask(WRITE + STATE + b"\x01")[0] == 1, "the owner may not open")
     check(tablet.ask(WRITE + STATE + b"\x00") == WRITTEN, "the tablet shuts")
     check(door.turned() == "motor: shut", "the motor shuts")
@@ -144,7 +152,7 @@ def a_day(words, room):
     check(owner.receive() == TOLD + STATE + b"\x01", "the owner is told of the panel")
     check(tablet.ask(READ + STATE) == b"\x0b\x01", "the tablet reads that it is open")
     check(owner.ask(WRITE + CONFIGURATION + b"\x00\x00") == WRITTEN, "the owner wants to hear no more")
-    check(text_of(rows) == row(TABLET, 11), "that is kept")
+    check(text_of(rows) == row(TABLET, 11), "that is saved")
     door.press("shut\n")
     check(door.turned() == "motor: shut", "the panel shuts")
     check(tablet.receive() == TOLD + STATE + b"\x00", "the tablet is told")
@@ -159,15 +167,59 @@ def a_day(words, room):
     check(faults == [], f"nothing is wrong with what it sends: {faults}")
     check(text_of(rows) == row(TABLET, 11), "the rows are there")
 
-    door = connecting(words, rows)
+    door = connecting(words, folder)
+    check(door.turned() == "motor: shut", "the motor is where the panel has left it")
     tablet = door.connect(TABLET)
     check(tablet.encrypt(), "the tablet comes again")
     door.press("open\n")
     check(tablet.receive() == TOLD + STATE + b"\x01", "it hears without subscribing again")
+    check(tablet.ask(WRITE + NOTE + b"note") == WRITTEN, "it writes a note")
+    check(text_of(values) == "10 fff1 01\n21 fff4 6e6f7465\n", "the values are saved, also that of the panel")
     tablet.drop()
     door.stream.shutdown(socket.SHUT_WR)
     check(door.ended() == (0, ""), "the lock ends with its controller")
     check(text_of(rows) == row(TABLET, 11), "the rows stay")
+
+    door = listening(words, folder)
+    check(door.turned() == "motor: open", "the next lock begins with the values")
+    tablet = door.connect(TABLET)
+    check(tablet.encrypt() and tablet.ask(READ + STATE) == b"\x0b\x01", "the tablet reads that it is open")
+    check(tablet.ask(READ + NOTE) == b"\x0bnote", "and its note")
+    second = subprocess.run([*words, TABLE, KEYS, "connect:127.0.0.1:1", folder], stdin=subprocess.DEVNULL, capture_output=True, text=True, timeout=PATIENCE)
+    check(second.returncode == 1 and folder in second.stderr, "two locks do not save in one folder")
+    door.serving.send_signal(signal.SIGTERM)
+    check(door.ended() == (0, ""), "it ends in order")
+    with open(values, "a", encoding="ascii") as file:
+        file.write("99 fff1 01\n")
+    door = listening(words, folder)
+    tablet = door.connect(TABLET)
+    check(tablet.encrypt() and tablet.ask(READ + NOTE) == b"\x0bnote", "a value that does not fit is left out")
+    door.serving.send_signal(signal.SIGTERM)
+    status, told = door.ended()
+    check(status == 0 and "1 values do not fit" in told, "and reported")
+
+
+def a_disk_that_is_gone(words, room):
+    """What cannot be saved is not answered, and costs no other phone its connection."""
+    folder = made(f"{room}/disk")
+    door = listening(words, folder)
+    door.turned()
+    tablet, owner = door.connect(TABLET), door.connect(OWNER)
+    check(tablet.encrypt() and owner.encrypt(), "two phones have their keys")
+    os.rename(folder, f"{folder}.away")
+    tablet.send(WRITE + STATE + b"\x01")
+    check(tablet.receive() is None and tablet.reason == 0x13, "what cannot be saved is not answered, and its phone is sent away")
+    check(owner.ask(READ + b"\x03\x00") == b"\x0bLock", "another phone is served")
+    check(door.motor.empty(), "the motor waits")
+    os.rename(f"{folder}.away", folder)
+    check(door.turned() == "motor: open", "once it is saved, the motor turns")
+    check(text_of(f"{folder}/values") == "10 fff1 01\n", "and it is saved")
+    tablet = door.connect(TABLET)
+    check(tablet.encrypt() and tablet.ask(WRITE + STATE + b"\x00") == WRITTEN, "the phone that comes again is answered")
+    check(door.turned() == "motor: shut" and text_of(f"{folder}/values") == "", "and what it writes is saved")
+    door.serving.send_signal(signal.SIGTERM)
+    status, told = door.ended()
+    check(status == 0 and told.count(folder) == 1, "the lock has told of it once, and ends in order")
 
 
 def a_serial_line(words, room):
@@ -186,18 +238,18 @@ def a_serial_line(words, room):
     check(door.serving.wait(timeout=PATIENCE) == 0, "SIGINT ends the lock in order")
 
 
-def a_signal_in_the_middle(words, room, number, rounds):
-    """A phone configures without an end, until the lock is gone: what was answered is kept."""
+def a_signal_in_the_middle(words, room, rounds):
+    """A phone configures without an end, until SIGTERM ends the lock: what was answered is saved."""
+    folder = made(f"{room}/signal")
     kept = answered = 0
     for turn in range(rounds):
-        rows = f"{room}/signal.rows"
-        before = text_of(rows)
-        door = listening(words, rows)
+        before = text_of(f"{folder}/rows")
+        door = listening(words, folder)
         tablet = door.connect(TABLET)
         tablet.encrypt()
-        killing = threading.Timer(random.Random(turn).uniform(0.01, 0.2), door.serving.send_signal, [number])
-        killing.start()
-        state, last = before or "", None
+        ending = threading.Timer(random.Random(turn).uniform(0.01, 0.2), door.serving.send_signal, [signal.SIGTERM])
+        ending.start()
+        saved, last = before or "", None
         for step in range(100_000):
             bits = step % 2 ^ 1
             tablet.send(WRITE + CONFIGURATION + bytes((bits, 0)))
@@ -205,14 +257,50 @@ def a_signal_in_the_middle(words, room, number, rounds):
             answer = tablet.receive()
             if answer != WRITTEN:
                 break
-            state, answered = last, answered + 1
-        killing.join()
+            saved, answered = last, answered + 1
+        ending.join()
         status = door.ended()
-        if number == signal.SIGTERM:
-            check(status == (0, ""), f"SIGTERM in the middle ends the lock in order, and not with {status}")
+        check(status == (0, ""), f"SIGTERM in the middle ends the lock in order, and not with {status}")
         # What was not answered any more may have been taken in, or not.
-        kept += (text_of(rows) or "") in (state, last)
-    check(kept == rounds and answered > rounds, f"after {signal.Signals(number).name} what was answered is kept: {kept} of {rounds}")
+        kept += (text_of(f"{folder}/rows") or "") in (saved, last)
+    check(kept == rounds and answered > rounds, f"after SIGTERM what was answered is saved: {kept} of {rounds}")
+
+
+def kills_in_the_middle(words, room, rounds):
+    """A phone writes without an end, and the lock is killed at random moments: the next one has each value that
+    was acknowledged, or the one that was sent after it."""
+    folder = made(f"{room}/kills")
+    chosen = random.Random(79)
+    acknowledged = {STATE: b"\0", NOTE: b"", CONFIGURATION: b"\0\0"}
+    sent = dict(acknowledged)
+    lost, answered = [], 0
+    for turn in range(rounds + 1):
+        door = listening(words, folder)
+        tablet = door.connect(TABLET)
+        tablet.encrypt()
+        for handle, value in acknowledged.items():
+            found = tablet.ask(READ + handle)[1:]
+            if found not in (value, sent[handle]):
+                lost.append(f"start {turn}, handle {handle[0]}: {found.hex()} in place of {value.hex()}")
+            acknowledged[handle] = sent[handle] = found
+        if turn == rounds:
+            break
+        killing = threading.Timer(chosen.uniform(0, 0.1), door.serving.kill)
+        killing.start()
+        for step in range(100_000):
+            handle = chosen.choice((STATE, NOTE, CONFIGURATION))
+            value = {STATE: bytes((step % 2,)), NOTE: f"{turn} {step}".encode(), CONFIGURATION: bytes((step % 2, 0))}[handle]
+            sent[handle] = value
+            tablet.send(WRITE + handle + value)
+            if tablet.receive() != WRITTEN:
+                break
+            acknowledged[handle] = value
+            answered += 1
+        killing.join()
+        door.ended()
+    door.serving.send_signal(signal.SIGTERM)
+    check(door.ended() == (0, ""), "the last lock ends in order")
+    check(not lost and answered > rounds, f"after SIGKILL each acknowledged value is there, of {answered}: {lost[:5]}")
 
 
 def refused(words, room):
@@ -226,20 +314,18 @@ def refused(words, room):
     status, told = ended(f"{room}/nothing", KEYS, "listen:127.0.0.1:1")
     check(status == 1 and "No such file" in told, "a table that is not there")
     status, told = ended(KEYS, KEYS, "listen:127.0.0.1:1")
-    check(status == 1 and "table: " in told, "a table that is none")
+    check(status == 1 and "table: key: there is no such key" in told, "a table that is none, and why")
     status, told = ended(f"{ROOT}/examples/bell.toml", KEYS, "listen:127.0.0.1:1")
     check(status == 1, "a table without a lock")
     for line in ("nowhere", "listen:nowhere", "connect:127.0.0.1:0", "/dev/null:9600", "/dev/null:7", "hcix", "hci99999"):
         status, told = ended(TABLE, KEYS, line)
         check(status == 1 and line in told, f"the line {line}")
-    # Where rows cannot be kept, the phone is not told that they are.
-    door = listening(words, f"{room}/missing/rows")
-    tablet = door.connect(TABLET)
-    tablet.encrypt()
-    tablet.send(WRITE + CONFIGURATION + b"\x01\x00")
-    check(tablet.receive() is None, "what cannot be kept is not answered")
-    status, told = door.ended()
-    check(status == 1 and "missing/rows" in told, "and ends the lock")
+    status, told = ended(TABLE, KEYS, "listen:127.0.0.1:1", f"{room}/missing")
+    check(status == 1 and "missing" in told, "a folder that is not there")
+    with open(f"{made(f'{room}/bad')}/values", "w", encoding="ascii") as file:
+        file.write("10 fff1 01\n10 fff1\n")
+    status, told = ended(TABLE, KEYS, "listen:127.0.0.1:1", f"{room}/bad")
+    check(status == 1 and "values: line 2: " in told, "saved values that are none, and where")
     door = listening(words)
     door.give(b"\x07")
     status, told = door.ended()
@@ -252,8 +338,9 @@ def main():
     with tempfile.TemporaryDirectory() as room:
         a_day(words, room)
         a_serial_line(words, room)
-        a_signal_in_the_middle(words, room, signal.SIGTERM, 2 if is_slow else 10)
-        a_signal_in_the_middle(words, room, signal.SIGKILL, 2 if is_slow else 10)
+        a_disk_that_is_gone(words, room)
+        a_signal_in_the_middle(words, room, 2 if is_slow else 10)
+        kills_in_the_middle(words, room, 2 if is_slow else 100)
         refused(words, room)
     print(f"{COUNT['passed']} passed, {COUNT['failed']} failed, {COUNT['skipped']} skipped")
     return 1 if COUNT["failed"] else 0

@@ -32,6 +32,8 @@ static bool write_whole(int file, const uint8_t *octets, size_t length)
 {
     while (length > 0) {
         ssize_t count = write(file, octets, length);
+        if (count < 0 && errno == EINTR)
+            continue;
         if (count < 0)
             return false;
         octets += count;
@@ -58,7 +60,10 @@ bool replace_file(const char *path, const uint8_t *octets, size_t length)
         errno = ENAMETOOLONG;
         return false;
     }
-    int file = open(beside, O_WRONLY | O_CREAT | O_TRUNC | O_CLOEXEC, 0600);
+    /* One that a crash has left is no longer wanted, and no link is followed. */
+    if (unlink(beside) != 0 && errno != ENOENT)
+        return false;
+    int file = open(beside, O_WRONLY | O_CREAT | O_EXCL | O_CLOEXEC, 0600);
     if (file < 0)
         return false;
     bool is_written = write_whole(file, octets, length);

@@ -1,14 +1,18 @@
 /*
- * A door lock: serves phones over a controller, turns a motor, which is a line on standard output,
- * and keeps what phones with keys have configured.
+ * A door lock: serves phones over a controller, turns a motor, which is a line on standard output, and
+ * saves what phones with keys change.
  *
- *     lockd TABLE KEYS LINE [ROWS]
+ *     lockd TABLE KEYS LINE [FOLDER]
  *
  * LINE leads to the controller, as line.h says: listen:127.0.0.1:5000, connect:127.0.0.1:5000,
- * /dev/ttyUSB0:115200 or hci0. ROWS is read first, where it is there, and is replaced whenever it
- * would say something else: before the phone is answered, so that what it was told is kept. A line
- * on standard input is a button inside: open or shut. Who has no key is sent away after half a
- * minute. SIGTERM and SIGINT end the connections, and then the program.
+ * /dev/ttyUSB0:115200 or hci0. FOLDER has the files `values` and `rows`, which are restored at the start
+ * if they are there. A line on standard input is a button inside: open or shut. Who has no key is sent
+ * away after half a minute. SIGTERM and SIGINT end the connections, and then the program.
+ *
+ * What a phone changes is saved first; then the motor turns, and then the phone is answered. So whenever
+ * the power fails, the next start has every value that was acknowledged. If it cannot be saved, the phone
+ * is not answered: no data of its connection are sent any more, the connection is ended, and the lock
+ * tries to save again each second. Other phones are served, and may be told a value that is not saved.
  */
 #define _GNU_SOURCE
 #include "files.h"
@@ -16,28 +20,47 @@
 #include "line.h"
 
 #include <errno.h>
+#include <fcntl.h>
 #include <poll.h>
 #include <signal.h>
 #include <stdio.h>
 #include <stdlib.h>
 #include <string.h>
+#include <sys/file.h>
 #include <sys/signalfd.h>
 #include <time.h>
 #include <unistd.h>
 
-/* How long a phone may stay without a key, and how long phones may take to go at the end: ms. */
-enum { PATIENCE = 30000, FAREWELL = 2000 };
+/* How long a phone may stay without a key, how long phones may take to go at the end, and after how long
+   the lock tries to save again: ms. */
+enum { PATIENCE = 30000, FAREWELL = 2000, RETRY = 1000 };
 
-/* More than a rows file has, 4,096 configurations and 64 peers; and above all handles of HCI. */
-enum { FILE_ROOM = 1 << 20, ROWS_ROOM = 1 << 17, CONNECTIONS = 0x1000 };
+/* More than a table or key file has here; more than the values of a table, at most 65,536 octets, and what
+   peers have configured, at most 4,096 rows, take as a text; and above all handles of HCI. */
+enum { FILE_ROOM = 1 << 20, TEXT_ROOM = 1 << 18, CONNECTIONS = 0x1000 };
+
+/* A text that is saved: its file, and what that has. */
+struct text {
+    char path[4096];
+    uint8_t octets[TEXT_ROOM];
+    size_t length;
+};
+
+/* What the lock knows of a connection, beside what the host does. */
+struct phone {
+    uint64_t came;     /* when it connected */
+    bool has_changed;  /* it has changed what is saved, since the notices before these */
+    bool is_cut;       /* what it has changed could not be saved: it is not answered, and is to go */
+};
 
 static struct gh_host host = GH_HOST_INIT;
 static int line = -1;
-static const char *rows_path;
+static const char *folder;           /* or NULL, if nothing is saved */
+static struct text values, rows;
+static bool is_behind;               /* they say less than the host, since they could not be saved */
 static uint16_t state;               /* the handle of the value that a phone opens the door by */
-static uint64_t came[CONNECTIONS];   /* when each connection came */
-static uint8_t saved[ROWS_ROOM];     /* the rows as they are in the file */
-static size_t saved_length;
+static int motor = -1;               /* where it is: 1 open, 0 shut, -1 before it has turned */
+static struct phone phones[CONNECTIONS];
 static uint8_t octets[4096];         /* what the controller sent, and how much of it is taken in */
 static size_t octets_count, octets_taken;
 static char panel[64];               /* what the panel said, and is not done yet */
@@ -66,46 +89,95 @@ static void fail_by_system(const char *what)
     exit(1);
 }
 
-static void save_rows(void)
+/* Puts a text in its file's place, if it differs, and says whether the file has it. */
+static bool save_text(struct text *saved, uint32_t status, const uint8_t *text, size_t length)
 {
-    static uint8_t rows[ROWS_ROOM];
-    size_t length;
-    if (rows_path == NULL)
-        return;
-    uint32_t status = gh_rows_text(&host, rows, sizeof rows, &length);
-    if (status != GH_DONE)
-        fail("rows", status);
-    if (length == saved_length && memcmp(rows, saved, length) == 0)
-        return;
-    if (!replace_file(rows_path, rows, length))
-        fail_by_system(rows_path);
-    memcpy(saved, rows, length);
-    saved_length = length;
+    if (status != GH_DONE) {
+        errno = ENOMEM;
+        return false;
+    }
+    if (length == saved->length && memcmp(text, saved->octets, length) == 0)
+        return true;
+    if (!replace_file(saved->path, text, length))
+        return false;
+    memcpy(saved->octets, text, length);
+    saved->length = length;
+    return true;
 }
 
-static void turn_motor(bool is_open)
+/* Saves the values and the rows, and says whether both are on the disk. */
+static bool save(void)
 {
+    static uint8_t text[TEXT_ROOM];
+    size_t length;
+    if (folder == NULL)
+        return true;
+    uint32_t status = gh_values_text(&host, 0, text, sizeof text, &length);
+    bool is_saved = save_text(&values, status, text, length);
+    if (is_saved) {
+        status = gh_rows_text(&host, text, sizeof text, &length);
+        is_saved = save_text(&rows, status, text, length);
+    }
+    if (!is_saved && !is_behind)
+        fprintf(stderr, "lockd: %s: %s\n", folder, strerror(errno));
+    is_behind = !is_saved;
+    return is_saved;
+}
+
+/* Turns the motor to where the lock's state says. */
+static void turn_motor(void)
+{
+    uint8_t value[GH_LONGEST_VALUE];
+    size_t length;
+    if (gh_value(&host, state, value, sizeof value, &length) != GH_DONE)
+        return;
+    bool is_open = length == 1 && value[0] == 1;
+    if (motor == is_open)
+        return;
+    motor = is_open;
     printf("motor: %s\n", is_open ? "open" : "shut");
     fflush(stdout);
 }
 
-/* Does what phones ask of the lock, and keeps what they have configured. */
+/* Notes whom a failed save leaves without an answer. */
+static void note_changes(bool is_saved)
+{
+    struct gh_connection phone = GH_CONNECTION_INIT;
+    for (size_t place = 0; gh_connection(&host, place, &phone) == GH_DONE; place++) {
+        struct phone *known = &phones[phone.handle % CONNECTIONS];
+        known->is_cut |= known->has_changed && !is_saved;
+        known->has_changed = false;
+    }
+}
+
+/* Hears what phones did, saves what they have changed, and then does what they ask of the lock. */
 static void hear(void)
 {
     struct gh_notice notice = GH_NOTICE_INIT;
-    uint8_t value[GH_LONGEST_VALUE];
-    size_t length;
+    uint32_t status;
     bool is_any = false;
-    while (gh_next_notice(&host, &notice) == GH_DONE) {
+    while ((status = gh_next_notice(&host, &notice)) == GH_DONE) {
+        struct phone *phone = &phones[notice.connection % CONNECTIONS];
         is_any = true;
         if (notice.kind == GH_CONNECTED)
-            came[notice.connection % CONNECTIONS] = now();
-        if (notice.kind == GH_WRITTEN && notice.attribute == state
-            && gh_value(&host, state, value, sizeof value, &length) == GH_DONE)
-            turn_motor(length == 1 && value[0] == 1);
+            *phone = (struct phone){.came = now()};
+        if (notice.kind == GH_WRITTEN || notice.kind == GH_CONFIGURED || notice.kind == GH_CONFIRMED)
+            phone->has_changed = true;
     }
-    if (is_any)
-        save_rows();
+    if (status != GH_NOTHING)
+        fail("notices", status);
+    if (!is_any)
+        return;
+    bool is_saved = save();
+    note_changes(is_saved);
+    if (is_saved)
+        turn_motor();
+}
+
+/* Whether a packet is data of a connection that is cut off: Core 5.0, Vol 2 Part E, 5.4.2. */
+static bool is_withheld(const uint8_t *packet)
+{
+    return packet[0] == 0x02 && phones[(packet[1] | packet[2] << 8) % CONNECTIONS].is_cut;
 }
 
 /* Writes what is owed, and says whether all of it is out: it is not where the line is full. */
@@ -116,8 +188,10 @@ static bool send_owed(void)
     for (;;) {
         if (at == count) {
             at = 0;
-            if (gh_next_out(&host, packet, sizeof packet, &count) != GH_DONE)
-                return true;
+            do
+                if (gh_next_out(&host, packet, sizeof packet, &count) != GH_DONE)
+                    return true;
+            while (is_withheld(packet));
         }
         ssize_t sent = write(line, packet + at, count - at);
         if (sent < 0 && (errno == EAGAIN || errno == EWOULDBLOCK))
@@ -128,13 +202,19 @@ static bool send_owed(void)
     }
 }
 
-/* Ends a connection that is to go: any at the end, else one that stayed without a key. */
+/* Whether a connection is to go: any at the end, else one that is cut off or stayed without a key. */
+static bool is_unwanted(const struct gh_connection *phone, uint64_t time, bool all)
+{
+    const struct phone *known = &phones[phone->handle % CONNECTIONS];
+    return all || known->is_cut || (phone->key_size == 0 && known->came + PATIENCE < time);
+}
+
+/* Ends a connection that is to go, if there is one. */
 static bool send_away(uint64_t time, bool all)
 {
     struct gh_connection phone = GH_CONNECTION_INIT;
     for (size_t place = 0; gh_connection(&host, place, &phone) == GH_DONE; place++)
-        if (!phone.ending
-            && (all || (phone.key_size == 0 && came[phone.handle % CONNECTIONS] + PATIENCE < time)))
+        if (!phone.ending && is_unwanted(&phone, time, all))
             return gh_disconnect(&host, phone.handle) == GH_DONE;
     return false;
 }
@@ -151,7 +231,9 @@ static bool press(void)
         uint32_t status = gh_update(&host, state, &value, 1);
         if (status != GH_DONE)
             fail("the lock's state", status);
-        turn_motor(value == 1);
+        /* Whoever stands at the door does not wait for the disk. */
+        save();
+        turn_motor();
     }
     panel_length -= (size_t)(end + 1 - panel);
     memmove(panel, end + 1, panel_length);
@@ -161,11 +243,17 @@ static bool press(void)
 /* Takes in one thing, if there is one. All that is owed is out. */
 static bool act(uint64_t time, bool is_ending)
 {
-    static uint64_t told;
+    static uint64_t told, tried;
     if (told < time) {
         told = time;
         gh_tick(&host, time);
         hear();
+    } else if (is_behind && tried + RETRY <= time) {
+        tried = time;
+        if (save())
+            turn_motor();
+    } else if (send_away(time, is_ending)) {
+        return true;
     } else if (octets_taken < octets_count) {
         size_t used, left = octets_count - octets_taken;
         uint32_t status = gh_take(&host, octets + octets_taken, left, &used);
@@ -174,7 +262,7 @@ static bool act(uint64_t time, bool is_ending)
         octets_taken += used;
         hear();
     } else {
-        return press() || send_away(time, is_ending);
+        return press();
     }
     return true;
 }
@@ -187,7 +275,7 @@ static int leisure(uint64_t time, uint64_t end)
     if (end != 0)
         return (int)(end - time);
     if (gh_connection(&host, 0, &phone) != GH_DONE)
-        return -1;
+        return is_behind ? RETRY : -1;
     if (gh_deadline(&host, &deadline) == GH_DONE && deadline > time && deadline < time + 1000)
         return (int)(deadline - time);
     return 1000;
@@ -243,35 +331,65 @@ static bool serve(int signals)
     }
 }
 
+/* Reads a text that was saved, if it is there. */
+static void read_saved(struct text *saved, const char *name)
+{
+    if (folder == NULL)
+        return;
+    if (snprintf(saved->path, sizeof saved->path, "%s/%s", folder, name) >= (int)sizeof saved->path)
+        errno = ENAMETOOLONG;
+    else if (read_file(saved->path, true, saved->octets, sizeof saved->octets, &saved->length))
+        return;
+    fail_by_system(saved->path);
+}
+
+/* Locks the folder for as long as the program runs, so that no other lock saves there. */
+static void lock_folder(void)
+{
+    int locked = folder != NULL ? open(folder, O_RDONLY | O_DIRECTORY | O_CLOEXEC) : 0;
+    if (locked < 0 || (folder != NULL && flock(locked, LOCK_EX | LOCK_NB) != 0))
+        fail_by_system(folder);
+}
+
 static void open_host(const char *table_path, const char *keys_path)
 {
     static uint8_t table[FILE_ROOM], keys[FILE_ROOM];
     static const uint8_t lock[] = {0xF0, 0xFF}, lock_state[] = {0xF1, 0xFF};
     const struct gh_config config = GH_CONFIG_INIT;
-    size_t table_length, keys_length, left_out;
+    size_t table_length, keys_length, left_out, length;
     if (!read_file(table_path, false, table, sizeof table, &table_length))
         fail_by_system(table_path);
     if (!read_file(keys_path, false, keys, sizeof keys, &keys_length))
         fail_by_system(keys_path);
-    if (rows_path != NULL && !read_file(rows_path, true, saved, sizeof saved, &saved_length))
-        fail_by_system(rows_path);
-    uint32_t status = gh_open(&host, table, table_length, keys, keys_length, saved, saved_length,
-                              GH_EMPTY, 0, &config, &left_out);
-    if (status != GH_DONE)
+    lock_folder();
+    read_saved(&values, "values");
+    read_saved(&rows, "rows");
+    uint32_t status = gh_open(&host, table, table_length, keys, keys_length, rows.octets, rows.length,
+                              values.octets, values.length, &config, &left_out);
+    if (status != GH_DONE) {
+        uint8_t text[1024];
+        if (gh_explain(table, table_length, keys, keys_length, rows.octets, rows.length, values.octets,
+                       values.length, text, sizeof text, &length)
+            == GH_DONE)
+            fprintf(stderr, "lockd: %.*s\n", (int)length, (const char *)text);
         fail("opening", status);
+    }
+    if (left_out != 0)
+        fprintf(stderr, "lockd: %s: %zu values do not fit the table\n", values.path, left_out);
     status = gh_find(&host, lock, sizeof lock, lock_state, sizeof lock_state, 1, &state);
     if (status != GH_DONE)
         fail("the lock's state", status);
+    turn_motor();
 }
 
 int main(int argc, char **argv)
 {
     static const uint8_t reset[] = {0x01, 0x03, 0x0C, 0x00};
     if (argc != 4 && argc != 5) {
-        fprintf(stderr, "usage: lockd TABLE KEYS LINE [ROWS]\n");
+        fprintf(stderr, "usage: lockd TABLE KEYS LINE [FOLDER]\n");
         return 64;
     }
-    rows_path = argv[4];
+    folder = argv[4];
     open_host(argv[1], argv[2]);
     line = open_line(argv[3]);
     if (line < 0)
@@ -289,10 +407,11 @@ int main(int argc, char **argv)
         fail_by_system("signals");
 
     bool is_in_step = serve(signals);
+    bool is_saved = !is_behind || save();
     gh_close(&host);
     /* A controller that is reset advertises no more. */
     if (is_in_step && write(line, reset, sizeof reset) < 0)
         fail_by_system("the controller");
     close(line);
-    return 0;
+    return is_saved ? 0 : 1;
 }
