@@ -25,6 +25,7 @@ pub mod Hearing
 pub mod HearingTurns
 pub mod Rows
 pub mod Slots
+pub mod Placed
 pub mod Seen
 pub mod Deadlines
 pub mod Initialised

@@ -2,8 +2,8 @@
 -- for the names of connections.
 use Rattle.std.specs.Prelude.{◌≡◌, ℕ, ◌≤◌, [], length, get_or, slice_get, Some}
 use Rattle.gatt_host.specs.ServerState.{ServerState}
-use Rattle.gatt_host.specs.Meaning.{Frames, context_in, IsAfter, once_heard}
-use Rattle.gatt_host.specs.Packet.{frames_after_acl}
+use Rattle.gatt_host.specs.Meaning.{Assemblies, context_in, IsAfter, once_heard}
+use Rattle.gatt_host.specs.Packet.{assembled_with}
 use Rattle.gatt_host.specs.StateRefinement.{IsSound, RefinesStep, RefinesState, place_of_connection}
 use Rattle.gatt_laws.specs.laws.Possible.{IsMeant}
 use Rattle.gatt_laws.specs.laws.Renaming.{AreAlike, renamed}
@@ -11,7 +11,8 @@ use Rattle.gatt_laws.specs.machine.Context.{context_of}
 use Rattle.gatt_laws.specs.machine.Event.{Ordinal, Event}
 use Rattle.gatt_laws.specs.machine.Packets.{Fragments, arrival, with_arrival}
 use Rattle.gatt_laws.specs.machine.State.{State}
-use Rattle.gatt_slots.specs.Slots.{Place}
+use Rattle.gatt_slots.specs.Slots.{Place, place_serving}
+use Rattle.le_acl.specs.Fragment.{fragment_of}
 use Rattle.le_acl.specs.Reassembler.{no_assembly, assembly_after}
 use Rattle.le_h4.specs.Packet.{AclPacket}
 use Rattle.octets.specs.Number.{Octets}
@@ -28,18 +29,18 @@ EventsAreRefined = (state : State) (server new : ServerState) (event : Event) �
     IsAfter (renamed (place_of_connection state) event) server new → RefinesStep state event new
 
 -- the frames that are put together at the slots are those of their connections' fragments
-abbrev pub HoldsFrames : State → Fragments → Frames → Type 0
-HoldsFrames state fragments frames =
+abbrev pub HoldsFrames : State → Fragments → Assemblies → Type 0
+HoldsFrames state fragments assembled =
     (place : ℕ) (ordinal : Ordinal) → slice_get state.slots place ≡ Some (Some ordinal) →
-    get_or frames place no_assembly ≡ once_heard (assembly_after (fragments ordinal))
+    get_or assembled place no_assembly ≡ once_heard (assembly_after (fragments ordinal))
 
 -- and so they are after an ACL packet, with the fragments and its own
 abbrev pub FramesFollow : Type 0
 FramesFollow =
-    (state : State) (server : ServerState) (fragments : Fragments) (frames : Frames)
+    (state : State) (server : ServerState) (fragments : Fragments) (assembled : Assemblies)
     (handle boundary broadcast : ℕ) (octets : Octets) →
-    IsSound state → RefinesState state [] server → length state.slots ≤ length frames →
-    HoldsFrames state fragments frames →
+    IsSound state → RefinesState state [] server → length state.slots ≤ length assembled →
+    HoldsFrames state fragments assembled →
     HoldsFrames state
     (with_arrival fragments (arrival state (AclPacket handle boundary broadcast octets)))
-    (frames_after_acl server handle boundary broadcast octets frames)
+    (assembled_with (place_serving server.slots handle) (fragment_of boundary broadcast octets) assembled)

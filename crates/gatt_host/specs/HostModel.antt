@@ -17,7 +17,7 @@ use Rattle.le_h4.specs.Packet.{Packet}
 use Rattle.le_hci.specs.declared.peer.Peer.{Peer}
 use Rattle.octets.specs.Number.{Octets}
 
--- what it holds, the frames that are put together, the stream of octets, and the fault, if one stands
+-- what it holds, what it holds of what comes on connections, the stream of octets, and the fault, if one stands
 pub record HostModel : Type 0 where
   pub server : ServerState
   pub frames : Frames

@@ -1,9 +1,11 @@
 -- What a packet and a call mean to a host, by what it holds.
-use Rattle.std.specs.Prelude.{◌≡◌, List, set, get_or, None, IfSome}
+use Rattle.std.specs.Prelude.{◌≡◌, ℕ, List, set, get_or, None, IfSome}
+pub use Rattle.gatt_host.specs.declared.frames.Frames.{Frames}
 use Rattle.gatt_host.specs.ServerState.{ServerState, ServesRequest, after_ask_key, after_authorize, after_connection_complete, server_after_packets_completed, server_after_command_complete, after_disconnect, after_disconnection_complete, after_link, after_no_change, after_replacing, server_after_other_channel, server_after_tick, after_update, server_slot_at}
 use Rattle.gatt_laws.specs.machine.Context.{Context}
 use Rattle.gatt_laws.specs.machine.Event.{Own, Connected, Disconnected, KeyAsked, Encrypted, Refreshed, Asks, OtherChannel, Authorized, Ended, Happening, Of, Completed, Credit, Update, Tick, Replaced, Nothing}
 use Rattle.gatt_laws.specs.machine.Packets.{Recombination}
+use Rattle.gatt_slots.specs.Arrivals.{with_accepted}
 use Rattle.gatt_slots.specs.OfTable.{AreOfTable}
 use Rattle.gatt_slots.specs.Slots.{Place, place_free, place_holding, place_serving}
 use Rattle.le_acl.specs.Fragment.{Fragment, Beginning, Continuation}
@@ -43,13 +45,13 @@ IsAfter (Tick time) old new = new ≡ server_after_tick time old
 IsAfter (Replaced table) old new = new ≡ after_replacing table old
 IsAfter Nothing old new = new ≡ after_no_change old
 
--- the frames that are put together, by slots: a connection that comes begins with none
-abbrev pub Frames : Type 0
-Frames = List Assembly
-
-abbrev pub frames_after : Happening Place → Frames → Frames
-frames_after (Of place (Connected handle peer)) frames = set frames place no_assembly
-frames_after happening frames = frames
+-- What is held of what comes on the connections of slots: a connection that comes begins with no frame, and is counted.
+abbrev pub frames_after : ℕ → Happening Place → Frames → Frames
+frames_after time (Of place (Connected handle peer)) frames = record {
+  assembled = set frames.assembled place no_assembly;
+  arrivals = with_accepted place time frames.arrivals;
+}
+frames_after time happening frames = frames
 
 -- a fragment is put to those before it, and a frame that it makes whole is heard
 abbrev pub with_fragment : Assembly → Fragment → Assembly
@@ -60,12 +62,16 @@ with_fragment assembly (Continuation octets) = with_continuation assembly octets
 abbrev pub once_heard : Assembly → Assembly
 once_heard assembly = record { unfinished = assembly.unfinished; frame = None }
 
+-- the assemblies of the slots
+abbrev pub Assemblies : Type 0
+Assemblies = List Assembly
+
 -- the frame that a fragment makes whole, behind what is put together
 abbrev pub recombination : Assembly → Recombination
 recombination earlier fragment = (with_fragment earlier fragment).frame
 
 abbrev pub recombinations_in : Frames → Place → Recombination
-recombinations_in frames place = recombination (get_or frames place no_assembly)
+recombinations_in frames place = recombination (get_or frames.assembled place no_assembly)
 
 -- the row of each bond is one of the table, and so is that of each connection; and what waits to be indicated is of it
 abbrev pub IsOfItsTable : ServerState → Type 0

@@ -1,19 +1,23 @@
 -- What a host makes of a packet, by what it holds: whom an ACL packet is from, and what an event
 -- means.
-use Rattle.std.specs.Prelude.{◌≡◌, ℕ, set, get_or, Option, Some, None, Result, Ok, Err, IsOkAnd}
+use Rattle.std.specs.Prelude.{◌≡◌, ℕ, if◌then◌else◌, List, [], ◌∷◌, set, get_or, Option, Some, None, Result, Ok, Err, IsOkAnd}
 use Rattle.gatt_host.specs.Answers.{stop_of}
 use Rattle.gatt_host.specs.declared.host_fault.HostFault.{HostFault}
 use Rattle.gatt_host.specs.ServerState.{ServerState}
-use Rattle.gatt_host.specs.Meaning.{Frames, context_in, frames_after, IsAfter, recombinations_in}
+use Rattle.gatt_host.specs.Meaning.{Assemblies, Frames, context_in, frames_after, IsAfter, recombinations_in}
 use Rattle.gatt_host.specs.Meaning.{once_heard, with_fragment}
 use Rattle.gatt_laws.specs.machine.Event.{Happening}
 use Rattle.gatt_laws.specs.machine.Packets.{Fault, data_event, event_or_bad}
 use Rattle.gatt_laws.specs.machine.Packets.{connection_event_if_ready, packet_meaning}
+use Rattle.gatt_slots.specs.Arrivals.{with_heard}
+use Rattle.gatt_slots.specs.declared.arrivals.Arrivals.{Arrivals}
 use Rattle.gatt_slots.specs.Slots.{Place, place_serving}
 use Rattle.le_acl.specs.declared.reassembler.Piece.{Piece}
 use Rattle.le_acl.specs.declared.reassembler.Piece.TheVariants as piece
 use Rattle.le_acl.specs.Fragment.{Fragment, fragment_of}
 use Rattle.le_acl.specs.Reassembler.{Assembly, no_assembly}
+use Rattle.le_h4.specs.Deframer.{Deframing, still}
+use Rattle.le_h4.specs.Division.{is_long}
 use Rattle.le_h4.specs.Packet.{Packet, AclPacket, EventPacket, ScoPacket}
 use Rattle.le_hci.specs.declared.event.BadEvent.{BadEvent}
 use Rattle.le_hci.specs.Event.{Reported, event_of}
@@ -31,14 +35,23 @@ fragment_left None earlier = earlier
 fragment_left (Some fragment) earlier = once_heard (with_fragment earlier fragment)
 
 -- the same by the place of a connection, if it serves
-abbrev pub frames_with : Option Place → Option Fragment → Frames → Frames
-frames_with None fragment frames = frames
-frames_with (Some place) fragment frames =
-    set frames place (fragment_left fragment (get_or frames place no_assembly))
+abbrev pub assembled_with : Option Place → Option Fragment → Assemblies → Assemblies
+assembled_with None fragment assembled = assembled
+assembled_with (Some place) fragment assembled =
+    set assembled place (fragment_left fragment (get_or assembled place no_assembly))
+
+-- A connection that serves is heard at a time, whatever its packet has.
+abbrev pub arrivals_with : ℕ → Option Place → Arrivals → Arrivals
+arrivals_with time None arrivals = arrivals
+arrivals_with time (Some place) arrivals = with_heard place time arrivals
 
 abbrev pub frames_after_acl : ServerState → ℕ → ℕ → ℕ → Octets → Frames → Frames
 frames_after_acl server handle boundary broadcast octets frames =
-    frames_with (place_serving server.slots handle) (fragment_of boundary broadcast octets) frames
+    let place = place_serving server.slots handle in
+    record {
+      assembled = assembled_with place (fragment_of boundary broadcast octets) frames.assembled;
+      arrivals = arrivals_with server.time place frames.arrivals;
+    }
 
 abbrev pub acl_happening : ServerState → ℕ → ℕ → ℕ → Octets → Frames → Happening Place
 acl_happening server handle boundary broadcast octets frames =
@@ -58,10 +71,10 @@ TakesEvent read old new =
 abbrev pub event_stop : Result Reported BadEvent → ServerState → Option HostFault
 event_stop read server = stop_of (event_or_bad (context_in server) read)
 
--- only a connection that comes changes what is put together
+-- Of the events only one by which a connection comes changes what is held of what comes.
 abbrev pub frames_after_event : ServerState → Result Reported BadEvent → Frames → Frames
 frames_after_event server (Ok reported) frames =
-    frames_after (connection_event_if_ready (context_in server) reported) frames
+    frames_after server.time (connection_event_if_ready (context_in server) reported) frames
 frames_after_event server (Err bad) frames = frames
 
 abbrev pub frames_after_packet : ServerState → Packet → Frames → Frames
@@ -70,6 +83,20 @@ frames_after_packet server (AclPacket handle boundary broadcast octets) frames =
 frames_after_packet server (EventPacket octets) frames =
     frames_after_event server (event_of octets) frames
 frames_after_packet server ScoPacket frames = frames
+
+-- The same of a packet of any length: one that is too long is ignored.
+abbrev pub frames_after_any : ServerState → Packet → Frames → Frames
+frames_after_any server packet frames =
+    if is_long packet then frames else frames_after_packet server packet frames
+
+-- The same of octets behind those of a stream, of which at most one packet ends in them.
+abbrev pub frames_after_first : ServerState → List Packet → Frames → Frames
+frames_after_first server [] frames = frames
+frames_after_first server (packet ∷ packets) frames = frames_after_packet server packet frames
+
+abbrev pub frames_after_octets : ServerState → Deframing → Octets → Frames → Frames
+frames_after_octets server stream octets frames =
+    frames_after_first server (still stream octets).packets frames
 
 -- a packet is taken in, and what is held and put together then; or the host stops for good
 pub record TakesPacket (packet : Packet) (old : ServerState) (frames : Frames) (new : ServerState)

@@ -1,5 +1,5 @@
 -- Where a host is in a run: in its state, with what has gone out by now.
-use Rattle.std.specs.Prelude.{◌≡◌, ℕ, ◌≤◌, List, [], ◌++◌, length, get_or, slice_get, Some, Err}
+use Rattle.std.specs.Prelude.{◌≡◌, ℕ, ◌-◌, ◌^◌, ◌≤◌, min, List, [], ◌++◌, length, get_or, slice_get, Some, Err}
 use Rattle.gatt_host.specs.Answers.{told_fault}
 use Rattle.gatt_host.specs.declared.host_fault.HostFault.{HostFault}
 use Rattle.gatt_host.specs.ServerState.{ServerState}
@@ -12,17 +12,31 @@ use Rattle.gatt_laws.specs.machine.Packets.{Fault, Fragments, packet_event}
 use Rattle.gatt_laws.specs.laws.RowsOfTheTable.{HasRowsOfItsTable}
 use Rattle.gatt_laws.specs.laws.WaitingOfTheTable.{HasWaitingOfItsTable}
 use Rattle.gatt_laws.specs.machine.State.{State}
+use Rattle.gatt_slots.specs.Arrivals.{counted_on}
+use Rattle.gatt_slots.specs.declared.arrivals.Arrivals.{Arrivals}
 use Rattle.le_acl.specs.Reassembler.{assembly_after, no_assembly}
 use Rattle.le_h4.specs.Packet.{Packet}
 use Rattle.octets.specs.Number.{Octets}
+
+-- The state machine counts connections from 0, and the host up to the largest number of 64 bits.
+abbrev pub accepted_before : Ordinal → ℕ
+accepted_before next = min next (2 ^ 64 - 1)
+
+-- The connection of each slot has the ordinal of the state machine, counted from 1; and so many have come.
+pub record AreNumbered (state : State) (arrivals : Arrivals) : Type 0 where
+  pub there : (place : ℕ) (ordinal : Ordinal) → slice_get state.slots place ≡ Some (Some ordinal)
+      → get_or arrivals.ordinals place 0 ≡ counted_on ordinal
+  pub accepted : arrivals.accepted ≡ accepted_before state.next
+  pub enough : state.shared.slots ≤ length arrivals.ordinals
 
 -- the frame of each slot is put together from the fragments of its connection; one that has not come has none; and there is
 -- a frame for each slot that may be opened
 pub record IsPutTogether (state : State) (fragments : Fragments) (frames : Frames) : Type 0 where
   pub there : (place : ℕ) (ordinal : Ordinal) → slice_get state.slots place ≡ Some (Some ordinal)
-      → get_or frames place no_assembly ≡ once_heard (assembly_after (fragments ordinal))
+      → get_or frames.assembled place no_assembly ≡ once_heard (assembly_after (fragments ordinal))
   pub fresh : (ordinal : Ordinal) → state.next ≤ ordinal → fragments ordinal ≡ []
-  pub enough : state.shared.slots ≤ length frames
+  pub enough : state.shared.slots ≤ length frames.assembled
+  pub numbered : AreNumbered state frames.arrivals
 
 -- these packets have gone out, and what the run has beyond them is owed
 pub record ServerRefinesRun (run : Run) (sent : List Octets) (server : ServerState) (frames : Frames) : Type 0 where

@@ -13,17 +13,17 @@ ghost use Rattle.gatt_laws.specs.machine.Start.{Start};
 ghost use Rattle.gatt_laws.specs.laws.Telling.{TellsTheApplication};
 ghost use Rattle.gatt_host.specs.Calls.{call_of};
 ghost use Rattle.gatt_host.specs.Asked.{refusal_in_result, replacing_refusal_of};
-ghost use Rattle.gatt_host.specs.Connections.{connection_with, connections_of};
+ghost use Rattle.gatt_host.specs.Connections.{connection_with, connections_in, connections_of};
 ghost use Rattle.gatt_host.specs.Credits.{most_out};
 ghost use Rattle.gatt_host.specs.Feeding.{items_taken, TakesUpToAPacket};
 ghost use Rattle.gatt_host.specs.GoingOut.{is_drained};
 ghost use Rattle.gatt_host.specs.ServerState.{after_out, next_packet_out, open_slots};
 ghost use Rattle.gatt_host.specs.Notices.{notice_of, HasTheValue};
+ghost use Rattle.gatt_host.specs.Packet.{frames_after_any, frames_after_octets};
 ghost use Rattle.gatt_host.specs.StateRefinement.{rows_of};
 ghost use Rattle.gatt_host.specs.Promises.{KeepsConnectionsApart, KeepsThePolicy};
 ghost use Rattle.gatt_host.specs.HostModel.{all_out, is_own_fault, fault_outcome, Refines, RefinesRun, Takes};
 ghost use Rattle.gatt_host.specs.Telling.{notices_told, silent, TellsOf, TellsOfAll};
-ghost use Rattle.gatt_slots.specs.Connections.{connections_in};
 ghost use Rattle.gatt_slots.specs.Slots.{slots_deadline};
 ghost use Rattle.le_h4.specs.Division.{is_long};
 ghost use Rattle.le_h4.specs.Packet.{packet_of_ref};
@@ -49,7 +49,7 @@ use std::marker::Model;
 #[derive(Drop)]
 pub struct Host {
     pub(crate) state: HostState,
-    /// The frame that is put together for each slot.
+    /// What is held of what comes on the connections of slots.
     pub(crate) frames: Frames,
     pub(crate) deframer: Deframer,
     pub(crate) fault: Option<HostFault>,
@@ -106,6 +106,7 @@ impl Host {
         // The notices of what was taken in last stay until the next is taken in.
         ensures notices { notices_told self.new ≡ notices_told self.old }
         ensures table { self.new.server.table ≡ self.old.server.table }
+        ensures frames { self.new.frames ≡ self.old.frames }
         ensures unchanged { OnFalse result (self.new ≡ self.old) }
         ensures out_unchanged { OnFalse result (out.new.items ≡ out.old.items) }
     {
@@ -130,6 +131,7 @@ impl Host {
         // The notices of what was taken in last stay until the next is taken in.
         ensures notices { notices_told self.new ≡ notices_told self.old }
         ensures table { self.new.server.table ≡ self.old.server.table }
+        ensures frames { self.new.frames ≡ self.old.frames }
         ensures unchanged { result ≡ None → self.new ≡ self.old }
         ensures out_unchanged { result ≡ None → out.new ≡ out.old }
     {
@@ -146,6 +148,9 @@ impl Host {
         ensures takes { self.old.fault ≡ None
             → Takes (APacket (packet_of_ref packet.entry)) self.old self.new }
         ensures told { TellsOf (APacket (packet_of_ref packet.entry)) self.old self.new }
+        // Which connections it counts as accepted and as heard, and when.
+        ensures frames { self.old.fault ≡ None → self.new.frames
+            ≡ frames_after_any self.old.server (packet_of_ref packet.entry) self.old.frames }
         ensures outcome { result ≡ fault_outcome self.new.fault }
         // No reader and no writer has a part in it.
         ensures not_own { self.old.fault ≡ None
@@ -176,6 +181,10 @@ impl Host {
             → Refines (items_taken octets.now result) [] self.old self.new }
         ensures told { TellsOfAll (items_taken octets.now result) self.old self.new }
         ensures up_to { IfOk result (λ used. TakesUpToAPacket octets.now used self.old) }
+        // Which connections it counts as accepted and as heard, and when.
+        ensures frames { IfOk result (λ used. self.new.frames
+            ≡ frames_after_octets self.old.server self.old.stream (take used octets.now)
+            self.old.frames) }
         ensures within { IfOk result (λ used. used ≤ length octets.now) }
         ensures some { IfOk result (λ used. 0 < length octets.now → 0 < used) }
         ensures outcome { result_err result ≡ self.new.fault }
@@ -206,6 +215,7 @@ impl Host {
             → refusal_in_result result
             ≡ call_refusal (run start input).intake (call_of call.entry) }
         ensures stopped { IsSome self.old.fault → result ≡ Err AppFault.Stopped }
+        ensures frames { self.new.frames ≡ self.old.frames }
         ensures fault { self.new.fault ≡ self.old.fault }
         ensures unchanged { OnErr result (self.new ≡ silent self.old) }
         // And of all that is taken in, for every start and input:
@@ -230,6 +240,7 @@ impl Host {
         ensures given { IfOk result (λ old. old ≡ self.old.server.table) }
         ensures given_back { IfErr result (λ refused. refused.1 ≡ table) }
         ensures stopped { IsSome self.old.fault → result ≡ Err (AppFault.Stopped, table) }
+        ensures frames { self.new.frames ≡ self.old.frames }
         ensures fault { self.new.fault ≡ self.old.fault }
         ensures unchanged { OnErr result (self.new ≡ silent self.old) }
         // And of all that is taken in, for every start and input:
@@ -323,23 +334,27 @@ impl Host {
 
     /// Who is connected: each connection that is there, in the order of the slots.
     pub fn connections(&self) -> Connections<'_>
-        ensures server { result ≡ connections_in self.now.server.slots }
+        ensures server { result ≡ connections_in self.now }
+        // In a run, but for when each was last heard.
         ensures run { (start : Start) (input : List Item) (sent : List Octets)
             → RefinesRun (run start input) sent self.now
-            → result ≡ connections_of (run start input).intake.state }
+            → result ≡ connections_of self.now.frames.arrivals.heard
+            (run start input).intake.state }
     {
         Connections {
             slots: &self.state.slots,
+            arrivals: &self.frames.arrivals,
             place: 0,
         }
     }
 
     /// The connection with a handle, if one is there.
     pub fn connection(&self, handle: u16) -> Option<Connection>
-        ensures server { result ≡ connection_with handle (connections_in self.now.server.slots) }
+        ensures server { result ≡ connection_with handle (connections_in self.now) }
         ensures run { (start : Start) (input : List Item) (sent : List Octets)
             → RefinesRun (run start input) sent self.now
-            → result ≡ connection_with handle (connections_of (run start input).intake.state) }
+            → result ≡ connection_with handle (connections_of self.now.frames.arrivals.heard
+            (run start input).intake.state) }
     {
         for connection in self.connections() {
             if connection.handle == handle {

@@ -11,6 +11,7 @@ ghost use Rattle.gatt_subs.specs.Fit.{fitted_rows, HasFittedBonds};
 
 use crate::config::{Config, OpenFault};
 use crate::controller::Controller;
+use crate::frames::Frames;
 use crate::host::Host;
 use crate::host_state::HostState;
 use crate::last_event::LastEvent;
@@ -20,11 +21,9 @@ use att_table::Table;
 use gatt_laws::MAX_SLOTS;
 use gatt_slots::Slots;
 use gatt_subs::Rows;
-use le_acl::Reassembler;
 use le_h4::{Deframer, PacketBuf};
 use le_security::Keys;
 use std::alloc::Global;
-use std::array;
 
 /// The two most significant bits of a static random address, in its last octet: Core 5.0, Vol 6 Part
 /// B, 1.3.2.1.
@@ -57,7 +56,7 @@ impl Host {
         };
         Ok(Host {
             state: held_at_first(table, keys, rows, slots, config),
-            frames: array::from_fn(|_| Reassembler::new()),
+            frames: Frames::new(),
             deframer: Deframer::new(),
             fault: None,
             packet: PacketBuf::new(),

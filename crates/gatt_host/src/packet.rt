@@ -10,7 +10,7 @@ ghost use Rattle.gatt_host.specs.ServerState.{open_slots};
 ghost use Rattle.gatt_host.specs.HostModel.{is_own_fault, RefinesPacket};
 ghost use Rattle.gatt_host.specs.Meaning.{recombination, once_heard, with_fragment, IsOfItsTable, IsAfter};
 ghost use Rattle.le_h4.specs.Packet.{packet_of_ref};
-ghost use Rattle.gatt_host.specs.Packet.{acl_happening, packet_stop, TakesPacket, event_stop, fragment_left, frame_given, frames_after_acl, frames_after_event, TakesEvent};
+ghost use Rattle.gatt_host.specs.Packet.{acl_happening, packet_stop, TakesPacket, event_stop, fragment_left, frame_given, frames_after_acl, frames_after_event, frames_after_packet, TakesEvent};
 ghost use Rattle.gatt_host.specs.Telling.{TellsOfPacket};
 ghost use Rattle.gatt_slots.specs.Slots.{IsThere};
 ghost use Rattle.le_acl.specs.Fragment.{fragment_of, Beginning};
@@ -196,8 +196,8 @@ fn tells_nothing(octets: &[u8]) -> bool
     }
 }
 
-/// Takes in an ACL packet, whose fragment joins the frame of its connection. Packets of connections
-/// that do not serve are ignored.
+/// Takes in an ACL packet, whose fragment joins the frame of its connection, which is heard. Packets of
+/// connections that do not serve are ignored.
 pub(crate) fn acl(
     state: &mut HostState,
     frames: &mut Frames,
@@ -212,7 +212,10 @@ pub(crate) fn acl(
     ensures frames { frames.new ≡ frames_after_acl state.old handle pb bc octets.now frames.old }
 {
     match state.slots.find_serving(handle) {
-        Some(place) => fragment(state, &mut frames[place], place, pb, bc, octets),
+        Some(place) => {
+            frames.arrivals.hear(place, state.time);
+            fragment(state, &mut frames.assembled[place], place, pb, bc, octets);
+        }
         None => state.end_event(LastEvent::Quiet),
     }
 }
@@ -310,6 +313,8 @@ pub(crate) fn packet(
         (result_err result) }
     ensures told { IsOk result
         → TellsOfPacket (packet_of_ref packet.entry) state.old frames.old state.new }
+    ensures frames { frames.new
+        ≡ frames_after_packet state.old (packet_of_ref packet.entry) frames.old }
     ensures not_own { IfErr result (λ fault. is_own_fault fault ≡ false) }
     ensures unchanged { OnErr result (state.new ≡ state.old) }
 {
@@ -325,6 +330,8 @@ fn take_packet(
     requires of_table { IsOfItsTable state.old }
     ensures taken { IsOk result
         → TakesPacket (packet_of_ref packet.entry) state.old frames.old state.new frames.new }
+    ensures frames { frames.new
+        ≡ frames_after_packet state.old (packet_of_ref packet.entry) frames.old }
     ensures stops { IfErr result
         (λ fault. packet_stop (packet_of_ref packet.entry) state.old ≡ Some fault) }
     ensures unchanged { OnErr result (state.new ≡ state.old) }

@@ -22,7 +22,7 @@ impl HostState {
         ensures after { IsAfter
             (connection_event_if_ready (context_in self.old) (report_of event.now))
             self.old self.new }
-        ensures frames { frames.new ≡ frames_after
+        ensures frames { frames.new ≡ frames_after self.old.time
             (connection_event_if_ready (context_in self.old) (report_of event.now)) frames.old }
     {
         if self.controller.is_ready() {
@@ -39,7 +39,7 @@ impl HostState {
         requires of_table { IsOfItsTable self.old }
         ensures after { IsAfter
             (connection_event (context_in self.old) (report_of event.now)) self.old self.new }
-        ensures frames { frames.new ≡ frames_after
+        ensures frames { frames.new ≡ frames_after self.old.time
             (connection_event (context_in self.old) (report_of event.now)) frames.old }
     {
         match *event {
@@ -129,7 +129,7 @@ impl HostState {
             (connection_complete_event (context_in self.old) status handle role peer) self.old
             self.new }
         ensures frames { frames.new
-            ≡ frames_after (connection_complete_event (context_in self.old) status handle role
+            ≡ frames_after self.old.time (connection_complete_event (context_in self.old) status handle role
             peer) frames.old }
     {
         if status != 0 || role != PERIPHERAL || handle > LAST_CONNECTION_HANDLE {
@@ -140,7 +140,8 @@ impl HostState {
         }
         match self.slots.find_free() {
             Some(place) => {
-                frames[place].clear();
+                frames.assembled[place].clear();
+                frames.arrivals.accept(place, self.time);
                 self.connect(place, handle, peer);
             }
             None => self.end_event(LastEvent::Quiet),

@@ -1,12 +1,13 @@
 //! Octets of the stream from a controller, up to the end of a packet.
 
-ghost use Rattle.std.specs.Prelude.{◌≡◌, ◌≤◌, ◌<◌, [], true, false, length, None, Some, IsSome, IfOk, IfErr, IfSome, OnErr};
+ghost use Rattle.std.specs.Prelude.{◌≡◌, ◌≤◌, ◌<◌, [], true, false, length, None, Some, IsSome, IfOk, IfErr, IfSome, OnErr, take};
 ghost use Rattle.std.specs.Result.{result_err};
 ghost use Rattle.gatt_host.specs.Answers.{lost_fault};
 ghost use Rattle.gatt_host.specs.Feeding.{items_taken, TakesUpToAPacket};
 ghost use Rattle.gatt_host.specs.GoingOut.{is_drained};
 ghost use Rattle.gatt_host.specs.ServerState.{open_slots};
 ghost use Rattle.gatt_host.specs.Meaning.{IsOfItsTable};
+ghost use Rattle.gatt_host.specs.Packet.{frames_after_octets};
 ghost use Rattle.gatt_host.specs.Telling.{TellsOfAll};
 ghost use Rattle.gatt_host.specs.HostModel.{all_out, going, is_own_fault, Refines};
 ghost use Rattle.le_h4.specs.Packet.{packet_of_ref};
@@ -26,6 +27,9 @@ pub(crate) fn take(host: &mut Host, octets: &[u8]) -> Result<usize, HostFault>
     ensures refines { Refines (items_taken octets.now result) [] host.old host.new }
     ensures told { TellsOfAll (items_taken octets.now result) host.old host.new }
     ensures up_to { IfOk result (λ used. TakesUpToAPacket octets.now used host.old) }
+    ensures frames { IfOk result (λ used. host.new.frames
+        ≡ frames_after_octets host.old.server host.old.stream (take used octets.now)
+        host.old.frames) }
     ensures fault { host.new.fault ≡ result_err result }
     ensures not_own { IfErr result (λ fault. is_own_fault fault ≡ false) }
     ensures unchanged { OnErr result (host.new.server ≡ host.old.server) }
@@ -77,6 +81,8 @@ fn take_in(
         }) }
     ensures up_to { IfOk result
         (λ used. TakesUpToAPacket octets.now used (going state.old frames.old deframer.old)) }
+    ensures frames { IfOk result (λ used. frames.new
+        ≡ frames_after_octets state.old deframer.old (take used octets.now) frames.old) }
     ensures not_own { IfErr result (λ fault. is_own_fault fault ≡ false) }
     ensures unchanged { OnErr result (state.new ≡ state.old) }
     ensures within { IfOk result (λ used. used ≤ length octets.now) }

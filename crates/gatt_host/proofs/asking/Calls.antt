@@ -35,7 +35,7 @@ use Rattle.octets.specs.Number.{Octets}
 
 -- nothing that is put together is changed by what is asked
 abbrev LeavesFrames : Result (Happening Place) Refused → Type 0
-LeavesFrames (Ok happening) = (frames : Frames) → frames ≡ frames_after happening frames
+LeavesFrames (Ok happening) = (time : ℕ) (frames : Frames) → frames ≡ frames_after time happening frames
 LeavesFrames (Err refused) = Unit
 
 update-leaves : (handle : Handle) (value : Octets) (found : Option Attr)
@@ -53,17 +53,17 @@ update-leaves handle value (Some attr) =
           (if not has then Err BadLength else Ok (Update handle value))) [
             | false ↦ tt
             | true ↦
-                λ frames. refl
+                λ time frames. refl
           ]
     ]
 
 authorize-leaves : (until : ℕ) (found : Option Place) → LeavesFrames (authorize_event until found)
 authorize-leaves until None = tt
-authorize-leaves until (Some place) = λ frames. refl
+authorize-leaves until (Some place) = λ time frames. refl
 
 disconnect-leaves : (found : Option Place) → LeavesFrames (disconnect_event found)
 disconnect-leaves None = tt
-disconnect-leaves (Some place) = λ frames. refl
+disconnect-leaves (Some place) = λ time frames. refl
 
 call-leaves : (context : Context Place) (call : Call) → LeavesFrames (call_meaning context call)
 call-leaves context (UpdateCall handle value) =
@@ -75,7 +75,7 @@ call-leaves context (TickCall time) =
     (λ (back : Bool). LeavesFrames (if back then Err TimeWentBack else Ok (Tick time))) [
       | true ↦
           tt
-      | false ↦ λ frames. refl
+      | false ↦ λ time frames. refl
     ]
 
 replacement-leaves : (context : Context Place) (table : Contents)
@@ -83,7 +83,7 @@ replacement-leaves : (context : Context Place) (table : Contents)
 replacement-leaves context table =
     elim (same_changer context.changer (changer_of table)) as
     (λ (same : Bool). LeavesFrames (if same then Ok (Replaced table) else Err NoServiceChanged))
-    [ true ↦ λ frames. refl | false ↦ tt ]
+    [ true ↦ λ time frames. refl | false ↦ tt ]
 
 -- where what is asked leads a host, and what is told of it
 pub record Led (run : Run) (new : ServerState) (frames : Frames) (result : Result Event Refused) :
@@ -105,7 +105,7 @@ module _ (run : Run) (server new : ServerState) (frames : Frames) (is : IsDraine
     by-result (Ok event) meant leaves after =
         let led =
         event_led state server new run.intake.fragments frames frames event is.sound is.refines
-        is.together meant after (leaves frames) in
+        is.together meant after (leaves server.time frames) in
         record {
           refines = record {
             owed = out state event;

@@ -14,11 +14,11 @@ use Rattle.gatt_host.proofs.refinement.OneSlot.{apart}
 use Rattle.gatt_host.specs.Answers.{stop_of}
 use Rattle.gatt_host.specs.declared.host_fault.HostFault.{HostFault}
 use Rattle.gatt_host.specs.ServerState.{ServerState}
-use Rattle.gatt_host.specs.Meaning.{Frames, context_in, frames_after, IsAfter, recombinations_in}
+use Rattle.gatt_host.specs.Meaning.{Assemblies, Frames, context_in, frames_after, IsAfter, recombinations_in}
 use Rattle.gatt_host.specs.Notices.{last_notices}
 use Rattle.gatt_host.specs.Packet.{TakesPacket, frames_after_acl, frames_after_event}
-use Rattle.gatt_host.specs.Packet.{frames_after_packet, frames_with, packet_happening, packet_stop}
-use Rattle.gatt_host.specs.RunRefinement.{IsDrainedIn, IsPutTogether, ServerRefinesRun}
+use Rattle.gatt_host.specs.Packet.{arrivals_with, assembled_with, frames_after_packet, packet_happening, packet_stop}
+use Rattle.gatt_host.specs.RunRefinement.{AreNumbered, IsDrainedIn, IsPutTogether, ServerRefinesRun}
 use Rattle.gatt_host.specs.RunRefinement.{PacketStops, StopsForFault}
 use Rattle.gatt_host.specs.StateRefinement.{IsSound, RefinesStep, RefinesState, place_of_connection}
 use Rattle.gatt_host.specs.Telling.{noticed_in}
@@ -41,6 +41,7 @@ use Rattle.gatt_laws.specs.machine.Packets.{Recombination, recombinations_of, of
 use Rattle.gatt_laws.specs.machine.Packets.{packet_event, status_of, with_arrival}
 use Rattle.gatt_laws.specs.machine.State.{State, out, step}
 use Rattle.gatt_slots.proofs.states.Places.{Finds}
+use Rattle.gatt_slots.specs.declared.arrivals.Arrivals.{Arrivals}
 use Rattle.gatt_slots.specs.Slots.{Place, place_serving}
 use Rattle.le_acl.specs.Fragment.{Fragment, fragment_of}
 use Rattle.le_h4.specs.Packet.{Packet, AclPacket, EventPacket, ScoPacket}
@@ -68,7 +69,7 @@ module _ (state : State) (server : ServerState) (sound : IsSound state) (refines
   abbrev JoinsAt : Event → Type 0
   JoinsAt event =
       IsPutTogether (step state event) fragments
-      (frames_after (renamed (place_of_connection state) event) frames)
+      (frames_after server.time (renamed (place_of_connection state) event) frames)
 
   came-joined : (ordinal : Ordinal) (handle : ℕ) (peer : Peer)
       → IsMeant IsAny state (Of ordinal (Connected handle peer))
@@ -76,10 +77,10 @@ module _ (state : State) (server : ServerState) (sound : IsSound state) (refines
   came-joined ordinal handle peer meant =
       subst (λ (one : Ordinal). JoinsAt (Of one (Connected handle peer))) (sym meant.may.next)
       (subst (λ (place : Place). IsPutTogether (step state (Of state.next (Connected handle peer)))
-      fragments (frames_after (Of place (Connected handle peer)) frames))
+      fragments (frames_after server.time (Of place (Connected handle peer)) frames))
       (sym (next_place state.next state.slots meant.may.free
       (none_next state.next state.next state.slots (omega arith) sound.settled.slots)))
-      (together_coming state server fragments frames handle peer sound refines meant.may.free is))
+      (together_coming state server fragments frames server.time handle peer sound refines meant.may.free is))
 
   pub joined : (event : Event) → IsMeant IsAny state event → JoinsAt event
   joined (Of ordinal (Connected handle peer)) meant = came-joined ordinal handle peer meant
@@ -97,7 +98,7 @@ pub event_led : (state : State) (server new : ServerState) (fragments : Fragment
     (event : Event) → IsSound state → RefinesState state [] server
     → IsPutTogether state fragments frames → IsMeant IsAny state event
     → IsAfter (renamed (place_of_connection state) event) server new
-    → after ≡ frames_after (renamed (place_of_connection state) event) frames
+    → after ≡ frames_after server.time (renamed (place_of_connection state) event) frames
     → EventLed state event fragments new after
 event_led state server new fragments frames after event sound refines together meant then_held
     then_frames =
@@ -114,69 +115,76 @@ event_led state server new fragments frames after event sound refines together m
     }
 
 -- No data of a connection means that one comes.
-frame-frames : (place : Place) (frame : Result BasicFrame Skip) (frames : Frames)
-    → frames ≡ frames_after (frame_event place (of_frame frame)) frames
-frame-frames place (Ok frame) frames =
+frame-frames : (time : ℕ) (place : Place) (frame : Result BasicFrame Skip) (frames : Frames)
+    → frames ≡ frames_after time (frame_event place (of_frame frame)) frames
+frame-frames time place (Ok frame) frames =
     elim (frame.cid == ATT) as (λ (asks : Bool). frames
-    ≡ frames_after (frame_event place (if asks then Some (Asks frame.payload)
+    ≡ frames_after time (frame_event place (if asks then Some (Asks frame.payload)
     else if frame.cid == LE_SIGNALLING || frame.cid == SECURITY_MANAGER then Some (OtherChannel frame.cid frame.payload) else None)) frames) [
       | true ↦ refl
       | false ↦
           elim (frame.cid == LE_SIGNALLING || frame.cid == SECURITY_MANAGER) as (λ (signals : Bool).
-          frames ≡ frames_after
+          frames ≡ frames_after time
           (frame_event place (if signals then Some (OtherChannel frame.cid frame.payload) else None))
           frames) [ true ↦ refl | false ↦ refl ]
     ]
-frame-frames place (Err skip) frames = refl
+frame-frames time place (Err skip) frames = refl
 
-octets-frames : (place : Place) (octets : Option Octets) (frames : Frames)
-    → frames ≡ frames_after (frame_event place (of_octets octets)) frames
-octets-frames place None frames = refl
-octets-frames place (Some octets) frames = frame-frames place (frame_of octets) frames
+octets-frames : (time : ℕ) (place : Place) (octets : Option Octets) (frames : Frames)
+    → frames ≡ frames_after time (frame_event place (of_octets octets)) frames
+octets-frames time place None frames = refl
+octets-frames time place (Some octets) frames = frame-frames time place (frame_of octets) frames
 
-data-frames : (recombinations : Place → Recombination) (found : Option Place)
+data-frames : (time : ℕ) (recombinations : Place → Recombination) (found : Option Place)
     (fragment : Option Fragment) (frames : Frames)
-    → frames ≡ frames_after (data_event recombinations found fragment) frames
-data-frames recombinations None fragment frames = refl
-data-frames recombinations (Some place) None frames = refl
-data-frames recombinations (Some place) (Some fragment) frames =
-    octets-frames place (recombinations place fragment) frames
+    → frames ≡ frames_after time (data_event recombinations found fragment) frames
+data-frames time recombinations None fragment frames = refl
+data-frames time recombinations (Some place) None frames = refl
+data-frames time recombinations (Some place) (Some fragment) frames =
+    octets-frames time place (recombinations place fragment) frames
 
 -- What an event leaves of the frames.
-answered-frames : (allowed opcode : ℕ) (status : Option ℕ) (following : Result (Option Init) Fault)
+answered-frames : (time allowed opcode : ℕ) (status : Option ℕ) (following : Result (Option Init) Fault)
     (happening : Happening Place) (frames : Frames)
     → answered allowed opcode status following ≡ Ok happening
-    → frames ≡ frames_after happening frames
-answered-frames allowed opcode status (Ok following) happening frames is =
-    ap (λ (happening : Happening Place). frames_after happening frames) (ok-is is)
-answered-frames allowed opcode status (Err fault) happening frames is = cc is
+    → frames ≡ frames_after time happening frames
+answered-frames time allowed opcode status (Ok following) happening frames is =
+    ap (λ (happening : Happening Place). frames_after time happening frames) (ok-is is)
+answered-frames time allowed opcode status (Err fault) happening frames is = cc is
 
-either-way : (ready : Bool) (frames : Frames)
-    → frames_after (if ready then Nothing else Nothing) frames ≡ frames
-either-way true frames = refl
-either-way false frames = refl
+either-way : (time : ℕ) (ready : Bool) (frames : Frames)
+    → frames_after time (if ready then Nothing else Nothing) frames ≡ frames
+either-way time true frames = refl
+either-way time false frames = refl
 
 event-frames : (server : ServerState) (read : Result Reported BadEvent) (happening : Happening Place)
     (frames : Frames) → event_or_bad (context_in server) read ≡ Ok happening
-    → frames_after_event server read frames ≡ frames_after happening frames
+    → frames_after_event server read frames ≡ frames_after server.time happening frames
 event-frames server (Err bad) happening frames is = cc is
 event-frames server (Ok (event.CommandComplete allowed opcode returned)) happening frames is =
-    either-way (is_ready server.controller) frames
-    ∙ answered-frames allowed opcode (status_of returned)
+    either-way server.time (is_ready server.controller) frames
+    ∙ answered-frames server.time allowed opcode (status_of returned)
     (if is_awaited server.controller opcode then following_of
     (init_outcome server.controller.init returned) else Ok None) happening frames is
 event-frames server (Ok (event.CommandStatus status allowed opcode)) happening frames is =
-    either-way (is_ready server.controller) frames
-    ∙ answered-frames allowed opcode (Some status) _ happening frames is
+    either-way server.time (is_ready server.controller) frames
+    ∙ answered-frames server.time allowed opcode (Some status) _ happening frames is
 event-frames server (Ok (event.HardwareError code)) happening frames is = cc is
 event-frames server (Ok reported) happening frames is =
-    ap (λ (happening : Happening Place). frames_after happening frames) (ok-is is)
+    ap (λ (happening : Happening Place). frames_after server.time happening frames) (ok-is is)
 
 -- as many frames as before
-as-many : (place : Option Place) (fragment : Option Fragment) (frames : Frames)
-    → length (frames_with place fragment frames) ≡ length frames
-as-many None fragment frames = refl
-as-many (Some place) fragment frames = length-set frames place _
+as-many : (place : Option Place) (fragment : Option Fragment) (assembled : Assemblies)
+    → length (assembled_with place fragment assembled) ≡ length assembled
+as-many None fragment assembled = refl
+as-many (Some place) fragment assembled = length-set assembled place _
+
+-- who is heard keeps its ordinal
+numbered-still : (state : State) (time : ℕ) (place : Option Place) (arrivals : Arrivals)
+    → AreNumbered state arrivals → AreNumbered state (arrivals_with time place arrivals)
+numbered-still state time None arrivals is = is
+numbered-still state time (Some place) arrivals is =
+    record { there = is.there; accepted = is.accepted; enough = is.enough }
 
 -- who has not come has no fragment
 still-fresh : (state : State) (fragments : Fragments) (found : Option Ordinal)
@@ -204,16 +212,16 @@ frames_joined server ScoPacket frames = frames
 packet-frames : (server : ServerState) (frames : Frames) (packet : Packet) (happening : Happening Place)
     → packet_happening server frames packet ≡ Ok happening
     → frames_after_packet server packet frames
-    ≡ frames_after happening (frames_joined server packet frames)
+    ≡ frames_after server.time happening (frames_joined server packet frames)
 packet-frames server frames (AclPacket handle boundary broadcast octets) happening is =
     let joined : Frames = frames_after_acl server handle boundary broadcast octets frames in
-    data-frames (recombinations_in frames) (place_serving server.slots handle)
+    data-frames server.time (recombinations_in frames) (place_serving server.slots handle)
     (fragment_of boundary broadcast octets) joined
-    ∙ ap (λ (happening : Happening Place). frames_after happening joined) (ok-is is)
+    ∙ ap (λ (happening : Happening Place). frames_after server.time happening joined) (ok-is is)
 packet-frames server frames (EventPacket octets) happening is =
     event-frames server (event_of octets) happening frames is
 packet-frames server frames ScoPacket happening is =
-    ap (λ (happening : Happening Place). frames_after happening frames) (ok-is is)
+    ap (λ (happening : Happening Place). frames_after server.time happening frames) (ok-is is)
 
 module _ (run : Run) (server : ServerState) (frames : Frames) (is : IsDrainedIn run server frames)
   where
@@ -230,7 +238,7 @@ module _ (run : Run) (server : ServerState) (frames : Frames) (is : IsDrainedIn 
         packets_mean_the_same Ordinal Place (place_of_connection state) (context_of state) (context_in server)
         (knows_the_same state server is.sound is.refines)
         (recombinations_of fragments) (recombinations_in frames)
-        (recombine_alike state server is.sound is.refines fragments frames is.together.there) packet
+        (recombine_alike state server is.sound is.refines fragments frames.assembled is.together.there) packet
 
     packet-joined : (packet : Packet)
         → IsPutTogether state (with_arrival fragments (arrival state packet))
@@ -238,10 +246,10 @@ module _ (run : Run) (server : ServerState) (frames : Frames) (is : IsDrainedIn 
     packet-joined (AclPacket handle boundary broadcast octets) =
         let found : Finds state.slots (serving state handle) (place_serving server.slots handle) =
         finds state server is.sound is.refines handle in
-        let shared : length state.slots ≤ length frames =
+        let shared : length state.slots ≤ length frames.assembled =
         omega (arith, few_slots state server is.sound is.refines, is.together.enough) in
         record {
-          there = frames_follow state server fragments frames handle boundary broadcast octets is.sound
+          there = frames_follow state server fragments frames.assembled handle boundary broadcast octets is.sound
               is.refines shared is.together.there;
           fresh = λ ordinal later.
               still-fresh state fragments (serving state handle) (place_serving server.slots handle)
@@ -249,7 +257,9 @@ module _ (run : Run) (server : ServerState) (frames : Frames) (is : IsDrainedIn 
               ordinal is.sound found later (is.together.fresh ordinal later);
           enough = subst (λ (count : ℕ). state.shared.slots ≤ count)
               (sym (as-many (place_serving server.slots handle) (fragment_of boundary broadcast octets)
-              frames)) is.together.enough;
+              frames.assembled)) is.together.enough;
+          numbered = numbered-still state server.time (place_serving server.slots handle)
+              frames.arrivals is.together.numbered;
         }
     packet-joined (EventPacket octets) = is.together
     packet-joined ScoPacket = is.together
@@ -264,7 +274,7 @@ module _ (run : Run) (server : ServerState) (frames : Frames) (is : IsDrainedIn 
       by-result : (result : Result Event Fault) → MeantIfAny IsAny state result
           → IsOkAnd (renamed_if (place_of_connection state) result) (λ happening. IsAfter happening server new)
           → ((event : Event) → result ≡ Ok event
-          → after ≡ frames_after (renamed (place_of_connection state) event) (frames_joined server packet frames))
+          → after ≡ frames_after server.time (renamed (place_of_connection state) event) (frames_joined server packet frames))
           → PacketLed result
       by-result (Ok event) meant takes then_frames =
           let led =

@@ -1,5 +1,5 @@
 -- What is put together at the slots stays so at each event: a connection that comes begins with nothing, and no other slot gets another.
-use Rattle.std.proofs.Common.{◌≡◌, ◌≢◌, ◌⊎◌, inl, inr, ℕ, zero, suc, ◌≤◌, ◌<◌, Bool, true, false, List, [], ◌∷◌, length, map, set, get_or, slice_get, Option, Some, None, refl, sym, ap, subst, ◌∙◌, arith}
+use Rattle.std.proofs.Common.{◌≡◌, ◌≢◌, ◌⊎◌, inl, inr, ℕ, zero, suc, ◌+◌, ◌≤◌, ◌<◌, Bool, true, false, List, [], ◌∷◌, length, map, set, get_or, slice_get, Option, Some, None, refl, sym, ap, subst, ◌∙◌, arith}
 use Rattle.std.specs.Prelude.{is_some, is_none, replicate, ◌==◌, ◌||◌, if◌then◌else◌}
 use Rattle.std.specs.Option.{option_map}
 use Rattle.std.proofs.lemmas.Bool.{eq-eqb}
@@ -9,9 +9,9 @@ use Rattle.gatt_host.proofs.owing.Nexts.{clash}
 use Rattle.gatt_host.proofs.refinement.ForAll.{each_length}
 use Rattle.gatt_host.proofs.refinement.Holding.{Holds, holds, some-is, were_open}
 use Rattle.gatt_host.specs.ServerState.{ServerState}
-use Rattle.gatt_host.specs.Meaning.{Frames, once_heard}
+use Rattle.gatt_host.specs.Meaning.{Frames, frames_after, once_heard}
 use Rattle.gatt_host.specs.Owing.{all_given, slot_state_handed}
-use Rattle.gatt_host.specs.RunRefinement.{IsPutTogether}
+use Rattle.gatt_host.specs.RunRefinement.{IsPutTogether, accepted_before}
 use Rattle.gatt_host.specs.StateRefinement.{IsSound, RefinesState, place_among, slots_with_buffers}
 use Rattle.gatt_laws.specs.machine.Controller.{Slots, has_free, is_ready, with_freed, with_taken}
 use Rattle.gatt_laws.specs.machine.Event.{Ordinal, Own, Event, Connected, Disconnected, Of, Credit}
@@ -19,6 +19,7 @@ use Rattle.gatt_laws.specs.machine.Packets.{Fragments}
 use Rattle.gatt_laws.specs.laws.Settled.{has_slot}
 use Rattle.gatt_laws.specs.machine.State.{State, change_of, slots_when_ready, step}
 use Rattle.gatt_slots.proofs.states.Places.{position_step}
+use Rattle.gatt_slots.specs.Arrivals.{counted_on}
 use Rattle.gatt_slots.specs.SlotState.{SlotState}
 use Rattle.gatt_slots.specs.Slots.{place_free}
 use Rattle.le_acl.specs.Fragment.{Fragment}
@@ -102,10 +103,17 @@ pub together_then : (state : State) (event : Event) (fragments : Fragments) (fra
     → IsPutTogether state fragments frames → IsPutTogether (step state event) fragments frames
 together_then state event fragments frames other is =
     let keeps : KeepsOrFrees state (step state event) = keeps_or_frees state event other in
+    let slots : (count : ℕ) → state.shared.slots ≤ count → (step state event).shared.slots ≤ count =
+    λ count enough. subst (λ (slots : ℕ). slots ≤ count) (sym (rooms_stay state event)) enough in
     record {
       there = λ place ordinal at. is.there place ordinal (keeps.there place ordinal at);
       fresh = λ ordinal later. is.fresh ordinal (subst (λ (next : Ordinal). next ≤ ordinal) keeps.next later);
-      enough = subst (λ (count : ℕ). count ≤ length frames) (sym (rooms_stay state event)) is.enough;
+      enough = slots (length frames.assembled) is.enough;
+      numbered = record {
+        there = λ place ordinal at. is.numbered.there place ordinal (keeps.there place ordinal at);
+        accepted = is.numbered.accepted ∙ sym (ap accepted_before keeps.next);
+        enough = slots (length frames.arrivals.ordinals) is.numbered.enough;
+      };
     }
 
 -- the first slot that is free
@@ -178,25 +186,52 @@ came-or-was next (Some first ∷ slots) (suc place) other there = elim (came-or-
   | inr was ↦ inr ((λ same. was.0 (omega (arith, same))), was.1)
 ]
 
--- a connection comes, and begins with nothing
-pub together_coming : (state : State) (server : ServerState) (fragments : Fragments) (frames : Frames) (handle : ℕ) (peer : Peer)
+-- the count goes on
+counted : (next : Ordinal) → counted_on (accepted_before next) ≡ accepted_before (next + 1)
+counted next = omega arith
+
+counted-as : (next : Ordinal) → accepted_before (next + 1) ≡ counted_on next
+counted-as next = omega arith
+
+-- a connection comes, begins with nothing, and has the next ordinal
+pub together_coming : (state : State) (server : ServerState) (fragments : Fragments) (frames : Frames) (time handle : ℕ) (peer : Peer)
     → IsSound state → RefinesState state [] server → has_free state.slots ≡ true → IsPutTogether state fragments frames
-    → IsPutTogether (step state (Of state.next (Connected handle peer))) fragments (set frames (first_free state.slots) no_assembly)
+    → IsPutTogether (step state (Of state.next (Connected handle peer))) fragments (frames_after time (Of (first_free state.slots) (Connected handle peer)) frames)
 unfolding step change_of
-together_coming state server fragments frames handle peer sound refines free is = record {
+together_coming state server fragments frames time handle peer sound refines free is = record {
   there = λ place ordinal there. read place ordinal (came-or-was state.next state.slots place ordinal there);
   fresh = λ ordinal later. is.fresh ordinal (omega (arith, later));
-  enough = omega (arith, is.enough, length-set frames (first_free state.slots) no_assembly);
+  enough = omega (arith, is.enough, length-set frames.assembled taken no_assembly);
+  numbered = record {
+    there = λ place ordinal there. number place ordinal (came-or-was state.next state.slots place ordinal there);
+    accepted = ap counted_on is.numbered.accepted ∙ counted state.next;
+    enough = omega (arith, is.numbered.enough, length-set frames.arrivals.ordinals taken (counted_on frames.arrivals.accepted));
+  };
 }
   where
-    inside : first_free state.slots < length frames
-    inside = omega (arith, free-within state.slots free, few_slots state server sound refines, is.enough)
+    taken : ℕ
+    taken = first_free state.slots
+
+    inside : (count : ℕ) → state.shared.slots ≤ count → taken < count
+    inside count enough = omega (arith, free-within state.slots free, few_slots state server sound refines, enough)
 
     read : (place : ℕ) (ordinal : Ordinal) → CameOrWas state.next state.slots place ordinal
-        → get_or (set frames (first_free state.slots) no_assembly) place no_assembly ≡ once_heard (assembly_after (fragments ordinal))
+        → get_or (set frames.assembled taken no_assembly) place no_assembly ≡ once_heard (assembly_after (fragments ordinal))
     read place ordinal (inl came) =
-        ap (λ (at : ℕ). get_or (set frames (first_free state.slots) no_assembly) at no_assembly) came.0
-        ∙ get_or-set_same frames (first_free state.slots) no_assembly no_assembly inside
+        ap (λ (at : ℕ). get_or (set frames.assembled taken no_assembly) at no_assembly) came.0
+        ∙ get_or-set_same frames.assembled taken no_assembly no_assembly (inside (length frames.assembled) is.enough)
         ∙ sym (ap (λ (own : Ordinal). once_heard (assembly_after (fragments own))) came.1
         ∙ ap (λ (none : List Fragment). once_heard (assembly_after none)) (is.fresh state.next (omega arith)))
-    read place ordinal (inr was) = get_or-set_other frames (first_free state.slots) place no_assembly no_assembly was.0 ∙ is.there place ordinal was.1
+    read place ordinal (inr was) = get_or-set_other frames.assembled taken place no_assembly no_assembly was.0 ∙ is.there place ordinal was.1
+
+    own : ℕ
+    own = counted_on frames.arrivals.accepted
+
+    number : (place : ℕ) (ordinal : Ordinal) → CameOrWas state.next state.slots place ordinal
+        → get_or (set frames.arrivals.ordinals taken own) place 0 ≡ counted_on ordinal
+    number place ordinal (inl came) =
+        ap (λ (at : ℕ). get_or (set frames.arrivals.ordinals taken own) at 0) came.0
+        ∙ get_or-set_same frames.arrivals.ordinals taken own 0 (inside (length frames.arrivals.ordinals) is.numbered.enough)
+        ∙ ap counted_on is.numbered.accepted ∙ counted state.next ∙ counted-as state.next
+        ∙ sym (ap counted_on came.1)
+    number place ordinal (inr was) = get_or-set_other frames.arrivals.ordinals taken place own 0 was.0 ∙ is.numbered.there place ordinal was.1

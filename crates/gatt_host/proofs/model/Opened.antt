@@ -19,6 +19,7 @@ use Rattle.gatt_host.specs.Opening.{held_at_first, is_configured, start_of}
 use Rattle.gatt_host.specs.StateRefinement.{IsOpenedAs}
 use Rattle.gatt_host.specs.HostModel.{HasRowsOfTheStart, IsReached, SameFault, RefinesRun, HostModel}
 use Rattle.gatt_laws.specs.machine.Input.{run}
+use Rattle.gatt_slots.specs.Arrivals.{no_arrivals}
 use Rattle.gatt_subs.proofs.Supported.{supported_configuration}
 use Rattle.gatt_subs.specs.declared.bond.Bond.{Bond}
 use Rattle.gatt_subs.specs.Fit.{fitted_bond, fitted_rows, peers_of, with_entries, HasFittedBonds, IsListed}
@@ -91,14 +92,14 @@ module _ (table : Contents) (keys : List Entry) (old new : Subscriptions) (confi
   few : is_configured config ≡ true → config.slots ≤ MAX_SLOTS
   few configured = grind (arith, configured)
 
-  pub stands_when_opened : (host : HostModel) → is_configured config ≡ true → host.server ≡ held_at_first table keys new (replicate config.slots None) config → length host.frames ≡ MAX_SLOTS
+  pub stands_when_opened : (host : HostModel) → is_configured config ≡ true → host.server ≡ held_at_first table keys new (replicate config.slots None) config → length host.frames.assembled ≡ MAX_SLOTS → host.frames.arrivals ≡ no_arrivals
       → host.stream ≡ deframing_at_start → host.fault ≡ None → RefinesRun (run (start_of table keys old config) []) [] host
   unfolding run
-  stands_when_opened host configured server frames stream fault = record {
+  stands_when_opened host configured server frames arrivals stream fault = record {
     refines =
-        let shared : config.slots ≤ length host.frames = subst (λ (count : ℕ). config.slots ≤ count) (sym frames) (few configured) in
+        let shared : config.slots ≤ length host.frames.assembled = subst (λ (count : ℕ). config.slots ≤ count) (sym frames) (few configured) in
         stands_in_at_the_start (start_of table keys old config) host.server host.frames
-        (subst (λ (server : ServerState). IsOpenedAs (start_of table keys old config) server) (sym server) opened-as) shared;
+        (subst (λ (server : ServerState). IsOpenedAs (start_of table keys old config) server) (sym server) opened-as) shared arrivals (few configured);
     same = subst (λ (fault : Option HostFault). SameFault None fault) (sym fault) tt;
     stream = subst (λ (slot_state : Deframing). (run (start_of table keys old config) []).intake.fault ≡ None → (rest : Octets) → still slot_state rest ≡ division rest) (sym stream) (λ none rest. past_none rest);
   }

@@ -1,9 +1,9 @@
 -- The connections that the application can see, wherever a host stands.
-use Rattle.std.proofs.Common.{◌≡◌, ℕ, Bool, true, false, ◌+◌, List, ◌∷◌, length, Option, Some, None, refl, sym, ap, ◌∙◌}
+use Rattle.std.proofs.Common.{◌≡◌, ℕ, Bool, true, false, ◌+◌, List, ◌∷◌, length, get_or, Option, Some, None, refl, sym, ap, ◌∙◌}
 use Rattle.std.proofs.lemmas.Bool.{eq-eqb, ne_eqb}
 use Rattle.std.specs.Prelude.{◌≢◌, not, is_some, nat_lt, if◌then◌else◌}
-use Rattle.gatt_host.proofs.model.Slots.{slots_read}
-use Rattle.gatt_host.specs.Connections.{connection_with, connections_of, ordinal_seen, connection_seen}
+use Rattle.gatt_host.proofs.model.Placed.{placed_read}
+use Rattle.gatt_host.specs.Connections.{connection_with, connections_in, connections_of, ordinal_seen, connection_seen}
 use Rattle.gatt_host.specs.Owing.{Handed, slot_state_handed}
 use Rattle.gatt_host.specs.HostModel.{RefinesRun, HostModel}
 use Rattle.gatt_laws.specs.machine.Controller.{command_of_init, count_before}
@@ -13,41 +13,52 @@ use Rattle.gatt_laws.specs.machine.ConnectionState.{ConnectionState, is_live, is
 use Rattle.gatt_laws.specs.machine.SharedState.{SharedState}
 use Rattle.gatt_laws.specs.machine.Start.{Start}
 use Rattle.gatt_laws.specs.machine.State.{State, with_commands_sent}
-use Rattle.gatt_slots.specs.Connections.{connections_in, slot_seen}
+use Rattle.gatt_slots.specs.Arrivals.{counted_on}
+use Rattle.gatt_slots.specs.Connections.{slot_seen}
+use Rattle.gatt_slots.specs.declared.arrivals.Arrivals.{Arrivals}
 use Rattle.gatt_app.specs.declared.connection.Connection.{Connection}
 use Rattle.gatt_slots.specs.SlotState.{slot_state_of}
 use Rattle.le_security.proofs.Links.{key_of_steps}
 use Rattle.octets.specs.Number.{Octets}
 
 -- a command that is sent leaves what can be seen
-sent-seen : (shared : SharedState) (part : ConnectionState) (sent reasoned : Bool)
-    → connection_seen shared (if sent then (if reasoned then record part { reason = None } else record part { reply = None }) else part) ≡ connection_seen shared part
-sent-seen shared part true true = refl
-sent-seen shared part true false = refl
-sent-seen shared part false reasoned = refl
+module _ (ordinal : Ordinal) (place heard : ℕ) where
+  sent-seen : (shared : SharedState) (part : ConnectionState) (sent reasoned : Bool)
+      → connection_seen shared ordinal place heard (if sent then (if reasoned then record part { reason = None } else record part { reply = None }) else part)
+      ≡ connection_seen shared ordinal place heard part
+  sent-seen shared part true true = refl
+  sent-seen shared part true false = refl
+  sent-seen shared part false reasoned = refl
 
-same-seen : (state : State) (handed : Handed) (ordinal : Ordinal) → is_there (state.connections ordinal).mark ≡ true
-    → slot_seen (slot_state_handed state handed (Some ordinal)) ≡ ordinal_seen (with_commands_sent state) (Some ordinal)
-same-seen state handed ordinal there =
-    let part : ConnectionState = state.connections ordinal in
-    let seen : Connection = connection_seen state.shared part in
-    ap (λ (is : Bool). slot_seen (if is then Some (slot_state_of state.shared part (handed ordinal)) else None)) there
-    ∙ (λ i. Some (record {
-      handle = part.handle;
-      peer = part.peer;
-      mtu = connection_mtu state.shared part;
-      key = key_of_steps part.steps i;
-      authorized_until = part.until;
-      ending = not (is_live part.mark);
-    }))
-    ∙ ap (λ (it : Connection). Some it) (sym (sent-seen state.shared part
-    (nat_lt (length (command_of_init state.controller) + count_before ordinal state.connections state.slots) state.controller.credit) (is_some part.reason)))
+module _ (arrivals : Arrivals) where
+  same-seen : (state : State) (handed : Handed) (place : ℕ) (ordinal : Ordinal) → is_there (state.connections ordinal).mark ≡ true
+      → get_or arrivals.ordinals place 0 ≡ counted_on ordinal
+      → slot_seen arrivals place (slot_state_handed state handed (Some ordinal)) ≡ ordinal_seen arrivals.heard (with_commands_sent state) place (Some ordinal)
+  same-seen state handed place ordinal there numbered =
+      let part : ConnectionState = state.connections ordinal in
+      let heard : ℕ = get_or arrivals.heard place 0 in
+      ap (λ (is : Bool). slot_seen arrivals place (if is then Some (slot_state_of state.shared part (handed ordinal)) else None)) there
+      ∙ (λ i. Some (record {
+        ordinal = numbered i;
+        slot = place;
+        handle = part.handle;
+        peer = part.peer;
+        mtu = connection_mtu state.shared part;
+        key = key_of_steps part.steps i;
+        authorized_until = part.until;
+        ending = not (is_live part.mark);
+        heard = heard;
+      }))
+      ∙ ap (λ (it : Connection). Some it) (sym (sent-seen ordinal place heard state.shared part
+      (nat_lt (length (command_of_init state.controller) + count_before ordinal state.connections state.slots) state.controller.credit) (is_some part.reason)))
 
 pub seen_where : (run : Run) (gone : List Octets) (host : HostModel) → RefinesRun run gone host
-    → connections_in host.server.slots ≡ connections_of run.intake.state
+    → connections_in host ≡ connections_of host.frames.arrivals.heard run.intake.state
 seen_where run gone host is =
-    slots_read slot_seen ordinal_seen (record { free = refl; none = λ state. refl; same = same-seen })
-    run.intake.state is.refines.owed host.server is.refines.refines
+    let arrivals : Arrivals = host.frames.arrivals in
+    placed_read (slot_seen arrivals) (ordinal_seen arrivals.heard) (λ place ordinal. get_or arrivals.ordinals place 0 ≡ counted_on ordinal)
+    (record { free = λ place. refl; none = λ state place. refl; same = same-seen arrivals })
+    run.intake.state is.refines.owed host.server is.refines.refines is.refines.together.numbered.there
 
 -- the one with a handle, and one without it
 pub found_here : (handle : ℕ) (connection : Connection) (all rest : List Connection) → all ≡ connection ∷ rest → connection.handle ≡ handle
@@ -61,7 +72,7 @@ found_later handle connection all rest is other =
     ap (connection_with handle) is ∙ ap (λ (found : Bool). if found then Some connection else connection_with handle rest) (ne_eqb connection.handle handle other)
 
 -- as the run has it
-pub found_where : (handle : ℕ) (host : HostModel) (found : Option Connection) → found ≡ connection_with handle (connections_in host.server.slots)
+pub found_where : (handle : ℕ) (host : HostModel) (found : Option Connection) → found ≡ connection_with handle (connections_in host)
     → (start : Start) (input : List Item) (gone : List Octets) → RefinesRun (run start input) gone host
-    → found ≡ connection_with handle (connections_of (run start input).intake.state)
+    → found ≡ connection_with handle (connections_of host.frames.arrivals.heard (run start input).intake.state)
 found_where handle host found is start input gone refines = is ∙ ap (connection_with handle) (seen_where (run start input) gone host refines)

@@ -14,12 +14,12 @@ use Rattle.gatt_laws.specs.machine.State.{State, with_commands_sent}
 use Rattle.gatt_slots.specs.SlotState.{SlotState}
 use Rattle.octets.specs.Number.{Octets}
 
-or-left : (one other : Bool) → one ≡ true → (one || other) ≡ true
-or-left one other is = ap (λ (it : Bool). it || other) is
+pub or_left : (one other : Bool) → one ≡ true → (one || other) ≡ true
+or_left one other is = ap (λ (it : Bool). it || other) is
 
-or-right : (one other : Bool) → other ≡ true → (one || other) ≡ true
-or-right true other is = refl
-or-right false other is = is
+pub or_right : (one other : Bool) → other ≡ true → (one || other) ≡ true
+or_right true other is = refl
+or_right false other is = is
 
 -- what is read of a slot is what is read of its connection in the state, also while commands are still to go out
 pub record ReadsTheSame {A : Type 0} (keep : Option SlotState → Option A) (of : State → Option Ordinal → Option A) : Type 0 where
@@ -35,8 +35,8 @@ module _ {A : Type 0} (keep : Option SlotState → Option A) (of : State → Opt
   all-kept state handed (None ∷ slots) there = λ i.
       cons_option ((reads.free ∙ sym (reads.none (with_commands_sent state))) i) (all-kept state handed slots there i)
   all-kept state handed (Some ordinal ∷ slots) there = λ i.
-      cons_option (reads.same state handed ordinal (there ordinal (or-left (ordinal == ordinal) (has_slot ordinal slots) (eq-eqb ordinal ordinal refl))) i)
-      (all-kept state handed slots (λ other has. there other (or-right (ordinal == other) (has_slot other slots) has)) i)
+      cons_option (reads.same state handed ordinal (there ordinal (or_left (ordinal == ordinal) (has_slot ordinal slots) (eq-eqb ordinal ordinal refl))) i)
+      (all-kept state handed slots (λ other has. there other (or_right (ordinal == other) (has_slot other slots) has)) i)
 
   none-free : (count : ℕ) → filter_map keep (replicate count None) ≡ []
   none-free zero = refl

@@ -10,6 +10,7 @@ use Rattle.gatt_host.specs.Feeding.{IsUpToAPacket, TakesUpToAPacket, octet_items
 use Rattle.gatt_host.specs.ServerState.{ServerState}
 use Rattle.gatt_host.specs.Meaning.{Frames}
 use Rattle.gatt_host.specs.Notices.{last_notices}
+use Rattle.gatt_host.specs.Packet.{frames_after_first, frames_after_octets}
 use Rattle.gatt_host.specs.RunRefinement.{ServerRefinesRun}
 use Rattle.gatt_host.specs.Telling.{TellsOfAll, TellsOfPacket, notices_told}
 use Rattle.gatt_host.specs.HostModel.{RefinesPacket, SameFault, RefinesRun, RefinesRunWithFault, HostModel, is_own_fault}
@@ -37,6 +38,13 @@ ends_none old new octets none divided last = record {
   divided = λ rest. divided rest ∙ ap (λ (marked : Option Packet). before (option_to_list marked) (still new rest)) none;
   last = last;
 }
+
+-- so what is held of what comes is that of these packets
+pub frames_ended : (server : ServerState) (frames : Frames) (packets : List Packet) (old new : Deframing) (octets : Octets) → EndsIn packets old new octets
+    → frames_after_first server packets frames ≡ frames_after_octets server old octets frames
+frames_ended server frames packets old new octets ends =
+    ap (λ (packets : List Packet). frames_after_first server packets frames)
+    (sym (ap (λ (d : Division). d.packets) (ap (still old) (sym (append-nil octets)) ∙ ends.divided [] ∙ ap (before packets) ends.last) ∙ append-nil packets))
 
 -- what is told of the packets is told of the octets that they divide into
 stream-told : (old new : HostModel) (octets : Octets)

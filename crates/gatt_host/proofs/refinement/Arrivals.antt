@@ -11,8 +11,8 @@ use Rattle.gatt_host.proofs.refinement.Names.{finds, place_there}
 use Rattle.gatt_host.proofs.refinement.OneSlot.{same_place}
 use Rattle.gatt_host.specs.ServerState.{ServerState}
 use Rattle.gatt_host.specs.EventRefinement.{HoldsFrames, FramesFollow}
-use Rattle.gatt_host.specs.Meaning.{Frames, recombinations_in, once_heard, with_fragment}
-use Rattle.gatt_host.specs.Packet.{frames_with}
+use Rattle.gatt_host.specs.Meaning.{Assemblies, once_heard, recombination, with_fragment}
+use Rattle.gatt_host.specs.Packet.{assembled_with}
 use Rattle.gatt_host.specs.StateRefinement.{IsSound, RefinesState, place_of_connection}
 use Rattle.gatt_laws.proofs.Meant.{serves_in_a_slot}
 use Rattle.gatt_laws.specs.laws.Renaming.{RecombineAlike}
@@ -31,9 +31,9 @@ one-more : (fragment : Fragment) (fragments : List Fragment) → with_fragment (
 one-more (Beginning octets) fragments = refl
 one-more (Continuation octets) fragments = refl
 
-module _ (state : State) (server : ServerState) (sound : IsSound state) (refines : RefinesState state [] server) (fragments : Fragments) (frames : Frames)
+module _ (state : State) (server : ServerState) (sound : IsSound state) (refines : RefinesState state [] server) (fragments : Fragments) (frames : Assemblies)
     (holds : HoldsFrames state fragments frames) where
-  pub recombine_alike : RecombineAlike Ordinal Place (place_of_connection state) (context_of state) (recombinations_of fragments) (recombinations_in frames)
+  pub recombine_alike : RecombineAlike Ordinal Place (place_of_connection state) (context_of state) (recombinations_of fragments) (λ place. recombination (get_or frames place no_assembly))
   recombine_alike handle ordinal serves fragment =
       ap (λ (assembly : Assembly). (with_fragment assembly fragment).frame)
       (holds (place_of_connection state ordinal) ordinal (place_there state server sound refines ordinal (serves_in_a_slot state handle ordinal serves).has))
@@ -67,14 +67,14 @@ module _ (state : State) (server : ServerState) (sound : IsSound state) (refines
         ] refl
 
     frames-follow : (found : Option Ordinal) (place : Option ℕ) (fragment : Option Fragment) → Finds state.slots found place
-        → HoldsFrames state (with_arrival fragments (arrival_of found fragment)) (frames_with place fragment frames)
+        → HoldsFrames state (with_arrival fragments (arrival_of found fragment)) (assembled_with place fragment frames)
     frames-follow None place fragment none =
-        subst (λ (place : Option ℕ). HoldsFrames state (with_arrival fragments (arrival_of None fragment)) (frames_with place fragment frames)) (sym none) holds
+        subst (λ (place : Option ℕ). HoldsFrames state (with_arrival fragments (arrival_of None fragment)) (assembled_with place fragment frames)) (sym none) holds
     frames-follow (Some ordinal) place None found =
-        subst (λ (place : Option ℕ). HoldsFrames state (with_arrival fragments (arrival_of (Some ordinal) None)) (frames_with place None frames)) (sym found.is)
+        subst (λ (place : Option ℕ). HoldsFrames state (with_arrival fragments (arrival_of (Some ordinal) None)) (assembled_with place None frames)) (sym found.is)
         (subst (HoldsFrames state fragments) (sym (set-get_or frames found.at no_assembly)) holds)
     frames-follow (Some ordinal) place (Some fragment) found =
-        subst (λ (place : Option ℕ). HoldsFrames state (with_arrival fragments (arrival_of (Some ordinal) (Some fragment))) (frames_with place (Some fragment) frames)) (sym found.is)
+        subst (λ (place : Option ℕ). HoldsFrames state (with_arrival fragments (arrival_of (Some ordinal) (Some fragment))) (assembled_with place (Some fragment) frames)) (sym found.is)
         (frame-set found.at ordinal fragment found.has)
 
 pub frames_follow : FramesFollow

@@ -8,6 +8,7 @@ returns c = record {
       c.take_packet.ensures.taken c.take_packet.ensures.stops c.take_packet.ensures.unchanged c.take_packet.ensures.frames_unchanged;
   told = λ ok. packet_told (packet_of_ref c.args.packet) c.args.state.now c.take_packet.new.state c.args.frames.now c.take_packet.new.frames c.requires.drained
       (c.take_packet.ensures.taken ok);
+  frames = c.take_packet.ensures.frames;
   not_own = result_not_own (packet_of_ref c.args.packet) c.args.state.now c.take_packet.result c.take_packet.ensures.stops;
   unchanged = c.take_packet.ensures.unchanged;
 }

@@ -5,7 +5,7 @@ use Rattle.std.specs.Result.{result_err}
 use Rattle.gatt_host.proofs.taking.take_in.Goals.{then-is_none+in-Ok+else-not-fed, else-is_none}
 use Rattle.gatt_host.proofs.model.Octets.{octets_bring_whole, octets_pass, octets_stop_whole}
 use Rattle.gatt_host.proofs.model.Silence.{stands_at_in_silence}
-use Rattle.gatt_host.proofs.model.StreamTold.{ends_none, is_none_marked, octets_told, packet_told, stopped_told, takes_up_to}
+use Rattle.gatt_host.proofs.model.StreamTold.{ends_none, frames_ended, is_none_marked, octets_told, packet_told, stopped_told, takes_up_to}
 use Rattle.gatt_host.proofs.model.Taking.{lost_leads, lost_silent, none_marked, not_true, packet_lent, packet_marked, EndsPacket}
 use Rattle.gatt_host.specs.declared.host_fault.HostFault.{HostFault}
 use Rattle.gatt_host.specs.Feeding.{items_taken, octet_items}
@@ -141,6 +141,35 @@ returns-clause-up_to c =
           c.lent_or_marked-whole.ensures.lent c.lent_or_marked-whole.ensures.lent_used
     ] in
     takes_up_to (packet_of_ref host.packet ∷ []) old new octets used (record { divided = ends.divided; last = ends.last }) refl
+
+pub returns-clause-frames : goal.returns-clause-frames
+returns-clause-frames c =
+    let host : WholePacket = c.lent_or_marked-whole.result in
+    let used : ℕ = host.used in
+    let octets : Octets = c.args.octets.now in
+    let old : HostModel = record { server = c.args.state.now; frames = c.args.frames.now; stream = c.args.deframer.now; fault = None } in
+    let new : HostModel = record { server = c.packet.new.state; frames = c.packet.new.frames; stream = c.if-is_none.deframer; fault = None } in
+    let ends : EndsPacket c.args.deframer.now octets c.if-is_none.deframer used (packet_of_ref host.packet) =
+    elim c.if-is_none.branch [
+      | then-is_none+in-Ok+else-not-fed w ↦
+          packet_marked c.whole_packet-lent.result c.args.deframer.now c.if-is_none.deframer octets host w.feed.new.self w.in-Ok.fed.used c.if-is_none.used
+          (c.is_none.ensures ∙ ap not w.if-is_none.true) w.deframer-is w.in-Ok.ensures.divided w.in-Ok.ensures.unfinished
+          c.lent_or_marked-whole.ensures.marked c.lent_or_marked-whole.ensures.marked_used w.used-is
+      | else-is_none w ↦
+          packet_lent c.whole_packet-lent.result c.args.deframer.now c.if-is_none.deframer octets host
+          (c.is_none.ensures ∙ ap not w.if-is_none.false) w.deframer-is c.whole_packet-lent.ensures.divided c.whole_packet-lent.ensures.unfinished
+          c.lent_or_marked-whole.ensures.lent c.lent_or_marked-whole.ensures.lent_used
+    ] in
+    c.in_ok-packet.ensures.frames
+    ∙ frames_ended old.server old.frames (packet_of_ref host.packet ∷ []) old.stream new.stream (take used octets) (record { divided = ends.divided; last = ends.last })
+
+pub returns-then-not-fed-clause-frames : goal.returns-then-not-fed-clause-frames
+returns-then-not-fed-clause-frames c =
+    let none : c.feed.new.self.marked ≡ None =
+    none_marked c.in-Ok.fed.packet c.feed.new.self.marked (not_true c.in-Ok.fed.packet c.if-not-fed.true) c.in-Ok.ensures.marked in
+    let octets : Octets = take c.in-Ok.fed.used c.args.octets.now in
+    frames_ended c.args.state.now c.args.frames.now [] c.args.deframer.now c.feed.new.self octets
+    (ends_none c.args.deframer.now c.feed.new.self octets none c.in-Ok.ensures.divided c.in-Ok.ensures.unfinished)
 
 pub returns-in-Err-clause-told : goal.returns-in-Err-clause-told
 returns-in-Err-clause-told c =
