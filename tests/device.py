@@ -83,7 +83,7 @@ def a_day(folder):
     check("the owner opens", "13", controller.ask(65, "120a0001"))
     check("the motor hears", "+ written 2 10 01", one.line())
     check("the log has no octets", " 2 10 octets: 1", device.said("+ written"))
-    check("the log has handles and slots", [" 1 1 c0:00:00:00:00:0a handle 64 slot 0", " 2 0 00:11:22:33:44:55 handle 65 slot 1"],
+    check("the log has handles", [" 1 1 c0:00:00:00:00:0a handle 64", " 2 0 00:11:22:33:44:55 handle 65"],
         [device.said("+ connected", count) for count in (1, 2)])
     check("no rows yet", "", text_of(rows))
     check("the owner subscribes", "13", controller.ask(65, "1207000100"))

@@ -4,7 +4,7 @@
 ghost use Rattle.std.specs.Prelude.{◌≡◌, ◌++◌, OnOk};
 ghost use Rattle.std.specs.List.{flat_map};
 ghost use Rattle.app_lines.specs.Told.{lines_of_connection};
-ghost use Rattle.gatt_slots.specs.Connections.{connections_in};
+ghost use Rattle.gatt_host.specs.Connections.{connections_in};
 
 use crate::device::Device;
 use crate::hearing::Hearing;
@@ -15,7 +15,7 @@ use arrayvec::ArrayVec;
 use att_numbers::limit::MAX_ATTRIBUTES;
 use att_table::ConfigRow;
 use device_loop::Saving;
-use device_session::{Asked, Heard, Session, add_handle, add_outcome, add_value};
+use device_session::{Asked, Heard, Keyless, Session, add_handle, add_outcome, add_value};
 use gatt_host::{AppFault, Connection, Host, MAX_SLOTS};
 use std::alloc::{AllocError, Global};
 use std::fs::{File, Files};
@@ -321,7 +321,7 @@ fn tell_missed<R: Clock + Eprint>(session: &mut Session<'_, R>, host: &Host) {
 fn add_connections(text: &mut Vec<u8>, names: &Names, host: &Host) -> Result<(), AllocError>
     ensures ok { OnOk result (text.new.items
         ≡ text.old.items ++ flat_map (lines_of_connection names.now.named)
-        (connections_in host.now.server.slots)) }
+        (connections_in host.now)) }
 {
     for connection in host.connections() {
         add_if_named(text, names, &connection)?;
@@ -332,18 +332,18 @@ fn add_connections(text: &mut Vec<u8>, names: &Names, host: &Host) -> Result<(),
 /// Looks for strangers among the phones of a host, if that is asked for.
 fn look_for_strangers<R>(session: &mut Session<'_, R>, host: &Host) {
     if session.looks_for_strangers() {
-        session.look_for_strangers(keyless(host).as_slice());
+        session.look_for_strangers(&keyless(host));
     }
 }
 
-/// The handles of the phones of a host that have no key, and are not sent away yet.
-fn keyless(host: &Host) -> ArrayVec<u16, MAX_SLOTS> {
-    let mut handles = ArrayVec::new();
+/// Returns the connections of a host that have no key, and are not ended yet.
+fn keyless(host: &Host) -> ArrayVec<Keyless, MAX_SLOTS> {
+    let mut keyless = ArrayVec::new();
     for connection in host.connections() {
-        if connection.key.is_none() && !connection.ending {
+        if let Some(connection) = Keyless::of(&connection) {
             // A host has no more connections than there is room for.
-            let _ = handles.try_push(connection.handle);
+            let _ = keyless.try_push(connection);
         }
     }
-    handles
+    keyless
 }

@@ -1,6 +1,6 @@
 //! The application: one at a time, which says lines and hears lines. Who connects is a visitor first.
 
-use crate::controller_session::sooner;
+use crate::strangers::sooner;
 use crate::visitor::{Visit, Visitor};
 use app_lines::{Found, Inbox, LONGEST, Outbox};
 use arrayvec::ArrayVec;

@@ -1,7 +1,7 @@
 //! The session with the controller: its transport, the capture of what goes by there, and the strangers among
 //! its phones.
 
-use crate::strangers::{Limits, Strangers};
+use crate::strangers::{Limits, Strangers, sooner};
 use device_io::{Connector, Controller, Log, Poller, Recording};
 use std::alloc::Global;
 use std::io;
@@ -62,7 +62,6 @@ impl ControllerSession<'_> {
         let octets = buffer.split_at(count.min(buffer.len())).0;
         if !octets.is_empty() {
             self.recording.came(octets, log);
-            self.strangers.hear(octets, now);
         }
         Ok(Some(octets))
     }
@@ -79,14 +78,5 @@ impl ControllerSession<'_> {
             self.recording.went(octets, log);
         }
         Ok(is_there)
-    }
-}
-
-/// The sooner of two moments.
-pub fn sooner(one: Option<u64>, other: Option<u64>) -> Option<u64> {
-    match (one, other) {
-        (Some(one), Some(other)) => Some(one.min(other)),
-        (Some(one), None) => Some(one),
-        (None, other) => other,
     }
 }

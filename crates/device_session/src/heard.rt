@@ -1,6 +1,5 @@
 //! What is heard of the host while a turn is taken.
 
-use crate::places::Places;
 use crate::subscribed::Subscribed;
 use app_lines::{Names, Told, add_named_line, add_number, add_told, connection_of};
 use gatt_app::Notice;
@@ -17,7 +16,6 @@ pub struct Heard {
     pub(crate) log: Vec<u8>,
     logs_values: bool,
     pub(crate) names: Names,
-    places: Places,
     subscribed: Subscribed,
     /// The handles of the connections whose links have a key since the turn.
     secured: Vec<u16>,
@@ -35,7 +33,6 @@ impl Heard {
             log: Vec::new(alloc),
             logs_values,
             names: Names::new(),
-            places: Places::new(),
             subscribed: Subscribed::new(alloc),
             secured: Vec::new(alloc),
             written: Vec::new(alloc),
@@ -48,7 +45,6 @@ impl Heard {
         self.clear();
         self.names.forget();
         self.subscribed.forget();
-        self.places = Places::new();
     }
 
     /// Whether nothing was heard.
@@ -124,14 +120,7 @@ impl Heard {
     fn add(&mut self, name: u64, notice: &Notice<'_>) -> Result<(), AllocError> {
         add_named_line(&mut self.text, name, notice)?;
         match notice {
-            Notice::Connected { handle, .. } => {
-                let place = self.places.take(*handle);
-                add_connected(&mut self.log, name, notice, place)
-            }
-            Notice::Disconnected { handle } => {
-                self.places.leave(*handle);
-                add_named_line(&mut self.log, name, notice)
-            }
+            Notice::Connected { .. } => add_connected(&mut self.log, name, notice),
             Notice::Written {
                 attribute,
                 value,
@@ -142,22 +131,14 @@ impl Heard {
     }
 }
 
-/// Adds the line of a connection that has come, and behind it its handle, and its slot if it has one.
-fn add_connected(
-    log: &mut Vec<u8>,
-    name: u64,
-    notice: &Notice<'_>,
-    place: Option<usize>,
-) -> Result<(), AllocError> {
+/// Adds the line of a connection that has come, and behind it its handle.
+fn add_connected(log: &mut Vec<u8>, name: u64, notice: &Notice<'_>) -> Result<(), AllocError> {
     add_named_line(log, name, notice)?;
     // What follows goes in front of the end of the line.
     log.pop();
     log.extend_from_slice(b" handle")?;
     add_number(log, u64::from(connection_of(notice)))?;
-    match place {
-        Some(place) => add_end(log, b" slot", place),
-        None => log.extend_from_slice(b"\n"),
-    }
+    log.extend_from_slice(b"\n")
 }
 
 /// Adds that a connection has written `count` octets to the attribute at a handle.

@@ -11,7 +11,6 @@ mod controller_session;
 mod heard;
 mod missed;
 mod opening;
-mod places;
 mod session;
 mod strangers;
 mod subscribed;
@@ -21,7 +20,6 @@ mod visitor;
 
 pub use answering::{add_handle, add_outcome, add_value};
 pub use asked::Asked;
-pub use controller_session::sooner;
 pub use heard::Heard;
 pub use session::Session;
-pub use strangers::Limits;
+pub use strangers::{Keyless, Limits, sooner};

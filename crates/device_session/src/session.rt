@@ -6,17 +6,19 @@ use crate::acceptance::Acceptance;
 use crate::application::Application;
 use crate::asked::Asked;
 use crate::asking::Asking;
-use crate::controller_session::{ControllerSession, sooner};
+use crate::controller_session::ControllerSession;
 use crate::heard::Heard;
 use crate::missed::Missed;
 use crate::opening::{connector_to, listener_at, record_to};
-use crate::strangers::Limits;
+use crate::strangers::{Keyless, Limits, sooner};
 use crate::telling::{accept, fill, flush, reply, say_or_end, tell, tell_heard};
 use crate::turns::Turns;
 use app_lines::{Names, Told};
+use arrayvec::ArrayVec;
 use device_io::{Log, Poller, Ready};
 use device_options::{ApplicationAddress, ControllerAddress};
 use gatt_app::{App, AppFault};
+use gatt_laws::MAX_SLOTS;
 use std::alloc::{AllocError, Global};
 use std::fs::{File, Files};
 use std::io;
@@ -133,11 +135,11 @@ impl<'a, R> Session<'a, R> {
 
     /// Whether strangers are looked for.
     pub fn looks_for_strangers(&self) -> bool {
-        self.controller.strangers.are_looked_for()
+        self.controller.strangers.are_limited()
     }
 
-    /// The phones with these handles have no key, and no others.
-    pub fn look_for_strangers(&mut self, keyless: &[u16]) {
+    /// Takes the connections that have no key.
+    pub fn look_for_strangers(&mut self, keyless: &ArrayVec<Keyless, MAX_SLOTS>) {
         let now = self.turns.time();
         self.controller.strangers.look(keyless, now);
     }

@@ -1,23 +1,47 @@
-//! Phones without a key, when each came, and since when it is silent.
+//! Phones without a key, and when each of them is disconnected.
 
-ghost use Rattle.std.specs.Prelude.{◌≤◌, length, IfSome};
+ghost use Rattle.std.specs.Prelude.{◌≡◌, []};
+ghost use Rattle.std.specs.Option.{option_map};
+ghost use Rattle.device_session.specs.Strangers.{due_of, first_due, found_at, is_due, keyless_of, sooner_of, stranger_of, strangers_of, time_after};
 
-use crate::controller_session::sooner;
 use arrayvec::ArrayVec;
+use gatt_app::Connection;
 use gatt_laws::MAX_SLOTS;
-use le_h4::{Deframer, PacketRef};
 
-/// The code of the event that a connection is gone: Core 5.0, Vol 2 Part E, 7.7.5.
-const DISCONNECTION_COMPLETE: u8 = 0x05;
+/// A connection whose link has no key.
+#[derive(Clone, Copy, Default)]
+pub struct Keyless {
+    /// Its number, which no other connection of the host has.
+    pub ordinal: u64,
+    /// Its handle in HCI.
+    pub handle: u16,
+    /// The time at which data of it arrived last, in milliseconds.
+    pub heard: u64,
+}
+
+impl Keyless {
+    /// Returns a connection, if its link has no key and the host has not ended it.
+    pub fn of(connection: &Connection) -> Option<Keyless>
+        ensures { result ≡ keyless_of connection.now }
+    {
+        if connection.key.is_some() || connection.ending {
+            return None;
+        }
+        Some(Keyless {
+            ordinal: connection.ordinal,
+            handle: connection.handle,
+            heard: connection.heard,
+        })
+    }
+}
 
 /// A phone without a key.
 #[derive(Clone, Copy, Default)]
-struct Stranger {
-    handle: u16,
-    /// When it was found, in milliseconds.
-    found: u64,
-    /// When it said something last, in milliseconds.
-    since: u64,
+pub struct Stranger {
+    /// Its connection.
+    pub connection: Keyless,
+    /// The time at which it was found, in milliseconds.
+    pub found: u64,
 }
 
 /// How long a phone without a key may stay, each in milliseconds. Without a limit it may stay for ever.
@@ -30,16 +54,43 @@ pub struct Limits {
 }
 
 impl Limits {
-    /// Returns when a phone is to be sent away, if there is an end to it.
-    fn due(&self, stranger: &Stranger) -> Option<u64> {
-        let silent = after(stranger.since, self.silent);
-        sooner(silent, after(stranger.found, self.staying))
+    /// Returns when a phone is to be disconnected, in milliseconds, if there is an end to it.
+    fn due(&self, stranger: &Stranger) -> Option<u64>
+        ensures { result ≡ due_of self.now stranger.now }
+    {
+        sooner(
+            time_after(stranger.connection.heard, self.silent),
+            time_after(stranger.found, self.staying),
+        )
+    }
+
+    /// Returns whether a phone is to be disconnected at a time, in milliseconds.
+    fn is_due(&self, stranger: &Stranger, now: u64) -> bool
+        ensures { result ≡ is_due self.now now stranger.now }
+    {
+        match self.due(stranger) {
+            Some(due) => due <= now,
+            None => false,
+        }
     }
 }
 
 /// Returns the time so long after another, if there is a limit.
-fn after(time: u64, limit: Option<u64>) -> Option<u64> {
+fn time_after(time: u64, limit: Option<u64>) -> Option<u64>
+    ensures { result ≡ time_after time limit }
+{
     Some(time.saturating_add(limit?))
+}
+
+/// Returns the sooner of two times, if one of them is there.
+pub fn sooner(one: Option<u64>, other: Option<u64>) -> Option<u64>
+    ensures { result ≡ sooner_of one other }
+{
+    match (one, other) {
+        (Some(one), Some(other)) => Some(one.min(other)),
+        (Some(one), None) => Some(one),
+        (None, other) => other,
+    }
 }
 
 /// The phones without a key.
@@ -47,68 +98,42 @@ fn after(time: u64, limit: Option<u64>) -> Option<u64> {
 pub(crate) struct Strangers {
     limits: Limits,
     known: ArrayVec<Stranger, MAX_SLOTS>,
-    deframer: Deframer,
 }
 
 impl Strangers {
     /// Returns that none is known.
-    pub(crate) fn new(limits: Limits) -> Strangers {
+    pub(crate) fn new(limits: Limits) -> Strangers
+        ensures limits { result.limits ≡ limits }
+        ensures none { result.known.items ≡ [] }
+    {
         Strangers {
             limits,
             known: ArrayVec::new(),
-            deframer: Deframer::new(),
         }
     }
 
-    /// Another controller is served: none is known any more.
-    pub(crate) fn forget(&mut self) {
-        self.known.clear();
-        self.deframer = Deframer::new();
-    }
-
-    /// Hears octets of the controller: who of them says something, and who is gone.
-    pub(crate) fn hear(&mut self, octets: &[u8], now: u64) {
-        if !self.are_looked_for() {
-            return;
-        }
-        let mut rest = octets;
-        for _octet in 0..octets.len() {
-            if rest.is_empty() {
-                return;
-            }
-            let Some(used) = self.hear_packet(rest, now) else {
-                return;
-            };
-            rest = rest.split_at(used).1;
-        }
-    }
-
-    /// Hears octets up to the end of a packet: how many, if packets begin so.
-    fn hear_packet(&mut self, octets: &[u8], now: u64) -> Option<usize>
-        ensures { IfSome result (λ used. used ≤ length octets.now) }
+    /// Forgets all of them: another controller is served.
+    pub(crate) fn forget(&mut self)
+        ensures limits { self.new.limits ≡ self.old.limits }
+        ensures none { self.new.known.items ≡ [] }
     {
-        let fed = self.deframer.feed(octets).ok()?;
-        if fed.packet {
-            match self.deframer.packet() {
-                PacketRef::Acl { handle, .. } => said(&mut self.known, handle, now),
-                PacketRef::Event(event) => leave(&mut self.known, event),
-                PacketRef::Sco => {}
-            }
-        }
-        Some(fed.used)
+        self.known.clear();
     }
 
-    /// Whether it is looked for them at all.
-    pub(crate) fn are_looked_for(&self) -> bool {
+    /// Returns whether any phone is disconnected for being silent or for staying.
+    pub(crate) fn are_limited(&self) -> bool {
         self.limits.silent.is_some() || self.limits.staying.is_some()
     }
 
-    /// These phones have no key, and no others.
-    pub(crate) fn look(&mut self, keyless: &[u16], now: u64) {
+    /// Takes the connections without a key, as they are at a time in milliseconds.
+    pub(crate) fn look(&mut self, keyless: &ArrayVec<Keyless, MAX_SLOTS>, now: u64)
+        ensures limits { self.new.limits ≡ self.old.limits }
+        ensures known { self.new.known.items ≡ strangers_of self.old.known.items now keyless.now.items }
+    {
         self.known = strangers_of(keyless, self.known.as_slice(), now);
     }
 
-    /// Returns when the first of them is to be sent away, in milliseconds.
+    /// Returns when the first of them is to be disconnected, in milliseconds.
     pub(crate) fn due(&self) -> Option<u64> {
         let mut due = None;
         for stranger in self.known.as_slice() {
@@ -117,82 +142,70 @@ impl Strangers {
         due
     }
 
-    /// Returns whether one of them is to be sent away.
+    /// Returns whether one of them is to be disconnected at a time, in milliseconds.
     pub(crate) fn is_due(&self, now: u64) -> bool {
-        match self.due() {
-            Some(due) => due <= now,
-            None => false,
-        }
+        first_due(self.known.as_slice(), &self.limits, now).is_some()
     }
 
-    /// Returns one that is to be sent away, which is known no more.
-    pub(crate) fn next_due(&mut self, now: u64) -> Option<u16> {
-        let place = place_due(self.known.as_slice(), self.limits, now)?;
-        Some(self.known.pop_at(place)?.handle)
-    }
-}
-
-/// Returns the place of the first of them who is to be sent away.
-fn place_due(known: &[Stranger], limits: Limits, now: u64) -> Option<usize> {
-    for (place, stranger) in known.iter().enumerate() {
-        if let Some(due) = limits.due(stranger)
-            && due <= now
-        {
-            return Some(place);
-        }
-    }
-    None
-}
-
-/// Returns the phones that have no key, of whom some are known.
-fn strangers_of(keyless: &[u16], known: &[Stranger], now: u64) -> ArrayVec<Stranger, MAX_SLOTS> {
-    let mut strangers = ArrayVec::new();
-    for handle in keyless {
-        let new = Stranger {
-            handle: *handle,
-            found: now,
-            since: now,
-        };
-        // A host has no more connections than there is room for.
-        let _ = strangers.try_push(find(known, *handle).unwrap_or(new));
-    }
-    strangers
-}
-
-/// One of them has said something.
-fn said(known: &mut ArrayVec<Stranger, MAX_SLOTS>, handle: u16, now: u64) {
-    for stranger in known.as_mut_slice() {
-        if stranger.handle == handle {
-            stranger.since = now;
-        }
-    }
-}
-
-/// Forgets one of them if an event says that it is gone: another phone may have its handle next.
-fn leave(known: &mut ArrayVec<Stranger, MAX_SLOTS>, event: &[u8]) {
-    if let [DISCONNECTION_COMPLETE, _, 0, low, high, ..] = *event
-        && let Some(place) = place_of(known.as_slice(), u16::from_le_bytes([low, high]))
+    /// Returns the handle of the first one that is to be disconnected at a time, in milliseconds, and forgets
+    /// that connection.
+    pub(crate) fn next_due(&mut self, now: u64) -> Option<u16>
+        ensures { result ≡ option_map (λ stranger. stranger.connection.handle)
+            (first_due self.old.limits now self.old.known.items) }
     {
-        known.pop_at(place);
+        let due = first_due(self.known.as_slice(), &self.limits, now)?;
+        let connection = due.connection;
+        self.known
+            .retain(|one| one.connection.ordinal != connection.ordinal);
+        Some(connection.handle)
     }
 }
 
-/// Returns the place of the one with a handle.
-fn place_of(known: &[Stranger], handle: u16) -> Option<usize> {
-    for (place, stranger) in known.iter().enumerate() {
-        if stranger.handle == handle {
-            return Some(place);
-        }
-    }
-    None
-}
-
-/// Returns one of them by its handle.
-fn find(known: &[Stranger], handle: u16) -> Option<Stranger> {
+/// Returns the first of some phones that is to be disconnected.
+fn first_due(known: &[Stranger], limits: &Limits, now: u64) -> Option<Stranger>
+    ensures { result ≡ first_due limits.now now known.now }
+{
     for stranger in known {
-        if stranger.handle == handle {
+        if limits.is_due(stranger, now) {
             return Some(*stranger);
         }
     }
     None
+}
+
+/// Returns the phones of connections without a key, of which some are known.
+fn strangers_of(
+    keyless: &ArrayVec<Keyless, MAX_SLOTS>,
+    known: &[Stranger],
+    now: u64,
+) -> ArrayVec<Stranger, MAX_SLOTS>
+    ensures { result.items ≡ strangers_of known.now now keyless.now.items }
+{
+    let mut strangers = ArrayVec::new();
+    for connection in keyless.as_slice() {
+        strangers.push(stranger_of(connection, known, now));
+    }
+    strangers
+}
+
+/// Returns the phone of a connection without a key.
+fn stranger_of(connection: &Keyless, known: &[Stranger], now: u64) -> Stranger
+    ensures { result ≡ stranger_of known.now now connection.now }
+{
+    Stranger {
+        connection: *connection,
+        found: found_at(known, connection.ordinal, now),
+    }
+}
+
+/// Returns when the phone with this ordinal was found, if it is known, or else that it is found now.
+fn found_at(known: &[Stranger], ordinal: u64, now: u64) -> u64
+    ensures { result ≡ found_at known.now ordinal now }
+{
+    for stranger in known {
+        if stranger.connection.ordinal == ordinal {
+            return stranger.found;
+        }
+    }
+    now
 }
