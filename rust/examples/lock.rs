@@ -5,7 +5,7 @@
 use gihandop::{Config, Files, Host, Notice, Uuid};
 use std::error::Error;
 use std::net::TcpListener;
-use std::{env, fs};
+use std::{env, fs, io};
 
 fn main() -> Result<(), Box<dyn Error>> {
     let words: Vec<String> = env::args().skip(1).collect();
@@ -16,20 +16,26 @@ fn main() -> Result<(), Box<dyn Error>> {
     let files = Files {
         table: &table,
         keys: &keys,
-        rows: "",
+        ..Files::default()
     };
     let mut host = Host::open(files, &Config::default())?;
     let state = host
-        .find(Uuid::Short(0xfff0), Uuid::Short(0xfff1))
+        .find(Uuid::Short(0xfff0), Uuid::Short(0xfff1), 1)
         .ok_or("the table has no lock")?;
     let (controller, _) = TcpListener::bind(address)?.accept()?;
     controller.set_nodelay(true)?;
-    host.serve(&controller, &controller, |host, notice| match notice {
-        Notice::Written { attribute, .. } if attribute == state => {
-            let is_open = host.value(state).as_deref() == Some(&[1]);
-            println!("motor: {}", if is_open { "open" } else { "shut" });
+    host.serve(&controller, &controller, |turn| -> io::Result<()> {
+        for notice in turn.notices() {
+            match notice {
+                Notice::Written {
+                    attribute, value, ..
+                } if attribute == state => {
+                    println!("motor: {}", if value == [1] { "open" } else { "shut" });
+                }
+                notice => println!("{notice:?}"),
+            }
         }
-        notice => println!("{notice:?}"),
+        Ok(())
     })?;
     Ok(())
 }

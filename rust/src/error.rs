@@ -1,22 +1,23 @@
 //! Why something was not done, in words.
 
+use crate::Files;
 use crate::ffi;
 use std::error;
 use std::fmt;
 use std::io;
 
 /// Why something was not done.
-#[derive(Clone, Copy, Debug, PartialEq, Eq, Hash)]
+#[derive(Clone, Debug, PartialEq, Eq, Hash)]
 #[non_exhaustive]
 pub enum Error {
-    /// Packets have to go out first: [`Host::send`](crate::Host::send).
+    /// Packets have to be sent first: [`Host::send`](crate::Host::send).
     OutputOwed,
     /// Memory was refused.
     OutOfMemory,
     /// The configuration is out of its limits.
     BadConfig,
 
-    /// The host has stopped for good: an octet stands where a packet begins, and begins none.
+    /// The host has stopped for good: a byte stands where a packet begins, and begins none.
     Desync,
     /// The host has stopped for good: an event is too short for its fields, or has another length
     /// than it states.
@@ -26,33 +27,62 @@ pub enum Error {
     /// The host has stopped for good: the controller reports an error of its own.
     Hardware,
 
-    /// A call is refused: there is no attribute with the handle.
-    NoSuchHandle,
-    /// A call is refused: it is no characteristic value.
-    NotAValue,
-    /// A call is refused: the value is longer than its largest length, or a fixed one has another.
-    BadLength,
-    /// A call is refused: no connection with the handle serves.
-    NoSuchConnection,
-    /// A call is refused: the time is before the one that stands.
+    /// A call is refused: there is no attribute with this handle.
+    NoSuchHandle(u16),
+    /// A call is refused: the attribute with this handle is no characteristic value.
+    NotAValue(u16),
+    /// A call is refused: the value is longer than the attribute with this handle may have, or its
+    /// length is fixed and is another one.
+    BadLength(u16),
+    /// A call is refused: no connection with this handle is served.
+    NoSuchConnection(u16),
+    /// A call is refused: the time is before the one of an earlier call.
     TimeWentBack,
-    /// A call is refused: the host has stopped, and [`Host::take`](crate::Host::take) says why.
+    /// A call is refused: the host has stopped for good. Either an earlier error says why, or the
+    /// application or the writer has returned an error ([`Host::feed`](crate::Host::feed)).
     HasStopped,
-    /// A call is refused: a table has no value that tells of changes, or they have it at different
-    /// handles.
+    /// A call is refused: the present or the new table has no Service Changed characteristic, or
+    /// they have it at different handles.
     NoServiceChanged,
 
-    /// The table file is refused: the number of its first fault, as `docs/FORMATS.md` has it.
-    Table(u32),
-    /// The key file is refused: the number of its first fault.
-    Keys(u32),
-    /// The rows file is refused: the number of its first fault.
-    Rows(u32),
+    /// The table file is refused.
+    Table(Fault),
+    /// The key file is refused.
+    Keys(Fault),
+    /// The rows file is refused.
+    Rows(Fault),
+    /// The values are refused.
+    Values(Fault),
+}
+
+/// The first fault of a file, and its place there.
+#[derive(Clone, Debug, PartialEq, Eq, Hash)]
+pub struct Fault {
+    number: u32,
+    text: String,
+}
+
+impl Fault {
+    /// Returns the number of the fault, which `docs/FORMATS.md` lists for each file.
+    pub fn number(&self) -> u32 {
+        self.number
+    }
+
+    /// Returns the fault and its place in words, as `gatt_shell show` prints them.
+    pub fn text(&self) -> &str {
+        &self.text
+    }
+}
+
+impl fmt::Display for Fault {
+    fn fmt(&self, f: &mut fmt::Formatter<'_>) -> fmt::Result {
+        f.write_str(&self.text)
+    }
 }
 
 impl Error {
-    /// The status of `include/gihandop.h`.
-    pub fn status(self) -> u32 {
+    /// Returns the status of `include/gihandop.h`.
+    pub fn status(&self) -> u32 {
         match self {
             Error::OutputOwed => ffi::GH_OUTPUT_OWED,
             Error::OutOfMemory => ffi::GH_OUT_OF_MEMORY,
@@ -61,27 +91,82 @@ impl Error {
             Error::BadEvent => ffi::GH_BAD_EVENT,
             Error::BadInit => ffi::GH_BAD_INIT,
             Error::Hardware => ffi::GH_HARDWARE,
-            Error::NoSuchHandle => ffi::GH_NO_SUCH_HANDLE,
-            Error::NotAValue => ffi::GH_NOT_A_VALUE,
-            Error::BadLength => ffi::GH_BAD_LENGTH,
-            Error::NoSuchConnection => ffi::GH_NO_SUCH_CONNECTION,
+            Error::NoSuchHandle(_) => ffi::GH_NO_SUCH_HANDLE,
+            Error::NotAValue(_) => ffi::GH_NOT_A_VALUE,
+            Error::BadLength(_) => ffi::GH_BAD_LENGTH,
+            Error::NoSuchConnection(_) => ffi::GH_NO_SUCH_CONNECTION,
             Error::TimeWentBack => ffi::GH_TIME_WENT_BACK,
             Error::HasStopped => ffi::GH_HAS_STOPPED,
             Error::NoServiceChanged => ffi::GH_NO_SERVICE_CHANGED,
-            Error::Table(fault) => ffi::GH_BAD_TABLE.saturating_add(fault),
-            Error::Keys(fault) => ffi::GH_BAD_KEYS.saturating_add(fault),
-            Error::Rows(fault) => ffi::GH_BAD_ROWS.saturating_add(fault),
+            Error::Table(fault) => ffi::GH_BAD_TABLE + fault.number,
+            Error::Keys(fault) => ffi::GH_BAD_KEYS + fault.number,
+            Error::Rows(fault) => ffi::GH_BAD_ROWS + fault.number,
+            Error::Values(fault) => ffi::GH_BAD_VALUES + fault.number,
         }
     }
 
-    /// Whether the host has stopped for good.
-    pub fn is_final(self) -> bool {
-        (ffi::GH_STOPPED..ffi::GH_REFUSED).contains(&self.status()) || self == Error::HasStopped
+    /// Returns whether the host has stopped for good.
+    pub fn is_final(&self) -> bool {
+        (ffi::GH_STOPPED..ffi::GH_REFUSED).contains(&self.status()) || *self == Error::HasStopped
     }
 }
 
-/// What a status says of a function that answers whether it is done.
-pub(crate) fn judged(status: u32) -> Result<(), Error> {
+/// Returns what a status says of a call with files.
+pub(crate) fn result_of_files(status: u32, files: Files<'_>) -> Result<(), Error> {
+    let fault = |base: u32| Fault {
+        number: status - base,
+        text: fault_of(files).unwrap_or_else(|| words_of(status)),
+    };
+    Err(match status {
+        101..=199 => Error::Table(fault(ffi::GH_BAD_TABLE)),
+        201..=299 => Error::Keys(fault(ffi::GH_BAD_KEYS)),
+        301..=399 => Error::Rows(fault(ffi::GH_BAD_ROWS)),
+        401..=499 => Error::Values(fault(ffi::GH_BAD_VALUES)),
+        status => return result_of(status, 0),
+    })
+}
+
+/// Returns the first fault of files and its place in words, if there is one and there is memory.
+fn fault_of(files: Files<'_>) -> Option<String> {
+    let Files {
+        table,
+        keys,
+        rows,
+        values,
+    } = files;
+    let mut text = vec![0; 256];
+    loop {
+        let mut count = 0;
+        // SAFETY: each pointer is to as many bytes as the call is told.
+        let answer = unsafe {
+            ffi::gh_explain(
+                table.as_ptr(),
+                table.len(),
+                keys.as_ptr(),
+                keys.len(),
+                rows.as_ptr(),
+                rows.len(),
+                values.as_ptr(),
+                values.len(),
+                text.as_mut_ptr(),
+                text.len(),
+                &mut count,
+            )
+        };
+        match answer {
+            ffi::GH_DONE => {
+                text.truncate(count);
+                return String::from_utf8(text).ok();
+            }
+            ffi::GH_SHORT_BUFFER => text.resize(count, 0),
+            _ => return None,
+        }
+    }
+}
+
+/// Returns what a status says of a call without files. `handle` is the one that the call named, if
+/// it named one.
+pub(crate) fn result_of(status: u32, handle: u16) -> Result<(), Error> {
     Err(match status {
         ffi::GH_DONE => return Ok(()),
         ffi::GH_OUTPUT_OWED => Error::OutputOwed,
@@ -91,29 +176,43 @@ pub(crate) fn judged(status: u32) -> Result<(), Error> {
         ffi::GH_BAD_EVENT => Error::BadEvent,
         ffi::GH_BAD_INIT => Error::BadInit,
         ffi::GH_HARDWARE => Error::Hardware,
-        ffi::GH_NO_SUCH_HANDLE => Error::NoSuchHandle,
-        ffi::GH_NOT_A_VALUE => Error::NotAValue,
-        ffi::GH_BAD_LENGTH => Error::BadLength,
-        ffi::GH_NO_SUCH_CONNECTION => Error::NoSuchConnection,
+        ffi::GH_NO_SUCH_HANDLE => Error::NoSuchHandle(handle),
+        ffi::GH_NOT_A_VALUE => Error::NotAValue(handle),
+        ffi::GH_BAD_LENGTH => Error::BadLength(handle),
+        ffi::GH_NO_SUCH_CONNECTION => Error::NoSuchConnection(handle),
         ffi::GH_TIME_WENT_BACK => Error::TimeWentBack,
         ffi::GH_HAS_STOPPED => Error::HasStopped,
         ffi::GH_NO_SERVICE_CHANGED => Error::NoServiceChanged,
-        101..=199 => Error::Table(status - ffi::GH_BAD_TABLE),
-        201..=299 => Error::Keys(status - ffi::GH_BAD_KEYS),
-        301..=399 => Error::Rows(status - ffi::GH_BAD_ROWS),
         _ => unreachable!("the archive is not that of this crate: status {status}"),
     })
 }
 
+/// Returns a status in words.
+fn words_of(status: u32) -> String {
+    let mut text = [0; 128];
+    let mut count = 0;
+    // SAFETY: the array has as many bytes as the call is told.
+    let answer = unsafe { ffi::gh_text(status, text.as_mut_ptr(), text.len(), &mut count) };
+    match std::str::from_utf8(&text[..count.min(text.len())]) {
+        Ok(text) if answer == ffi::GH_DONE => text.to_string(),
+        _ => format!("status {status}"),
+    }
+}
+
 impl fmt::Display for Error {
     fn fmt(&self, f: &mut fmt::Formatter<'_>) -> fmt::Result {
-        let mut text = [0; 128];
-        let mut count = 0;
-        let status =
-            unsafe { ffi::gh_text(self.status(), text.as_mut_ptr(), text.len(), &mut count) };
-        match std::str::from_utf8(&text[..count.min(text.len())]) {
-            Ok(text) if status == ffi::GH_DONE => f.write_str(text),
-            _ => write!(f, "status {}", self.status()),
+        match self {
+            Error::NoSuchHandle(handle) | Error::NotAValue(handle) | Error::BadLength(handle) => {
+                write!(f, "handle {handle}: {}", words_of(self.status()))
+            }
+            Error::NoSuchConnection(handle) => {
+                write!(f, "connection {handle}: {}", words_of(self.status()))
+            }
+            Error::Table(fault)
+            | Error::Keys(fault)
+            | Error::Rows(fault)
+            | Error::Values(fault) => fault.fmt(f),
+            error => f.write_str(&words_of(error.status())),
         }
     }
 }
@@ -140,33 +239,46 @@ mod tests {
 
     #[test]
     fn each_status_is_one_error_and_has_its_words() {
+        let files = Files {
+            table: include_str!("../../examples/door.toml"),
+            ..Files::default()
+        };
         let statuses = [4, 6, 7, 21, 22, 23, 24, 41, 42, 43, 44, 45, 46, 47];
-        let faults = (101..=111).chain(201..=210).chain(301..=304);
+        let faults = (101..=111).chain(201..=210).chain(301..=304).chain([401]);
         let mut texts = Vec::new();
         for status in statuses.into_iter().chain(faults) {
-            let error = judged(status).expect_err("not done");
+            let error = match status {
+                0..100 => result_of(status, 7),
+                _ => result_of_files(status, files),
+            };
+            let error = error.expect_err("not done");
             assert_eq!(error.status(), status);
             let text = error.to_string();
-            assert!(!text.starts_with("status ") && text.is_ascii(), "{text}");
+            assert!(!text.contains("status ") && text.is_ascii(), "{text}");
             assert!(!texts.contains(&text), "{text}");
             texts.push(text);
         }
-        assert_eq!(judged(0), Ok(()));
+        assert_eq!(result_of(0, 7), Ok(()));
     }
 
     #[test]
     fn a_number_without_words_is_told_as_such() {
-        assert_eq!(Error::Table(99).to_string(), "status 199");
-        assert_eq!(
-            Error::Rows(u32::MAX).to_string(),
-            format!("status {}", u32::MAX)
-        );
+        assert_eq!(words_of(199), "status 199");
+        assert_eq!(words_of(u32::MAX), format!("status {}", u32::MAX));
+    }
+
+    #[test]
+    fn an_error_names_the_handle_of_its_call() {
+        let text = Error::NoSuchHandle(22).to_string();
+        assert_eq!(text, "handle 22: there is no attribute with the handle");
+        let text = Error::NoSuchConnection(64).to_string();
+        assert_eq!(text, "connection 64: no connection with the handle serves");
     }
 
     #[test]
     fn what_stops_a_host_is_final() {
         assert!(Error::Desync.is_final() && Error::HasStopped.is_final());
-        assert!(!Error::OutputOwed.is_final() && !Error::NoSuchConnection.is_final());
+        assert!(!Error::OutputOwed.is_final() && !Error::NoSuchConnection(1).is_final());
         let error = io::Error::from(Error::Desync);
         assert_eq!(error.kind(), io::ErrorKind::InvalidData);
         assert_eq!(error.to_string(), Error::Desync.to_string());

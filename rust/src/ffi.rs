@@ -8,13 +8,14 @@ pub struct gh_host {
     pub at: *mut c_void,
 }
 
-pub const GH_VERSION: u32 = 1000;
+pub const GH_VERSION: u32 = 2000;
 
 pub const GH_LONGEST_PACKET: usize = 260;
 
 #[repr(C)]
 #[derive(Debug)]
 pub struct gh_config {
+    pub size: usize,
     pub slots: usize,
     pub rx_mtu: u16,
     pub is_random: u8,
@@ -31,6 +32,7 @@ pub const GH_OUTPUT_OWED: u32 = 4;
 pub const GH_SHORT_BUFFER: u32 = 5;
 pub const GH_OUT_OF_MEMORY: u32 = 6;
 pub const GH_BAD_CONFIG: u32 = 7;
+pub const GH_BAD_SIZE: u32 = 8;
 pub const GH_STOPPED: u32 = 20;
 pub const GH_DESYNC: u32 = 21;
 pub const GH_BAD_EVENT: u32 = 22;
@@ -72,12 +74,15 @@ pub const GH_ROWS_BAD_LINE: u32 = 301;
 pub const GH_ROWS_TWICE: u32 = 302;
 pub const GH_ROWS_TOO_MANY: u32 = 303;
 pub const GH_ROWS_OUT_OF_MEMORY: u32 = 304;
+pub const GH_BAD_VALUES: u32 = 400;
+pub const GH_VALUES_BAD_LINE: u32 = 401;
 
 pub const GH_LONGEST_VALUE: usize = 512;
 
 #[repr(C)]
-#[derive(Debug, Default)]
+#[derive(Debug)]
 pub struct gh_connection {
+    pub size: usize,
     pub handle: u16,
     pub mtu: u16,
     pub address_kind: u8,
@@ -87,6 +92,24 @@ pub struct gh_connection {
     pub secure: bool,
     pub ending: bool,
     pub authorized_until: u64,
+}
+
+impl gh_connection {
+    /// `GH_CONNECTION_INIT`.
+    pub fn new() -> gh_connection {
+        gh_connection {
+            size: size_of::<gh_connection>(),
+            handle: 0,
+            mtu: 0,
+            address_kind: 0,
+            address: [0; 6],
+            key_size: 0,
+            authenticated: false,
+            secure: false,
+            ending: false,
+            authorized_until: 0,
+        }
+    }
 }
 
 pub const GH_CONNECTED: u8 = 1;
@@ -101,8 +124,9 @@ pub const GH_ENDING: u8 = 9;
 pub const GH_SKIPPED: u8 = 10;
 
 #[repr(C)]
-#[derive(Debug, Default)]
+#[derive(Clone, Copy, Debug)]
 pub struct gh_notice {
+    pub size: usize,
     pub kind: u8,
     pub bits: u8,
     pub reason: u8,
@@ -115,6 +139,25 @@ pub struct gh_notice {
     pub attribute: u16,
 }
 
+impl gh_notice {
+    /// `GH_NOTICE_INIT`.
+    pub fn new() -> gh_notice {
+        gh_notice {
+            size: size_of::<gh_notice>(),
+            kind: 0,
+            bits: 0,
+            reason: 0,
+            key_size: 0,
+            authenticated: false,
+            secure: false,
+            address_kind: 0,
+            address: [0; 6],
+            connection: 0,
+            attribute: 0,
+        }
+    }
+}
+
 unsafe extern "C" {
     pub fn gh_open(
         host: *mut gh_host,
@@ -124,7 +167,23 @@ unsafe extern "C" {
         keys_length: usize,
         rows: *const u8,
         rows_length: usize,
+        values: *const u8,
+        values_length: usize,
         config: *const gh_config,
+        left_out: *mut usize,
+    ) -> u32;
+    pub fn gh_explain(
+        table: *const u8,
+        table_length: usize,
+        keys: *const u8,
+        keys_length: usize,
+        rows: *const u8,
+        rows_length: usize,
+        values: *const u8,
+        values_length: usize,
+        out: *mut u8,
+        room: usize,
+        count: *mut usize,
     ) -> u32;
     pub fn gh_close(host: *mut gh_host) -> u32;
     pub fn gh_take(host: *mut gh_host, octets: *const u8, length: usize, used: *mut usize) -> u32;
@@ -147,9 +206,17 @@ unsafe extern "C" {
         service_length: usize,
         characteristic: *const u8,
         characteristic_length: usize,
+        number: u16,
         handle: *mut u16,
     ) -> u32;
     pub fn gh_rows_text(host: *mut gh_host, out: *mut u8, room: usize, count: *mut usize) -> u32;
+    pub fn gh_values_text(
+        host: *mut gh_host,
+        all: u8,
+        out: *mut u8,
+        room: usize,
+        count: *mut usize,
+    ) -> u32;
     pub fn gh_deadline(host: *mut gh_host, time: *mut u64) -> u32;
     pub fn gh_connection(host: *mut gh_host, place: usize, connection: *mut gh_connection) -> u32;
     pub fn gh_next_notice(host: *mut gh_host, notice: *mut gh_notice) -> u32;

@@ -1,12 +1,11 @@
-//! A host is opened with the files of `examples/`, and phones come.
+//! A host is opened with the files of `examples/`, and phones connect.
 
 mod controller;
 
-use controller::{BELL, Controller, DOOR, KEYS, PORCH, PORCH_NEXT, TABLET, data};
-use gihandop::{Config, Error, Files, Host, Key, Notice, Peer, Uuid};
-use std::cell::RefCell;
+use controller::{BELL, Controller, DOOR, KEYS, PORCH, PORCH_NEXT, TABLET};
+use gihandop::{Config, Error, Files, Host, Key, Notice, Peer, Saves, Uuid};
 use std::error::Error as _;
-use std::io::{self, ErrorKind, Write};
+use std::io::{self, ErrorKind};
 
 const STATE: u16 = 10;
 const STATE_CONFIGURATION: u16 = 11;
@@ -20,7 +19,7 @@ fn a_phone_with_a_key_opens_the_lock() {
         address: TABLET,
     };
     assert_eq!(
-        door.notices,
+        door.notices(),
         [Notice::Connected {
             connection: 64,
             peer
@@ -30,7 +29,7 @@ fn a_phone_with_a_key_opens_the_lock() {
 
     door.say(64, &[0x12, 10, 0, 1]);
     assert_eq!(door.heard, [[0x01, 0x12, 10, 0, 0x0f]]);
-    assert_eq!(door.notices, []);
+    assert_eq!(door.notices(), []);
 
     door.encrypt(64);
     let key = Key {
@@ -39,7 +38,7 @@ fn a_phone_with_a_key_opens_the_lock() {
         secure: false,
     };
     assert_eq!(
-        door.notices,
+        door.notices(),
         [Notice::Secured {
             connection: 64,
             key
@@ -47,14 +46,14 @@ fn a_phone_with_a_key_opens_the_lock() {
     );
     door.say(64, &[0x12, 10, 0, 1]);
     assert_eq!(door.heard, [[0x13]]);
-    assert_eq!(
-        door.notices,
-        [Notice::Written {
-            connection: 64,
-            attribute: STATE
-        }]
-    );
-    assert_eq!(door.notices[0].connection(), 64);
+    let written = Notice::Written {
+        connection: 64,
+        attribute: STATE,
+        value: &[1],
+    };
+    assert_eq!(door.notices(), [written]);
+    assert!(written.is_change());
+    assert_eq!(written.connection(), 64);
     assert_eq!(door.host.value(STATE), Some(vec![1]));
 
     door.connect(65, [9; 6]);
@@ -69,7 +68,7 @@ fn a_phone_with_a_key_opens_the_lock() {
 }
 
 #[test]
-fn who_has_subscribed_is_told_in_the_next_run_too() {
+fn a_subscription_lasts_until_the_next_run() {
     let mut door = Controller::new(DOOR, "");
     door.connect(64, TABLET);
     door.encrypt(64);
@@ -80,7 +79,7 @@ fn who_has_subscribed_is_told_in_the_next_run_too() {
         attribute,
         bits: 1,
     };
-    assert_eq!(door.notices, [configured]);
+    assert_eq!(door.notices(), [configured]);
     let rows = door.host.rows().expect("there is memory");
     assert_eq!(rows, "0 00:11:22:33:44:55 11 1\n");
 
@@ -97,19 +96,18 @@ fn an_application_ends_a_connection() {
     let mut door = Controller::new(DOOR, "");
     door.connect(64, TABLET);
     door.host.disconnect(64).expect("it is there");
-    let ending: Vec<_> = door.host.notices().collect();
-    assert_eq!(
-        ending,
-        [Notice::Ending {
-            connection: 64,
-            reason: 0x13
-        }]
-    );
+    let notices = door.host.notices();
+    let ending = Notice::Ending {
+        connection: 64,
+        reason: 0x13,
+    };
+    assert_eq!(notices.iter().collect::<Vec<_>>(), [ending]);
+    assert!(door.host.notices().is_empty());
     assert!(door.host.connections().all(|it| it.is_ending));
     door.settle();
-    assert_eq!(door.notices, [Notice::Disconnected { connection: 64 }]);
+    assert_eq!(door.notices(), [Notice::Disconnected { connection: 64 }]);
     assert_eq!(door.host.connections().count(), 0);
-    assert_eq!(door.host.disconnect(64), Err(Error::NoSuchConnection));
+    assert_eq!(door.host.disconnect(64), Err(Error::NoSuchConnection(64)));
 }
 
 #[test]
@@ -117,7 +115,7 @@ fn an_indication_is_late_at_the_deadline() {
     let mut bell = Controller::new(BELL, "");
     let button = bell
         .host
-        .find(Uuid::Short(0xfff8), Uuid::Short(0xfff9))
+        .find(Uuid::Short(0xfff8), Uuid::Short(0xfff9), 1)
         .expect("the table has it");
     bell.connect(64, TABLET);
     let configuration = (button + 1).to_le_bytes();
@@ -132,14 +130,15 @@ fn an_indication_is_late_at_the_deadline() {
             connection: 64,
             attribute: button,
         };
-        assert_eq!(bell.notices, [confirmed]);
+        assert_eq!(bell.notices(), [confirmed]);
     }
     bell.host.update(button, &[3]).expect("it is a value");
     bell.settle();
     assert_eq!(bell.host.deadline(), Some(31_000));
     bell.host.tick(31_000).expect("time goes on");
-    let late: Vec<_> = bell.host.notices().collect();
-    assert_eq!(late, [Notice::TimedOut { connection: 64 }]);
+    let notices = bell.host.notices();
+    let late = Notice::TimedOut { connection: 64 };
+    assert_eq!(notices.iter().collect::<Vec<_>>(), [late]);
     assert_eq!(bell.host.tick(30_999), Err(Error::TimeWentBack));
 }
 
@@ -164,7 +163,11 @@ fn a_table_is_replaced() {
         .replace(PORCH_NEXT)
         .expect("both tell of changes");
     porch.settle();
-    assert_eq!(porch.host.replace("service = "), Err(Error::Table(1)));
+    let refused = porch
+        .host
+        .replace("service = ")
+        .expect_err("it is no table");
+    assert!(matches!(refused, Error::Table(ref fault) if fault.number() == 1));
     let mut door = Controller::new(DOOR, "");
     assert_eq!(door.host.replace(PORCH), Err(Error::NoServiceChanged));
 }
@@ -173,30 +176,136 @@ fn a_table_is_replaced() {
 fn values_are_found_by_their_types() {
     let door = Controller::new(DOOR, "").host;
     let (lock, state) = (Uuid::Short(0xfff0), Uuid::Short(0xfff1));
-    assert_eq!(door.find(lock, state), Some(STATE));
+    assert_eq!(door.find(lock, state, 1), Some(STATE));
     let long = 0x0000_fff0_0000_1000_8000_0080_5f9b_34fb_u128;
-    assert_eq!(door.find(Uuid::Long(long), state), Some(STATE));
-    assert_eq!(door.find(state, lock), None);
-    assert_eq!(door.find(Uuid::Long(long + 1), state), None);
+    assert_eq!(door.find(Uuid::Long(long), state, 1), Some(STATE));
+    assert_eq!(door.find(state, lock, 1), None);
+    assert_eq!(door.find(Uuid::Long(long + 1), state, 1), None);
+    let third = Uuid::Short(0xfff3);
+    let found = [0, 1, 2, 3, 4, u16::MAX].map(|number| door.find(lock, third, number));
+    assert_eq!(found, [None, Some(15), Some(17), Some(19), None, None]);
     assert_eq!(door.value(3).as_deref(), Some(&b"Lock"[..]));
     assert_eq!(door.value(STATE_CONFIGURATION), Some(vec![]));
     assert_eq!((door.value(0), door.value(22)), (None, None));
 }
 
 #[test]
+fn values_are_restored() {
+    let mut door = Controller::new(DOOR, "");
+    assert_eq!(door.host.values(Saves::All).as_deref(), Ok(""));
+    door.connect(64, TABLET);
+    door.encrypt(64);
+    door.say(64, &[0x12, 21, 0, b'h', b'i']);
+    door.say(64, &[0x12, 10, 0, 1]);
+    door.host.update(6, &[50]).expect("it is a value");
+    let values = door.host.values(Saves::Writable).expect("there is memory");
+    assert_eq!(values, "10 fff1 01\n21 fff4 6869\n");
+    let all = door.host.values(Saves::All).expect("there is memory");
+    assert_eq!(all, "6 2a19 32\n10 fff1 01\n21 fff4 6869\n");
+
+    let files = |values| Files {
+        table: DOOR,
+        values,
+        ..Files::default()
+    };
+    let mut next = Controller::with(files(&all[..]));
+    assert_eq!(next.host.values_left_out(), 0);
+    assert_eq!(next.host.value(6), Some(vec![50]));
+    assert_eq!(next.host.value(21), Some(b"hi".to_vec()));
+    assert_eq!(next.host.values(Saves::All).as_ref(), Ok(&all));
+    next.host.update(6, &[51]).expect("nothing is owed");
+
+    // No attribute, another type, and another length than its fixed one.
+    let unfit = "10 fff1 01\n99 fff1 00\n6 fff1 00\n6 2a19 -\n";
+    let next = Host::open(files(unfit), &Config::default()).expect("each line is a value");
+    assert_eq!(next.values_left_out(), 3);
+    assert_eq!(next.values(Saves::All).as_deref(), Ok("10 fff1 01\n"));
+}
+
+#[test]
+fn a_table_that_is_replaced_has_its_own_values() {
+    let mut porch = Controller::new(PORCH, "");
+    porch
+        .host
+        .replace(PORCH_NEXT)
+        .expect("both tell of changes");
+    // The value of Service Changed has all handles.
+    let values = porch.host.values(Saves::All);
+    assert_eq!(values.as_deref(), Ok("3 2a05 0100ffff\n"));
+    assert_eq!(porch.host.values(Saves::Writable).as_deref(), Ok(""));
+}
+
+#[test]
+fn a_fault_of_a_file_has_its_place() {
+    let text = |table, keys, rows, values| {
+        let files = Files {
+            table,
+            keys,
+            rows,
+            values,
+        };
+        let error = Host::open(files, &Config::default()).expect_err("it is refused");
+        error.to_string()
+    };
+    let table = DOOR.replace("uuid = \"2a19\"", "uuid = \"2a1\"");
+    assert!(
+        text(&table, KEYS, "", "").starts_with("table: service 2"),
+        "{}",
+        text(&table, KEYS, "", "")
+    );
+    let keys = KEYS.replace("ediv = 514", "ediv = -1");
+    assert!(
+        text(DOOR, &keys, "", "").starts_with("keys: key 2"),
+        "{}",
+        text(DOOR, &keys, "", "")
+    );
+    let rows = "0 00:11:22:33:44:55 11 1\nnone\n";
+    assert!(
+        text(DOOR, KEYS, rows, "").contains("line 2"),
+        "{}",
+        text(DOOR, KEYS, rows, "")
+    );
+    let values = "10 fff1 01\n10 fff1\n";
+    assert!(
+        text(DOOR, KEYS, "", values).contains("line 2"),
+        "{}",
+        text(DOOR, KEYS, "", values)
+    );
+    let mut porch = Controller::new(PORCH, "");
+    let refused = porch.host.replace(&table).expect_err("it is refused");
+    assert_eq!(refused.to_string(), text(&table, "", "", ""));
+}
+
+#[test]
 fn what_is_refused_says_why() {
     let opened = |table, keys, rows, config: &Config| {
-        let error = Host::open(Files { table, keys, rows }, config).expect_err("it is refused");
-        (error, error.to_string())
+        let files = Files {
+            table,
+            keys,
+            rows,
+            values: "",
+        };
+        let error = Host::open(files, config).expect_err("it is refused");
+        let text = error.to_string();
+        (error, text)
     };
     let config = Config::default();
     let (error, text) = opened("service = ", "", "", &config);
-    assert_eq!(
-        (error, &text[..]),
-        (Error::Table(1), "table: it is not TOML")
+    assert!(
+        matches!(error, Error::Table(ref fault) if fault.number() == 1 && fault.text() == text)
     );
-    assert_eq!(opened(DOOR, "key = 1", "", &config).0, Error::Keys(9));
-    assert_eq!(opened(DOOR, KEYS, "no row\n", &config).0, Error::Rows(1));
+    assert!(text.starts_with("table: "), "{text}");
+    let (error, _) = opened(DOOR, "key = 1", "", &config);
+    assert!(matches!(error, Error::Keys(ref fault) if fault.number() == 9));
+    let (error, _) = opened(DOOR, KEYS, "no row\n", &config);
+    assert!(matches!(error, Error::Rows(ref fault) if fault.number() == 1));
+    let files = Files {
+        table: DOOR,
+        values: "no value\n",
+        ..Files::default()
+    };
+    let error = Host::open(files, &config).expect_err("it is refused");
+    assert!(matches!(error, Error::Values(ref fault) if fault.number() == 1));
     let slots = Config {
         slots: 9,
         ..Config::default()
@@ -214,13 +323,13 @@ fn what_is_refused_says_why() {
     assert_eq!(opened(DOOR, KEYS, "", &address).0, Error::BadConfig);
 
     let mut door = Controller::new(DOOR, "").host;
-    assert_eq!(door.update(22, &[1]), Err(Error::NoSuchHandle));
+    assert_eq!(door.update(22, &[1]), Err(Error::NoSuchHandle(22)));
     assert_eq!(
         door.update(STATE_CONFIGURATION, &[1]),
-        Err(Error::NotAValue)
+        Err(Error::NotAValue(STATE_CONFIGURATION))
     );
-    assert_eq!(door.update(STATE, &[]), Err(Error::BadLength));
-    assert_eq!(door.authorize(64, 1), Err(Error::NoSuchConnection));
+    assert_eq!(door.update(STATE, &[]), Err(Error::BadLength(STATE)));
+    assert_eq!(door.authorize(64, 1), Err(Error::NoSuchConnection(64)));
 }
 
 #[test]
@@ -247,44 +356,12 @@ fn a_stream_out_of_step_stops_the_host() {
     assert_eq!(door.host.value(3).as_deref(), Some(&b"Lock"[..]));
     let error = door
         .host
-        .feed(&[0x04], io::sink(), |_, _| ())
+        .feed(&[0x04], io::sink(), |_| Ok::<(), io::Error>(()))
         .expect_err("it has stopped");
     assert_eq!(error.kind(), ErrorKind::InvalidData);
     let inner = error.get_ref().and_then(|it| it.downcast_ref::<Error>());
     assert_eq!(inner, Some(&Error::Desync));
     assert!(Error::Desync.source().is_none());
-}
-
-/// A writer that notes each packet in a list that others write to as well.
-struct Noting<'a>(&'a RefCell<Vec<String>>);
-
-impl Write for Noting<'_> {
-    fn write(&mut self, octets: &[u8]) -> io::Result<usize> {
-        self.0.borrow_mut().push(format!("{:02x?}", &octets[9..]));
-        Ok(octets.len())
-    }
-
-    fn flush(&mut self) -> io::Result<()> {
-        Ok(())
-    }
-}
-
-#[test]
-fn each_packet_is_heard_of_before_it_is_answered() {
-    let mut door = Controller::new(DOOR, "");
-    door.connect(64, TABLET);
-    door.encrypt(64);
-    let order = RefCell::new(Vec::new());
-    let two = [data(64, &[0x12, 10, 0, 1]), data(64, &[0x0a, 3, 0])].concat();
-    let fed = door.host.feed(&two, Noting(&order), |_, notice| {
-        order.borrow_mut().push(format!("{notice:?}"));
-    });
-    fed.expect("the list takes all");
-    let written = "Written { connection: 64, attribute: 10 }";
-    assert_eq!(
-        order.into_inner(),
-        [written, "[13]", "[0b, 4c, 6f, 63, 6b]"]
-    );
 }
 
 #[test]

@@ -1,9 +1,9 @@
-//! A host serves a controller from another thread.
+//! A host serves a controller from another thread, by a reader and a writer.
 
 mod controller;
 
 use controller::{DOOR, KEYS, TABLET, data, reaction};
-use gihandop::{Config, Files, Host, Notice};
+use gihandop::{Config, Files, Host, Notice, Turn};
 use std::io::{self, ErrorKind, Read, Write};
 use std::sync::mpsc::{Receiver, Sender, channel};
 use std::thread;
@@ -49,17 +49,24 @@ fn another_thread_serves_a_reader_and_a_writer() {
     let files = Files {
         table: DOOR,
         keys: KEYS,
-        rows: "",
+        ..Files::default()
     };
     let mut host = Host::open(files, &Config::default()).expect("the files are good");
     let serving = thread::spawn(move || {
         let mut heard = Vec::new();
         let line = Line(from_controller, Vec::new());
-        let ended = host.serve(line, Sent(to_controller), |host, notice| {
-            if let Notice::Written { attribute, .. } = notice {
-                heard.push((attribute, host.value(attribute)));
+        let hear = |turn: &mut Turn<'_>| -> io::Result<()> {
+            for notice in turn.notices() {
+                if let Notice::Written {
+                    attribute, value, ..
+                } = notice
+                {
+                    heard.push((attribute, value.to_vec()));
+                }
             }
-        });
+            Ok(())
+        };
+        let ended = host.serve(line, Sent(to_controller), hear);
         ended.map(|()| heard)
     });
     let mut packet: Vec<u8> = Vec::new();
@@ -88,5 +95,5 @@ fn another_thread_serves_a_reader_and_a_writer() {
         .join()
         .expect("no panic")
         .expect("the controller ends well");
-    assert_eq!(heard, [(21, Some(b"hi".to_vec()))]);
+    assert_eq!(heard, [(21, b"hi".to_vec())]);
 }

@@ -3,7 +3,7 @@
 
 #![allow(dead_code)]
 
-use gihandop::{Config, Error, Files, Host, LONGEST_PACKET, Notice};
+use gihandop::{Config, Error, Files, Host, LONGEST_PACKET, Notice, Notices};
 use std::collections::VecDeque;
 
 pub const DOOR: &str = include_str!("../../../examples/door.toml");
@@ -18,24 +18,29 @@ pub const TABLET: [u8; 6] = [0x55, 0x44, 0x33, 0x22, 0x11, 0x00];
 /// A host and its controller.
 pub struct Controller {
     pub host: Host,
-    /// The notices of what was brought last.
-    pub notices: Vec<Notice>,
-    /// What a phone heard of what was brought last: PDUs of the Attribute Protocol.
+    /// The notices of each packet that was brought last.
+    pub told: Vec<Notices>,
+    /// The PDUs of the Attribute Protocol that phones received of what was brought last.
     pub heard: Vec<Vec<u8>>,
 }
 
 impl Controller {
     /// Opens a host, and lets it initialise the controller.
     pub fn new(table: &str, rows: &str) -> Controller {
-        let files = Files {
+        Controller::with(Files {
             table,
             keys: KEYS,
             rows,
-        };
+            values: "",
+        })
+    }
+
+    /// Opens a host with all its files, and lets it initialise the controller.
+    pub fn with(files: Files<'_>) -> Controller {
         let host = Host::open(files, &Config::default()).expect("the files are good");
         let mut controller = Controller {
             host,
-            notices: Vec::new(),
+            told: Vec::new(),
             heard: Vec::new(),
         };
         controller.settle();
@@ -44,7 +49,7 @@ impl Controller {
 
     /// Brings octets to the host, and then whatever answers what goes back.
     pub fn bring(&mut self, octets: &[u8]) -> Result<(), Error> {
-        self.notices.clear();
+        self.told.clear();
         self.heard.clear();
         let mut waiting = VecDeque::new();
         self.answer(&mut waiting);
@@ -53,14 +58,19 @@ impl Controller {
             let mut at = 0;
             while at < octets.len() {
                 at += self.host.take(&octets[at..])?;
-                self.notices.extend(self.host.notices());
+                self.told.push(self.host.notices());
                 self.answer(&mut waiting);
             }
         }
         Ok(())
     }
 
-    /// Brings nothing but answers.
+    /// Returns the notices of what was brought last.
+    pub fn notices(&self) -> Vec<Notice<'_>> {
+        self.told.iter().flatten().collect()
+    }
+
+    /// Brings only answers.
     pub fn settle(&mut self) {
         self.bring(&[])
             .expect("nothing is wrong with the controller");
