@@ -160,7 +160,7 @@
 //! # }
 //! ```
 //!
-//! `examples/lock.rs` is a whole program.
+//! `examples/lockd.rs` is a whole daemon.
 //!
 //! # Threads
 //!
