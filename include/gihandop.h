@@ -345,8 +345,17 @@ struct gh_connection {
     bool ending;
     /* It is authorized while the time is below this, in milliseconds. */
     uint64_t authorized_until;
+    /* Its number among the connections of the host: 1 for the first that was accepted, and one more for
+       each later one. Unlike a handle, no number is used again. */
+    uint64_t ordinal;
+    /* The time of the last tick before the last ACL data packet arrived on it, in milliseconds: at first
+       the time at which it was accepted. A phone that is silent since then may be disconnected. */
+    uint64_t heard;
+    /* The place of its slot, from 0. */
+    uint8_t slot;
 };
-#define GH_CONNECTION_INIT { sizeof(struct gh_connection), 0, 0, 0, {0}, 0, false, false, false, 0 }
+#define GH_CONNECTION_INIT \
+    { sizeof(struct gh_connection), 0, 0, 0, {0}, 0, false, false, false, 0, 0, 0, 0 }
 
 /*
  * Puts the connection at a place into *connection. Places count from 0, in the order of the slots, and

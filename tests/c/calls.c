@@ -95,6 +95,44 @@ static void notices(void)
     gh_close(&host);
 }
 
+/* Whether the connection at a place has these. */
+static bool is_seen(struct gh_host *host, size_t place, uint16_t handle, uint64_t ordinal, uint8_t slot,
+                    uint64_t heard)
+{
+    struct gh_connection seen = GH_CONNECTION_INIT;
+    return gh_connection(host, place, &seen) == GH_DONE && seen.handle == handle
+        && seen.ordinal == ordinal && seen.slot == slot && seen.heard == heard;
+}
+
+/* Each connection has a number of its own, and is heard whenever it sends data. */
+static void arrivals(void)
+{
+    /* The first octets of a frame, which is in two packets. */
+    static const uint8_t part[] = {0x02, 65, 0x20, 5, 0, 3, 0, 4, 0, 0x0A};
+    struct gh_host host = GH_HOST_INIT;
+    CHECK(open_host(&host, &table, &keys, NULL, 4) == GH_DONE);
+    CHECK(gh_tick(&host, 1000) == GH_DONE);
+    connect_phone(&host, 64);
+    CHECK(is_seen(&host, 0, 64, 1, 0, 1000));
+    CHECK(gh_tick(&host, 2000) == GH_DONE);
+    connect_phone(&host, 65);
+    CHECK(is_seen(&host, 0, 64, 1, 0, 1000) && is_seen(&host, 1, 65, 2, 1, 2000));
+    CHECK(gh_tick(&host, 3000) == GH_DONE);
+    CHECK(bring(&host, part, sizeof part, NULL) == GH_DONE);
+    CHECK(is_seen(&host, 0, 64, 1, 0, 1000) && is_seen(&host, 1, 65, 2, 1, 3000));
+    CHECK(gh_tick(&host, 4000) == GH_DONE);
+    say(&host, 64, (const uint8_t *)"\x0A\x03\x00", 3, NULL);
+    CHECK(is_seen(&host, 0, 64, 1, 0, 4000) && is_seen(&host, 1, 65, 2, 1, 3000));
+    /* Events and calls are not heard of it, and a slot is used again. */
+    encrypt(&host, 65);
+    CHECK(is_seen(&host, 1, 65, 2, 1, 3000));
+    leave(&host, 64);
+    CHECK(is_seen(&host, 0, 65, 2, 1, 3000));
+    connect_phone(&host, 64);
+    CHECK(is_seen(&host, 0, 64, 3, 0, 4000) && is_seen(&host, 1, 65, 2, 1, 3000));
+    gh_close(&host);
+}
+
 /* A program that tells the time only at the deadline ends an authorization in time. */
 static void authorization(void)
 {
@@ -193,6 +231,7 @@ int main(int argc, char **argv)
     read_file(argv[3], &porch);
     refused_calls();
     notices();
+    arrivals();
     authorization();
     faults();
     pieces();

@@ -1,7 +1,5 @@
 -- What a call does to the host that is lent, it does to the host behind the pointer.
 use Rattle.std.proofs.Common.{◌≡◌, ◌∙◌, Option, Some, IfSome, Result, Ok, Err, ap, subst, sym}
-use Rattle.att_table.specs.declared.table_fault.TableFault.{TableFault}
-use Rattle.att_table.specs.Table.{Contents}
 use Rattle.gihandop_c.specs.declared.opened.Opened.{Opened}
 use Rattle.gihandop_c.specs.Boundary.{OfTheHost}
 
@@ -13,10 +11,10 @@ carried Holds old before after had holds = subst (λ (host : Option Opened). OfT
 pub carried_before : (Holds : Opened → Type 0) (old : Option Opened) (before : Opened) → Some before ≡ old → Holds before → IfSome old Holds
 carried_before Holds old before had holds = subst (λ (host : Option Opened). IfSome host Holds) had holds
 
--- a file is one table
-abbrev table_or : Contents → Result Contents TableFault → Contents
-table_or other (Ok table) = table
-table_or other (Err fault) = other
+-- what is read of one text is one thing
+abbrev read_or : {A E : Type 0} → A → Result A E → A
+read_or other (Ok read) = read
+read_or other (Err fault) = other
 
-pub same_table : (read : Result Contents TableFault) (one other : Contents) → read ≡ Ok one → read ≡ Ok other → one ≡ other
-same_table read one other is_one is_other = ap (table_or one) (sym is_one ∙ is_other)
+pub same_ok : {A E : Type 0} (read : Result A E) (one other : A) → read ≡ Ok one → read ≡ Ok other → one ≡ other
+same_ok read one other is_one is_other = ap (read_or one) (sym is_one ∙ is_other)

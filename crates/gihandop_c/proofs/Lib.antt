@@ -1,4 +1,5 @@
 -- Lemmas of this crate.
+pub mod Accepted
 pub mod Carried
 pub mod Pointers
 pub mod Refusals

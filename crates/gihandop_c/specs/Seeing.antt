@@ -1,12 +1,12 @@
 -- What the program sees of its host, as C reads it: this library's own.
-use Rattle.std.specs.Prelude.{ℕ, ◌==◌, false, length, if◌then◌else◌, slice_get, Option, Some, None}
+use Rattle.std.specs.Prelude.{ℕ, ◌==◌, false, min, length, if◌then◌else◌, slice_get, Option, Some, None}
 use Rattle.std.specs.Int.{w16, w128, from_le_bytes}
 use Rattle.std.specs.Option.{option_map}
 use Rattle.att_numbers.specs.AttributeType.{of_16_bits}
 use Rattle.att_policy.specs.declared.standing.KeyFacts.{KeyFacts}
 use Rattle.att_table.specs.Find.{value_found}
 use Rattle.att_table.specs.Table.{Contents}
-use Rattle.gatt_slots.specs.Connections.{connections_in}
+use Rattle.gatt_host.specs.Connections.{connections_in}
 use Rattle.gatt_app.specs.declared.connection.Connection.{Connection}
 use Rattle.gihandop_c.specs.declared.connections.ConnectionFields.{ConnectionFields}
 use Rattle.gihandop_c.specs.declared.opened.Opened.{Opened}
@@ -39,6 +39,9 @@ without_a_key size connection = record {
   secure = false;
   ending = connection.ending;
   authorized_until = connection.authorized_until;
+  ordinal = connection.ordinal;
+  heard = connection.heard;
+  slot = min connection.slot 255;
 }
 
 -- and with what is known of that
@@ -52,4 +55,4 @@ connection_fields size connection = with_the_key connection.key (without_a_key s
 
 -- the connection at a place, in the order of the slots, if there are so many
 abbrev pub connection_at : ℕ → Opened → ℕ → Option ConnectionFields
-connection_at size opened place = option_map (connection_fields size) (slice_get (connections_in opened.host.server.slots) place)
+connection_at size opened place = option_map (connection_fields size) (slice_get (connections_in opened.host) place)

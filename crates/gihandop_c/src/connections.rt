@@ -2,7 +2,7 @@
 
 ghost use Rattle.std.specs.Prelude.{◌≡◌, ◌≢◌, slice_get, Some};
 ghost use Rattle.std.specs.Option.{option_map};
-ghost use Rattle.gatt_slots.specs.Connections.{connections_in};
+ghost use Rattle.gatt_host.specs.Connections.{connections_in};
 ghost use Rattle.gihandop_c.specs.Seeing.{connection_at, connection_fields, with_the_key, without_a_key};
 ghost use Rattle.gihandop_c.specs.Statuses.{connection_status};
 ghost use Rattle.gihandop_c.specs.declared.status.TheConstants.{DONE};
@@ -34,6 +34,13 @@ pub struct ConnectionFields {
     pub ending: bool,
     /// It is authorized while the time is below this, in milliseconds.
     pub authorized_until: u64,
+    /// Its number among the connections of the host, from 1. No number is used again.
+    pub ordinal: u64,
+    /// The time of the last ACL data packet that arrived on it, in milliseconds: at first that at
+    /// which it was accepted.
+    pub heard: u64,
+    /// The place of its slot, from 0.
+    pub slot: u8,
 }
 
 /// The size of a connection in this version, in octets.
@@ -61,7 +68,7 @@ pub(crate) fn connection(opened: &Opened, place: usize, connection: &mut Connect
 /// The connection at a place, counted from 0, in the order of the slots.
 fn at(host: &Host, place: usize, size: usize) -> Option<ConnectionFields>
     ensures { result ≡ option_map (connection_fields size)
-        (slice_get (connections_in host.now.server.slots) place) }
+        (slice_get (connections_in host.now) place) }
 {
     let mut left = place;
     for connection in host.connections() {
@@ -96,6 +103,9 @@ fn without_key(connection: Connection, size: usize) -> ConnectionFields
         secure: false,
         ending: connection.ending,
         authorized_until: connection.authorized_until,
+        ordinal: connection.ordinal,
+        heard: connection.heard,
+        slot: connection.slot.min(usize::from(u8::MAX)) as u8,
     }
 }
 
