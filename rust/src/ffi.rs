@@ -92,6 +92,9 @@ pub struct gh_connection {
     pub secure: bool,
     pub ending: bool,
     pub authorized_until: u64,
+    pub ordinal: u64,
+    pub heard: u64,
+    pub slot: u8,
 }
 
 impl gh_connection {
@@ -108,6 +111,9 @@ impl gh_connection {
             secure: false,
             ending: false,
             authorized_until: 0,
+            ordinal: 0,
+            heard: 0,
+            slot: 0,
         }
     }
 }

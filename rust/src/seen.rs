@@ -50,6 +50,14 @@ pub struct Connection {
     pub is_ending: bool,
     /// It is authorized while the time is below this, in milliseconds.
     pub authorized_until: u64,
+    /// Its number among the connections of the host, in the order in which they were accepted, from
+    /// 1. A later connection may get the same handle, and has another number.
+    pub ordinal: u64,
+    /// The place of its slot, from 0, below [`Config::slots`](crate::Config::slots).
+    pub slot: usize,
+    /// The time of the last [`Host::tick`] before its last ACL data packet arrived, in milliseconds.
+    /// At first the time of the last tick before it was accepted.
+    pub heard: u64,
 }
 
 /// The connections of a host: [`Host::connections`].
@@ -90,6 +98,9 @@ impl Iterator for Connections<'_> {
             }),
             is_ending: fields.ending,
             authorized_until: fields.authorized_until,
+            ordinal: fields.ordinal,
+            slot: fields.slot.into(),
+            heard: fields.heard,
         })
     }
 }

@@ -111,6 +111,30 @@ fn an_application_ends_a_connection() {
 }
 
 #[test]
+fn a_connection_has_a_number_a_slot_and_the_time_of_its_last_data() {
+    let mut door = Controller::new(DOOR, "");
+    let seen = |door: &Controller| -> Vec<_> {
+        let connections = door.host.connections();
+        connections
+            .map(|it| (it.handle, it.ordinal, it.slot, it.heard))
+            .collect()
+    };
+    door.host.tick(1000).expect("time goes on");
+    door.connect(64, TABLET);
+    door.host.tick(2000).expect("time goes on");
+    door.connect(65, [9; 6]);
+    assert_eq!(seen(&door), [(64, 1, 0, 1000), (65, 2, 1, 2000)]);
+    door.host.tick(3000).expect("time goes on");
+    door.say(64, &[0x0a, 3, 0]);
+    assert_eq!(seen(&door), [(64, 1, 0, 3000), (65, 2, 1, 2000)]);
+    door.bring(&[0x04, 0x05, 4, 0, 64, 0, 0x13])
+        .expect("it may end");
+    door.host.tick(4000).expect("time goes on");
+    door.connect(64, TABLET);
+    assert_eq!(seen(&door), [(64, 3, 0, 4000), (65, 2, 1, 2000)]);
+}
+
+#[test]
 fn an_indication_is_late_at_the_deadline() {
     let mut bell = Controller::new(BELL, "");
     let button = bell
