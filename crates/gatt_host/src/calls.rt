@@ -1,6 +1,6 @@
 //! What an application asks, as what happens to a host.
 
-ghost use Rattle.std.specs.Prelude.{◌≡◌, true, Err, IsOk, IsOkAnd, IfOk, IfErr, OnErr};
+ghost use Rattle.std.specs.Prelude.{◌≡◌, if◌then◌else◌, true, Err, IsOk, IsOkAnd, IfOk, IfErr, OnErr};
 ghost use Rattle.att_table.specs.Changer.{changer_of};
 ghost use Rattle.gatt_laws.specs.machine.Calls.{has_length, same_changer, AuthorizeCall, DisconnectCall, TickCall, UpdateCall};
 ghost use Rattle.gatt_host.specs.Calls.{call_of, refused_of};
@@ -24,10 +24,17 @@ impl HostState {
         ensures silent { OnErr result (self.new ≡ without_notices self.old) }
     {
         let done = self.call(call);
-        if done.is_err() {
+        self.forget_if(done.is_err());
+        done
+    }
+
+    /// Drops what would be told of the last event, if what the application asks is refused.
+    fn forget_if(&mut self, refused: bool)
+        ensures { self.new ≡ (if refused then without_notices self.old else self.old) }
+    {
+        if refused {
             self.forget();
         }
-        done
     }
 
     /// Does what the application asks for, or refuses it and changes nothing.

@@ -77,48 +77,63 @@ const ANOTHER: Peer = Peer {
 };
 
 const FIRST: Connection = Connection {
+    ordinal: 1,
+    slot: 0,
     handle: 0x40,
     peer: STRANGER,
     mtu: 23,
     key: None,
     authorized_until: 0,
     ending: false,
+    heard: 0,
 };
 
 const LARGER: Connection = Connection {
+    ordinal: 1,
+    slot: 0,
     handle: 0x40,
     peer: STRANGER,
     mtu: 247,
     key: None,
     authorized_until: 0,
     ending: false,
+    heard: 0,
 };
 
 const SECOND: Connection = Connection {
+    ordinal: 2,
+    slot: 1,
     handle: 0x41,
     peer: ANOTHER,
     mtu: 23,
     key: None,
     authorized_until: 0,
     ending: false,
+    heard: 0,
 };
 
 const AUTHORIZED: Connection = Connection {
+    ordinal: 2,
+    slot: 1,
     handle: 0x41,
     peer: ANOTHER,
     mtu: 23,
     key: None,
     authorized_until: 7,
     ending: false,
+    heard: 0,
 };
 
 const ENDED: Connection = Connection {
+    ordinal: 2,
+    slot: 1,
     handle: 0x41,
     peer: ANOTHER,
     mtu: 23,
     key: None,
     authorized_until: 7,
     ending: true,
+    heard: 0,
 };
 
 /// Who is connected, in the order of the slots.
@@ -131,6 +146,72 @@ const CONNECTIONS: &[(Taken, &[Connection])] = &[
     (Taken::Packet("04050400400013"), &[ENDED]),
     (Taken::Packet("04050400410016"), &[]),
 ];
+
+/// The ordinal of a connection, its slot, its handle, and when it was last heard.
+type Heard = (u64, usize, u16, u64);
+
+/// Which connections there are, and when each was last heard.
+const HEARD: &[(Taken, &[Heard])] = &[
+    (Taken::Call(App::Tick(5)), &[]),
+    (COMES, &[(1, 0, 0x40, 5)]),
+    (Taken::Call(App::Tick(6)), &[(1, 0, 0x40, 5)]),
+    (ANOTHER_COMES, &[(1, 0, 0x40, 5), (2, 1, 0x41, 6)]),
+    (
+        Taken::Call(App::Tick(7)),
+        &[(1, 0, 0x40, 5), (2, 1, 0x41, 6)],
+    ),
+    // A fragment, and then a broadcast packet, which is ignored.
+    (
+        Taken::Packet("024020010003"),
+        &[(1, 0, 0x40, 7), (2, 1, 0x41, 6)],
+    ),
+    (
+        Taken::Call(App::Tick(8)),
+        &[(1, 0, 0x40, 7), (2, 1, 0x41, 6)],
+    ),
+    (
+        Taken::Packet("024160010003"),
+        &[(1, 0, 0x40, 7), (2, 1, 0x41, 8)],
+    ),
+    (
+        Taken::Call(App::Tick(9)),
+        &[(1, 0, 0x40, 7), (2, 1, 0x41, 8)],
+    ),
+    // No connection has the handle.
+    (
+        Taken::Packet("024220010003"),
+        &[(1, 0, 0x40, 7), (2, 1, 0x41, 8)],
+    ),
+    (Taken::Packet("04050400400013"), &[(2, 1, 0x41, 8)]),
+    // Another connection takes the slot, with a new ordinal.
+    (COMES, &[(3, 0, 0x40, 9), (2, 1, 0x41, 8)]),
+    // A connection that is ending is not served, and not heard.
+    (
+        Taken::Call(App::Disconnect(0x41)),
+        &[(3, 0, 0x40, 9), (2, 1, 0x41, 8)],
+    ),
+    (
+        Taken::Packet("024120010003"),
+        &[(3, 0, 0x40, 9), (2, 1, 0x41, 8)],
+    ),
+];
+
+fn are_heard(host: &Host, connections: &[Heard]) -> bool {
+    let mut seen = host.connections();
+    for &(ordinal, slot, handle, heard) in connections {
+        let Some(connection) = seen.next() else {
+            return false;
+        };
+        if connection.ordinal != ordinal
+            || connection.slot != slot
+            || connection.handle != handle
+            || connection.heard != heard
+        {
+            return false;
+        }
+    }
+    seen.next().is_none()
+}
 
 fn are(host: &Host, connections: &[Connection]) -> bool {
     let mut seen = host.connections();
@@ -150,6 +231,16 @@ fn connections_are_seen(rt: HostRuntime) {
     for (place, &(taken, connections)) in CONNECTIONS.iter().enumerate() {
         go_on(&rt, rt.alloc(), &mut host, taken);
         assert!(rt; are(&host, connections), "connections {place}");
+    }
+    drop(host);
+}
+
+#[test]
+fn packets_are_heard(rt: HostRuntime) {
+    let mut host = ready(&rt, rt.alloc(), &at(Door));
+    for (place, &(taken, connections)) in HEARD.iter().enumerate() {
+        go_on(&rt, rt.alloc(), &mut host, taken);
+        assert!(rt; are_heard(&host, connections), "heard {place}");
     }
     drop(host);
 }
