@@ -6,7 +6,7 @@
 # The archive and the program are proved as they are made, by Rattle's command rt, and not here:
 # where one is missing this says what makes it, and installs nothing.
 
-VERSION = 0.1.0
+VERSION = 0.2.0
 
 PREFIX = /usr/local
 BINDIR = $(PREFIX)/bin

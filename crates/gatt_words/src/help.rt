@@ -4,7 +4,7 @@
 pub const PROGRAM: &str = "gatt_shell";
 
 /// The version of the program.
-pub const VERSION: &str = "0.1.0";
+pub const VERSION: &str = "0.2.0";
 
 /// What the program is.
 pub const ABOUT: &str = "\
