@@ -39,11 +39,13 @@ enum { PATIENCE = 30000, FAREWELL = 2000, RETRY = 1000 };
    peers have configured, at most 4,096 rows, take as a text; and above all handles of HCI. */
 enum { FILE_ROOM = 1 << 20, TEXT_ROOM = 1 << 18, CONNECTIONS = 0x1000 };
 
-/* A text that is saved: its file, and what that has. */
+/* A text that is saved: its file, the text that was read or saved last, and whether the disk is known to
+   have it. */
 struct text {
     char path[4096];
     uint8_t octets[TEXT_ROOM];
     size_t length;
+    bool is_on_disk;
 };
 
 /* What the lock knows of a connection, beside what the host does. */
@@ -96,12 +98,15 @@ static bool save_text(struct text *saved, uint32_t status, const uint8_t *text, 
         errno = ENOMEM;
         return false;
     }
-    if (length == saved->length && memcmp(text, saved->octets, length) == 0)
+    if (saved->is_on_disk && length == saved->length && memcmp(text, saved->octets, length) == 0)
         return true;
+    /* If this fails, the file may have either text. */
+    saved->is_on_disk = false;
     if (!replace_file(saved->path, text, length))
         return false;
     memcpy(saved->octets, text, length);
     saved->length = length;
+    saved->is_on_disk = true;
     return true;
 }
 
