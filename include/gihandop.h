@@ -222,8 +222,9 @@ uint32_t gh_open(struct gh_host *host, const uint8_t *table, size_t table_length
  * Puts what the first fault of these texts is, and where, at the front of out, and its length into *count:
  * a line without a line feed or a zero at its end, as "table: service 2, uuid: the key is missing". The
  * words are those of `gatt_shell show`. GH_NOTHING if gh_open accepts all of them, and *count is 0 then;
- * GH_SHORT_BUFFER if *count is more than room. The texts of gh_open in its order; for gh_replace give the
- * table and nothing else. It takes memory until it returns, and as much time as reading the file 100 times.
+ * GH_SHORT_BUFFER if *count is more than room. The texts are those of gh_open, in its order; for gh_replace
+ * give the table, and GH_EMPTY and 0 for the others. It takes memory until it returns, and up to 100 times
+ * as long as gh_open.
  */
 uint32_t gh_explain(const uint8_t *table, size_t table_length, const uint8_t *keys, size_t keys_length,
                     const uint8_t *rows, size_t rows_length, const uint8_t *values,
@@ -294,8 +295,8 @@ uint32_t gh_value(struct gh_host *host, uint16_t handle, uint8_t *out, size_t ro
 /*
  * Puts the handle of the value of a characteristic of a type, in a service of a type, into *handle: of all
  * such values, in the order of their handles, the one with this number, from 1. Types are UUIDs as octets,
- * the lowest first: 2 for one of 16 bits, or 16. GH_NOTHING where there are fewer, where the number is 0,
- * or where a length is another, and *handle is 0 then.
+ * the lowest first: 2 for one of 16 bits, or 16. GH_NOTHING if there are fewer, if the number is 0, or if a
+ * length is another, and *handle is 0 then.
  */
 uint32_t gh_find(struct gh_host *host, const uint8_t *service, size_t service_length,
                  const uint8_t *characteristic, size_t characteristic_length, uint16_t number,
@@ -359,8 +360,8 @@ struct gh_connection {
 
 /*
  * Puts the connection at a place into *connection. Places count from 0, in the order of the slots, and
- * there are as many as connections: GH_NOTHING from there on. GH_BAD_SIZE where connection->size is
- * smaller than the library's. Where it answers anything but GH_DONE, *connection is as it was.
+ * there are as many as connections: GH_NOTHING from there on. GH_BAD_SIZE if connection->size is smaller
+ * than the library's. If it answers anything but GH_DONE, *connection is as it was.
  */
 uint32_t gh_connection(struct gh_host *host, size_t place, struct gh_connection *connection);
 
@@ -414,9 +415,9 @@ struct gh_notice {
 
 /*
  * Puts the next notice of what was taken in last into *notice: of the octets of gh_take, or of one of
- * the calls. GH_NOTHING where each has been handed out, and GH_BAD_SIZE where notice->size is smaller than
- * the library's. Where it answers anything but GH_DONE, *notice is as it was. The notices of one function
- * are gone once the next has taken something in, so they are fetched before it.
+ * the calls. GH_NOTHING if each has been handed out, and GH_BAD_SIZE if notice->size is smaller than the
+ * library's. If it answers anything but GH_DONE, *notice is as it was. The notices of one function are gone
+ * once the next has taken something in, so they are fetched before it.
  */
 uint32_t gh_next_notice(struct gh_host *host, struct gh_notice *notice);
 
