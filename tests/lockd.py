@@ -266,9 +266,9 @@ def a_signal_in_the_middle(words, room, rounds):
     check(kept == rounds and answered > rounds, f"after SIGTERM what was answered is saved: {kept} of {rounds}")
 
 
-def kills_in_the_middle(words, room, rounds):
-    """A phone writes without an end, and the lock is killed at random moments: the next one has each value that
-    was acknowledged, or the one that was sent after it."""
+def kills_in_the_middle(words, room, rounds, longest):
+    """A phone writes without an end, and the lock is killed at random moments, after at most so many seconds: the next one has
+    each value that was acknowledged, or the one that was sent after it."""
     folder = made(f"{room}/kills")
     chosen = random.Random(79)
     acknowledged = {STATE: b"\0", NOTE: b"", CONFIGURATION: b"\0\0"}
@@ -285,7 +285,7 @@ def kills_in_the_middle(words, room, rounds):
             acknowledged[handle] = sent[handle] = found
         if turn == rounds:
             break
-        killing = threading.Timer(chosen.uniform(0, 0.1), door.serving.kill)
+        killing = threading.Timer(chosen.uniform(0, longest), door.serving.kill)
         killing.start()
         for step in range(100_000):
             handle = chosen.choice((STATE, NOTE, CONFIGURATION))
@@ -340,7 +340,7 @@ def main():
         a_serial_line(words, room)
         a_disk_that_is_gone(words, room)
         a_signal_in_the_middle(words, room, 2 if is_slow else 10)
-        kills_in_the_middle(words, room, 2 if is_slow else 100)
+        kills_in_the_middle(words, room, *((2, 4) if is_slow else (100, 0.1)))
         refused(words, room)
     print(f"{COUNT['passed']} passed, {COUNT['failed']} failed, {COUNT['skipped']} skipped")
     return 1 if COUNT["failed"] else 0
