@@ -8,4 +8,4 @@ mod texts;
 pub use options::{
     ApplicationAddress, ControllerAddress, FileOptions, HostOptions, HostSettings, Saved,
 };
-pub use texts::OptionTexts;
+pub use texts::{MOST_SERVICES, OptionTexts};

@@ -105,7 +105,7 @@ impl HostSettings {
         Ok(HostSettings {
             slots: read_slots(words.slots)?,
             address: read_address(words.address)?,
-            advertising: read_advertising(words.advertise, words.name.unwrap_or(""))?,
+            advertising: read_advertising(words.advertise.as_slice(), words.name.unwrap_or(""))?,
         })
     }
 }

@@ -1,7 +1,12 @@
 //! The options of the command `host`, as texts.
 
+use arrayvec::ArrayVec;
+
+/// The number of services that are read: one more than fit into advertising data.
+pub const MOST_SERVICES: usize = 14;
+
 /// The options of the command `host`, as the command line has them.
-#[derive(Clone, Copy)]
+#[derive(Drop)]
 pub struct OptionTexts<'a> {
     /// The path of the table file.
     pub table: &'a str,
@@ -29,8 +34,8 @@ pub struct OptionTexts<'a> {
     pub wait_for_application: bool,
     /// The name that is advertised.
     pub name: Option<&'a str>,
-    /// The UUIDs of the services that are advertised.
-    pub advertise: &'a [&'a str],
+    /// The UUIDs of the services that are advertised: the first of them, if there are more.
+    pub advertise: ArrayVec<&'a str, MOST_SERVICES>,
     /// The static random address.
     pub address: Option<&'a str>,
     /// The path of a capture.

@@ -16,7 +16,7 @@ use gatt_commands::{
     Address, KeysPath, NextPath, RowsPath, RunPaths, ScriptPath, ServePaths, ShellFault, Shows,
     TablePath,
 };
-use gatt_words::{Choice, HostChoice, Refusal};
+use gatt_words::{Choice, Refusal};
 use show_command::ShowPaths;
 use std::fs::File;
 use std::io::{BufWriter, Write};
@@ -151,38 +151,9 @@ fn run_script(rt: &HostRuntime, paths: RunPaths<'_>) -> Result<(), ShellFault> {
     outcome_of(ran, writer.flush().is_ok())
 }
 
-/// What the words of `host` say, as they are given to the host.
-fn host_words<'a>(choice: &'a HostChoice<'a>) -> OptionTexts<'a> {
-    OptionTexts {
-        table: choice.table,
-        keys: choice.keys,
-        rows: choice.rows,
-        state: choice.state,
-        save_updates: choice.save_updates,
-        drop_unknown: choice.drop_unknown,
-        listen: choice.listen,
-        connect: choice.connect,
-        serial: choice.serial,
-        application: choice.application,
-        application_port: choice.application_port,
-        wait_for_application: choice.wait_for_application,
-        name: choice.name,
-        advertise: choice.advertise.as_slice(),
-        address: choice.address,
-        capture: choice.capture,
-        capture_size: choice.capture_size,
-        log_values: choice.log_values,
-        slots: choice.slots,
-        idle: choice.idle,
-        stranger: choice.stranger,
-        patience: choice.patience,
-        once: choice.once,
-    }
-}
-
 /// Serves one controller after another, as the words say, and returns the status of the program.
-fn run_host(rt: &HostRuntime, choice: &HostChoice<'_>) -> u8 {
-    match device_host::serve_devices(rt, &host_words(choice)) {
+fn run_host(rt: &HostRuntime, options: &OptionTexts<'_>) -> u8 {
+    match device_host::serve_devices(rt, options) {
         Ok(()) => exit_status(rt, Ok(())),
         Err(stop) => stop_status(rt, stop),
     }

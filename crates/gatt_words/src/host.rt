@@ -9,60 +9,7 @@ use crate::arguments;
 use crate::words::Choice;
 use arrayvec::ArrayVec;
 use clap::ArgMatches;
-
-/// As many services as are taken in: one more than fit into advertising data.
-pub const MOST_SERVICES: usize = 14;
-
-/// The words of the command `host`.
-#[derive(Drop)]
-pub struct HostChoice<'a> {
-    /// The table file.
-    pub table: &'a str,
-    /// The key file.
-    pub keys: &'a str,
-    /// The rows file.
-    pub rows: Option<&'a str>,
-    /// The folder of the state.
-    pub state: Option<&'a str>,
-    /// Whether the state has all values, also those that no phone may write.
-    pub save_updates: bool,
-    /// Whether rows of peers without a key are dropped.
-    pub drop_unknown: bool,
-    /// Where a controller connects.
-    pub listen: Option<&'a str>,
-    /// Where a controller listens.
-    pub connect: Option<&'a str>,
-    /// The serial line of a controller.
-    pub serial: Option<&'a str>,
-    /// The path of the socket where an application connects.
-    pub application: Option<&'a str>,
-    /// The address where an application connects.
-    pub application_port: Option<&'a str>,
-    /// Whether controllers are served only while an application is connected.
-    pub wait_for_application: bool,
-    /// The name that is advertised.
-    pub name: Option<&'a str>,
-    /// The services that are advertised: the first of them, where there are more than are taken in.
-    pub advertise: ArrayVec<&'a str, MOST_SERVICES>,
-    /// The static random address.
-    pub address: Option<&'a str>,
-    /// The file of a capture.
-    pub capture: Option<&'a str>,
-    /// How many bytes a capture has at most.
-    pub capture_size: Option<&'a str>,
-    /// Whether values that phones write are logged.
-    pub log_values: bool,
-    /// How many phones there may be.
-    pub slots: Option<&'a str>,
-    /// How long a stranger may be silent.
-    pub idle: Option<&'a str>,
-    /// How long a stranger may stay.
-    pub stranger: Option<&'a str>,
-    /// How long a controller may take nothing, or may take to be initialised.
-    pub patience: Option<&'a str>,
-    /// Whether it ends once the first controller is gone.
-    pub once: bool,
-}
+use device_options::{MOST_SERVICES, OptionTexts};
 
 /// The choice of `host`, with its files, its options and its flag.
 #[tactic(auto, using(crate::proofs::CommandLines::first_in_rows, crate::proofs::CommandLines::flag_in_rows))]
@@ -70,7 +17,7 @@ pub(crate) fn hosting<'a>(matches: &ArgMatches<'a>) -> Option<Choice<'a>>
     ensures name { IfSome result (λ choice. command_name choice ≡ codes "host") }
     ensures files { IfSome result (HasFilesOf (rows_of (found_of matches.now))) }
 {
-    Some(Choice::Host(HostChoice {
+    Some(Choice::Host(OptionTexts {
         table: matches.get_str(arguments::TABLE)?,
         keys: matches.get_str(arguments::KEYS)?,
         rows: matches.get_str(arguments::ROWS),

@@ -12,5 +12,4 @@ mod subcommand;
 mod words;
 
 pub use given::words_of;
-pub use host::{HostChoice, MOST_SERVICES};
 pub use words::{Choice, Refusal, chosen, complaint};

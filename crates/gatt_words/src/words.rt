@@ -7,12 +7,13 @@ ghost use Rattle.gatt_words.specs.CommandLine.{program_line, command_line, comma
 ghost use Rattle.gatt_words.specs.CommandLine.{HasFiles, HasFilesOf};
 ghost use Rattle.gatt_words.specs.Refusal.{ShowsUnlessMemory, refusal_for};
 
-use crate::host::{HostChoice, hosting};
+use crate::host::hosting;
 use crate::show::showing;
 use crate::subcommand::with_subcommands;
 use crate::{arguments, help};
 use clap::error::ErrorKind;
 use clap::{ArgMatches, Command, Error};
+use device_options::OptionTexts;
 use std::alloc::{AllocError, Global};
 
 /// The command that the words choose, with the paths of its files.
@@ -65,7 +66,7 @@ pub enum Choice<'a> {
         address: &'a str,
     },
     /// Serves one controller after another.
-    Host(HostChoice<'a>),
+    Host(OptionTexts<'a>),
     /// Sends one line to a device.
     Tell {
         /// The socket of the device.
