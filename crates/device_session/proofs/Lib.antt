@@ -1,1 +1,1 @@
-pub mod Strangers
+pub mod Due

@@ -1,5 +1,5 @@
 use Rattle.std.proofs.Common.{sym, ◌∙◌}
-use Rattle.device_session.proofs.Strangers.{first_later}
+use Rattle.device_session.proofs.Due.{first_later}
 use Rattle.device_session.proofs.strangers.first_due.Goals as goal
 
 pub loop-stranger-preserved : goal.loop-stranger-preserved
