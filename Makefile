@@ -60,13 +60,23 @@ install: all
 	$(INSTALL) -m 644 $(BUILD)/gihandop.pc $(DESTDIR)$(LIBDIR)/pkgconfig/gihandop.pc
 	$(INSTALL) -m 644 include/gihandop.h $(DESTDIR)$(INCLUDEDIR)/gihandop.h
 	$(INSTALL) -m 644 c/heap.c $(DESTDIR)$(DATADIR)/gihandop/heap.c
-	$(INSTALL) -m 644 docs/gatt_shell.1 $(DESTDIR)$(DATADIR)/man/man1/gatt_shell.1
+	for page in $(MANUAL); do \
+	    $(INSTALL) -D -m 644 $$page $(DESTDIR)$(DATADIR)/man/man$${page##*.}/$${page##*/} || exit; \
+	done
 
 uninstall:
 	rm -f $(DESTDIR)$(BINDIR)/gatt_shell $(DESTDIR)$(BINDIR)/hci_bridge $(DESTDIR)$(LIBDIR)/libgihandop_c.a \
 	    $(DESTDIR)$(LIBDIR)/libgihandop_heap.a $(DESTDIR)$(LIBDIR)/pkgconfig/gihandop.pc \
-	    $(DESTDIR)$(INCLUDEDIR)/gihandop.h $(DESTDIR)$(DATADIR)/man/man1/gatt_shell.1
+	    $(DESTDIR)$(INCLUDEDIR)/gihandop.h
+	for page in $(MANUAL); do rm -f $(DESTDIR)$(DATADIR)/man/man$${page##*.}/$${page##*/}; done
 	rm -rf $(DESTDIR)$(DATADIR)/gihandop
+
+# The manual pages lie in docs/man. After a change of the documents or of the help they are made again.
+MANUAL = $(wildcard docs/man/*.[1-9])
+
+.PHONY: manual
+manual: $(PROGRAM)
+	docs/manual $(PROGRAM) docs/man
 
 check: all
 	tests/run $(PROGRAM)
