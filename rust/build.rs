@@ -6,6 +6,8 @@ use std::path::{Path, PathBuf};
 use std::process::Command;
 
 const ARCHIVE: &str = "libgihandop_c.a";
+const MAKER: &str = "`rt lib` in crates/gihandop_c";
+const MAKER_FOR_AARCH64: &str = "`tools/prove --target aarch64-unknown-linux-gnu gihandop_c`";
 
 fn main() {
     for name in [
@@ -17,48 +19,59 @@ fn main() {
     ] {
         println!("cargo::rerun-if-env-changed={name}");
     }
-    let machine = [
-        variable("CARGO_CFG_TARGET_ARCH"),
-        variable("CARGO_CFG_TARGET_OS"),
-    ];
+    let architecture = variable("CARGO_CFG_TARGET_ARCH");
+    let system = variable("CARGO_CFG_TARGET_OS");
     let named = env::var_os("GIHANDOP_LIB").map(PathBuf::from);
-    if named.is_none() && machine != ["x86_64", "linux"] {
+    let made = made_for(&architecture, &system);
+    if named.is_none() && made.is_none() {
         println!(
-            "cargo::error=`rt lib` makes the archive for x86_64 and Linux, not for {machine:?}"
+            "cargo::error=the archive is for Linux on x86_64 or aarch64, not for {system} on {architecture}"
         );
         return;
     }
+    let (made, maker) = made.unwrap_or((PathBuf::new(), MAKER));
     let folder = match named {
         Some(folder) => folder,
-        None if beside().join(ARCHIVE).is_file() => beside(),
-        None => installed().unwrap_or_else(beside),
+        None if made.join(ARCHIVE).is_file() => made,
+        None => installed(&architecture).unwrap_or(made),
     };
     let archive = folder.join(ARCHIVE);
     println!("cargo::rerun-if-changed={}", archive.display());
     if !archive.is_file() {
-        let missing = archive.display();
+        println!("cargo::error=there is no {}", archive.display());
+        println!("cargo::error={maker} makes it. GIHANDOP_LIB names another folder that has it,");
         println!(
-            "cargo::error=there is no {missing}: `rt lib` in crates/gihandop_c makes the archive"
+            "cargo::error=and `pkg-config` finds one that `make install` has installed: if it"
         );
         println!(
-            "cargo::error=(in out/ there), GIHANDOP_LIB names another folder that has it, and"
+            "cargo::error=is for another processor, only with PKG_CONFIG or PKG_CONFIG_LIBDIR"
         );
-        println!("cargo::error=`pkg-config` finds one that `make install` has installed");
         return;
     }
     println!("cargo::rustc-link-search=native={}", folder.display());
     println!("cargo::rustc-link-lib=static=gihandop_c");
 }
 
-/// Where `rt lib` leaves the archive.
-fn beside() -> PathBuf {
+/// Returns the folder of this repository that has the archive for a machine, and what makes it there.
+fn made_for(architecture: &str, system: &str) -> Option<(PathBuf, &'static str)> {
     let crate_here = PathBuf::from(variable("CARGO_MANIFEST_DIR"));
     let repository = crate_here.parent().unwrap_or(Path::new(".."));
-    repository.join("crates/gihandop_c/out")
+    let folder = repository.join("crates/gihandop_c/out");
+    match (architecture, system) {
+        ("x86_64", "linux") => Some((folder, MAKER)),
+        ("aarch64", "linux") => Some((folder.join("aarch64-unknown-linux-gnu"), MAKER_FOR_AARCH64)),
+        _ => None,
+    }
 }
 
-/// Where `make install` left the archive, as `pkg-config` says, if it is there.
-fn installed() -> Option<PathBuf> {
+/// Returns the folder in which `make install` left the archive, as `pkg-config` says. Its packages are
+/// those of this machine, unless the caller says where others are.
+fn installed(architecture: &str) -> Option<PathBuf> {
+    let says_where =
+        env::var_os("PKG_CONFIG").is_some() || env::var_os("PKG_CONFIG_LIBDIR").is_some();
+    if !variable("HOST").starts_with(architecture) && !says_where {
+        return None;
+    }
     let program = env::var_os("PKG_CONFIG").unwrap_or("pkg-config".into());
     let said = Command::new(program)
         .args(["--libs-only-L", "gihandop"])
