@@ -9,7 +9,6 @@ A line is printed for each check that fails. The last line is 'N passed, M faile
 """
 
 import os
-import pty
 import queue
 import random
 import signal
@@ -19,89 +18,34 @@ import sys
 import tempfile
 import threading
 import time
-import tty
 
-ROOT = os.path.dirname(os.path.dirname(os.path.realpath(__file__)))
-sys.path.insert(0, f"{ROOT}/interop")
+from lock_daemon import CODE, CONFIGURATION, COUNT, FOUND, KEYS, NOTE, NOTIFIED, PATIENCE, READ, RESET, ROOT, STATE, TABLE
+from lock_daemon import WRITE, WRITTEN, LockDaemon, Terminal, check, counted, made, text_of
+from phones import OWNER, STRANGER, TABLET
 
-from controller import PATIENCE, Controller  # noqa: E402
-from phones import OWNER, STRANGER, TABLET  # noqa: E402
-
-TABLE, KEYS = f"{ROOT}/examples/door.toml", f"{ROOT}/examples/keys.toml"
-# Handles of the door: its state, the configuration of that, its code and its note.
-STATE, CONFIGURATION, CODE, NOTE = b"\x0a\x00", b"\x0b\x00", b"\x0d\x00", b"\x15\x00"
-READ, FOUND, WRITE, WRITTEN, NOTIFIED = b"\x0a", b"\x0b", b"\x12", b"\x13", b"\x1b"
-RESET = 0x0C03
 HOST_ENDED = 0x13
 # How long the lock lets a phone stay without a key, in seconds.
 STAY = 30
-COUNT = {"passed": 0, "failed": 0, "skipped": 0}
 
 
-def check(is_so, what):
-    COUNT["passed" if is_so else "failed"] += 1
-    if not is_so:
-        print(f"failed: {what}", flush=True)
-
-
-class Terminal:
-    """The controller's end of a serial line."""
-
-    def __init__(self):
-        self.descriptor, self.other = pty.openpty()
-        tty.setraw(self.other)
-        self.name = os.ttyname(self.other)
-
-    def recv(self, size):
-        return os.read(self.descriptor, size)
-
-    def sendall(self, data):
-        while data:
-            data = data[os.write(self.descriptor, data) :]
-
-
-class Door(Controller):
-    """A lock and its controller, which listens at a Unix socket unless there is a serial line."""
+class Door(LockDaemon):
+    """A lock whose controller listens at a Unix socket, unless there is a serial line."""
 
     def __init__(self, program, state, line=None, more=None):
-        self.motor, self.sent = queue.Queue(), []
-        self.environment = {**os.environ, **(more or {})}
+        path = line.name if line else f"{state}.socket"
+        words = [program, TABLE, KEYS, state, path]
         if line:
-            self.start(program, state, line.name)
+            self.start(words, more)
             return self.play(line)
-        path = f"{state}.socket"
         with socket.socket(socket.AF_UNIX) as server:
             server.bind(path)
             server.listen()
-            self.start(program, state, path)
+            self.start(words, more)
             server.settimeout(PATIENCE)
             stream = server.accept()[0]
             stream.settimeout(None)
         os.remove(path)
         self.play(stream)
-
-    def start(self, program, state, controller):
-        words = [program, TABLE, KEYS, state, controller]
-        self.serving = subprocess.Popen(words, stdin=subprocess.PIPE, stdout=subprocess.PIPE, stderr=subprocess.PIPE, env=self.environment)
-        threading.Thread(target=self.hear_motor, daemon=True).start()
-
-    def hear_motor(self):
-        for text in self.serving.stdout:
-            self.motor.put(text.decode().strip())
-
-    def turned(self):
-        try:
-            return self.motor.get(timeout=PATIENCE)
-        except queue.Empty:
-            return "nothing"
-
-    def obey(self, opcode, body):
-        self.sent.append(opcode)
-        super().obey(opcode, body)
-
-    def press(self, text):
-        self.serving.stdin.write(text.encode())
-        self.serving.stdin.flush()
 
     def tablet(self):
         """Returns a connection of the tablet, which has its key."""
@@ -109,32 +53,10 @@ class Door(Controller):
         check(tablet.encrypt(), "the tablet has its key")
         return tablet
 
-    def ended(self):
-        """Returns the status of the lock, once it has ended, and its standard error."""
-        status = self.serving.wait(timeout=PATIENCE)
-        self.reader.join(PATIENCE)
-        self.stream.close()
-        return status, self.serving.stderr.read().decode()
-
-
-def text_of(path):
-    try:
-        with open(path, encoding="ascii") as file:
-            return file.read()
-    except FileNotFoundError:
-        return ""
-
-
-def made(room, name):
-    """Makes a folder for a state, and returns its path."""
-    path = f"{room}/{name}"
-    os.mkdir(path)
-    return path
-
 
 def a_day(program, room):
     """Phones use a lock, and the next one."""
-    state = made(room, "day")
+    state = made(f"{room}/day")
     door = Door(program, state)
     check(door.turned() == "motor: shut", "the door begins shut")
     tablet = door.connect(TABLET)
@@ -184,7 +106,7 @@ def a_day(program, room):
 
 def a_serial_line(program, room):
     """The lock serves a serial line: a pseudo-terminal."""
-    door = Door(program, made(room, "line"), Terminal())
+    door = Door(program, made(f"{room}/line"), Terminal(is_raw=True))
     tablet = door.tablet()
     every = bytes(range(256))
     check(tablet.ask(b"\x02\xf7\x00") == b"\x03\xf7\x00", "the tablet takes longer PDUs")
@@ -197,7 +119,7 @@ def a_serial_line(program, room):
 
 def in_order(program, room, library):
     """Each change is on the disk before its answer is sent: the file, its new name, and the folder."""
-    state, log = made(room, "order"), f"{room}/order.log"
+    state, log = made(f"{room}/order"), f"{room}/order.log"
     door = Door(program, state, more={"LD_PRELOAD": library, "ORDER": log})
     tablet = door.tablet()
     changes = [("values", NOTE + b"1"), ("rows", CONFIGURATION + b"\x01\x00"), ("values", STATE + b"\x01")]
@@ -220,7 +142,7 @@ def in_order(program, room, library):
 
 def no_disk(program, room):
     """A lock that cannot save answers the others, and goes on."""
-    state = made(room, "disk")
+    state = made(f"{room}/disk")
     door = Door(program, state)
     tablet, owner = door.tablet(), door.connect(OWNER)
     check(tablet.ask(WRITE + NOTE + b"1") == WRITTEN, "the tablet leaves a note")
@@ -243,7 +165,7 @@ def no_disk(program, room):
 
 def refused(program, room):
     """How the lock ends if it cannot begin."""
-    state = made(room, "refused")
+    state = made(f"{room}/refused")
 
     def ended(*words):
         ran = subprocess.run([program, *words], stdin=subprocess.DEVNULL, capture_output=True, text=True, timeout=PATIENCE)
@@ -266,7 +188,7 @@ def refused(program, room):
 
 def killed(program, room, rounds):
     """A phone writes without an end, until the lock is killed: all that was answered is saved."""
-    state = made(room, "killed")
+    state = made(f"{room}/killed")
     chosen = random.Random(1)
     note, bits, answered, lost = b"", 0, 0, 0
     unanswered = None
@@ -304,7 +226,7 @@ def main():
     library = sys.argv[2] if len(sys.argv) > 2 else "-"
     rounds = int(sys.argv[3]) if len(sys.argv) > 3 else 100
     with tempfile.TemporaryDirectory() as room:
-        silent = Door(program, made(room, "silent"))
+        silent = Door(program, made(f"{room}/silent"))
         began, left = time.monotonic(), queue.Queue()
         stranger, tablet = silent.connect(STRANGER), silent.tablet()
         threading.Thread(target=lambda: left.put((stranger.heard.get(), time.monotonic() - began)), daemon=True).start()
@@ -324,8 +246,7 @@ def main():
         check(tablet.ask(READ + b"\x03\x00") == FOUND + b"Lock", "a phone with a key stays")
         silent.serving.kill()
         silent.ended()
-    print(", ".join(f"{count} {word}" for word, count in COUNT.items()))
-    return 1 if COUNT["failed"] else 0
+    return counted()
 
 
 if __name__ == "__main__":

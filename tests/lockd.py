@@ -6,8 +6,6 @@ A line is printed for each check that fails. The last line is 'N passed, M faile
 """
 
 import os
-import pty
-import queue
 import random
 import signal
 import socket
@@ -16,75 +14,18 @@ import sys
 import tempfile
 import threading
 
-ROOT = os.path.dirname(os.path.dirname(os.path.realpath(__file__)))
-sys.path.insert(0, f"{ROOT}/interop")
-
-from controller import PATIENCE, Controller, free_port, joined  # noqa: E402
-from phones import OWNER, STRANGER, TABLET  # noqa: E402
-
-TABLE, KEYS = f"{ROOT}/examples/door.toml", f"{ROOT}/examples/keys.toml"
-# Handles of the door: its state, the configuration of that, and a value of any octets.
-STATE, CONFIGURATION, NOTE = b"\x0a\x00", b"\x0b\x00", b"\x15\x00"
-READ, WRITE, WRITTEN, TOLD = b"\x0a", b"\x12", b"\x13", b"\x1b"
-RESET = 0x0C03
-COUNT = {"passed": 0, "failed": 0, "skipped": 0}
+from lock_daemon import CONFIGURATION, KEYS, NOTE, NOTIFIED, PATIENCE, READ, RESET, ROOT, STATE, TABLE, WRITE, WRITTEN
+from lock_daemon import LockDaemon, Terminal, check, counted, made, text_of
+from controller import free_port, joined
+from phones import OWNER, STRANGER, TABLET
 
 
-def check(is_so, what):
-    COUNT["passed" if is_so else "failed"] += 1
-    if not is_so:
-        print(f"failed: {what}", flush=True)
-
-
-class Terminal:
-    """The controller's end of a serial line."""
-
-    def __init__(self):
-        self.descriptor, self.other = pty.openpty()
-        self.name = os.ttyname(self.other)
-
-    def recv(self, size):
-        return os.read(self.descriptor, size)
-
-    def sendall(self, octets):
-        while octets:
-            octets = octets[os.write(self.descriptor, octets) :]
-
-
-class Door(Controller):
-    """A lock and its controller. `motor` has what the motor did, and `sent` the opcodes of all commands."""
+class Door(LockDaemon):
+    """A lock whose controller is joined to it."""
 
     def __init__(self, words, line, join, folder=None):
-        started = [*words, TABLE, KEYS, line] + ([folder] if folder else [])
-        self.serving = subprocess.Popen(started, stdin=subprocess.PIPE, stdout=subprocess.PIPE, stderr=subprocess.PIPE)
-        self.motor, self.sent = queue.Queue(), []
-        threading.Thread(target=self.hear_motor, daemon=True).start()
+        self.start([*words, TABLE, KEYS, line] + ([folder] if folder else []))
         self.play(join(self.serving))
-
-    def hear_motor(self):
-        for text in self.serving.stdout:
-            self.motor.put(text.decode().strip())
-
-    def turned(self):
-        try:
-            return self.motor.get(timeout=PATIENCE)
-        except queue.Empty:
-            return "nothing"
-
-    def obey(self, opcode, body):
-        self.sent.append(opcode)
-        super().obey(opcode, body)
-
-    def press(self, text):
-        self.serving.stdin.write(text.encode())
-        self.serving.stdin.flush()
-
-    def ended(self):
-        """Returns the status of lockd, once it has ended, and what it told of faults."""
-        status = self.serving.wait(timeout=PATIENCE)
-        self.reader.join(PATIENCE)
-        self.stream.close()
-        return status, self.serving.stderr.read().decode()
 
 
 def listening(words, folder=None):
@@ -104,21 +45,8 @@ def connecting(words, folder=None):
         return Door(words, f"connect:127.0.0.1:{port}", join, folder)
 
 
-def text_of(path):
-    try:
-        with open(path, encoding="ascii") as file:
-            return file.read()
-    except FileNotFoundError:
-        return None
-
-
 def row(phone, handle):
     return f"{phone.kind} {phone.address} {handle} 1\n"
-
-
-def made(folder):
-    os.mkdir(folder)
-    return folder
 
 
 def a_day(words, room):
@@ -142,20 +70,20 @@ def a_day(words, room):
     check(owner.ask(WRITE + STATE + b"\x01")[0] == 1, "the owner may not open")
     check(tablet.ask(WRITE + STATE + b"\x00") == WRITTEN, "the tablet shuts")
     check(door.turned() == "motor: shut", "the motor shuts")
-    check(owner.receive() == TOLD + STATE + b"\x00", "the owner is told")
+    check(owner.receive() == NOTIFIED + STATE + b"\x00", "the owner is told")
     stranger = door.connect(STRANGER)
     check(stranger.ask(READ + b"\x03\x00") == b"\x0bLock", "a stranger reads the name")
     check(stranger.ask(WRITE + STATE + b"\x01") == b"\x01\x12\x0a\x00\x05", "a stranger may not open")
     door.press("open\nnonsense\n")
     check(door.turned() == "motor: open", "the panel opens")
-    check(tablet.receive() == TOLD + STATE + b"\x01", "the tablet is told of the panel")
-    check(owner.receive() == TOLD + STATE + b"\x01", "the owner is told of the panel")
+    check(tablet.receive() == NOTIFIED + STATE + b"\x01", "the tablet is told of the panel")
+    check(owner.receive() == NOTIFIED + STATE + b"\x01", "the owner is told of the panel")
     check(tablet.ask(READ + STATE) == b"\x0b\x01", "the tablet reads that it is open")
     check(owner.ask(WRITE + CONFIGURATION + b"\x00\x00") == WRITTEN, "the owner wants to hear no more")
     check(text_of(rows) == row(TABLET, 11), "that is saved")
     door.press("shut\n")
     check(door.turned() == "motor: shut", "the panel shuts")
-    check(tablet.receive() == TOLD + STATE + b"\x00", "the tablet is told")
+    check(tablet.receive() == NOTIFIED + STATE + b"\x00", "the tablet is told")
     door.serving.send_signal(signal.SIGTERM)
     check(tablet.heard.get(timeout=PATIENCE) is None and tablet.reason == 0x13, "SIGTERM ends the tablet's connection")
     check(owner.heard.get(timeout=PATIENCE) is None and owner.reason == 0x13, "SIGTERM ends the owner's connection")
@@ -172,7 +100,7 @@ def a_day(words, room):
     tablet = door.connect(TABLET)
     check(tablet.encrypt(), "the tablet comes again")
     door.press("open\n")
-    check(tablet.receive() == TOLD + STATE + b"\x01", "it hears without subscribing again")
+    check(tablet.receive() == NOTIFIED + STATE + b"\x01", "it hears without subscribing again")
     check(tablet.ask(WRITE + NOTE + b"note") == WRITTEN, "it writes a note")
     check(text_of(values) == "10 fff1 01\n21 fff4 6e6f7465\n", "the values are saved, also that of the panel")
     tablet.drop()
@@ -342,8 +270,7 @@ def main():
         a_signal_in_the_middle(words, room, 2 if is_slow else 10)
         kills_in_the_middle(words, room, *((2, 4) if is_slow else (100, 0.1)))
         refused(words, room)
-    print(f"{COUNT['passed']} passed, {COUNT['failed']} failed, {COUNT['skipped']} skipped")
-    return 1 if COUNT["failed"] else 0
+    return counted()
 
 
 if __name__ == "__main__":
