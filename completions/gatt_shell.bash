@@ -1,0 +1,72 @@
+# Completes the words of gatt_shell and hci_bridge in bash. Bash loads it by the name of the command, from
+# share/bash-completion/completions. tests/completion.py compares it with the help of each command.
+
+_gatt_shell() {
+    local word=$2 before=$3 command=${COMP_WORDS[1]-} words
+    COMPREPLY=()
+    # --rows=FILE arrives as three words.
+    if [[ $word == = ]]; then
+        word=''
+    elif [[ $before == = ]]; then
+        before=${COMP_WORDS[COMP_CWORD - 2]}
+    fi
+    case $before in
+    --state)
+        compopt -o dirnames
+        return
+        ;;
+    --rows | --next | --capture | --serial | --application)
+        compopt -o default
+        return
+        ;;
+    --listen | --connect | --application-port | --name | --advertise | --address | --capture-size | --slots | \
+        --idle | --stranger | --patience)
+        return
+        ;;
+    esac
+    if ((COMP_CWORD == 1)); then
+        words='att check show run serve host tell help --help --version'
+    elif [[ $command == help ]]; then
+        words='att check show run serve host tell help'
+    elif [[ $word == -* ]]; then
+        case $command in
+        att | check | tell) words='--help' ;;
+        show | serve) words='--rows --help' ;;
+        run) words='--rows --next --notices --echo --help' ;;
+        host)
+            words='--state --save-updates --rows --drop-unknown --listen --connect --serial --application
+                --application-port --wait-for-application --name --advertise --address --capture --capture-size
+                --log-values --slots --idle --stranger --patience --once --help'
+            ;;
+        *) return ;;
+        esac
+    elif [[ $command == tell ]] && ((COMP_CWORD == 3)); then
+        words='update allow deny disconnect value connections subscriptions find stop'
+    else
+        case $command:$COMP_CWORD in
+        check:* | show:* | run:* | serve:* | host:* | tell:2) compopt -o default ;;
+        esac
+        return
+    fi
+    mapfile -t COMPREPLY < <(compgen -W "$words" -- "$word")
+}
+
+_hci_bridge() {
+    local word=$2 before=$3 words=''
+    COMPREPLY=()
+    case $before in
+    hci[0-9]*)
+        compopt -o default
+        return
+        ;;
+    --down) ;;
+    *) words='--down' ;;
+    esac
+    if ((COMP_CWORD <= 2)); then
+        words+=" $(compgen -G '/sys/class/bluetooth/hci*' | sed 's|.*/||; /:/d')"
+    fi
+    mapfile -t COMPREPLY < <(compgen -W "$words" -- "$word")
+}
+
+complete -F _gatt_shell gatt_shell
+complete -F _hci_bridge hci_bridge
