@@ -1,10 +1,12 @@
-# Installs the host as a library for C, and the program gatt_shell.
+# Installs the programs gatt_shell and hci_bridge, the library for C, the documents and the examples.
 #
 #     make install            in /usr/local, or in PREFIX
 #     make install DESTDIR=/tmp/package PREFIX=/usr LIBDIR=/usr/lib/x86_64-linux-gnu
+#     make install TARGET=aarch64-unknown-linux-gnu CC=aarch64-linux-gnu-gcc AR=aarch64-linux-gnu-ar
+#     make uninstall          with the same variables, removes the files again
 #
-# The archive and the program are proved as they are made, by Rattle's command rt, and not here:
-# where one is missing this says what makes it, and installs nothing.
+# Rattle's command rt proves and makes the archive and gatt_shell. This file makes neither: if one is
+# missing, it says what makes it, and installs nothing.
 
 VERSION = 0.2.0
 
@@ -13,34 +15,47 @@ BINDIR = $(PREFIX)/bin
 LIBDIR = $(PREFIX)/lib
 INCLUDEDIR = $(PREFIX)/include
 DATADIR = $(PREFIX)/share
+DOCDIR = $(DATADIR)/doc/gihandop
+UNITDIR = $(PREFIX)/lib/systemd/system
+COMPLETIONDIR = $(DATADIR)/bash-completion/completions
 DESTDIR =
 
 CFLAGS = -O2
 INSTALL = install
 
-ARCHIVE = crates/gihandop_c/out/libgihandop_c.a
-PROGRAM = crates/gatt_shell/out/gatt_shell
-BUILD = out
+# The processor for which rt proved the outputs, if it is another one than x86-64.
+TARGET =
+OUT = out$(if $(TARGET),/$(TARGET))
+ARCHIVE = crates/gihandop_c/$(OUT)/libgihandop_c.a
+PROGRAM = crates/gatt_shell/$(OUT)/gatt_shell
+BUILD = $(OUT)
+
+PROVE = tools/prove$(if $(TARGET), --target $(TARGET))
+UNITS = $(wildcard bridge/*.service)
+# The documents lie as in the repository, so that the links between them lead somewhere.
+DOCUMENTS = README.md CHANGELOG.md CONTRIBUTING.md SECURITY.md LICENSE-APACHE LICENSE-MIT LICENSE-THIRD-PARTY \
+    $(wildcard docs/*.md docs/schema/*.json) python/gihandop.py
+EXAMPLES = $(sort $(shell find examples -type f ! -name '*.pyc'))
 
 all: $(ARCHIVE) $(PROGRAM) $(BUILD)/libgihandop_heap.a $(BUILD)/gihandop.pc $(BUILD)/hci_bridge
 
 $(ARCHIVE):
-	@echo 'there is no $@: `rt lib` in crates/gihandop_c proves the host and makes it' >&2; exit 1
+	@echo 'there is no $@: `$(PROVE) gihandop_c` (or, for this machine, `rt lib` in crates/gihandop_c) proves the host and makes it' >&2; exit 1
 
 $(PROGRAM):
-	@echo 'there is no $@: `tools/prove gatt_shell` proves the program and makes it' >&2; exit 1
+	@echo 'there is no $@: `$(PROVE) gatt_shell` proves the program and makes it' >&2; exit 1
 
 # The memory over malloc. A program that has heap.o with a pool of its own takes none from here.
 $(BUILD)/libgihandop_heap.a: c/heap.c
 	mkdir -p $(BUILD)
 	$(CC) -std=c11 $(CPPFLAGS) $(CFLAGS) -c -o $(BUILD)/heap.o c/heap.c
 	rm -f $@
-	$(AR) rcs $@ $(BUILD)/heap.o
+	$(AR) rcsD $@ $(BUILD)/heap.o
 
 # The serial line to a controller of Linux.
 $(BUILD)/hci_bridge: bridge/hci_bridge.c bridge/user_channel.c bridge/channel.h
 	mkdir -p $(BUILD)
-	$(CC) -std=c11 $(CPPFLAGS) $(CFLAGS) -o $@ bridge/hci_bridge.c bridge/user_channel.c
+	$(CC) -std=c11 $(CPPFLAGS) $(CFLAGS) $(LDFLAGS) -o $@ bridge/hci_bridge.c bridge/user_channel.c
 
 .PHONY: all install uninstall check $(BUILD)/gihandop.pc
 
@@ -52,7 +67,7 @@ $(BUILD)/gihandop.pc: c/gihandop.pc.in
 
 install: all
 	$(INSTALL) -d $(DESTDIR)$(BINDIR) $(DESTDIR)$(LIBDIR)/pkgconfig $(DESTDIR)$(INCLUDEDIR) \
-	    $(DESTDIR)$(DATADIR)/gihandop $(DESTDIR)$(DATADIR)/man/man1
+	    $(DESTDIR)$(DATADIR)/gihandop $(DESTDIR)$(DATADIR)/man/man1 $(DESTDIR)$(UNITDIR) $(DESTDIR)$(COMPLETIONDIR)
 	$(INSTALL) -m 755 $(PROGRAM) $(DESTDIR)$(BINDIR)/gatt_shell
 	$(INSTALL) -m 755 $(BUILD)/hci_bridge $(DESTDIR)$(BINDIR)/hci_bridge
 	$(INSTALL) -m 644 $(ARCHIVE) $(DESTDIR)$(LIBDIR)/libgihandop_c.a
@@ -63,13 +78,25 @@ install: all
 	for page in $(MANUAL); do \
 	    $(INSTALL) -D -m 644 $$page $(DESTDIR)$(DATADIR)/man/man$${page##*.}/$${page##*/} || exit; \
 	done
+	$(INSTALL) -m 644 completions/gatt_shell.bash $(DESTDIR)$(COMPLETIONDIR)/gatt_shell
+	ln -sf gatt_shell $(DESTDIR)$(COMPLETIONDIR)/hci_bridge
+	for it in $(UNITS); do \
+	    sed -E 's!/usr/bin/(gatt_shell|hci_bridge)!$(BINDIR)/\1!' $$it > $(BUILD)/unit && \
+	    $(INSTALL) -m 644 $(BUILD)/unit $(DESTDIR)$(UNITDIR)/$${it##*/} || exit; \
+	done
+	for it in $(DOCUMENTS) $(EXAMPLES); do \
+	    if test -x $$it; then mode=755; else mode=644; fi; \
+	    $(INSTALL) -D -m $$mode $$it $(DESTDIR)$(DOCDIR)/$$it || exit; \
+	done
 
 uninstall:
 	rm -f $(DESTDIR)$(BINDIR)/gatt_shell $(DESTDIR)$(BINDIR)/hci_bridge $(DESTDIR)$(LIBDIR)/libgihandop_c.a \
 	    $(DESTDIR)$(LIBDIR)/libgihandop_heap.a $(DESTDIR)$(LIBDIR)/pkgconfig/gihandop.pc \
 	    $(DESTDIR)$(INCLUDEDIR)/gihandop.h
 	for page in $(MANUAL); do rm -f $(DESTDIR)$(DATADIR)/man/man$${page##*.}/$${page##*/}; done
-	rm -rf $(DESTDIR)$(DATADIR)/gihandop
+	rm -f $(DESTDIR)$(COMPLETIONDIR)/gatt_shell $(DESTDIR)$(COMPLETIONDIR)/hci_bridge \
+	    $(patsubst bridge/%,$(DESTDIR)$(UNITDIR)/%,$(UNITS))
+	rm -rf $(DESTDIR)$(DATADIR)/gihandop $(DESTDIR)$(DOCDIR)
 
 # The manual pages lie in docs/man. After a change of the documents or of the help they are made again.
 MANUAL = $(wildcard docs/man/*.[1-9])
