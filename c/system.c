@@ -9,6 +9,7 @@
 #include <stdbool.h>
 #include <stddef.h>
 #include <stdint.h>
+#include <stdlib.h>
 #include <sys/epoll.h>
 #include <sys/ioctl.h>
 #include <sys/types.h>
@@ -30,19 +31,29 @@ size_t rattle_arg_count(void)
     return argument_count;
 }
 
-/* Copies an argument. Returns its length, -1 if there is no such argument, or -2 if it does not fit. */
-ssize_t rattle_arg(size_t index, uint8_t *buffer, size_t size)
+/* Copies a text. Returns its length, -1 if there is none, or -2 if it does not fit: then the buffer is full. */
+static ssize_t copied(const char *text, uint8_t *buffer, size_t size)
 {
-    if (index >= argument_count || arguments[index] == NULL)
-        return -1;
-    const char *word = arguments[index];
     size_t length = 0;
-    for (; word[length] != '\0'; length++) {
+
+    if (text == NULL)
+        return -1;
+    for (; text[length] != '\0'; length++) {
         if (length == size)
             return -2;
-        buffer[length] = (uint8_t)word[length];
+        buffer[length] = (uint8_t)text[length];
     }
     return (ssize_t)length;
+}
+
+ssize_t rattle_arg(size_t index, uint8_t *buffer, size_t size)
+{
+    return copied(index < argument_count ? arguments[index] : NULL, buffer, size);
+}
+
+ssize_t rattle_env(const char *name, uint8_t *buffer, size_t size)
+{
+    return copied(getenv(name), buffer, size);
 }
 
 int rattle_errno(void)
