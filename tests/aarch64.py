@@ -1,10 +1,10 @@
 #!/usr/bin/env -S python3 -B
 """Runs the program and the library for C on an emulated aarch64.
 
-usage: tests/aarch64.py [FOLDER]      FOLDER has the crates' outputs in place of crates/
+usage: tests/aarch64.py [FOLDER]      FOLDER has the outputs of the crates in place of crates/
 
-It runs the C programs by `tests/run --target`, and `docs/run`, `tests/device.py` and `tests/ends.py` with
-the program. `tools/prove --target aarch64-unknown-linux-gnu` makes both outputs. If the cross compiler
+It runs the C programs by `tests/run --target`, and `docs/run` and `tests/device.py` with the
+program. `tools/prove --target aarch64-unknown-linux-gnu` makes both outputs. If the cross compiler
 or qemu-user is missing, all is skipped. The last line is 'N passed, M failed, K skipped'.
 """
 
@@ -22,7 +22,6 @@ PARTS = {
     "tests/run": ["--target", TARGET],
     "docs/run": [],
     "tests/device.py": [],
-    "tests/ends.py": [],
 }
 
 
