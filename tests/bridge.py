@@ -4,7 +4,7 @@
 usage: tests/bridge.py [PROGRAM] [--only SCENARIO]     PROGRAM in place of ./gatt_shell
 
 The bridge is compiled with tests/c/test_channel.c in place of the user channel of Linux, which only a kernel
-with a controller has: interop/kernel tries that one. Without a C compiler nothing is tried, and the tool says
+with a controller has: interop/kernel.py tries that one. Without a C compiler nothing is tried, and the tool says
 so. The last line is 'N passed, M failed'.
 """
 
