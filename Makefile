@@ -75,6 +75,7 @@ install: all
 	$(INSTALL) -m 644 $(BUILD)/gihandop.pc $(DESTDIR)$(LIBDIR)/pkgconfig/gihandop.pc
 	$(INSTALL) -m 644 include/gihandop.h $(DESTDIR)$(INCLUDEDIR)/gihandop.h
 	$(INSTALL) -m 644 c/heap.c $(DESTDIR)$(DATADIR)/gihandop/heap.c
+	$(INSTALL) -D -m 755 tools/keys $(DESTDIR)$(DATADIR)/gihandop/tools/keys
 	for page in $(MANUAL); do \
 	    $(INSTALL) -D -m 644 $$page $(DESTDIR)$(DATADIR)/man/man$${page##*.}/$${page##*/} || exit; \
 	done

@@ -5,9 +5,9 @@ usage: tests/packages.py [PROGRAM [ARCHIVE]]
        tests/packages.py --root [PROGRAM [ARCHIVE]]
 
 PROGRAM is a gatt_shell and ARCHIVE a libgihandop_c.a, if not those in crates/. They are packed as they are; the
-verdicts of a release are made up here, if the logs of tools/prove are not beside the outputs. The release
-and the packages are built twice, in two copies of the checkout with other paths and times, and have to be the
-same.
+verdicts of a release are made up here, if the logs of tools/prove are not beside the outputs. If crates/ has
+outputs for aarch64 too, they are in the release. The release and the packages are built twice, in two copies
+of the checkout with other paths and times, and have to be the same.
 
 --root also makes a new root of Debian in a folder, which needs mmdebstrap, root and the network. It installs
 the packages there, runs debian/tests, and purges the packages.
@@ -29,6 +29,8 @@ TOOLS = ["dpkg-buildpackage", "dh", "dh_python3", "fakeroot"]
 BRANCH = "bookworm"
 # Files that pages link and that lie elsewhere once they are installed: sources of C and Rust.
 LINKED_SOURCES = {"include/gihandop.h", "c/heap.c", "rust/examples/lockd.rs"}
+# Folders of a root that others change.
+OTHERS = ("/proc", "/sys", "/dev", "/tmp", "/run", "/var/cache", "/var/log", "/var/lib/dpkg", "/var/lib/apt")
 COUNT = {"passed": 0, "failed": 0, "skipped": 0}
 
 
@@ -38,13 +40,19 @@ def tell(word, text):
         print(f"{word}: {text}", flush=True)
 
 
+def tell_counts():
+    print("{passed} passed, {failed} failed, {skipped} skipped".format(**COUNT))
+    return 1 if COUNT["failed"] else 0
+
+
 def check(name, is_so, why=""):
     tell("passed" if is_so else "failed", f"{name}{': ' if why else ''}{why}")
     return is_so
 
 
 def run(words, folder=ROOT, **how):
-    return subprocess.run(words, cwd=folder, stdin=subprocess.DEVNULL, stdout=subprocess.PIPE, stderr=subprocess.STDOUT, text=True, errors="replace", check=False, **how)
+    pipes = {"stdin": subprocess.DEVNULL, "stdout": subprocess.PIPE, "stderr": subprocess.STDOUT}
+    return subprocess.run(words, cwd=folder, text=True, errors="replace", check=False, **pipes, **how)
 
 
 def judge(name, words, folder=ROOT, **how):
@@ -75,8 +83,9 @@ def copy_checkout(to, program, archive):
         if it and os.path.lexists(f"{ROOT}/{it}"):
             os.makedirs(os.path.dirname(f"{to}/{it}"), exist_ok=True)
             shutil.copy(f"{ROOT}/{it}", f"{to}/{it}", follow_symlinks=False)
-    named = {f"GIT_{who}_{what}": value for who in ("AUTHOR", "COMMITTER") for what, value in (("NAME", "a"), ("EMAIL", "a@b"), ("DATE", "2026-01-01T00:00:00Z"))}
-    env = {**os.environ, **named, "GIT_CONFIG_GLOBAL": os.devnull}
+    named = {"NAME": "a", "EMAIL": "a@b", "DATE": "2026-01-01T00:00:00Z"}
+    env = {**os.environ, "GIT_CONFIG_GLOBAL": os.devnull}
+    env.update({f"GIT_{who}_{what}": value for who in ("AUTHOR", "COMMITTER") for what, value in named.items()})
     for words in (["init", "-q"], ["add", "-A"], ["commit", "-qm", "a release"]):
         subprocess.run(["git", *words], cwd=to, env=env, check=True)
     for crate, source, name in (("gatt_shell", program, "gatt_shell"), ("gihandop_c", archive, "libgihandop_c.a")):
@@ -85,11 +94,13 @@ def copy_checkout(to, program, archive):
         shutil.copy(source, f"{out}/{name}")
         log = f"{os.path.dirname(source)}/build.log"
         write(f"{out}/build.log", text_of(log) if os.path.exists(log) and "logic=proved" in text_of(log) else made_up_verdict())
+    for folder in glob.glob(f"{ROOT}/crates/*/out/*-linux-gnu"):
+        shutil.copytree(folder, f"{to}/{os.path.relpath(folder, ROOT)}", copy_function=shutil.copy)
 
 
 def made_up_verdict(word="proved", target="x86_64-unknown-linux-gnu", logic=""):
     logic = logic or run(["rt", "version"]).stdout.split()[-1]
-    return f"fn a::b: {word}\nlogic={word} functions=1 axioms=0 target={target} sum={logic} native=nat\n"
+    return f"fn a::b: {word}\naxioms libc: libc::heap::a (1 of the 2 declared)\nlogic={word} functions=1 axioms=0 target={target} sum={logic} native=nat\n"
 
 
 def try_links(name, folder):
@@ -113,8 +124,9 @@ def try_install(program, archive, room):
         found = files_below(package)
         units = [os.path.basename(it) for it in glob.glob(f"{ROOT}/bridge/*.service")]
         wanted = ["bin/gatt_shell", "bin/hci_bridge", "include/gihandop.h", "lib/libgihandop_c.a", "lib/libgihandop_heap.a", "lib/pkgconfig/gihandop.pc"]
-        wanted += ["share/gihandop/heap.c", "share/man/man1/gatt_shell.1", "share/bash-completion/completions/gatt_shell"]
-        wanted += [f"share/doc/gihandop/{it}" for it in ("README.md", "LICENSE-THIRD-PARTY", "docs/C.md", "examples/door.toml", "examples/device/lock.py", "python/gihandop.py")]
+        wanted += ["share/gihandop/heap.c", "share/gihandop/tools/keys", "share/man/man1/gatt_shell.1", "share/bash-completion/completions/gatt_shell"]
+        documents = ("README.md", "LICENSE-THIRD-PARTY", "docs/C.md", "examples/door.toml", "examples/device/lock.py", "python/gihandop.py")
+        wanted += [f"share/doc/gihandop/{it}" for it in documents]
         wanted += [f"lib/systemd/system/{it}" for it in units]
         missing = [it for it in wanted if f"{prefix[1:]}/{it}" not in found]
         check(f"make install, {prefix}: files", not missing, f"no {missing}")
@@ -127,7 +139,8 @@ def try_install(program, archive, room):
         try_links(f"make install, {prefix}", f"{package}{prefix}/share/doc/gihandop")
         write(f"{package}{prefix}/bin/other", "")
         judge(f"make uninstall, {prefix}", ["make", "--no-print-directory", "uninstall", *words])
-        left = [it for it in files_below(package) + [it for it, _, _ in os.walk(package) if "gihandop" in os.path.basename(it)] if it != f"{prefix[1:]}/bin/other"]
+        folders = [it for it, _, _ in os.walk(package) if "gihandop" in os.path.basename(it)]
+        left = [it for it in files_below(package) + folders if it != f"{prefix[1:]}/bin/other"]
         check(f"make uninstall, {prefix}: what it leaves", not left, f"{left}")
     empty = f"{room}/empty"
     for name in ("PROGRAM", "ARCHIVE"):
@@ -136,8 +149,8 @@ def try_install(program, archive, room):
         check(f"make install without {name}", ran.returncode and "tools/prove" in ran.stdout and not os.path.exists(empty), ran.stdout)
 
 
-def refuses(name, checkout, folder, wanted):
-    ran = run(["tools/release", folder], checkout)
+def refuses(name, checkout, folder, wanted, *words):
+    ran = run(["tools/release", *words, folder], checkout)
     is_so = ran.returncode == 1 and wanted in ran.stdout and not os.path.exists(folder)
     check(f"tools/release, {name}", is_so, f"status {ran.returncode}: {ran.stdout.strip()}")
 
@@ -171,6 +184,15 @@ def try_refusals(checkout, room):
             shutil.move(kept, path)
         else:
             os.remove(path)
+    gate = f"{room}/gate.log"
+    for name, said, wanted in (
+        ("a gate that took an earlier proof", "rt: gatt_shell is kept: an earlier run proved the same\n", "has no proof of gatt_shell"),
+        ("a gate that failed", f"== gatt_shell\n{made_up_verdict()}rt: gatt_shell NOT PROVED\n", "has no proof of gatt_shell"),
+        ("a gate with another kit", f"== gatt_shell\n{made_up_verdict(logic='0123456789abcdef')}rt: gatt_shell proved\n", "is of the logic 0123456789abcdef"),
+    ):
+        write(gate, said)
+        refuses(name, checkout, folder, wanted, "--gate", gate)
+    refuses("a gate's log that is missing", checkout, folder, "No such file", "--gate", f"{room}/missing")
     before = os.stat(source)
     os.utime(source)
     refuses("a source that is newer", checkout, folder, "crates/octets/src/lib.rt is newer than")
@@ -189,9 +211,10 @@ def try_tarball(path, room):
     ran = run(["./gatt_shell", "run", "examples/door.toml", "examples/keys.toml", "examples/bonded.script"], top, **bare)
     check("a command of the documents", ran.stdout == text_of(f"{top}/examples/bonded.out"), ran.stdout)
     judge("the application of the tarball", ["python3", "-B", "-c", "import sys; sys.path.insert(0, 'python'); import gihandop"], top, **bare)
+    judge("a key by the tarball", ["tools/keys", "new", "00:aa:01:00:00:00", "public"], top, **bare)
     try_links("the tarball", f"{top}/share/doc/gihandop")
     verdicts = text_of(f"{top}/VERDICTS")
-    sums = re.findall(r"(?m)^(\S+/\S+)\n    sha256 (\w+)\n    (logic=proved .*)$", verdicts)
+    sums = re.findall(r"(?m)^(\S+/\S+)\n    sha256 (\w+)\n    (logic=proved .*)\n    axioms ", verdicts)
     check("VERDICTS", [it[0] for it in sums] == ["bin/gatt_shell", "lib/libgihandop_c.a"], verdicts)
     for name, wanted, _ in sums:
         check(f"VERDICTS: {name}", run(["sha256sum", f"{top}/{name}"]).stdout.split()[0] == wanted)
@@ -216,6 +239,11 @@ def try_release(copies, room):
             sums.append(text_of(f"{room}/release {at}/SHA256SUMS"))
     if not check("a release, twice", len(sums) == 2 and sums[0] == sums[1], f"{sums}"):
         return None
+    log = f"{copies[0]}/crates/gatt_shell/out/build.log"
+    write(f"{room}/gate.log", f"== octets\n{made_up_verdict()}rt: octets proved\n== gatt_shell\n{text_of(log)}rt: gatt_shell proved\n")
+    os.remove(log)
+    if judge("tools/release --gate", ["tools/release", "--gate", f"{room}/gate.log", f"{room}/release of the gate"], copies[0]):
+        check("the release of the gate", text_of(f"{room}/release of the gate/SHA256SUMS") == sums[0])
     judge("SHA256SUMS", ["sha256sum", "--strict", "-c", "SHA256SUMS"], f"{room}/release 0")
     (programs,) = glob.glob(f"{room}/release 0/*-x86_64-linux.tar.gz")
     try_tarball(programs, room)
@@ -305,7 +333,7 @@ def listing(new):
     """Returns the files and folders of a root, except those of apt, of dpkg and of running programs."""
     found = []
     for folder, folders, files in os.walk(new):
-        folders[:] = [it for it in folders if f"{folder}/{it}"[len(new) :] not in ("/proc", "/sys", "/dev", "/tmp", "/run", "/var/cache", "/var/log", "/var/lib/dpkg", "/var/lib/apt")]
+        folders[:] = [it for it in folders if f"{folder}/{it}"[len(new) :] not in OTHERS]
         found += [f"{folder}/{it}"[len(new) :] for it in folders + files]
     return found
 
@@ -324,6 +352,9 @@ def main():
     else:
         with tempfile.TemporaryDirectory() as room:
             try_install(program, archive, room)
+            if run(["git", "rev-parse", "--show-toplevel"]).stdout.strip() != ROOT:
+                tell("skipped", f"a release and Debian's packages: {ROOT} is no repository of git")
+                return tell_counts()
             copies = [f"{room}/one/gihandop", f"{room}/another-place/deeper/gihandop"]
             for copy in copies:
                 copy_checkout(copy, program, archive)
@@ -331,8 +362,7 @@ def main():
             folder = try_debian(copies)
             if has_root and folder:
                 try_root(folder, copies[0], room)
-    print("{passed} passed, {failed} failed, {skipped} skipped".format(**COUNT))
-    return 1 if COUNT["failed"] else 0
+    return tell_counts()
 
 
 if __name__ == "__main__":
