@@ -2,22 +2,22 @@
  * SPDX-License-Identifier: Apache-2.0 OR MIT
  * Copyright 2026 The Gihandop authors
  *
- * Gihandop: the host half of a Bluetooth Low Energy peripheral, an ATT and GATT server over the octets
- * of a controller (H4: Core 5.0, Vol 4 Part A). A static library, which this header declares:
+ * Gihandop: the host half of a Bluetooth Low Energy peripheral, an ATT and GATT server over the octets of
+ * a controller (H4: Core 5.0, Vol 4 Part A). A static library, which this header declares:
  *
  *     cc program.c c/heap.c crates/gihandop_c/out/libgihandop_c.a
  *
- * The program keeps a struct gh_host, opens it, and then, again and again, takes in the time, and octets
- * of the controller or a call of its own, and hands back what is owed:
+ * A program opens a struct gh_host. Then, again and again, it passes the time, passes bytes of the
+ * controller or makes a call, and fetches notices and output:
  *
  *     struct gh_host host = GH_HOST_INIT;
  *     gh_open(&host, ...);
  *     finish();
  *     for (;;) {
- *         wait for something to take in, but not beyond gh_deadline;
+ *         wait for bytes or a call, but not beyond gh_deadline;
  *         gh_tick(&host, now);
  *         finish();
- *         take it in: gh_take, gh_update, gh_authorize, gh_disconnect, gh_replace;
+ *         gh_take, gh_update, gh_authorize, gh_disconnect or gh_replace;
  *         finish();
  *     }
  *
@@ -26,18 +26,21 @@
  *     while (gh_next_notice(&host, &notice) == GH_DONE)
  *         see what a phone did;
  *     while (gh_next_out(&host, out, sizeof out, &count) == GH_DONE)
- *         send the octets of out, which are count;
+ *         send count bytes of out;
  *
- * Output is pulled, one packet a call, so the library has no buffer that may overflow, and a
- * controller that is slow stops the loop and not the program. As long as a packet is owed nothing is
- * taken in: GH_OUTPUT_OWED says so.
+ * The program fetches output, one packet a call. So the library has no buffer that can overflow, and a
+ * slow controller stops this loop and not the program. While output is pending, the host accepts nothing:
+ * GH_OUTPUT_OWED.
  *
- * What a function promises is proved for all octets, texts, numbers and orders of calls. What the
- * compiler of C cannot test is owed by the program: each pointer is to as many octets as the length
- * beside it says, and is not NULL where that is 0; what is written lies apart from all else that is
- * passed; a struct gh_host begins as GH_HOST_INIT, and is changed by these functions alone; one call
- * at a time for each host, none of a signal handler; and 40 KiB of stack. For a text without octets, as
- * rows at the first start, give GH_EMPTY and 0.
+ * The promises of each function are proved for all bytes, texts, numbers and orders of calls. The program
+ * has to ensure what a compiler of C cannot check:
+ *
+ * - Each pointer leads to as many bytes as the length after it says, and is not NULL, also if that is 0.
+ * - What a function writes does not overlap anything else that is passed to it.
+ * - A struct gh_host begins as GH_HOST_INIT, and only these functions change it.
+ * - One call at a time for each host, none from a signal handler, and 40 KiB of stack.
+ *
+ * For a text without bytes, such as rows at the first start, pass GH_EMPTY and 0.
  */
 #ifndef GIHANDOP_H
 #define GIHANDOP_H
@@ -50,7 +53,7 @@
 extern "C" {
 #endif
 
-/* A host, or none: what the library keeps of it lies on the heap of c/heap.c. */
+/* A host, or none. Its memory is from the heap of c/heap.c. */
 struct gh_host {
     void *at;
 };
@@ -60,21 +63,20 @@ struct gh_host {
    the patch. */
 #define GH_VERSION 2000
 
-/* The longest packet that goes out, in octets. */
+/* The longest packet of gh_next_out, in octets. */
 #define GH_LONGEST_PACKET 260
 
 /* A pointer to no octets that is not NULL. */
 #define GH_EMPTY ((const uint8_t *)"")
 
 /*
- * What a host is opened with. Begin with GH_CONFIG_INIT, which has 4 connections, 247 octets, the public
- * address, and the flags of a device that anybody may find and that has no BR/EDR, and change the fields
- * after size that you want otherwise.
+ * The configuration of a host. Begin with GH_CONFIG_INIT: 4 connections, 247 octets, the public address,
+ * and the flags of general discovery without BR/EDR. Change any field after size.
  */
 struct gh_config {
     /* The size of this structure, in octets: GH_CONFIG_INIT sets it. */
     size_t size;
-    /* As many connections as there may be at once: 1 to 8. */
+    /* The largest number of connections at once: 1 to 8. */
     size_t slots;
     /* The largest PDU of the Attribute Protocol that is received, in octets: 23 to 517. */
     uint16_t rx_mtu;
@@ -90,16 +92,16 @@ struct gh_config {
 };
 #define GH_CONFIG_INIT { sizeof(struct gh_config), 4, 247, 0, {0}, 3, {0x02, 0x01, 0x06} }
 
-/* What a function answers. */
+/* The status that a function returns. */
 enum {
     GH_DONE = 0,
-    /* There is nothing to hand out. */
+    /* There is nothing to return. */
     GH_NOTHING = 1,
     /* No host is open. */
     GH_CLOSED = 2,
     /* A host is open already. */
     GH_ALREADY_OPEN = 3,
-    /* Packets have to go out first: gh_next_out. */
+    /* Output is pending, and has to be fetched first: gh_next_out. */
     GH_OUTPUT_OWED = 4,
     /* The buffer is too short. */
     GH_SHORT_BUFFER = 5,
@@ -110,9 +112,9 @@ enum {
     /* The size of a structure is smaller than that of the library. */
     GH_BAD_SIZE = 8,
 
-    /* The host has stopped for good, and nothing is taken in any more: */
+    /* The host has stopped for good, and accepts nothing any more: */
     GH_STOPPED = 20,
-    /* an octet stands where a packet begins, and begins none; */
+    /* an octet begins no packet; */
     GH_DESYNC = 21,
     /* an event is too short for its fields, or has another length than it states; */
     GH_BAD_EVENT = 22,
@@ -121,7 +123,7 @@ enum {
     /* the controller reports an error of its own. */
     GH_HARDWARE = 24,
 
-    /* The host refuses a call, and changes nothing but that no notice is there any more: */
+    /* The host refuses a call, and changes nothing, except that there are no notices any more: */
     GH_REFUSED = 40,
     /* there is no attribute with the handle; */
     GH_NO_SUCH_HANDLE = 41,
@@ -131,20 +133,20 @@ enum {
     GH_BAD_LENGTH = 43,
     /* no connection with the handle serves; */
     GH_NO_SUCH_CONNECTION = 44,
-    /* the time is before the one that stands; */
+    /* the time is earlier than the current time; */
     GH_TIME_WENT_BACK = 45,
     /* the host has stopped: gh_take says why; */
     GH_HAS_STOPPED = 46,
     /* a table has no value that tells of changes, or they have it at different handles. */
     GH_NO_SERVICE_CHANGED = 47,
 
-    /* The table file is refused: this and the number of its first fault, as docs/FORMATS.md has them. */
+    /* The table file is refused: this and the number of its first fault (docs/TABLE.md). */
     GH_BAD_TABLE = 100,
     /* it is not TOML; */
     GH_TABLE_NOT_TOML = 101,
     /* a key that has to be there is not; */
     GH_TABLE_MISSING = 102,
-    /* a uuid is none, or is one that may not stand there; */
+    /* a uuid is none, or is not allowed there; */
     GH_TABLE_BAD_UUID = 103,
     /* a value is not an even number of hexadecimal digits; */
     GH_TABLE_BAD_HEX = 104,
@@ -163,7 +165,7 @@ enum {
     /* a key that is unknown, or of another TOML type than its own. */
     GH_TABLE_SHAPE = 111,
 
-    /* The key file is refused: this and the number of its first fault, as docs/FORMATS.md has them. */
+    /* The key file is refused: this and the number of its first fault (docs/KEYS-FILE.md). */
     GH_BAD_KEYS = 200,
     /* it is not TOML; */
     GH_KEYS_NOT_TOML = 201,
@@ -186,7 +188,7 @@ enum {
     /* a secure key with another rand or ediv than 0. */
     GH_KEYS_NOT_ZERO = 210,
 
-    /* The rows file is refused: this and the number of its first fault, as docs/FORMATS.md has them. */
+    /* The rows file is refused: this and the number of its first fault (docs/SUBSCRIPTIONS.md). */
     GH_BAD_ROWS = 300,
     /* a line says nothing that a rows file may say; */
     GH_ROWS_BAD_LINE = 301,
@@ -204,14 +206,15 @@ enum {
 };
 
 /*
- * Opens a host with the octets of a table file, a key file, a rows file and a values text
- * (docs/FORMATS.md), of which the last three may be empty. rows is what gh_rows_text wrote for an earlier
- * host, and values what gh_values_text wrote: the values are restored before anything is served. *left_out
- * is how many of them do not fit the table: their attribute is not there, or it has another type or another
- * length. Such a value stays as the table file has it.
+ * Opens a host with the texts of a table file, a key file, rows and values (docs/FORMATS.md). Keys, rows
+ * and values may be empty. Rows are what gh_rows_text returned for an earlier host, and values what
+ * gh_values_text returned: they are restored before anything is served.
  *
- * Of texts with faults the first is reported, in the order of the arguments: gh_explain has its place. If
- * it answers anything but GH_DONE, *host is as it was, also for GH_ALREADY_OPEN, and *left_out is 0.
+ * Sets *left_out to the number of values that do not fit the table: their attribute is gone, or has
+ * another type or another length. Such a value stays as in the table file.
+ *
+ * Returns the status of the first fault in the order of the arguments; gh_explain has its place. If the
+ * status is not GH_DONE, *host is unchanged, also with GH_ALREADY_OPEN, and *left_out is 0.
  */
 uint32_t gh_open(struct gh_host *host, const uint8_t *table, size_t table_length,
                  const uint8_t *keys, size_t keys_length, const uint8_t *rows, size_t rows_length,
@@ -219,66 +222,69 @@ uint32_t gh_open(struct gh_host *host, const uint8_t *table, size_t table_length
                  size_t *left_out);
 
 /*
- * Puts what the first fault of these texts is, and where, at the front of out, and its length into *count:
- * a line without a line feed or a zero at its end, as "table: service 2, uuid: the key is missing". The
- * words are those of `gatt_shell show`. GH_NOTHING if gh_open accepts all of them, and *count is 0 then;
- * GH_SHORT_BUFFER if *count is more than room. The texts are those of gh_open, in its order; for gh_replace
- * give the table, and GH_EMPTY and 0 for the others. It takes memory until it returns, and up to 100 times
- * as long as gh_open.
+ * Writes the first fault of these texts and its place to out, and the length to *count: a line without a
+ * line feed or a zero at its end, such as "table: service 2, uuid: the key is missing". The words are
+ * those of `gatt_shell show`. The texts are those of gh_open, in its order; after gh_replace pass the
+ * table, and GH_EMPTY and 0 for the others.
+ *
+ * Returns GH_NOTHING, with *count 0, if gh_open accepts all texts, and GH_SHORT_BUFFER if *count is more
+ * than room. It needs memory until it returns, and up to 100 times as long as gh_open.
  */
 uint32_t gh_explain(const uint8_t *table, size_t table_length, const uint8_t *keys, size_t keys_length,
                     const uint8_t *rows, size_t rows_length, const uint8_t *values,
                     size_t values_length, uint8_t *out, size_t room, size_t *count);
 
-/* Ends a host and gives its memory back. GH_CLOSED where none is open. */
+/* Closes a host and frees its memory. Returns GH_CLOSED if none is open. */
 uint32_t gh_close(struct gh_host *host);
 
 /*
- * Takes in octets of the stream from the controller, which may begin and end anywhere: up to the end
- * of the next packet, and that packet, or all of them where none ends in them. *used says how many: at
- * least one, where there are some and it answers GH_DONE. The rest is for the next call, once what is
- * owed has gone out. Where the host stops, or had stopped, *used is the whole length, and what is
- * answered says why; with every other answer it is 0.
+ * Accepts bytes of the controller, which may begin and end anywhere: up to the end of the next packet, or
+ * all of them if no packet ends in them. Sets *used to their number, at least 1 if there is one and the
+ * status is GH_DONE. Pass the rest to the next call, after you have fetched the output.
+ *
+ * If the host stops, or had stopped, *used is the whole length, and the status says why. With every other
+ * status it is 0.
  */
 uint32_t gh_take(struct gh_host *host, const uint8_t *octets, size_t length, size_t *used);
 
 /*
- * Puts the next packet that is to go to the controller at the front of out, which has room for at least
- * GH_LONGEST_PACKET octets, puts its length into *count, and takes in that it has gone. GH_NOTHING
- * where nothing is owed, or the host has stopped, and *count is 0 then. Where a packet is owed and there
- * is less room, GH_SHORT_BUFFER: nothing is changed, and *count is GH_LONGEST_PACKET.
+ * Writes the next packet for the controller to out and its length to *count, and counts it as sent. out
+ * needs at least GH_LONGEST_PACKET octets.
+ *
+ * Returns GH_NOTHING, with *count 0, if no output is pending or the host has stopped. Returns
+ * GH_SHORT_BUFFER if there is less room: then nothing changes, and *count is GH_LONGEST_PACKET.
  */
 uint32_t gh_next_out(struct gh_host *host, uint8_t *out, size_t room, size_t *count);
 
 /*
- * Writes the characteristic value at a handle, as the application does: whoever has subscribed to it
- * is told. 41 to 43 where it is refused.
+ * Sets the characteristic value at a handle, for the application. Phones that have subscribed to it are
+ * notified. Returns GH_NO_SUCH_HANDLE, GH_NOT_A_VALUE or GH_BAD_LENGTH if the host refuses it.
  */
 uint32_t gh_update(struct gh_host *host, uint16_t handle, const uint8_t *value, size_t length);
 
 /*
- * Authorizes the connection with a handle, as it has it in HCI, while the time is below a moment, in
- * milliseconds: 0 withdraws it. 44 where it is refused.
+ * Authorizes the connection with an HCI handle while the time is below a moment, in milliseconds; 0 ends
+ * the authorization. Returns GH_NO_SUCH_CONNECTION if the host refuses it.
  */
 uint32_t gh_authorize(struct gh_host *host, uint16_t connection, uint64_t until);
 
 /*
- * Ends the connection with a handle: the peer is told Remote User Terminated Connection (13
- * hexadecimal), and nothing more is sent to it. 44 where it is refused.
+ * Disconnects the connection with an HCI handle, with the reason Remote User Terminated Connection (13
+ * hexadecimal). Nothing more is sent to it. Returns GH_NO_SUCH_CONNECTION if the host refuses it.
  */
 uint32_t gh_disconnect(struct gh_host *host, uint16_t connection);
 
 /*
- * Takes in the time, in milliseconds from any moment on. 45 where it goes back. Call it before each
- * gh_take and each gh_authorize, and at the time of gh_deadline. An authorization ends only when the
- * host is told a time at its end or later.
+ * Passes the time, in milliseconds from any moment on. Call it before each gh_take and each gh_authorize,
+ * and at the time of gh_deadline: an authorization ends only when the host gets a time at its end or
+ * later. Returns GH_TIME_WENT_BACK if the time is earlier than before.
  */
 uint32_t gh_tick(struct gh_host *host, uint64_t time);
 
 /*
- * Replaces the table by that of another table file. Peers are told that it has changed, and what they
- * have configured stays where it fits. Above GH_BAD_TABLE where the file is refused, and 47 where the
- * host refuses the table.
+ * Replaces the table by that of another table file. Phones get Service Changed, and their subscriptions
+ * stay if they fit. Returns a status above GH_BAD_TABLE if the file is refused, and GH_NO_SERVICE_CHANGED
+ * if the host refuses the table.
  */
 uint32_t gh_replace(struct gh_host *host, const uint8_t *table, size_t length);
 
@@ -286,71 +292,70 @@ uint32_t gh_replace(struct gh_host *host, const uint8_t *table, size_t length);
 #define GH_LONGEST_VALUE 512
 
 /*
- * Puts the value at a handle at the front of out and its length into *count. GH_NOTHING where there is
- * no attribute with the handle, and GH_SHORT_BUFFER where *count is more than room. A client
- * characteristic configuration has no octets.
+ * Writes the value at a handle to out and its length to *count. A client characteristic configuration has
+ * no octets. Returns GH_NOTHING if there is no attribute with the handle, and GH_SHORT_BUFFER if *count
+ * is more than room.
  */
 uint32_t gh_value(struct gh_host *host, uint16_t handle, uint8_t *out, size_t room, size_t *count);
 
 /*
- * Puts the handle of the value of a characteristic of a type, in a service of a type, into *handle: of all
- * such values, in the order of their handles, the one with this number, from 1. Types are UUIDs as octets,
- * the lowest first: 2 for one of 16 bits, or 16. GH_NOTHING if there are fewer, if the number is 0, or if a
- * length is another, and *handle is 0 then.
+ * Sets *handle to the handle of the value of a characteristic of a type, in services of a type: of all
+ * such values, in the order of their handles, the one with this number, from 1. Types are UUIDs as
+ * octets, the least significant first: 2 octets for a type of 16 bits, else 16. Returns GH_NOTHING, with
+ * *handle 0, if there are fewer values, if the number is 0, or if a length is neither 2 nor 16.
  */
 uint32_t gh_find(struct gh_host *host, const uint8_t *service, size_t service_length,
                  const uint8_t *characteristic, size_t characteristic_length, uint16_t number,
                  uint16_t *handle);
 
 /*
- * Puts what peers have configured, and who is owed that the table has changed, at the front of out, and
- * its length into *count: a rows file, for the next gh_open. GH_SHORT_BUFFER where *count is more than
- * room. It takes memory until it returns.
+ * Writes the subscriptions of peers to out and their length to *count: a rows file, for the next gh_open.
+ * Returns GH_SHORT_BUFFER if *count is more than room. It needs memory until it returns.
  */
 uint32_t gh_rows_text(struct gh_host *host, uint8_t *out, size_t room, size_t *count);
 
 /*
- * Puts the values that differ from those of the table file at the front of out, and their length into
- * *count: a values text, for the next gh_open. If all is 0, they are the characteristic values and
- * descriptors that a phone may write, else all characteristic values and descriptors. GH_SHORT_BUFFER if
- * *count is more than room. It takes memory until it returns.
+ * Writes the values that differ from those of the table file to out and their length to *count: a values
+ * text, for the next gh_open. If all is 0, only the values that a phone may write, else all
+ * characteristic values and descriptors. Returns GH_SHORT_BUFFER if *count is more than room. It needs
+ * memory until it returns.
  */
 uint32_t gh_values_text(struct gh_host *host, uint8_t all, uint8_t *out, size_t room, size_t *count);
 
 /*
- * Puts the earliest time into *time, in milliseconds, at which an indication that is not confirmed is
- * late or the authorization of a connection ends. No gh_tick is needed before that time: it would cause
- * no packet of its own and no notice, and each request is answered as without it. GH_NOTHING if every indication
- * is confirmed and no connection is authorized.
+ * Sets *time to the earliest time, in milliseconds, at which an unconfirmed indication is late or the
+ * authorization of a connection ends. No gh_tick is needed before that time: it would cause no packet of
+ * its own and no notice, and each request would be answered as without it. Returns GH_NOTHING if every
+ * indication is confirmed and no connection is authorized.
  */
 uint32_t gh_deadline(struct gh_host *host, uint64_t *time);
 
-/* A connection as it stands. Begin with GH_CONNECTION_INIT. */
+/* A connection. Begin with GH_CONNECTION_INIT. */
 struct gh_connection {
     /* The size of this structure, in octets: GH_CONNECTION_INIT sets it, and no function changes it. */
     size_t size;
-    /* As it has it in HCI. */
+    /* Its handle in HCI. */
     uint16_t handle;
     /* The ATT_MTU, in octets. */
     uint16_t mtu;
     /* The type of the peer's address, 0 public or 1 random, and its octets as on the wire. */
     uint8_t address_kind;
     uint8_t address[6];
-    /* The size of the key of its link, in octets: 0 where that has none. */
+    /* The size of the key of its link, in octets, or 0 without a key. */
     uint8_t key_size;
-    /* Whether the key was exchanged with protection against a man in the middle, and made by LE Secure
-       Connections. */
+    /* True if the key was exchanged with protection against a man in the middle, and if it was made by LE
+       Secure Connections. */
     bool authenticated;
     bool secure;
-    /* The host ends it: it is served no more, and is not gone yet. */
+    /* The host is ending it: it is not served any more, and has not ended yet. */
     bool ending;
     /* It is authorized while the time is below this, in milliseconds. */
     uint64_t authorized_until;
     /* Its number among the connections of the host: 1 for the first that was accepted, and one more for
        each later one. Unlike a handle, no number is used again. */
     uint64_t ordinal;
-    /* The time of the last tick before the last ACL data packet arrived on it, in milliseconds: at first
-       the time at which it was accepted. A phone that is silent since then may be disconnected. */
+    /* The time of the last tick before its last ACL data packet, in milliseconds; at first that at which it was
+       accepted. With it you can disconnect silent phones. */
     uint64_t heard;
     /* The place of its slot, from 0. */
     uint8_t slot;
@@ -359,35 +364,35 @@ struct gh_connection {
     { sizeof(struct gh_connection), 0, 0, 0, {0}, 0, false, false, false, 0, 0, 0, 0 }
 
 /*
- * Puts the connection at a place into *connection. Places count from 0, in the order of the slots, and
- * there are as many as connections: GH_NOTHING from there on. GH_BAD_SIZE if connection->size is smaller
- * than the library's. If it answers anything but GH_DONE, *connection is as it was.
+ * Writes the connection at a place to *connection. Places count from 0, in the order of the slots, and
+ * each connection has one. Returns GH_NOTHING from there on, and GH_BAD_SIZE if connection->size is
+ * smaller than the library's. If the status is not GH_DONE, *connection is unchanged.
  */
 uint32_t gh_connection(struct gh_host *host, size_t place, struct gh_connection *connection);
 
-/* What a notice tells of a connection. */
+/* The kind of a notice of a connection, with the fields that it has. */
 enum {
     /* It was accepted: address_kind, address. */
     GH_CONNECTED = 1,
-    /* It is gone. */
+    /* It has ended. */
     GH_DISCONNECTED = 2,
-    /* Its link has a key that is worth this, and had none, or one that was worth another thing:
-       key_size, authenticated, secure. */
+    /* Its link has a key with these facts, and had none, or one with others: key_size, authenticated,
+       secure. */
     GH_SECURED = 3,
     /* Its link has no key any more. */
     GH_UNSECURED = 4,
-    /* It wrote a value, which gh_value has: attribute. To write the octets that stand counts. */
+    /* It wrote a value, which gh_value returns, also if it is the same as before: attribute. */
     GH_WRITTEN = 5,
     /* It wrote a client characteristic configuration, which has these bits now: attribute, bits. */
     GH_CONFIGURED = 6,
     /* It confirmed an indication of a value: attribute. */
     GH_CONFIRMED = 7,
-    /* It did not confirm an indication in time, and is told nothing unasked any more. */
+    /* It did not confirm an indication in time, and is sent nothing unasked any more. */
     GH_TIMED_OUT = 8,
     /* The host ends it, for a reason of Core 5.0, Vol 2 Part D, 2: reason. */
     GH_ENDING = 9,
-    /* It is not sent a notification of a value, since 8 PDUs or more are queued for it: attribute. A
-       notification of a later value of the attribute may be sent. */
+    /* A notification is not sent to it, because 8 PDUs or more are queued for it: attribute. A notification of
+       a later value of the attribute may be sent. */
     GH_SKIPPED = 10
 };
 
@@ -406,7 +411,7 @@ struct gh_notice {
     /* The type of the peer's address, 0 public or 1 random, and its octets as on the wire. */
     uint8_t address_kind;
     uint8_t address[6];
-    /* The handle of the connection, as it has it in HCI. */
+    /* The HCI handle of the connection. */
     uint16_t connection;
     /* The handle of the attribute. */
     uint16_t attribute;
@@ -414,16 +419,15 @@ struct gh_notice {
 #define GH_NOTICE_INIT { sizeof(struct gh_notice), 0, 0, 0, 0, false, false, 0, {0}, 0, 0 }
 
 /*
- * Puts the next notice of what was taken in last into *notice: of the octets of gh_take, or of one of
- * the calls. GH_NOTHING if each has been handed out, and GH_BAD_SIZE if notice->size is smaller than the
- * library's. If it answers anything but GH_DONE, *notice is as it was. The notices of one function are gone
- * once the next has taken something in, so they are fetched before it.
+ * Writes the next notice of the last gh_take or call to *notice. Fetch all notices before the host
+ * accepts anything else: then they are gone. Returns GH_NOTHING after the last one, and GH_BAD_SIZE if
+ * notice->size is smaller than the library's. If the status is not GH_DONE, *notice is unchanged.
  */
 uint32_t gh_next_notice(struct gh_host *host, struct gh_notice *notice);
 
 /*
- * Puts what a status says, a line of ASCII without a zero at its end, at the front of out and its length
- * into *count. GH_NOTHING of a number that no function answers.
+ * Writes the words of a status to out, a line of ASCII without a zero at its end, and the length to
+ * *count. Returns GH_NOTHING for a number that is no status.
  */
 uint32_t gh_text(uint32_t status, uint8_t *out, size_t room, size_t *count);
 
