@@ -26,6 +26,8 @@ sys.path.insert(0, f"{ROOT}/python")
 import gihandop  # noqa: E402
 
 DOOR = (f"{ROOT}/examples/door.toml", f"{ROOT}/examples/keys.toml")
+# A service of three attributes.
+ANOTHER = '[[service]]\nuuid = "fff9"\n[[service.characteristic]]\nuuid = "fffa"\nproperties = ["read"]\nvalue = ""\n'
 ADDRESS, ADDRESS_OF_STRANGER = "00:11:22:33:44:55", "c0:00:00:00:00:0a"
 
 
@@ -450,19 +452,30 @@ def a_written_lock(folder, python, text):
     host.said("application")
     controller.connect(64, OWNER)
     controller.encrypt(64)
+    check("the state", "the door is closed\n", printed(lock))
     check("it writes", "13", controller.ask(64, "120a0001"))
     check(f"the page's lock, {python}", "the motor opens the door\n", printed(lock))
     check("it is authorized", "0b31323334", controller.ask(64, "0a0d00"))
     check("the battery", "0b5a", controller.ask(64, "0a0600"))
     controller.close()
     host.end()
-    host = door(f"{folder}/door.socket")
+    # The next device has another service first, so the lock is at 13, and is open.
+    with open(DOOR[0], encoding="utf-8") as file:
+        table = file.read()
+    at = table.index("[[service]]")
+    mark = 'uuid = "fff1"\nvalue = "00"'
+    check("the lock of the table", 1, table.count(mark))
+    with open(f"{folder}/other.toml", "w", encoding="utf-8") as file:
+        file.write(table[:at] + ANOTHER + table[at:].replace(mark, mark.replace('"00"', '"01"')))
+    host = Device(f"{folder}/other.toml", DOOR[1], "--listen", "127.0.0.1:0", "--application", f"{folder}/door.socket")
+    host.said("ready")
     controller = controller_at(host)
     controller.is_advertised()
     host.said("application")
+    check("the state of the next", "the door is open\n", printed(lock))
     controller.connect(64, OWNER)
     controller.encrypt(64)
-    check("it writes to the next", "13", controller.ask(64, "120a0000"))
+    check("it writes to the next", "13", controller.ask(64, "120d0000"))
     check("the lock is there", "the motor closes the door\n", printed(lock))
     Application(f"{folder}/door.socket", "deny 1").close()
     check("the lock ends", (0, ""), (lock.wait(PATIENCE), lock.stdout.read()))
