@@ -65,6 +65,9 @@ $(BUILD)/gihandop.pc: c/gihandop.pc.in
 	sed -e 's|@PREFIX@|$(PREFIX)|' -e 's|@LIBDIR@|$(LIBDIR)|' -e 's|@INCLUDEDIR@|$(INCLUDEDIR)|' \
 	    -e 's|@VERSION@|$(VERSION)|' c/gihandop.pc.in > $@
 
+# The units name the programs where they are installed.
+INSTALLED_PATHS = s!/usr/bin/(gatt_shell|hci_bridge)!$(BINDIR)/\1!
+
 install: all
 	$(INSTALL) -d $(DESTDIR)$(BINDIR) $(DESTDIR)$(LIBDIR)/pkgconfig $(DESTDIR)$(INCLUDEDIR) \
 	    $(DESTDIR)$(DATADIR)/gihandop $(DESTDIR)$(DATADIR)/man/man1 $(DESTDIR)$(UNITDIR) $(DESTDIR)$(COMPLETIONDIR)
@@ -82,13 +85,14 @@ install: all
 	$(INSTALL) -m 644 completions/gatt_shell.bash $(DESTDIR)$(COMPLETIONDIR)/gatt_shell
 	ln -sf gatt_shell $(DESTDIR)$(COMPLETIONDIR)/hci_bridge
 	for it in $(UNITS); do \
-	    sed -E 's!/usr/bin/(gatt_shell|hci_bridge)!$(BINDIR)/\1!' $$it > $(BUILD)/unit && \
+	    sed -E '$(INSTALLED_PATHS)' $$it > $(BUILD)/unit && \
 	    $(INSTALL) -m 644 $(BUILD)/unit $(DESTDIR)$(UNITDIR)/$${it##*/} || exit; \
 	done
 	for it in $(DOCUMENTS) $(EXAMPLES); do \
 	    if test -x $$it; then mode=755; else mode=644; fi; \
 	    $(INSTALL) -D -m $$mode $$it $(DESTDIR)$(DOCDIR)/$$it || exit; \
 	done
+	sed -E '$(INSTALLED_PATHS)' examples/device/door.service > $(DESTDIR)$(DOCDIR)/examples/device/door.service
 
 uninstall:
 	rm -f $(DESTDIR)$(BINDIR)/gatt_shell $(DESTDIR)$(BINDIR)/hci_bridge $(DESTDIR)$(LIBDIR)/libgihandop_c.a \
