@@ -32,13 +32,16 @@
  * slow controller stops this loop and not the program. While output is pending, the host accepts nothing:
  * GH_OUTPUT_OWED.
  *
- * The promises of each function are proved for all bytes, texts, numbers and orders of calls. The program
- * has to ensure what a compiler of C cannot check:
+ * The promises of each function are proved for all bytes, texts, numbers and orders of calls, except the
+ * words of gh_text and gh_explain. The program has to ensure what a compiler of C cannot check:
  *
  * - Each pointer leads to as many bytes as the length after it says, and is not NULL, also if that is 0.
  * - What a function writes does not overlap anything else that is passed to it.
  * - A struct gh_host begins as GH_HOST_INIT, and only these functions change it.
- * - One call at a time for each host, none from a signal handler, and 40 KiB of stack.
+ * - One call at a time for each host, and none from a signal handler.
+ * - 40 KiB of stack suffice for texts that nest no deeper than an accepted file. A refused text can nest
+ *   deeper: the most seen is 1.5 MiB for gh_open and 3 MiB for gh_explain. If a text comes from somebody
+ *   else, call them with a stack of 8 MiB.
  *
  * For a text without bytes, such as rows at the first start, pass GH_EMPTY and 0.
  */
@@ -208,7 +211,8 @@ enum {
 /*
  * Opens a host with the texts of a table file, a key file, rows and values (docs/FORMATS.md). Keys, rows
  * and values may be empty. Rows are what gh_rows_text returned for an earlier host, and values what
- * gh_values_text returned: they are restored before anything is served.
+ * gh_values_text returned: they are restored before anything is served. Rows of peers without a key, and
+ * entries that the table does not support, are dropped.
  *
  * Sets *left_out to the number of values that do not fit the table: their attribute is gone, or has
  * another type or another length. Such a value stays as in the table file.
