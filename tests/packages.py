@@ -27,8 +27,6 @@ import time
 ROOT = os.path.dirname(os.path.dirname(os.path.realpath(__file__)))
 TOOLS = ["dpkg-buildpackage", "dh", "dh_python3", "fakeroot"]
 BRANCH = "bookworm"
-# Files that pages link and that lie elsewhere once they are installed: sources of C and Rust.
-LINKED_SOURCES = {"include/gihandop.h", "c/heap.c", "rust/examples/lockd.rs"}
 # Folders of a root that others change.
 OTHERS = ("/proc", "/sys", "/dev", "/tmp", "/run", "/var/cache", "/var/log", "/var/lib/dpkg", "/var/lib/apt")
 COUNT = {"passed": 0, "failed": 0, "skipped": 0}
@@ -111,7 +109,7 @@ def try_links(name, folder):
             target = os.path.normpath(f"{os.path.dirname(page)}/{link}")
             if not os.path.exists(target):
                 missing.add(os.path.relpath(target, folder))
-    check(f"{name}: links", missing <= LINKED_SOURCES, f"no {sorted(missing - LINKED_SOURCES)}")
+    check(f"{name}: links", not missing, f"no {sorted(missing)}")
 
 
 def try_install(program, archive, room):
@@ -132,8 +130,8 @@ def try_install(program, archive, room):
         check(f"make install, {prefix}: files", not missing, f"no {missing}")
         outside = [it for it in found if not it.startswith(f"{prefix[1:]}/")]
         check(f"make install, {prefix}: only below it", not outside, f"{outside}")
-        for it in units:
-            text = text_of(f"{package}{prefix}/lib/systemd/system/{it}")
+        for it in [*(f"lib/systemd/system/{it}" for it in units), "share/doc/gihandop/examples/device/door.service"]:
+            text = text_of(f"{package}{prefix}/{it}")
             programs = re.findall(r"(?m)^Exec\w+=(\S+/(?:gatt_shell|hci_bridge)) ", text)
             check(f"{it}, {prefix}", programs and {os.path.dirname(path) for path in programs} == {f"{prefix}/bin"}, f"{programs}")
         try_links(f"make install, {prefix}", f"{package}{prefix}/share/doc/gihandop")
