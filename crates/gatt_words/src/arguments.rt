@@ -91,7 +91,7 @@ const KEY_FILE: Argument = Argument {
 const ROWS_FILE: Argument = Argument {
     name: ROWS,
     takes: Takes::Value("FILE"),
-    about: "The rows file: what the phones with keys have configured",
+    about: "The rows file: the subscriptions of peers with keys",
 };
 
 /// The arguments of `check`.
@@ -121,17 +121,17 @@ const RUN_ARGUMENTS: [Argument; 7] = [
     Argument {
         name: NEXT,
         takes: Takes::Value("FILE"),
-        about: "The table file that the line `replace` of a script replaces TABLE by",
+        about: "The table file by which the line `replace` of a script replaces TABLE",
     },
     Argument {
         name: NOTICES,
         takes: Takes::Nothing,
-        about: "Print what the application is told too, one line a notice",
+        about: "Print the notices to the application too, each on a line",
     },
     Argument {
         name: ECHO,
         takes: Takes::Nothing,
-        about: "Print each line of the script too, before what it brings",
+        about: "Print each line of the script too, before its output",
     },
 ];
 
@@ -142,7 +142,7 @@ const SERVE_ARGUMENTS: [Argument; 4] = [
     Argument {
         name: ADDRESS,
         takes: Takes::Path,
-        about: "Where to listen: an IP address and a port, as 127.0.0.1:5000",
+        about: "The IP address and the port to listen at, as 127.0.0.1:5000",
     },
     ROWS_FILE,
 ];
@@ -154,7 +154,7 @@ const HOST_ARGUMENTS: [Argument; 23] = [
     Argument {
         name: STATE,
         takes: Takes::Value("DIR"),
-        about: "A folder for what has to survive a restart: values and subscriptions",
+        about: "The folder that keeps values and subscriptions for the next start",
     },
     Argument {
         name: SAVE_UPDATES,
@@ -165,32 +165,32 @@ const HOST_ARGUMENTS: [Argument; 23] = [
     Argument {
         name: DROP_UNKNOWN,
         takes: Takes::Nothing,
-        about: "Drop the subscriptions of peers without a key, in place of refusing the file",
+        about: "Delete the subscriptions of peers without a key, in place of refusing the file",
     },
     Argument {
         name: LISTEN,
         takes: Takes::Value("ADDRESS"),
-        about: "Where a controller connects: an IP address and a port",
+        about: "Wait for a controller to connect to this IP address and port",
     },
     Argument {
         name: CONNECT,
         takes: Takes::Value("ADDRESS"),
-        about: "Where a controller listens: it is tried until it is there",
+        about: "Connect to a controller at this IP address and port, again until it is there",
     },
     Argument {
         name: SERIAL,
         takes: Takes::Value("PATH"),
-        about: "The serial line of a controller, which is set up already",
+        about: "Serve the controller at this serial line, which is set up already",
     },
     Argument {
         name: APPLICATION,
         takes: Takes::Value("PATH"),
-        about: "The socket where an application connects, for its owner alone",
+        about: "Make this socket for the application; only its owner can connect",
     },
     Argument {
         name: APPLICATION_PORT,
         takes: Takes::Value("ADDRESS"),
-        about: "Where an application connects by TCP: whoever reaches it may speak for the device",
+        about: "Wait for the application at this IP address and port, which anybody may reach",
     },
     Argument {
         name: WAIT_FOR_APPLICATION,
@@ -200,57 +200,57 @@ const HOST_ARGUMENTS: [Argument; 23] = [
     Argument {
         name: NAME,
         takes: Takes::Value("TEXT"),
-        about: "The name that is advertised, shortened to what fits",
+        about: "The name to advertise, shortened if it does not fit",
     },
     Argument {
         name: ADVERTISE,
         takes: Takes::Values("UUID"),
-        about: "The UUID of a service that is advertised, for each its own",
+        about: "The UUID of a service to advertise; say it once for each service",
     },
     Argument {
         name: RANDOM_ADDRESS,
         takes: Takes::Value("ADDRESS"),
-        about: "A static random address, in place of the controller's own",
+        about: "The static random address to use in place of the controller's own",
     },
     Argument {
         name: CAPTURE,
         takes: Takes::Value("FILE"),
-        about: "A capture (btsnoop) of what goes to the controller and comes from it",
+        about: "Record all packets in this file, in the format btsnoop",
     },
     Argument {
         name: CAPTURE_SIZE,
         takes: Takes::Value("BYTES"),
-        about: "The most bytes of the capture (104857600)",
+        about: "The largest size of the capture [default: 104857600]",
     },
     Argument {
         name: LOG_VALUES,
         takes: Takes::Nothing,
-        about: "Log the octets too that phones write, which are secret elsewhere",
+        about: "Log also the bytes that phones write, which can be secret",
     },
     Argument {
         name: SLOTS,
         takes: Takes::Value("N"),
-        about: "How many phones there may be at once, 1 to 8 (4)",
+        about: "How many phones may be connected at once, from 1 to 8 [default: 4]",
     },
     Argument {
         name: IDLE,
         takes: Takes::Value("SECONDS"),
-        about: "After how many silent seconds a phone without a key is sent away",
+        about: "Disconnect a phone without a key after so many silent seconds [default: never]",
     },
     Argument {
         name: STRANGER,
         takes: Takes::Value("SECONDS"),
-        about: "After how many seconds a phone without a key is sent away, silent or not",
+        about: "Disconnect a phone without a key after so many seconds [default: never]",
     },
     Argument {
         name: PATIENCE,
         takes: Takes::Value("SECONDS"),
-        about: "How long a controller may take nothing, or may take to be initialised (5)",
+        about: "Give up a controller that makes no progress for so many seconds [default: 5]",
     },
     Argument {
         name: ONCE,
         takes: Takes::Nothing,
-        about: "End once the first controller is gone",
+        about: "End when the first controller is gone",
     },
 ];
 
@@ -259,7 +259,7 @@ const TELL_ARGUMENTS: [Argument; 5] = [
     Argument {
         name: SOCKET,
         takes: Takes::Path,
-        about: "The socket of the device: what it has as --application",
+        about: "The socket of the device, which its option --application names",
     },
     Argument {
         name: COMMAND,

@@ -31,9 +31,9 @@ Answer ATT PDUs, one line of hexadecimal each, from standard input.
 
 Each line of input is one ATT PDU in hexadecimal. All come from one connection of an unknown,
 unencrypted peer to the built-in example table. Each line of output is the answer to one PDU,
-in hexadecimal, or `-` where none is due. Blank lines are skipped.
+in hexadecimal, or `-` if there is none. Blank lines are skipped.
 
-Example: the line `0a0300`, a Read Request of the handle 3, is answered by `0b4c6f636b`.
+Example: the line `0a0300`, a Read Request of the handle 3, has the answer `0b4c6f636b`.
 
   printf '0a0300\\n' | gatt_shell att";
 
@@ -41,16 +41,16 @@ Example: the line `0a0300`, a Read Request of the handle 3, is answered by `0b4c
 pub const CHECK: &str = "check";
 
 /// What `check` does, in a line.
-pub const CHECK_ABOUT: &str = "Judge a table file and a key file, and count what they give";
+pub const CHECK_ABOUT: &str =
+    "Check a table file and a key file, and count their attributes and keys";
 
 /// What `check` reads and prints.
 pub const CHECK_DETAILS: &str = "\
-Judge a table file and a key file, and say how many attributes and keys they give.
+Check a table file and a key file, and count their attributes and keys.
 
-A table file is TOML that describes services, characteristics and descriptors, and a key file
-is TOML that has the long-term keys of known peers; docs/FORMATS.md has their keys and faults.
-The table file is judged first. Where a file is refused, its first fault is told by its number
-on standard error, and nothing is printed.
+A table file is TOML that describes services, characteristics and descriptors (docs/TABLE.md). A
+key file is TOML with the long-term keys of known peers (docs/KEYS-FILE.md). The table file is
+checked first. The number of the first fault goes to standard error, and nothing else is printed.
 
   gatt_shell check examples/door.toml examples/keys.toml";
 
@@ -58,17 +58,16 @@ on standard error, and nothing is printed.
 pub const SHOW: &str = "show";
 
 /// What `show` does, in a line.
-pub const SHOW_ABOUT: &str =
-    "Show a table in words, who may use it, and where a file has its fault";
+pub const SHOW_ABOUT: &str = "Show a table in words, who may use it, and what is wrong in a file";
 
 /// What `show` reads and prints.
 pub const SHOW_DETAILS: &str = "\
-Show a table in words, who may use it, and where a file has its fault.
+Show a table in words, who may use it, and what is wrong in a file.
 
-For each attribute there is a line: its handle, what it is, its type with its name, how many octets
-its value may have, and what may be done with it. With KEYS it is also shown what a stranger and
-each peer with a key may read, write and hear of. The rows file is only judged. Where a file is
-refused, its first fault is told by its number, as by `check`, and then where it is and what.
+Each attribute has a line: its handle, what it is, its type with its name, how many bytes its value
+may have, and what may be done with it. With KEYS there follow the handles that a stranger and each
+peer with a key may read, write and be notified of. The rows file is only checked. The number of the
+first fault goes to standard error, as by `check`, with its place and its cause.
 
   gatt_shell show examples/door.toml examples/keys.toml";
 
@@ -82,14 +81,14 @@ pub const RUN_ABOUT: &str = "Run a script of phones against a host and a simulat
 pub const RUN_DETAILS: &str = "\
 Run a script of phones against a host and a simulated controller, in memory.
 
-Each line of a script says what a phone or the application does: a phone connects, sends a PDU,
-encrypts its connection or leaves; the application updates a value, authorizes a phone, tells
-the time or replaces the table. After each line is printed what was refused, what each phone has
-heard, and which connection the host has ended; with --notices also what the application is told,
-and with --echo the line itself before all that.
-docs/FORMATS.md has all lines and what they print.
-The rows file keeps what the phones have configured: it is read first and rewritten at the end, and
-one that is not there is empty.
+Each line of a script is an act of a phone or of the application. A phone connects, sends a PDU,
+encrypts its link or disconnects. The application updates a value, authorizes a phone, passes the
+time or replaces the table. After each line the program prints what was refused, what each phone
+received, and which connection the host ended. With --notices it also prints the notices to the
+application, and with --echo the line itself first. docs/SCRIPTS.md has all lines and their output.
+
+The rows file has the subscriptions of peers with keys. It is read first and written at the end. A
+missing one is empty.
 
   gatt_shell run examples/door.toml examples/keys.toml examples/first_contact.script";
 
@@ -103,11 +102,12 @@ pub const SERVE_ABOUT: &str = "Serve a controller over one TCP connection";
 pub const SERVE_DETAILS: &str = "\
 Serve a controller over one TCP connection.
 
-The octets of the connection are H4, the UART transport of a Bluetooth controller. The first
-connection that is accepted is served until it ends, and then the program ends. Four phones may be
-connected at once. docs/SERVE.md says how a controller on a serial line is joined, and
-docs/FORMATS.md with which faults it ends. The rows file keeps what the phones have configured: it
-is read first and rewritten at the end, and one that is not there is empty.
+The connection carries H4, the UART transport of a Bluetooth controller. The program serves the
+first connection until it ends, and then ends itself. At most four phones are connected at once.
+docs/SERVE.md joins it to a controller on a serial line, and docs/CLI.md has the faults that end it.
+
+The rows file has the subscriptions of peers with keys. It is read first and written at the end. A
+missing one is empty.
 
   gatt_shell serve examples/door.toml examples/keys.toml 127.0.0.1:5000";
 
@@ -121,11 +121,11 @@ pub const HOST_ABOUT: &str = "Serve one controller after another, with an applic
 pub const HOST_DETAILS: &str = "\
 Serve one controller after another, with an application.
 
-The octets of a controller are H4. If it goes, or the host stops by a fault, the next one is served
-with the values and subscriptions that stand. An application connects by a socket, asks by lines and
-is told by lines: docs/DEVICE.md has them. With --state the device saves values and subscriptions
-before it answers a phone, and a restart begins with them. A log stands on standard error, whose
-line `ready` a script can wait for.
+The connection of a controller carries H4. If the controller goes, or the host stops with a fault,
+the next one is served with the same values and subscriptions. An application connects to a socket,
+and exchanges lines with the device (docs/DEVICE.md). With --state the device saves values and
+subscriptions before it answers a phone, and a restart begins with them. The log is on standard
+error. A script can wait for its line `ready`.
 
   mkdir -p door.state
   gatt_shell host examples/door.toml examples/keys.toml --listen 127.0.0.1:5000 \\
@@ -141,9 +141,9 @@ pub const TELL_ABOUT: &str = "Send one line to a device, and print its answer";
 pub const TELL_DETAILS: &str = "\
 Send one line to a device, and print its answer.
 
-The words are one line of an application: docs/DEVICE.md has these lines. A question (`value`,
-`connections`, `subscriptions`, `find`) and `stop` leave the application alone. Any other command
-takes its place. The status is 1 if the device refuses the line, and 2 if it cannot be reached.
+The words are one line of an application (docs/DEVICE.md). A question (`value`, `connections`,
+`subscriptions`, `find`) and `stop` leave the application alone. Any other command disconnects it.
+The status is 1 if the device refuses the line, and 2 if it cannot be reached.
 
   gatt_shell tell door.socket value 10
   gatt_shell tell door.socket find fff0 fff3 2
