@@ -342,14 +342,15 @@ struct gh_connection {
     uint16_t handle;
     /* The ATT_MTU, in octets. */
     uint16_t mtu;
-    /* The type of the peer's address, 0 public or 1 random, and its octets as on the wire. */
+    /* The type of the peer's address: 0 public, 1 random. */
     uint8_t address_kind;
+    /* The octets of the peer's address as on the wire. */
     uint8_t address[6];
     /* The size of the key of its link, in octets, or 0 without a key. */
     uint8_t key_size;
-    /* True if the key was exchanged with protection against a man in the middle, and if it was made by LE
-       Secure Connections. */
+    /* True if the key was exchanged with protection against a man in the middle. */
     bool authenticated;
+    /* True if the key was made by LE Secure Connections. */
     bool secure;
     /* The host is ending it: it is not served any more, and has not ended yet. */
     bool ending;
@@ -370,7 +371,8 @@ struct gh_connection {
 /*
  * Writes the connection at a place to *connection. Places count from 0, in the order of the slots, and
  * each connection has one. Returns GH_NOTHING from there on, and GH_BAD_SIZE if connection->size is
- * smaller than the library's. If the status is not GH_DONE, *connection is unchanged.
+ * smaller than the library's. If the status is not GH_DONE, *connection is unchanged. In C++ write
+ * `struct gh_connection`, because this function has the same name.
  */
 uint32_t gh_connection(struct gh_host *host, size_t place, struct gh_connection *connection);
 
@@ -404,16 +406,21 @@ enum {
 struct gh_notice {
     /* The size of this structure, in octets: GH_NOTICE_INIT sets it, and no function changes it. */
     size_t size;
+    /* GH_CONNECTED, or another kind above. */
     uint8_t kind;
+    /* The configuration: 1 for notifications, 2 for indications, 3 for both. */
     uint8_t bits;
+    /* The reason of the host, as in Core 5.0, Vol 2 Part D, 2. */
     uint8_t reason;
-    /* The size of the key, in octets, and whether it was exchanged with protection against a man in
-       the middle, and made by LE Secure Connections. */
+    /* The size of the key, in octets. */
     uint8_t key_size;
+    /* True if the key was exchanged with protection against a man in the middle. */
     bool authenticated;
+    /* True if the key was made by LE Secure Connections. */
     bool secure;
-    /* The type of the peer's address, 0 public or 1 random, and its octets as on the wire. */
+    /* The type of the peer's address: 0 public, 1 random. */
     uint8_t address_kind;
+    /* The octets of the peer's address as on the wire. */
     uint8_t address[6];
     /* The HCI handle of the connection. */
     uint16_t connection;
