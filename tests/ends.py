@@ -120,6 +120,7 @@ def silent_controllers_connect(folder):
     check("a real one is served", True, real.is_advertised())
     check("within their patience", True, 9.5 < time.monotonic() - begun < 20)
     check("which the application reads, and no more", "+ serving", application.line())
+    device.said(GIVEN_UP, 10)  # another thread reads the log, perhaps later than the lines above were read
     check("each is given up", 10, count_of(device, GIVEN_UP))
     for one in silent:
         check("after a Reset", (RESET, b""), (one.recv(100), one.recv(100)))
