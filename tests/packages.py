@@ -157,7 +157,7 @@ def try_refusals(checkout, room):
     """Has tools/release refuse a checkout in which one thing is wrong at a time."""
     folder, log = f"{room}/refused", f"{checkout}/crates/gatt_shell/out/build.log"
     text, kept = text_of(log), f"{room}/kept"
-    source = f"{checkout}/crates/octets/src/lib.rt"
+    source = f"{checkout}/crates/octet_io/src/lib.rt"
     for name, path, change, wanted in (
         ("a changed file", f"{checkout}/README.md", "changed\n", "README.md"),
         ("a new file", f"{checkout}/new.txt", "new\n", "new.txt"),
@@ -193,7 +193,7 @@ def try_refusals(checkout, room):
     refuses("a gate's log that is missing", checkout, folder, "No such file", "--gate", f"{room}/missing")
     before = os.stat(source)
     os.utime(source)
-    refuses("a source that is newer", checkout, folder, "crates/octets/src/lib.rt is newer than")
+    refuses("a source that is newer", checkout, folder, "crates/octet_io/src/lib.rt is newer than")
     os.utime(source, ns=(before.st_atime_ns, before.st_mtime_ns))
 
 
@@ -238,7 +238,7 @@ def try_release(copies, room):
     if not check("a release, twice", len(sums) == 2 and sums[0] == sums[1], f"{sums}"):
         return None
     log = f"{copies[0]}/crates/gatt_shell/out/build.log"
-    write(f"{room}/gate.log", f"== octets\n{made_up_verdict()}rt: octets proved\n== gatt_shell\n{text_of(log)}rt: gatt_shell proved\n")
+    write(f"{room}/gate.log", f"== octet_io\n{made_up_verdict()}rt: octet_io proved\n== gatt_shell\n{text_of(log)}rt: gatt_shell proved\n")
     os.remove(log)
     if judge("tools/release --gate", ["tools/release", "--gate", f"{room}/gate.log", f"{room}/release of the gate"], copies[0]):
         check("the release of the gate", text_of(f"{room}/release of the gate/SHA256SUMS") == sums[0])

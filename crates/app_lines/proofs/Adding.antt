@@ -3,7 +3,7 @@ use Rattle.std.proofs.Common.{◌≡◌, ℕ, Result, Ok, Err, ◌+◌, ◌<◌,
 use Rattle.std.specs.Prelude.{OnOk}
 use Rattle.std.proofs.lemmas.List.{append-nil, drop_all, drop_more}
 use Rattle.hex.specs.Hex.{encode_lower, encode_with}
-use Rattle.octets.specs.Number.{Octets}
+use Rattle.octet_io.specs.Number.{Octets}
 
 -- octets in hexadecimal, one after the other
 pub one_added : (octets old now new : Octets) (index octet : ℕ) → index < length octets → octet ≡ get_or octets index 0

@@ -1,7 +1,7 @@
 -- Lines of more than four words.
 use Rattle.std.proofs.Common.{◌≡◌, ℕ, ◌<◌, ◌==◌, List, [], ◌∷◌, length, refl, sym, ◌∙◌, ap, arith}
 use Rattle.std.proofs.lemmas.List.Splits.{length-slice_split}
-use Rattle.octets.specs.Number.{Octets}
+use Rattle.octet_io.specs.Number.{Octets}
 use Rattle.scripts.specs.Line.{words_of}
 use Rattle.app_lines.specs.Command.{asked_by, miscounted}
 

@@ -1,7 +1,7 @@
--- The command that a line of the application gives: this profile's own.
+-- The commands of the application (this profile's own).
 use Rattle.std.specs.Prelude.{ℕ, ◌-◌, length, get_or, take, ◌^◌, ◌==◌, nat_lt, if◌then◌else◌, List, [], ◌∷◌, codes, Option, Some, None, Result, Ok, Err}
 use Rattle.std.specs.Str.{bytes_eq}
-use Rattle.octets.specs.Number.{Octets}
+use Rattle.octet_io.specs.Number.{Octets}
 use Rattle.att_table.specs.file.TypeText.{type_named}
 use Rattle.scripts.specs.Line.{words_of}
 use Rattle.scripts.specs.Numeral.{numeral_of}
@@ -15,13 +15,12 @@ use Rattle.app_lines.specs.declared.wrong.Fault.TheVariants.{NoCommand, NoHandle
 abbrev pub wrong : Fault → ℕ → Wrong
 wrong fault place = record { fault = fault; place = place }
 
--- A word is understood, or is not, for this fault.
+-- A word that is not understood has this fault.
 abbrev pub understood : {A : Type 0} → Fault → ℕ → Option A → Result A Wrong
 understood fault place (Some value) = Ok value
 understood fault place None = Err (wrong fault place)
 
--- The words at these places: a handle, the name of a connection, and a time in milliseconds, each in decimal; a value in hexadecimal;
--- and the type of a service or of a characteristic.
+-- A handle, a connection name, a time in milliseconds, a hexadecimal value, and an attribute type.
 abbrev pub handle_at : ℕ → Octets → Result ℕ Wrong
 handle_at place word = understood NoHandle place (numeral_of (2 ^ 16) word)
 
@@ -37,7 +36,7 @@ value_at place word = understood NoValue place (payload_of word)
 abbrev pub type_at : ℕ → Octets → Result ℕ Wrong
 type_at place word = understood NoType place (type_named word)
 
--- The first of several counts from 1.
+-- Counting begins at 1.
 abbrev pub positive : Option ℕ → Option ℕ
 positive None = None
 positive (Some number) = if number == 0 then None else Some number
@@ -45,12 +44,13 @@ positive (Some number) = if number == 0 then None else Some number
 abbrev pub count_at : ℕ → Octets → Result ℕ Wrong
 count_at place word = understood NoNumber place (positive (numeral_of (2 ^ 16) word))
 
--- The reading goes on once a word is understood.
-abbrev pub then_asks : {A : Type 0} → Result A Wrong → (A → Result Command Wrong) → Result Command Wrong
+-- Reading continues after a correct word.
+abbrev pub then_asks : {A : Type 0} → Result A Wrong → (A → Result Command Wrong)
+    → Result Command Wrong
 then_asks (Ok value) asks = asks value
 then_asks (Err fault) asks = Err fault
 
--- How many words a command has at most, with its own.
+-- The maximum number of words of a command, including its own.
 unfoldable pub most_words : Octets → Option ℕ
 most_words word =
     if bytes_eq word (codes "update") then Some 3
@@ -64,7 +64,7 @@ most_words word =
     else if bytes_eq word (codes "stop") then Some 1
     else None
 
--- Words that are no command by their count: the first word is none, a word is missing, or there is one too many.
+-- The fault of a command with a wrong number of words: no command, too few, or too many.
 abbrev pub fault_by_count : Option ℕ → ℕ → Wrong
 fault_by_count None count = wrong NoCommand 0
 fault_by_count (Some most) count = if nat_lt most count then wrong TooMany most else wrong TooFew 0
@@ -80,14 +80,18 @@ one_word first =
 
 unfoldable pub two_words : Octets → Octets → Result Command Wrong
 two_words first second =
-    if bytes_eq first (codes "allow") then then_asks (name_at 1 second) (λ name. Ok (Allow name None))
+    if bytes_eq first (codes "allow")
+    then then_asks (name_at 1 second) (λ name. Ok (Allow name None))
     else if bytes_eq first (codes "deny") then then_asks (name_at 1 second) (λ name. Ok (Deny name))
-    else if bytes_eq first (codes "disconnect") then then_asks (name_at 1 second) (λ name. Ok (Disconnect name))
-    else if bytes_eq first (codes "value") then then_asks (handle_at 1 second) (λ handle. Ok (Value handle))
-    else if bytes_eq first (codes "subscriptions") then then_asks (name_at 1 second) (λ name. Ok (Subscriptions name))
+    else if bytes_eq first (codes "disconnect")
+    then then_asks (name_at 1 second) (λ name. Ok (Disconnect name))
+    else if bytes_eq first (codes "value")
+    then then_asks (handle_at 1 second) (λ handle. Ok (Value handle))
+    else if bytes_eq first (codes "subscriptions")
+    then then_asks (name_at 1 second) (λ name. Ok (Subscriptions name))
     else miscounted first 2
 
--- `update HANDLE HEX`, `allow CONNECTION MS` and `find SERVICE CHARACTERISTIC`
+-- `update HANDLE HEX`, `allow CONNECTION MS` and `find SERVICE CHARACTERISTIC`.
 abbrev pub update_of : Octets → Octets → Result Command Wrong
 update_of second third =
     then_asks (handle_at 1 second) (λ handle.
@@ -110,13 +114,13 @@ three_words first second third =
     else if bytes_eq first (codes "find") then find_of second third 1
     else miscounted first 3
 
--- `find SERVICE CHARACTERISTIC N`
+-- `find SERVICE CHARACTERISTIC N`.
 unfoldable pub four_words : Octets → Octets → Octets → Octets → Result Command Wrong
 four_words first second third fourth =
     if bytes_eq first (codes "find") then then_asks (count_at 3 fourth) (find_of second third)
     else miscounted first 4
 
--- What words ask, or which of them is wrong.
+-- The command, or the first wrong word.
 abbrev pub asked_by : List Octets → Result Command Wrong
 asked_by [] = Err (wrong NoCommand 0)
 asked_by (first ∷ []) = one_word first
@@ -128,6 +132,7 @@ asked_by (first ∷ second ∷ third ∷ fourth ∷ fifth ∷ words) = miscounte
 unfoldable pub command_of : Octets → Result Command Wrong
 command_of line = asked_by (words_of line)
 
--- A line without the carriage return that is its last octet, if that is one.
+-- A line without its final carriage return.
 abbrev pub without_return : Octets → Octets
-without_return line = if get_or line (length line - 1) 0 == 13 then take (length line - 1) line else line
+without_return line = if get_or line (length line - 1) 0 == 13 then take (length line - 1) line
+    else line

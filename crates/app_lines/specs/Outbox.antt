@@ -1,8 +1,8 @@
--- What waits to be sent: this profile's own.
+-- The output that waits to be sent (this profile's own).
 use Rattle.std.specs.Prelude.{ℕ}
-use Rattle.octets.specs.Number.{Octets}
+use Rattle.octet_io.specs.Number.{Octets}
 
--- the octets that wait, the next to be sent first, and the most that there may be
+-- The queued octets, oldest first, and their limit.
 pub record Waiting : Type 0 where
   pub octets : Octets
   pub limit : ℕ

@@ -1,20 +1,19 @@
--- The lines of what the application is answered: this profile's own.
+-- The lines of replies (this profile's own).
 use Rattle.std.specs.Prelude.{◌++◌, [], ◌∷◌, codes}
 use Rattle.std.specs.Fmt.{decimal}
 use Rattle.app_lines.specs.NoticeText.{value_text}
-use Rattle.gatt_app.specs.Refusals.{number_of_refusal}
-use Rattle.octets.specs.Number.{Octets}
+use Rattle.host_api.specs.Refusals.{number_of_refusal}
+use Rattle.octet_io.specs.Number.{Octets}
 use Rattle.app_lines.specs.declared.reply.Reply.{Reply}
 use Rattle.app_lines.specs.declared.reply.Reply.TheVariants.{Done, Refused, Value, Handle, Bad}
 
--- what is answered, by its parts
 abbrev pub reply_text : Reply → Octets
 reply_text Done = codes "ok"
-reply_text (Refused fault words) = codes "fault" ++ 32 ∷ decimal (number_of_refusal fault) ++ codes ": " ++ words.now
+reply_text (Refused fault words) =
+    codes "fault" ++ 32 ∷ decimal (number_of_refusal fault) ++ codes ": " ++ words.now
 reply_text (Value handle value) = codes "value" ++ 32 ∷ decimal handle ++ 32 ∷ value_text value.now
 reply_text (Handle handle) = codes "handle" ++ 32 ∷ decimal handle
 reply_text (Bad words) = codes "bad: " ++ words.now
 
--- and its line
 unfoldable pub reply_line : Reply → Octets
 reply_line reply = reply_text reply ++ 10 ∷ []

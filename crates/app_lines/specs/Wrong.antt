@@ -1,11 +1,11 @@
--- The answers to lines that are wrong: this profile's own.
+-- The replies to wrong lines (this profile's own).
 use Rattle.std.specs.Prelude.{ℕ, ◌++◌, ◌&&◌, nat_le, if◌then◌else◌, [], ◌∷◌, map, take, codes}
-use Rattle.octets.specs.Number.{Octets}
+use Rattle.octet_io.specs.Number.{Octets}
 use Rattle.app_lines.specs.declared.wrong.Fault.{Fault}
 use Rattle.app_lines.specs.declared.wrong.Fault.TheVariants.{NoCommand, NoHandle, NoConnection, NoValue, NoTime, NoType, NoNumber, TooFew, TooMany}
 use Rattle.app_lines.specs.declared.wrong.TheConstants.{MOST_QUOTED}
 
--- The fault of a word, in words that follow it.
+-- The fault of a word, as text after the word.
 abbrev pub words_of_fault : Fault → Octets
 words_of_fault NoCommand = codes "is no command"
 words_of_fault NoHandle = codes "is no handle"
@@ -17,7 +17,7 @@ words_of_fault NoNumber = codes "is no number from 1 on"
 words_of_fault TooFew = codes "needs more words"
 words_of_fault TooMany = codes "is a word too many"
 
--- A word as it is quoted: its first characters, with a question mark for each octet that is no printable ASCII.
+-- A quoted word: its first octets, with a question mark for each that is not printable ASCII.
 abbrev pub printable : ℕ → ℕ
 printable octet = if nat_le 32 octet && nat_le octet 126 then octet else 63
 
@@ -25,4 +25,5 @@ abbrev pub quoted : Octets → Octets
 quoted word = map printable (take MOST_QUOTED word)
 
 unfoldable pub wrong_line : Octets → Fault → Octets
-wrong_line word fault = codes "bad: \"" ++ quoted word ++ codes "\" " ++ words_of_fault fault ++ 10 ∷ []
+wrong_line word fault =
+    codes "bad: \"" ++ quoted word ++ codes "\" " ++ words_of_fault fault ++ 10 ∷ []

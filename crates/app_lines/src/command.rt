@@ -1,4 +1,4 @@
-//! What a line of the application asks.
+//! Commands of the application.
 
 ghost use Rattle.std.specs.Prelude.{◌≡◌};
 ghost use Rattle.app_lines.specs.Command.{allow_of, command_of, count_at, fault_by_count, find_of};
@@ -9,50 +9,49 @@ use crate::type_text::read_type;
 use crate::wrong::{Fault, Wrong};
 use scripts::{Payload, first_word, read_u16, read_u64};
 
-/// What the application asks.
+/// A command of the application.
 #[derive(Drop)]
 pub enum Command<'a> {
-    /// The value at a handle is to be updated.
+    /// Update the value at a handle.
     Update {
         handle: u16,
         value: Payload<'a>,
     },
-    /// The connection with a name is to be authorized: for so many milliseconds from now on, or for
-    /// good.
+    /// Authorize the connection with a name, for a time in milliseconds or without limit.
     Allow {
         name: u64,
         lasting: Option<u64>,
     },
-    /// The connection with a name is not to be authorized any more.
+    /// Revoke the authorization of a connection.
     Deny {
         name: u64,
     },
-    /// The connection with a name is to be ended.
+    /// Disconnect.
     Disconnect {
         name: u64,
     },
-    /// What the value at a handle is.
+    /// Return the value at a handle.
     Value {
         handle: u16,
     },
-    /// Who is connected.
+    /// List the connections.
     Connections,
-    /// What the connection with a name has subscribed to.
+    /// List the subscriptions of a connection.
     Subscriptions {
         name: u64,
     },
-    /// Which handle the value of a characteristic has: of those with this type in services with this
-    /// type, the one with this number, from 1.
+    /// Find the handle of a characteristic value, by service type, characteristic type, and number
+    /// among several, from 1.
     Find {
         service: u128,
         characteristic: u128,
         number: u16,
     },
-    /// The device is to end.
+    /// Stop the device.
     Stop,
 }
 
-/// What a line asks, or which of its words is wrong.
+/// Reads a line, or returns its first wrong word.
 #[tactic(auto, unfolding(crate::specs::Command::command_of))]
 pub fn read_line(line: &str) -> Result<Command<'_>, Wrong>
     ensures { result ≡ command_of line.now }
@@ -72,7 +71,7 @@ pub fn read_line(line: &str) -> Result<Command<'_>, Wrong>
     }
 }
 
-/// Returns a line without the carriage return at its end, if it has one.
+/// Returns a line without its final carriage return.
 pub fn without_return(line: &[u8]) -> &[u8]
     ensures { result.now ≡ without_return line.now }
 {
@@ -84,7 +83,6 @@ pub fn without_return(line: &[u8]) -> &[u8]
     }
 }
 
-/// What a word asks alone.
 #[tactic(auto, unfolding(crate::specs::Command::one_word))]
 fn read_one(first: &str) -> Result<Command<'_>, Wrong>
     ensures { result ≡ one_word first.now }
@@ -96,7 +94,6 @@ fn read_one(first: &str) -> Result<Command<'_>, Wrong>
     }
 }
 
-/// What two words ask.
 #[tactic(auto, unfolding(crate::specs::Command::two_words))]
 fn read_two<'a>(first: &str, second: &'a str) -> Result<Command<'a>, Wrong>
     ensures { result ≡ two_words first.now second.now }
@@ -129,7 +126,6 @@ fn read_two<'a>(first: &str, second: &'a str) -> Result<Command<'a>, Wrong>
     }
 }
 
-/// What three words ask.
 #[tactic(auto, unfolding(crate::specs::Command::three_words))]
 fn read_three<'a>(first: &str, second: &str, third: &'a str) -> Result<Command<'a>, Wrong>
     ensures { result ≡ three_words first.now second.now third.now }
@@ -142,7 +138,6 @@ fn read_three<'a>(first: &str, second: &str, third: &'a str) -> Result<Command<'
     }
 }
 
-/// What four words ask.
 #[tactic(auto, unfolding(crate::specs::Command::four_words))]
 fn read_four<'a>(
     first: &str,
@@ -161,7 +156,6 @@ fn read_four<'a>(
     }
 }
 
-/// What `update` asks.
 fn read_update<'a>(handle: &str, value: &'a str) -> Result<Command<'a>, Wrong>
     ensures { result ≡ update_of handle.now value.now }
 {
@@ -174,7 +168,6 @@ fn read_update<'a>(handle: &str, value: &'a str) -> Result<Command<'a>, Wrong>
     }
 }
 
-/// What `allow` asks with a time.
 fn read_allow<'a>(name: &str, time: &'a str) -> Result<Command<'a>, Wrong>
     ensures { result ≡ allow_of name.now time.now }
 {
@@ -190,7 +183,6 @@ fn read_allow<'a>(name: &str, time: &'a str) -> Result<Command<'a>, Wrong>
     }
 }
 
-/// What `find` asks.
 fn read_find<'a>(service: &str, characteristic: &'a str, number: u16) -> Result<Command<'a>, Wrong>
     ensures { result ≡ find_of service.now characteristic.now number }
 {
@@ -207,7 +199,6 @@ fn read_find<'a>(service: &str, characteristic: &'a str, number: u16) -> Result<
     }
 }
 
-/// The name of a connection that the word at a place is.
 fn name_at(place: usize, word: &str) -> Result<u64, Wrong>
     ensures { result ≡ name_at place word.now }
 {
@@ -217,7 +208,6 @@ fn name_at(place: usize, word: &str) -> Result<u64, Wrong>
     }
 }
 
-/// The handle that the word at a place is.
 fn handle_at(place: usize, word: &str) -> Result<u16, Wrong>
     ensures { result ≡ handle_at place word.now }
 {
@@ -227,7 +217,6 @@ fn handle_at(place: usize, word: &str) -> Result<u16, Wrong>
     }
 }
 
-/// The type that the word at a place is.
 fn type_at(place: usize, word: &str) -> Result<u128, Wrong>
     ensures { result ≡ type_at place word.now }
 {
@@ -237,7 +226,6 @@ fn type_at(place: usize, word: &str) -> Result<u128, Wrong>
     }
 }
 
-/// The number from 1 on that the word at a place is.
 fn count_at(place: usize, word: &str) -> Result<u16, Wrong>
     ensures { result ≡ count_at place word.now }
 {
@@ -247,7 +235,6 @@ fn count_at(place: usize, word: &str) -> Result<u16, Wrong>
     }
 }
 
-/// What is wrong with so many words of which this is the first.
 fn miscounted(first: &str, count: usize) -> Wrong
     ensures { result ≡ fault_by_count (most_words first.now) count }
 {
@@ -258,7 +245,7 @@ fn miscounted(first: &str, count: usize) -> Wrong
     }
 }
 
-/// How many words a command has at most, with its own.
+/// Returns the maximum number of a command's words, including its own.
 #[tactic(auto, unfolding(crate::specs::Command::most_words))]
 fn most_words(first: &str) -> Option<usize>
     ensures { result ≡ most_words first.now }
@@ -277,7 +264,6 @@ fn most_words(first: &str) -> Option<usize>
     }
 }
 
-/// What is wrong with the word at a place.
 fn wrong(fault: Fault, place: usize) -> Wrong
     ensures fault { result.fault ≡ fault }
     ensures place { result.place ≡ place }

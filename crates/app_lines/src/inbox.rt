@@ -1,4 +1,4 @@
-//! What the application has said, line by line.
+//! Input from the application, line by line.
 
 ghost use Rattle.std.specs.Prelude.{◌≡◌, ◌+◌, ◌++◌, [], length, take, IfSome, IfNone};
 ghost use Rattle.memchr.specs.Find.{IsFirstByte, is_byte};
@@ -9,31 +9,31 @@ use arrayvec::ArrayVec;
 use memchr::memchr;
 use std::marker::Model;
 
-/// The longest line that an application may say, in octets.
+/// Maximum bytes of a line.
 pub const LONGEST: usize = 1_100;
 
-/// As many octets as are kept at most.
+/// Capacity in bytes.
 const ROOM: usize = 2_048;
 
-/// Whether there is a line.
+/// Result of `next_line`.
 #[derive(Clone, Copy)]
 pub enum Found {
-    /// There is one.
+    /// A line.
     Line,
-    /// There is none as yet.
+    /// No complete line yet.
     Nothing,
-    /// The one that has begun is too long.
+    /// The line is too long.
     TooLong,
 }
 
-/// Octets that the application has said.
+/// Bytes received from the application.
 #[derive(Drop)]
 pub struct Inbox {
     octets: ArrayVec<u8, ROOM>,
 }
 
 impl Model for Inbox {
-    ghost use Rattle.octets.specs.Number.{Octets};
+    ghost use Rattle.octet_io.specs.Number.{Octets};
 
     ghost Value = { Octets };
 
@@ -41,7 +41,7 @@ impl Model for Inbox {
 }
 
 impl Inbox {
-    /// Nothing was said yet.
+    /// Creates an empty inbox.
     pub fn new() -> Inbox
         ensures none { result ≡ [] }
     {
@@ -50,21 +50,21 @@ impl Inbox {
         }
     }
 
-    /// For how many octets there is room.
+    /// Returns the free capacity in bytes.
     pub fn room(&self) -> usize
         ensures { result + length self.now ≡ ROOM }
     {
         self.octets.remaining_capacity()
     }
 
-    /// Whether there is a line, or one that is too long.
+    /// Returns true if there is a line, or one that is too long.
     pub fn has_line(&self) -> bool
         ensures nothing { OnFalse result (NextLine Found.Nothing self.now [] self.now) }
     {
         memchr(b'\n', self.octets.as_slice()).is_some() || self.octets.len() > LONGEST
     }
 
-    /// The first line, without its line feed, if there is one.
+    /// Returns the first line, without its line feed, if there is one.
     pub fn first_line(&self) -> Option<&[u8]>
         ensures front { IfSome result (λ line. line.now ≡ take (length line.now) self.now) }
         ensures line { IfSome result
@@ -76,8 +76,7 @@ impl Inbox {
         Some(&octets[..end])
     }
 
-    /// Takes in octets that follow those before, or answers false where there is no room for them,
-    /// and changes nothing.
+    /// Appends bytes. Returns false and changes nothing if they do not fit.
     pub fn take(&mut self, octets: &[u8]) -> bool
         ensures taken { OnTrue result (self.new ≡ self.old ++ octets.now) }
         ensures unchanged { OnFalse result (self.new ≡ self.old) }
@@ -85,8 +84,7 @@ impl Inbox {
         self.octets.try_extend_from_slice(octets).is_ok()
     }
 
-    /// Takes the next line out, without its line feed, and puts it in place of what `line` holds;
-    /// or says why there is none, and changes nothing.
+    /// Moves the next line to `line`, without its line feed. Changes nothing if there is none.
     pub fn next_line(&mut self, line: &mut ArrayVec<u8, LONGEST>) -> Found
         ensures { NextLine result self.old line.new.items self.new }
     {
@@ -109,7 +107,7 @@ impl Inbox {
         Found::Line
     }
 
-    /// Drops all that was said.
+    /// Drops all bytes.
     pub fn clear(&mut self)
         ensures none { self.new ≡ [] }
     {

@@ -1,5 +1,5 @@
-//! The lines by which a device and its application speak: what the application asks, what it is answered
-//! and what it is told; and the lines of notices, as a run prints them. There is no socket in it.
+//! Lines of text between a device and its application: commands, replies, notices. It opens no
+//! socket.
 #![tactic(auto)]
 
 mod command;

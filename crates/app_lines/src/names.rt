@@ -1,4 +1,4 @@
-//! The names of connections, by which the device and its application speak of them.
+//! Names of connections, for the device and its application.
 
 ghost use Rattle.std.specs.Prelude.{◌≡◌, ◌+◌, ◌<◌, ℕ, [], IfSome, IfNone};
 ghost use Rattle.app_lines.specs.Names.{AreBelow, handle_of, name_of, with_name, without_handle};
@@ -6,20 +6,20 @@ ghost use Rattle.app_lines.specs.Names.{AreBelow, handle_of, name_of, with_name,
 use arrayvec::ArrayVec;
 use std::marker::Model;
 
-/// As many connections may have names at once: a host has no more.
+/// Maximum number of connections of a host.
 const MOST_NAMES: usize = 8;
 
-/// A connection that is there.
+/// A connection and its name.
 #[derive(Clone, Copy, Default)]
 pub struct Named {
-    /// Its name, which no other connection of this start of the device has.
+    /// Name, never reused until the device restarts.
     pub name: u64,
-    /// Its handle in HCI, which a later connection may have too.
+    /// HCI handle, which later connections may reuse.
     pub handle: u16,
 }
 
-/// The names of the connections that are there. The first connection is 1, and each one that comes
-/// later has the next number, also if another controller is served.
+/// Names of the current connections: 1 for the first, and the next number for each later one, also
+/// with another controller.
 #[derive(Drop)]
 pub struct Names {
     named: ArrayVec<Named, MOST_NAMES>,
@@ -38,7 +38,7 @@ impl Model for Names {
 }
 
 impl Names {
-    /// Returns the names of no connection. The next one is 1.
+    /// Creates an empty set, with 1 as the next name.
     pub fn new() -> Names
         ensures none { result.named ≡ [] }
         ensures first { result.next ≡ 1 }
@@ -61,9 +61,8 @@ impl Names {
         }
     }
 
-    /// Returns the name of a new connection. An earlier connection with its handle has no name any
-    /// more. Returns none, and changes nothing else, once all numbers were used, or if there are
-    /// more connections than a host has.
+    /// Names a new connection. An earlier connection with its handle loses its name. Returns `None`
+    /// if all numbers were used, or if there are more connections than a host has.
     pub fn connect(&mut self, handle: u16) -> Option<u64>
         ensures name { IfSome result (λ name. name ≡ self.old.next) }
         ensures named { IfSome result (λ name. self.new.named
@@ -83,7 +82,7 @@ impl Names {
         Some(name)
     }
 
-    /// Drops the name of a connection that is gone.
+    /// Drops the name of a closed connection.
     pub fn disconnect(&mut self, handle: u16)
         ensures named { self.new.named ≡ without_handle handle self.old.named }
         ensures next { self.new.next ≡ self.old.next }
@@ -91,7 +90,7 @@ impl Names {
         remove(&mut self.named, handle);
     }
 
-    /// Drops all names: the controller is gone. They are not used again.
+    /// Drops all names, which are not reused, when the controller is gone.
     pub fn forget(&mut self)
         ensures none { self.new.named ≡ [] }
         ensures next { self.new.next ≡ self.old.next }
@@ -99,7 +98,7 @@ impl Names {
         self.named.clear();
     }
 
-    /// Returns the name of the connection with this handle, if it is there.
+    /// Returns the name of the connection with this handle.
     pub fn name_of(&self, handle: u16) -> Option<u64>
         ensures name { result ≡ name_of handle self.now.named }
         ensures used { IfSome result (λ name. name < self.now.next) }
@@ -108,7 +107,7 @@ impl Names {
         Some(one.name)
     }
 
-    /// Returns the handle of the connection with this name, if it is there.
+    /// Returns the handle of the connection with this name.
     pub fn handle_of(&self, name: u64) -> Option<u16>
         ensures handle { result ≡ handle_of name self.now.named }
         ensures used { IfSome result (λ _. name < self.now.next) }
@@ -118,7 +117,6 @@ impl Names {
     }
 }
 
-/// Removes the connection with this handle.
 fn remove(named: &mut ArrayVec<Named, MOST_NAMES>, handle: u16)
     ensures others { named.new.items ≡ without_handle handle named.old.items }
     ensures below { (next : ℕ) → AreBelow next named.old.items → AreBelow next named.new.items }

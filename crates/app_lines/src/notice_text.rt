@@ -1,4 +1,4 @@
-//! The lines of notices.
+//! Lines of notices.
 
 ghost use Rattle.std.specs.Prelude.{◌≡◌, ◌++◌, ◌∷◌, [], OnOk};
 ghost use Rattle.std.specs.Fmt.{decimal};
@@ -7,13 +7,13 @@ ghost use Rattle.gatt_subs.specs.RowsText.{peer_text};
 ghost use Rattle.app_lines.specs.NoticeText.{connection_of, digit_of, facts_text, named_line, notice_line, notice_text, of_attribute, of_connection, value_text};
 
 use att_policy::KeyFacts;
-use gatt_app::Notice;
 use gatt_subs::address_text;
+use host_api::Notice;
 use itoa::Buffer;
 use le_hci::Peer;
 use std::alloc::AllocError;
 
-/// Adds the line of a notice to a text. The line names the connection by its handle.
+/// Appends the line of a notice, with the connection's handle as its name.
 #[tactic(auto, unfolding(crate::specs::NoticeText::notice_line))]
 pub fn add_line(text: &mut Vec<u8>, notice: &Notice<'_>) -> Result<(), AllocError>
     ensures ok { OnOk result (text.new.items ≡ text.old.items ++ notice_line notice.now) }
@@ -21,7 +21,7 @@ pub fn add_line(text: &mut Vec<u8>, notice: &Notice<'_>) -> Result<(), AllocErro
     add_named_line(text, u64::from(connection_of(notice)), notice)
 }
 
-/// Adds the line of a notice to a text. The line names the connection by `name`.
+/// Appends the line of a notice, with the connection's `name`.
 #[tactic(auto, unfolding(crate::specs::NoticeText::named_line))]
 pub fn add_named_line(text: &mut Vec<u8>, name: u64, notice: &Notice<'_>) -> Result<(), AllocError>
     ensures ok { OnOk result (text.new.items ≡ text.old.items ++ named_line name notice.now) }
@@ -30,7 +30,7 @@ pub fn add_named_line(text: &mut Vec<u8>, name: u64, notice: &Notice<'_>) -> Res
     text.extend_from_slice(b"\n")
 }
 
-/// Returns the handle of the connection of a notice.
+/// Returns the connection handle of a notice.
 pub fn connection_of(notice: &Notice<'_>) -> u16
     ensures { result ≡ connection_of notice.now }
 {
@@ -48,7 +48,6 @@ pub fn connection_of(notice: &Notice<'_>) -> u16
     }
 }
 
-/// Adds what a notice says of the connection with this name.
 fn add_notice(text: &mut Vec<u8>, name: u64, notice: &Notice<'_>) -> Result<(), AllocError>
     ensures ok { OnOk result (text.new.items ≡ text.old.items ++ notice_text name notice.now) }
 {
@@ -94,7 +93,6 @@ fn add_notice(text: &mut Vec<u8>, name: u64, notice: &Notice<'_>) -> Result<(), 
     }
 }
 
-/// Adds what is told, and the name of the connection.
 fn add_connection(text: &mut Vec<u8>, word: &[u8], name: u64) -> Result<(), AllocError>
     ensures ok { OnOk result (text.new.items ≡ text.old.items ++ of_connection word.now name) }
 {
@@ -103,7 +101,6 @@ fn add_connection(text: &mut Vec<u8>, word: &[u8], name: u64) -> Result<(), Allo
     text.extend_from_slice(digits.format(name).as_bytes())
 }
 
-/// Adds what is told, the name of the connection, and the handle of an attribute.
 fn add_attribute(
     text: &mut Vec<u8>,
     word: &[u8],
@@ -117,7 +114,7 @@ fn add_attribute(
     add_number(text, u64::from(attribute))
 }
 
-/// Adds a space and a number in decimal.
+/// Appends a space and a decimal number.
 pub fn add_number(text: &mut Vec<u8>, number: u64) -> Result<(), AllocError>
     ensures ok { OnOk result (text.new.items ≡ text.old.items ++ 32 ∷ decimal number) }
 {
@@ -126,7 +123,6 @@ pub fn add_number(text: &mut Vec<u8>, number: u64) -> Result<(), AllocError>
     text.extend_from_slice(digits.format(number).as_bytes())
 }
 
-/// Adds an octet in hexadecimal.
 fn add_octet(text: &mut Vec<u8>, octet: u8) -> Result<(), AllocError>
     ensures ok { OnOk result (text.new.items ≡ text.old.items ++ encode_lower (octet ∷ [])) }
 {
@@ -135,8 +131,7 @@ fn add_octet(text: &mut Vec<u8>, octet: u8) -> Result<(), AllocError>
     text.extend_from_slice(&digits)
 }
 
-/// Adds a space and what a key is worth: its size, and whether it is authenticated and of LE Secure
-/// Connections.
+/// Appends a space and the key's size, authentication and LE Secure Connections.
 fn add_facts(text: &mut Vec<u8>, facts: &KeyFacts) -> Result<(), AllocError>
     ensures ok { OnOk result (text.new.items ≡ text.old.items ++ 32 ∷ facts_text facts.now) }
 {
@@ -149,14 +144,13 @@ fn add_facts(text: &mut Vec<u8>, facts: &KeyFacts) -> Result<(), AllocError>
     ])
 }
 
-/// A fact of a key as a digit.
 fn digit_of(is_so: bool) -> u8
     ensures { result ≡ digit_of is_so }
 {
     if is_so { b'1' } else { b'0' }
 }
 
-/// Adds a space and a value in hexadecimal, or a hyphen for no octets.
+/// Appends a space and a hexadecimal value, or a hyphen for none.
 pub fn add_value(text: &mut Vec<u8>, value: &[u8]) -> Result<(), AllocError>
     ensures ok { OnOk result (text.new.items ≡ text.old.items ++ 32 ∷ value_text value.now) }
 {
@@ -168,7 +162,6 @@ pub fn add_value(text: &mut Vec<u8>, value: &[u8]) -> Result<(), AllocError>
     }
 }
 
-/// Adds octets in hexadecimal.
 fn add_octets(text: &mut Vec<u8>, octets: &[u8]) -> Result<(), AllocError>
     ensures ok { OnOk result (text.new.items ≡ text.old.items ++ encode_lower octets.now) }
 {
@@ -178,7 +171,7 @@ fn add_octets(text: &mut Vec<u8>, octets: &[u8]) -> Result<(), AllocError>
     Ok(())
 }
 
-/// Adds a space and a peer as in a rows file: the kind of its address, and the address.
+/// Appends a space and a peer as in a subscriptions file.
 fn add_peer(text: &mut Vec<u8>, peer: &Peer) -> Result<(), AllocError>
     ensures ok { OnOk result (text.new.items ≡ text.old.items ++ 32 ∷ peer_text peer.now) }
 {

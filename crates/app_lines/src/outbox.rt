@@ -1,13 +1,13 @@
-//! What waits to be sent.
+//! Output that waits to be sent.
 
 ghost use Rattle.std.specs.Prelude.{◌≡◌, ◌+◌, ◌≤◌, ◌++◌, [], length, drop, None, Some};
 ghost use Rattle.std.specs.Bool.{OnTrue, OnFalse};
 
-use octets::{Failed, Sink};
+use octet_io::{Failed, Sink};
 use std::alloc::Global;
 use std::marker::Model;
 
-/// Octets that wait to be sent, of which there are never more than a limit.
+/// A queue of bytes to send, with a limit.
 #[derive(Drop)]
 pub struct Outbox {
     octets: Vec<u8>,
@@ -26,7 +26,7 @@ impl Model for Outbox {
 }
 
 impl Outbox {
-    /// Nothing waits yet, and never more octets than a limit will.
+    /// Creates an empty queue of at most `limit` bytes.
     pub fn new(alloc: Global, limit: usize) -> Outbox
         ensures none { result.octets ≡ [] }
         ensures limit { result.limit ≡ limit }
@@ -37,7 +37,7 @@ impl Outbox {
         }
     }
 
-    /// The octets that wait, the next to be sent first.
+    /// Returns the queued bytes, oldest first.
     pub fn waiting(&self) -> &[u8]
         ensures octets { result.now ≡ self.now.octets }
         ensures few { length result.now ≤ self.now.limit }
@@ -45,15 +45,14 @@ impl Outbox {
         self.octets.as_slice()
     }
 
-    /// For how many octets more there is room.
+    /// Returns the free capacity in bytes.
     pub fn room(&self) -> usize
         ensures { result + length self.now.octets ≡ self.now.limit }
     {
         self.limit - self.octets.len()
     }
 
-    /// Has a text wait behind what waits, or answers false where that would be too much, or where
-    /// memory is refused, and changes nothing.
+    /// Queues a text. Returns false and changes nothing if it does not fit or memory is refused.
     pub fn push(&mut self, text: &[u8]) -> bool
         ensures pushed { OnTrue result (self.new.octets ≡ self.old.octets ++ text.now) }
         ensures unchanged { OnFalse result (self.new.octets ≡ self.old.octets) }
@@ -63,7 +62,7 @@ impl Outbox {
         text.len() <= self.room() && self.octets.extend_from_slice(text).is_ok()
     }
 
-    /// So many octets were sent.
+    /// Removes the first `count` bytes, which were sent.
     pub fn sent(&mut self, count: usize)
         requires { count ≤ length self.old.octets }
         ensures left { self.new.octets ≡ drop count self.old.octets }
@@ -74,7 +73,7 @@ impl Outbox {
         self.octets.truncate(left);
     }
 
-    /// Nothing waits any more.
+    /// Drops all bytes.
     pub fn clear(&mut self)
         ensures none { self.new.octets ≡ [] }
         ensures limit { self.new.limit ≡ self.old.limit }

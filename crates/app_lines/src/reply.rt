@@ -1,29 +1,28 @@
-//! What the application is answered.
+//! Replies to the application.
 
 ghost use Rattle.std.specs.Prelude.{◌≡◌, ◌++◌, OnOk};
 ghost use Rattle.app_lines.specs.Reply.{reply_line, reply_text};
 ghost use Rattle.app_lines.specs.declared.reply.Reply.TheVariants.{Refused, Value, Handle, Bad};
 
 use crate::notice_text::{add_number, add_value};
-use gatt_app::AppFault;
+use host_api::AppFault;
 use std::alloc::AllocError;
 
-/// What one line of the application is answered.
+/// The reply to a line.
 #[derive(Clone, Copy)]
 pub enum Reply<'a> {
-    /// It is done.
     Done,
-    /// It is refused, for this fault, which these words name.
+    /// The command was rejected with this fault and text.
     Refused { fault: AppFault, words: &'a str },
     /// The value at a handle.
     Value { handle: u16, value: &'a [u8] },
-    /// The handle that was looked for.
+    /// The handle found.
     Handle(u16),
-    /// It asks nothing: what is wrong, in words.
+    /// The line is wrong, with an explanation.
     Bad(&'a str),
 }
 
-/// Adds the line of an answer to a text.
+/// Appends the line of a reply.
 #[tactic(auto, unfolding(crate::specs::Reply::reply_line))]
 pub fn add_reply(text: &mut Vec<u8>, reply: &Reply<'_>) -> Result<(), AllocError>
     ensures ok { OnOk result (text.new.items ≡ text.old.items ++ reply_line reply.now) }
@@ -32,7 +31,6 @@ pub fn add_reply(text: &mut Vec<u8>, reply: &Reply<'_>) -> Result<(), AllocError
     text.extend_from_slice(b"\n")
 }
 
-/// Adds what an answer says.
 fn add_text(text: &mut Vec<u8>, reply: &Reply<'_>) -> Result<(), AllocError>
     ensures ok { OnOk result (text.new.items ≡ text.old.items ++ reply_text reply.now) }
 {
@@ -45,9 +43,9 @@ fn add_text(text: &mut Vec<u8>, reply: &Reply<'_>) -> Result<(), AllocError>
     }
 }
 
-/// Adds that a line is refused, for this fault, which these words name.
 fn add_refused(text: &mut Vec<u8>, fault: AppFault, words: &str) -> Result<(), AllocError>
-    ensures ok { OnOk result (text.new.items ≡ text.old.items ++ reply_text (Refused fault words.entry)) }
+    ensures ok { OnOk result
+        (text.new.items ≡ text.old.items ++ reply_text (Refused fault words.entry)) }
 {
     text.extend_from_slice(b"fault")?;
     add_number(text, u64::from(fault.number()))?;
@@ -55,16 +53,15 @@ fn add_refused(text: &mut Vec<u8>, fault: AppFault, words: &str) -> Result<(), A
     text.extend_from_slice(words.as_bytes())
 }
 
-/// Adds the value at a handle.
 fn add_handle_value(text: &mut Vec<u8>, handle: u16, value: &[u8]) -> Result<(), AllocError>
-    ensures ok { OnOk result (text.new.items ≡ text.old.items ++ reply_text (Value handle value.entry)) }
+    ensures ok { OnOk result
+        (text.new.items ≡ text.old.items ++ reply_text (Value handle value.entry)) }
 {
     text.extend_from_slice(b"value")?;
     add_number(text, u64::from(handle))?;
     add_value(text, value)
 }
 
-/// Adds the handle that was looked for.
 fn add_handle(text: &mut Vec<u8>, handle: u16) -> Result<(), AllocError>
     ensures ok { OnOk result (text.new.items ≡ text.old.items ++ reply_text (Handle handle)) }
 {
@@ -72,7 +69,6 @@ fn add_handle(text: &mut Vec<u8>, handle: u16) -> Result<(), AllocError>
     add_number(text, u64::from(handle))
 }
 
-/// Adds what is wrong with a line, in words.
 fn add_bad(text: &mut Vec<u8>, words: &str) -> Result<(), AllocError>
     ensures ok { OnOk result (text.new.items ≡ text.old.items ++ reply_text (Bad words.entry)) }
 {

@@ -1,4 +1,4 @@
-//! What the application is told without asking.
+//! Unrequested lines to the application.
 
 ghost use Rattle.std.specs.Prelude.{◌≡◌, ◌++◌, OnOk};
 ghost use Rattle.app_lines.specs.Told.{attribute_end, connection_lines, key_line, told_line};
@@ -7,33 +7,34 @@ ghost use Rattle.app_lines.specs.declared.told.Told.TheVariants.{Started, Missed
 
 use crate::names::Names;
 use crate::notice_text::{add_named_line, add_number, add_value};
-use gatt_app::{Connection, Notice};
+use host_api::{Connection, Notice};
 use std::alloc::AllocError;
 
-/// What the application is told beside the notices of a host.
+/// A line to the application that is not a notice of the host.
 #[derive(Clone, Copy)]
 pub enum Told<'a> {
     /// A controller is served.
     Serving,
-    /// There is no controller, and so no connection.
+    /// There is no controller and no connection.
     Waiting,
-    /// The host has stopped, for what these words say.
+    /// The host stopped for this reason.
     Stopped(&'a str),
-    /// Another application takes the place of this one.
+    /// Another application replaces this one.
     Replaced,
-    /// The number of this start of the device, which no other start has.
+    /// Unique number of this start of the device.
     Started(u64),
-    /// Phones wrote the value at a handle while no application heard it. It has these octets now.
+    /// A phone wrote the value at a handle while no application was connected. Holds the current
+    /// value.
     Missed { handle: u16, value: &'a [u8] },
-    /// The connection with a name is subscribed to an attribute, by these bits.
+    /// Subscription of a connection to an attribute, by its configuration bits.
     Subscribed { name: u64, attribute: u16, bits: u8 },
-    /// Not all is saved, for what these words say.
+    /// Saving failed for this reason.
     Unsaved(&'a str),
-    /// All is saved again.
+    /// Everything is saved again.
     Saved,
 }
 
-/// Adds the line of what is told to a text.
+/// Appends the line.
 pub fn add_told(text: &mut Vec<u8>, told: &Told<'_>) -> Result<(), AllocError>
     ensures ok { OnOk result (text.new.items ≡ text.old.items ++ told_line told.now) }
 {
@@ -54,7 +55,6 @@ pub fn add_told(text: &mut Vec<u8>, told: &Told<'_>) -> Result<(), AllocError>
     }
 }
 
-/// Adds a line of some words behind what they are about.
 fn add_words(text: &mut Vec<u8>, about: &[u8], words: &str) -> Result<(), AllocError>
     ensures ok { OnOk result (text.new.items
         ≡ text.old.items ++ words_line about.now words.now) }
@@ -64,7 +64,6 @@ fn add_words(text: &mut Vec<u8>, about: &[u8], words: &str) -> Result<(), AllocE
     text.extend_from_slice(b"\n")
 }
 
-/// Adds the line with the number of this start.
 fn add_started(text: &mut Vec<u8>, number: u64) -> Result<(), AllocError>
     ensures ok { OnOk result (text.new.items ≡ text.old.items ++ told_line (Started number)) }
 {
@@ -73,7 +72,6 @@ fn add_started(text: &mut Vec<u8>, number: u64) -> Result<(), AllocError>
     text.extend_from_slice(b"\n")
 }
 
-/// Adds the line of a value that phones wrote while no application heard it.
 fn add_missed(text: &mut Vec<u8>, handle: u16, value: &[u8]) -> Result<(), AllocError>
     ensures ok { OnOk result (text.new.items
         ≡ text.old.items ++ told_line (Missed handle value.entry)) }
@@ -84,7 +82,6 @@ fn add_missed(text: &mut Vec<u8>, handle: u16, value: &[u8]) -> Result<(), Alloc
     text.extend_from_slice(b"\n")
 }
 
-/// Adds the line of what a connection is subscribed to.
 fn add_subscribed(
     text: &mut Vec<u8>,
     name: u64,
@@ -99,7 +96,6 @@ fn add_subscribed(
     add_attribute(text, attribute, bits)
 }
 
-/// Adds an attribute and the bits by which a connection is subscribed to it.
 fn add_attribute(text: &mut Vec<u8>, attribute: u64, bits: u64) -> Result<(), AllocError>
     ensures ok { OnOk result (text.new.items ≡ text.old.items ++ attribute_end attribute bits) }
 {
@@ -108,8 +104,7 @@ fn add_attribute(text: &mut Vec<u8>, attribute: u64, bits: u64) -> Result<(), Al
     text.extend_from_slice(b"\n")
 }
 
-/// Adds the lines of the connection with this name: that it came, and what its key is worth, if it has
-/// one.
+/// Appends the lines of a connection: its peer, and its key if it has one.
 fn add_connection(text: &mut Vec<u8>, name: u64, connection: &Connection) -> Result<(), AllocError>
     ensures ok { OnOk result (text.new.items
         ≡ text.old.items ++ connection_lines name connection.now) }
@@ -125,7 +120,7 @@ fn add_connection(text: &mut Vec<u8>, name: u64, connection: &Connection) -> Res
     add_key(text, name, connection)
 }
 
-/// Adds the lines of a connection under its name, if it has one.
+/// Appends the lines of a connection, if it has a name.
 pub fn add_if_named(
     text: &mut Vec<u8>,
     names: &Names,
@@ -140,7 +135,6 @@ pub fn add_if_named(
     }
 }
 
-/// Adds the line of what the key of a connection is worth, if it has one.
 fn add_key(text: &mut Vec<u8>, name: u64, connection: &Connection) -> Result<(), AllocError>
     ensures ok { OnOk result (text.new.items
         ≡ text.old.items ++ key_line name connection.now connection.now.key) }

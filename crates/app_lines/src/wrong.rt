@@ -1,4 +1,4 @@
-//! What is wrong with a line.
+//! Faults of a line.
 
 ghost use Rattle.std.specs.Prelude.{◌≡◌, ◌++◌, [], get_or, map, OnOk};
 ghost use Rattle.scripts.specs.Line.{words_of};
@@ -7,42 +7,41 @@ ghost use Rattle.app_lines.specs.Wrong.{printable, quoted, words_of_fault, wrong
 use scripts::first_word;
 use std::alloc::AllocError;
 
-/// What is wrong with a word of a line.
+/// Fault of a word.
 #[derive(Clone, Copy)]
 pub enum Fault {
-    /// It is no command.
+    /// Not a command.
     NoCommand,
-    /// It is no handle of an attribute.
+    /// Not an attribute handle.
     NoHandle,
-    /// It is no name of a connection.
+    /// Not a connection name.
     NoConnection,
-    /// It is no value in hexadecimal.
+    /// Not a hexadecimal value.
     NoValue,
-    /// It is no time in milliseconds.
+    /// Not a time in milliseconds.
     NoTime,
-    /// It is no UUID.
+    /// Not a UUID.
     NoType,
-    /// It is no number that counts from 1.
+    /// Not a number from 1.
     NoNumber,
-    /// The command needs more words.
+    /// A word is missing.
     TooFew,
-    /// The command has no such word.
+    /// A word too many.
     TooMany,
 }
 
-/// The first word that is wrong with a line.
+/// The first wrong word of a line.
 #[derive(Clone, Copy)]
 pub struct Wrong {
-    /// What is wrong with it.
     pub fault: Fault,
-    /// Its place among the words, from 0.
+    /// Index of the word, from 0.
     pub place: usize,
 }
 
-/// So many octets of a word are quoted at most.
+/// Maximum bytes quoted of a word.
 pub const MOST_QUOTED: usize = 32;
 
-/// Adds the line that says what is wrong with a word.
+/// Appends the line that reports a wrong word.
 #[tactic(auto, unfolding(crate::specs::Wrong::wrong_line))]
 pub fn add_wrong(text: &mut Vec<u8>, word: &str, fault: Fault) -> Result<(), AllocError>
     ensures ok { OnOk result (text.new.items ≡ text.old.items ++ wrong_line word.now fault) }
@@ -54,7 +53,6 @@ pub fn add_wrong(text: &mut Vec<u8>, word: &str, fault: Fault) -> Result<(), All
     text.extend_from_slice(b"\n")
 }
 
-/// Adds a word as it is quoted.
 fn add_quoted(text: &mut Vec<u8>, word: &[u8]) -> Result<(), AllocError>
     ensures ok { OnOk result (text.new.items ≡ text.old.items ++ quoted word.now) }
 {
@@ -65,7 +63,7 @@ fn add_quoted(text: &mut Vec<u8>, word: &[u8]) -> Result<(), AllocError>
     }
 }
 
-/// Adds octets, with a question mark for each that is no printable ASCII.
+/// Appends bytes, with a question mark for each that is not printable ASCII.
 fn add_printable(text: &mut Vec<u8>, octets: &[u8]) -> Result<(), AllocError>
     ensures ok { OnOk result (text.new.items ≡ text.old.items ++ map printable octets.now) }
 {
@@ -75,7 +73,6 @@ fn add_printable(text: &mut Vec<u8>, octets: &[u8]) -> Result<(), AllocError>
     Ok(())
 }
 
-/// An octet, or a question mark if it is no printable ASCII.
 fn printable(octet: u8) -> u8
     ensures { result ≡ printable octet }
 {
@@ -86,7 +83,6 @@ fn printable(octet: u8) -> u8
     }
 }
 
-/// What is wrong with a word, in words that follow it.
 fn words_of(fault: Fault) -> &'static str
     ensures { result.now ≡ words_of_fault fault }
 {
@@ -103,7 +99,7 @@ fn words_of(fault: Fault) -> &'static str
     }
 }
 
-/// The word of a line at a place, from 0, or none at all past the last one.
+/// Returns the word at an index from 0, or an empty word.
 pub fn word_at(line: &str, place: usize) -> &str
     ensures { result.now ≡ get_or (words_of line.now) place [] }
 {

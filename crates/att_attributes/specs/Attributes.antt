@@ -1,4 +1,4 @@
--- The attributes of a server, in the order of their handles: Core 5.0, Vol 3 Part F, 3.2.
+-- The attributes of a server in handle order (Core 5.0, Vol 3 Part F, 3.2).
 use Rattle.std.specs.Prelude.{◌≡◌, ◌≤◌, ℕ, ◌+◌, ◌-◌, ◌==◌, Bool, true, false, if◌then◌else◌, List, [], ◌∷◌, length, take, drop, slice_get, count_by, Option, None}
 use Rattle.std.specs.Option.{option_map, option_map_or}
 use Rattle.att_numbers.specs.Types.{Handle, AttributeType}
@@ -9,19 +9,18 @@ use Rattle.att_attributes.specs.declared.attr.Role.{Role}
 use Rattle.att_attributes.specs.declared.attr.Role.TheVariants.{Declaration, Value, Configuration, Descriptor}
 use Rattle.att_numbers.specs.declared.limit.TheConstants.{MAX_ATTRIBUTES}
 
--- the attribute at a handle: handles count from 1
+-- The attribute at a handle, counted from 1.
 abbrev pub attribute_at : List Attr → Handle → Option Attr
 attribute_at attributes handle = if handle == 0 then None else slice_get attributes (handle - 1)
 
--- the attributes whose handles are from the first to the last one: those up to the last, without those before the first
+-- The attributes with handles from `first` to `last`.
 abbrev pub attributes_in : List Attr → Handle → Handle → List Attr
 attributes_in attributes first last = drop (first - 1) (take last attributes)
 
--- who may use the attribute at a handle
 abbrev pub guard_at : List Attr → Handle → Option Guard
-guard_at attributes handle = option_map (λ (attr : Attr). attr.guard) (attribute_at attributes handle)
+guard_at attributes handle =
+    option_map (λ (attr : Attr). attr.guard) (attribute_at attributes handle)
 
--- whether an attribute is a client characteristic configuration, by its role
 abbrev pub is_configuration : Role → Bool
 is_configuration Declaration = false
 is_configuration Value = false
@@ -31,43 +30,48 @@ is_configuration Descriptor = false
 abbrev pub configurations_of : List Attr → ℕ
 configurations_of attributes = count_by (λ (attr : Attr). is_configuration attr.role) attributes
 
--- whether it is the value of a characteristic
 abbrev pub is_value : Role → Bool
 is_value Declaration = false
 is_value Value = true
 is_value Configuration = false
 is_value Descriptor = false
 
--- the same of the attribute at a handle
 abbrev pub is_value_at : List Attr → Handle → Bool
-is_value_at attributes handle = option_map_or (λ (attr : Attr). is_value attr.role) (attribute_at attributes handle) false
+is_value_at attributes handle =
+    option_map_or (λ (attr : Attr). is_value attr.role) (attribute_at attributes handle) false
 
 abbrev pub is_configuration_at : List Attr → Handle → Bool
-is_configuration_at attributes handle = option_map_or (λ (attr : Attr). is_configuration attr.role) (attribute_at attributes handle) false
+is_configuration_at attributes handle =
+    option_map_or (λ (attr : Attr). is_configuration attr.role) (attribute_at attributes handle)
+    false
 
--- whether the value at a handle keeps its length
+-- The value at a handle has a fixed length.
 abbrev pub is_fixed_at : List Attr → Handle → Bool
-is_fixed_at attributes handle = option_map_or (λ (attr : Attr). attr.fixed) (attribute_at attributes handle) false
+is_fixed_at attributes handle =
+    option_map_or (λ (attr : Attr). attr.fixed) (attribute_at attributes handle) false
 
--- the largest length of the value at a handle
+-- The largest length of the value at a handle.
 abbrev pub largest_at : List Attr → Handle → ℕ
-largest_at attributes handle = option_map_or (λ (attr : Attr). attr.largest) (attribute_at attributes handle) 0
+largest_at attributes handle =
+    option_map_or (λ (attr : Attr). attr.largest) (attribute_at attributes handle) 0
 
--- the type of the attribute at a handle
 abbrev pub type_at : List Attr → Handle → AttributeType
-type_at attributes handle = option_map_or (λ (attr : Attr). attr.kind) (attribute_at attributes handle) 0
+type_at attributes handle =
+    option_map_or (λ (attr : Attr). attr.kind) (attribute_at attributes handle) 0
 
--- the bits that the configuration at a handle may have: its characteristic value stands before it (Core 5.0, Vol 3 Part G, 3.3.3.3)
+-- The bits of the configuration at a handle, whose value is the attribute before it (Core 5.0, Vol
+-- 3 Part G, 3.3.3.3).
 abbrev pub configuration_bits_at : List Attr → Handle → ℕ
 configuration_bits_at attributes handle =
-    option_map_or (λ (attr : Attr). configuration_bits_of attr.guard.properties) (attribute_at attributes (handle - 1)) 0
+    option_map_or (λ (attr : Attr). configuration_bits_of attr.guard.properties)
+    (attribute_at attributes (handle - 1)) 0
 
--- the handles count from the first one without gaps
+-- The handles count from the first one without gaps.
 abbrev pub HaveHandlesFrom : Handle → List Attr → Type 0
 HaveHandlesFrom first [] = Unit
 HaveHandlesFrom first (attr ∷ rest) = (attr.handle ≡ first) × HaveHandlesFrom (first + 1) rest
 
--- the handles count from 1, of no more attributes than a table may have
+-- The handles count from 1, up to `MAX_ATTRIBUTES`.
 pub record IsNumbered (attributes : List Attr) : Type 0 where
   pub handles : HaveHandlesFrom 1 attributes
   pub most : length attributes ≤ MAX_ATTRIBUTES

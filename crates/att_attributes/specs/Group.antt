@@ -1,30 +1,29 @@
--- The groups of a table's attributes: Core 5.0, Vol 3 Part G, 2.5.3.
--- That a characteristic begins a group too, and that the last group ends with the table, is this profile's own.
+-- The groups of attributes (Core 5.0, Vol 3 Part G, 2.5.3). Characteristics as groups, and the
+-- table's end as the last group's end, are this profile's own.
 use Rattle.std.specs.Prelude.{◌-◌, Bool, ◌==◌, ◌||◌, if◌then◌else◌, List, [], ◌∷◌, slice_index_or}
 use Rattle.att_numbers.specs.Types.{Handle, AttributeType}
 use Rattle.att_numbers.specs.declared.attribute_type.TheConstants.{PRIMARY_SERVICE, SECONDARY_SERVICE, CHARACTERISTIC}
 use Rattle.att_attributes.specs.declared.attr.Attr.{Attr}
 
--- the types of the attributes that begin a service, and those of the ones that begin a group
 abbrev pub is_service_type : AttributeType → Bool
 is_service_type kind = (kind == PRIMARY_SERVICE) || (kind == SECONDARY_SERVICE)
 
 abbrev pub is_grouping_type : AttributeType → Bool
 is_grouping_type kind = is_service_type kind || (kind == CHARACTERISTIC)
 
--- the handle of the last attribute before the next one of such a type, where this is the handle of the first
+-- The last handle before the next attribute whose type passes the test.
 abbrev pub last_before : (AttributeType → Bool) → Handle → List Attr → Handle
 last_before test handle [] = handle
-last_before test handle (next ∷ rest) = if test next.kind then handle else last_before test next.handle rest
+last_before test handle (next ∷ rest) =
+    if test next.kind then handle else last_before test next.handle rest
 
--- the last handle of the group that an attribute begins, by the attributes after it: its own where it begins none
+-- The last handle of the group of an attribute; its own handle if it begins no group.
 abbrev pub group_end_of : Attr → List Attr → Handle
 group_end_of attr rest =
     if is_service_type attr.kind then last_before is_service_type attr.handle rest
     else if is_grouping_type attr.kind then last_before is_grouping_type attr.handle rest
     else attr.handle
 
--- the same of each attribute
 abbrev pub group_ends_of : List Attr → List Handle
 group_ends_of [] = []
 group_ends_of (attr ∷ rest) = group_end_of attr rest ∷ group_ends_of rest

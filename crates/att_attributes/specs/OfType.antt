@@ -1,4 +1,4 @@
--- The attributes of one type: Core 5.0, Vol 3 Part F, 3.2.1.
+-- The attributes of one type (Core 5.0, Vol 3 Part F, 3.2.1).
 use Rattle.std.specs.Prelude.{◌==◌, List, map, filter}
 use Rattle.att_numbers.specs.Types.{Handle, AttributeType}
 use Rattle.att_attributes.specs.declared.attr.Attr.{Attr}
@@ -6,15 +6,17 @@ use Rattle.att_attributes.specs.Attributes.{attributes_in, type_at}
 use Rattle.att_attributes.specs.declared.type_index.Run.{Run}
 use Rattle.att_attributes.specs.TypeIndex.{by_type, runs_of}
 
--- the handles of a type from the first to the last one, ascending
+-- The handles of a type from `first` to `last`, ascending.
 abbrev pub handles_of_type : List Attr → AttributeType → Handle → Handle → List Handle
 handles_of_type attributes kind first last =
-    map (λ (attr : Attr). attr.handle) (filter (λ (attr : Attr). attr.kind == kind) (attributes_in attributes first last))
+    map (λ (attr : Attr). attr.handle)
+    (filter (λ (attr : Attr). attr.kind == kind) (attributes_in attributes first last))
 
--- all handles, by the types of their attributes, and those of one type ascending
+-- All handles by type, those of one type ascending.
 abbrev pub handles_by_type : List Attr → List Handle
-handles_by_type attributes = by_type (type_at attributes) (map (λ (attr : Attr). attr.handle) attributes)
+handles_by_type attributes =
+    by_type (type_at attributes) (map (λ (attr : Attr). attr.handle) attributes)
 
--- where the type of each of them begins and ends among them
+-- The run of the type of each handle.
 abbrev pub runs_by_type : List Attr → List Run
 runs_by_type attributes = runs_of (type_at attributes) (handles_by_type attributes)

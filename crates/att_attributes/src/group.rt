@@ -1,4 +1,4 @@
-//! The groups of a table's attributes: Core 5.0, Vol 3 Part G, 2.5.3.
+//! The groups of a table's attributes (Core 5.0, Vol 3 Part G, 2.5.3).
 
 ghost use Rattle.std.specs.Prelude.{◌≡◌, IfOk};
 ghost use Rattle.att_attributes.specs.Group.{is_service_type, is_grouping_type, group_ends_of};
@@ -7,14 +7,15 @@ use crate::attr::Attr;
 use att_numbers::attribute_type::{CHARACTERISTIC, PRIMARY_SERVICE, SECONDARY_SERVICE};
 use std::alloc::{AllocError, Global};
 
-/// The last handle of the group that each attribute begins: of a service up to the next service,
-/// of a characteristic up to the next characteristic or service, and both up to the table's end.
-/// An attribute that begins none has its own handle.
+/// Returns the last handle of the group that each attribute begins, else its own handle.
+///
+/// A service ends before the next service, a characteristic before the next characteristic or
+/// service, the last with the table.
 pub fn group_ends(alloc: Global, attributes: &[Attr]) -> Result<Vec<u16>, AllocError>
     ensures { IfOk result (λ ends. ends.items ≡ group_ends_of attributes.now) }
 {
     let mut ends = vec![in alloc; 0; attributes.len()]?;
-    // Where the service, and the innermost group, that go on at the next attribute end.
+    // The ends of the open service and innermost group.
     let mut service_end = None;
     let mut innermost_end = None;
     for place in (0..attributes.len()).rev() {
@@ -35,14 +36,13 @@ pub fn group_ends(alloc: Global, attributes: &[Attr]) -> Result<Vec<u16>, AllocE
     Ok(ends)
 }
 
-/// Whether an attribute of this type begins a service.
+/// Returns true if the type begins a service.
 pub fn is_service(kind: u128) -> bool
     ensures { result ≡ is_service_type kind }
 {
     kind == PRIMARY_SERVICE || kind == SECONDARY_SERVICE
 }
 
-/// Whether an attribute of this type begins a group.
 fn is_grouping(kind: u128) -> bool
     ensures { result ≡ is_grouping_type kind }
 {

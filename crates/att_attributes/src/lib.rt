@@ -1,4 +1,4 @@
-//! The attributes of a server, their groups, and the handles of those of one type.
+//! The attributes of a server, their groups, and an index by type.
 #![tactic(auto)]
 
 mod attr;

@@ -1,5 +1,4 @@
-//! The attributes of one type, found by halves among the handles of all in the order of their
-//! types: Core 5.0, Vol 3 Part F, 3.2.1. Beside each handle stands where its type begins and ends.
+//! Binary search for the attributes of a type (Core 5.0, Vol 3 Part F, 3.2.1).
 
 ghost use Rattle.std.specs.Prelude.{◌≡◌, ℕ, ◌+◌, ◌-◌, ◌/◌, ◌%◌, ◌^◌, ◌<◌, ◌≤◌, min, length, drop, take, slice_index_or, IfOk};
 ghost use Rattle.att_attributes.specs.Attributes.{type_at, IsNumbered};
@@ -10,14 +9,12 @@ ghost use Rattle.att_numbers.specs.declared.limit.TheConstants.{MAX_ATTRIBUTES};
 use crate::attr::Attr;
 use std::alloc::{AllocError, Global};
 
-/// Counts the comparisons of a type and handle that a look-up takes.
+/// A counter for the comparisons of a look-up.
 pub trait Steps {
     ghost use Rattle.std.specs.Prelude.{ℕ};
 
-    /// How many were counted.
     ghost count: { Self → ℕ };
 
-    /// Counts one more.
     fn tick(&mut self)
         ensures counts { count self.new ≤ count self.old + 1 };
 }
@@ -32,10 +29,9 @@ impl Steps for Uncounted {
     fn tick(&mut self) {}
 }
 
-/// Counts comparisons, up to the largest number of 32 bits.
+/// Counts comparisons, saturating.
 #[derive(Clone, Copy)]
 pub struct Counted {
-    /// How many there were.
     pub count: u32,
 }
 
@@ -50,16 +46,16 @@ impl Steps for Counted {
     }
 }
 
-/// Where the handles of one type stand in an index.
+/// The places of the handles of one type in an index.
 #[derive(Clone, Copy)]
 pub struct Run {
-    /// The place of the first of them.
+    /// The first place.
     pub begin: u16,
-    /// The place behind the last of them.
+    /// The place after the last.
     pub end: u16,
 }
 
-/// The handles of attributes by their types, and those of one type ascending.
+/// Sorts the handles by type, those of one type ascending.
 pub fn by_type(alloc: Global, attributes: &[Attr]) -> Result<Vec<u16>, AllocError>
     requires { IsNumbered attributes.now }
     ensures { IfOk result (λ index. index.items ≡ handles_by_type attributes.now) }
@@ -73,7 +69,7 @@ pub fn by_type(alloc: Global, attributes: &[Attr]) -> Result<Vec<u16>, AllocErro
     Ok(index)
 }
 
-/// Where the type of each handle begins and ends in the index of these attributes.
+/// Returns the run of the type of each handle in the index.
 pub fn runs_by_type(
     alloc: Global,
     attributes: &[Attr],
@@ -97,7 +93,6 @@ pub fn runs_by_type(
     Ok(runs)
 }
 
-/// How many handles of the index have a type below this one.
 fn place_of(index: &[u16], attributes: &[Attr], kind: u128) -> usize
     requires { IsIndex (type_at attributes.now) (length attributes.now) index.now }
     ensures place { result ≡ place_of (type_at attributes.now) index.now kind }
@@ -116,7 +111,6 @@ fn place_of(index: &[u16], attributes: &[Attr], kind: u128) -> usize
     low
 }
 
-/// Where the type of the handle at a place ends in the index.
 fn end_from(index: &[u16], attributes: &[Attr], place: u16) -> u16
     requires inside { place < length index.now }
     requires most { length index.now ≤ MAX_ATTRIBUTES }
@@ -132,7 +126,7 @@ fn end_from(index: &[u16], attributes: &[Attr], place: u16) -> u16
     end
 }
 
-/// The handles of a type, from `first` to `last`, in the index of these attributes and its runs.
+/// Returns the handles of a type from `first` to `last`.
 pub fn of_type<'a, S: Steps>(
     index: &'a [u16],
     runs: &[Run],
@@ -153,7 +147,7 @@ pub fn of_type<'a, S: Steps>(
     let mut high = index.len();
     while low < high {
         let middle = (low + high) / 2;
-        // One comparison of two types, of which the upper halves mostly tell.
+        // Counted as one comparison; the upper halves usually decide.
         let (own_upper, own_lower) = halves(type_of(attributes, index[middle]));
         steps.tick();
         if own_upper < upper {
@@ -171,7 +165,6 @@ pub fn of_type<'a, S: Steps>(
     &[]
 }
 
-/// The handles of a run.
 #[inline(always)]
 fn in_run(index: &[u16], run: Run) -> &[u16]
     requires begin { run.begin ≤ run.end }
@@ -181,7 +174,6 @@ fn in_run(index: &[u16], run: Run) -> &[u16]
     &index[usize::from(run.begin)..usize::from(run.end)]
 }
 
-/// Those of ascending handles that are from `first` to `last`.
 #[inline(always)]
 fn in_range<'a, S: Steps>(handles: &'a [u16], first: u16, last: u16, steps: &mut S) -> &'a [u16]
     requires some { 0 < length handles.now }
@@ -193,7 +185,7 @@ fn in_range<'a, S: Steps>(handles: &'a [u16], first: u16, last: u16, steps: &mut
     let highest = handles.len() - 1;
     steps.tick();
     if handles[highest] <= last {
-        // Mostly all of them are asked for.
+        // Usually the whole run is in range.
         steps.tick();
         if first <= handles[0] {
             return handles;
@@ -206,7 +198,9 @@ fn in_range<'a, S: Steps>(handles: &'a [u16], first: u16, last: u16, steps: &mut
     &handles[start..end]
 }
 
-/// How many of ascending handles are below `handle`, or `most` if more are, where at least `least` are.
+/// Returns how many ascending handles are below `handle`, capped at `most`.
+///
+/// At least `least` must be.
 #[inline(always)]
 fn first_from<S: Steps>(
     handles: &[u16],
@@ -237,7 +231,6 @@ fn first_from<S: Steps>(
     low
 }
 
-/// The type of the attribute at a handle.
 #[inline(always)]
 fn type_of(attributes: &[Attr], own: u16) -> u128
     requires first { 0 < own }
@@ -247,7 +240,6 @@ fn type_of(attributes: &[Attr], own: u16) -> u128
     attributes[usize::from(own) - 1].kind
 }
 
-/// The upper and the lower 64 bits of a type.
 #[inline(always)]
 fn halves(kind: u128) -> (u64, u64)
     ensures upper { result.0 ≡ kind / 2 ^ 64 }

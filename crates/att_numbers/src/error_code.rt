@@ -1,4 +1,4 @@
-//! The error codes of the Attribute Protocol: Core 5.0, Vol 3 Part F, 3.4.1.1.
+//! Error codes of the Attribute Protocol (Core 5.0, Vol 3 Part F, 3.4.1.1).
 
 pub const INVALID_HANDLE: u8 = 0x01;
 
@@ -28,5 +28,5 @@ pub const INSUFFICIENT_ENCRYPTION: u8 = 0x0F;
 
 pub const UNSUPPORTED_GROUP_TYPE: u8 = 0x10;
 
-/// A value that the attribute may not have: Core Specification Supplement, Part B, 1.2.
+/// Value not allowed (Core Specification Supplement, Part B, 1.2).
 pub const OUT_OF_RANGE: u8 = 0xFF;

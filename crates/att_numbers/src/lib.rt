@@ -1,5 +1,4 @@
-//! The assigned numbers of the Attribute Protocol, which are opcodes, error codes and attribute types,
-//! and how much of it this profile serves.
+//! Assigned numbers of the Attribute Protocol, and limits of this profile.
 #![tactic(auto)]
 
 pub mod attribute_type;

@@ -1,4 +1,4 @@
-//! Attribute opcodes: Core 5.0, Vol 3 Part F, 3.4.8.
+//! Attribute opcodes (Core 5.0, Vol 3 Part F, 3.4.8).
 
 pub const ERROR_RESPONSE: u8 = 0x01;
 
@@ -54,6 +54,5 @@ pub const HANDLE_VALUE_CONFIRMATION: u8 = 0x1E;
 
 pub const WRITE_COMMAND: u8 = 0x52;
 
-/// The bit of an opcode that marks a command, which is never answered: Core 5.0, Vol 3 Part F,
-/// 3.3.1.
+/// Bit that marks a command, which has no response (Core 5.0, Vol 3 Part F, 3.3.1).
 pub const COMMAND_FLAG: u8 = 0x40;

@@ -8,7 +8,7 @@ use Rattle.att_pdu.specs.declared.uuid.Uuid.{Uuid}
 use Rattle.att_pdu.specs.declared.uuid.Uuid.TheVariants.{Short, Long}
 use Rattle.att_pdu.proofs.Handles.{handles_read, handles_twice}
 use Rattle.att_pdu.proofs.LongUuid.{long_read}
-use Rattle.octets.specs.Number.{two_octets}
+use Rattle.octet_io.specs.Number.{two_octets}
 use Rattle.att_pdu.specs.Uuid.{uuid_octets, uuid_form, HasUuidOctets}
 use Rattle.att_pdu.specs.Request.{Asked, ExchangeMtuRequest, FindInformationRequest, FindByTypeValueRequest, ReadByTypeRequest, ReadRequest, ReadBlobRequest, ReadMultipleRequest, ReadByGroupTypeRequest, WriteRequest, PrepareWriteRequest, ExecuteWriteRequest, ConfirmationPdu, WriteCommandPdu, spelled, HasOctetFields}
 use Rattle.att_pdu.specs.Form.{form_of}

@@ -3,7 +3,7 @@ use Rattle.std.proofs.Common.{◌≡◌, false, ℕ, zero, suc, ◌+◌, ◌≤�
 use Rattle.std.proofs.lemmas.Grind.{common_steps}
 use Rattle.att_pdu.specs.End.{content_in, keeps_length}
 use Rattle.att_pdu.specs.declared.pdu_buf.End.{End}
-use Rattle.octets.specs.Number.{Octets}
+use Rattle.octet_io.specs.Number.{Octets}
 
 -- of octets that are written over the front of others, or over a part of them, the first are written over the first
 front_written : (before : ℕ) (octets more : Octets) → length more ≤ length (take before octets)

@@ -3,7 +3,7 @@ use Rattle.std.proofs.Common.{◌≡◌, ℕ, zero, suc, ◌+◌, ◌*◌, ◌/�
 use Rattle.std.specs.Simd.{first_chunks}
 use Rattle.std.specs.Int.{w16, from_le_bytes}
 use Rattle.std.specs.List.{flat_map}
-use Rattle.octets.specs.Number.{two_octets}
+use Rattle.octet_io.specs.Number.{two_octets}
 use Rattle.att_pdu.specs.Form.{handles_of}
 
 pub handles_in_pairs : (octets : List ℕ) (count : ℕ) → count ≡ length octets / 2 → map (from_le_bytes w16) (first_chunks 2 count octets) ≡ handles_of octets

@@ -9,7 +9,7 @@ use Rattle.att_pdu.specs.Lends.{with_octets}
 use Rattle.att_pdu.specs.PduBuf.{contents}
 use Rattle.att_pdu.specs.declared.pdu_buf.End.{End}
 use Rattle.att_pdu.specs.declared.pdu_buf.PduBuf.{PduBuf}
-use Rattle.octets.specs.Number.{Octets}
+use Rattle.octet_io.specs.Number.{Octets}
 
 -- its bounds are facts, of which there is one proof each
 pub written_over : (pdu : PduBuf) (written : Octets) (least : 23 ≤ pdu.mtu) (most : pdu.mtu ≤ 517)

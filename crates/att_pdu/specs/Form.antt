@@ -1,4 +1,4 @@
--- The forms of the parameters behind each opcode: Core 5.0, Vol 3 Part F, 3.4.
+-- The format of the parameters after each opcode (Core 5.0, Vol 3 Part F, 3.4).
 use Rattle.std.specs.Prelude.{◌≡◌, ℕ, ◌%◌, ◌==◌, ◌&&◌, nat_le, if◌then◌else◌, List, [], ◌∷◌, length, Option, Some, None, IfSome}
 use Rattle.std.specs.Option.{option_map}
 use Rattle.att_numbers.specs.Types.{Handle, Opcode}
@@ -6,7 +6,7 @@ use Rattle.att_numbers.specs.declared.opcode.TheConstants.{EXCHANGE_MTU_REQUEST,
 use Rattle.att_pdu.specs.declared.request.ExecuteFlags.TheVariants.{Cancel, Write}
 use Rattle.att_pdu.specs.declared.request.Request.{Request}
 use Rattle.att_pdu.specs.Uuid.{uuid_form}
-use Rattle.octets.specs.Number.{Octets, from_two}
+use Rattle.octet_io.specs.Number.{Octets, from_two}
 use Rattle.att_pdu.specs.Request.{Asked, asked, flags_octet, spelled, ExchangeMtuRequest, FindInformationRequest, FindByTypeValueRequest, ReadByTypeRequest, ReadRequest, ReadBlobRequest, ReadMultipleRequest, ReadByGroupTypeRequest, WriteRequest, PrepareWriteRequest, ExecuteWriteRequest, ConfirmationPdu, WriteCommandPdu}
 
 abbrev pub exchange_mtu_form : Octets → Option Asked
@@ -14,17 +14,20 @@ exchange_mtu_form (low ∷ high ∷ []) = Some (ExchangeMtuRequest (from_two low
 exchange_mtu_form _ = None
 
 abbrev pub find_information_form : Octets → Option Asked
-find_information_form (low ∷ high ∷ last_low ∷ last_high ∷ []) = Some (FindInformationRequest (from_two low high) (from_two last_low last_high))
+find_information_form (low ∷ high ∷ last_low ∷ last_high ∷ []) =
+    Some (FindInformationRequest (from_two low high) (from_two last_low last_high))
 find_information_form _ = None
 
 abbrev pub find_by_type_value_form : Octets → Option Asked
 find_by_type_value_form (low ∷ high ∷ last_low ∷ last_high ∷ type_low ∷ type_high ∷ value) =
-    Some (FindByTypeValueRequest (from_two low high) (from_two last_low last_high) (from_two type_low type_high) value)
+    Some (FindByTypeValueRequest (from_two low high) (from_two last_low last_high)
+    (from_two type_low type_high) value)
 find_by_type_value_form _ = None
 
 abbrev pub read_by_type_form : Octets → Option Asked
 read_by_type_form (low ∷ high ∷ last_low ∷ last_high ∷ uuid) =
-    option_map (ReadByTypeRequest (from_two low high) (from_two last_low last_high)) (uuid_form uuid)
+    option_map (ReadByTypeRequest (from_two low high) (from_two last_low last_high))
+    (uuid_form uuid)
 read_by_type_form _ = None
 
 abbrev pub read_form : Octets → Option Asked
@@ -32,23 +35,25 @@ read_form (low ∷ high ∷ []) = Some (ReadRequest (from_two low high))
 read_form _ = None
 
 abbrev pub read_blob_form : Octets → Option Asked
-read_blob_form (low ∷ high ∷ offset_low ∷ offset_high ∷ []) = Some (ReadBlobRequest (from_two low high) (from_two offset_low offset_high))
+read_blob_form (low ∷ high ∷ offset_low ∷ offset_high ∷ []) =
+    Some (ReadBlobRequest (from_two low high) (from_two offset_low offset_high))
 read_blob_form _ = None
 
--- handles, two octets each
 abbrev pub handles_of : Octets → List Handle
 handles_of (low ∷ high ∷ rest) = (from_two low high) ∷ handles_of rest
 handles_of _ = []
 
--- two or more of them, and no odd octet
+-- A Read Multiple Request has two or more handles.
 abbrev pub read_multiple_form : Octets → Option Asked
 read_multiple_form parameters =
-    if (length parameters % 2 == 0) && nat_le 4 (length parameters) then Some (ReadMultipleRequest (handles_of parameters))
+    if (length parameters % 2 == 0) && nat_le 4 (length parameters)
+    then Some (ReadMultipleRequest (handles_of parameters))
     else None
 
 abbrev pub read_by_group_type_form : Octets → Option Asked
 read_by_group_type_form (low ∷ high ∷ last_low ∷ last_high ∷ uuid) =
-    option_map (ReadByGroupTypeRequest (from_two low high) (from_two last_low last_high)) (uuid_form uuid)
+    option_map (ReadByGroupTypeRequest (from_two low high) (from_two last_low last_high))
+    (uuid_form uuid)
 read_by_group_type_form _ = None
 
 abbrev pub write_form : Octets → Option Asked
@@ -78,7 +83,6 @@ abbrev pub write_command_form : Octets → Option Asked
 write_command_form (low ∷ high ∷ value) = Some (WriteCommandPdu (from_two low high) value)
 write_command_form _ = None
 
--- the request that parameters spell behind an opcode
 unfoldable pub form_of : Opcode → Octets → Option Asked
 form_of opcode parameters =
     if opcode == EXCHANGE_MTU_REQUEST then exchange_mtu_form parameters
@@ -96,7 +100,8 @@ form_of opcode parameters =
     else if opcode == WRITE_COMMAND then write_command_form parameters
     else None
 
--- what was read behind an opcode is what the parameters spell, and spells them
-pub record IsForm (opcode : Opcode) (parameters : Octets) (given : Option Asked) (request : Option Request) : Type 0 where
+-- The parsed request is the given one and encodes to the PDU.
+pub record IsForm (opcode : Opcode) (parameters : Octets) (given : Option Asked)
+    (request : Option Request) : Type 0 where
   pub form : option_map asked request ≡ given
   pub spelled : IfSome request (λ of. spelled (asked of) ≡ opcode ∷ parameters)

@@ -1,4 +1,4 @@
--- What a PDU ends as, where its buffer is lent. Of the code alone.
+-- The PDU after its buffer was lent.
 use Rattle.std.specs.Prelude.{◌≤◌, []}
 use Rattle.std.proofs.Common.{refl, subst}
 use Rattle.std.specs.Borrow.{Lends, MutBor, Fml, Array, u8}
@@ -8,9 +8,9 @@ use Rattle.arrayvec.specs.ArrayVec.{array_vec_len, with_items}
 use Rattle.att_pdu.specs.End.{length_in, needed}
 use Rattle.att_pdu.specs.declared.pdu_buf.PduBuf.{PduBuf}
 use Rattle.att_pdu.specs.contracts.pdu_buf.PduBuf.{the_row}
-use Rattle.octets.specs.Number.{Octets}
+use Rattle.octet_io.specs.Number.{Octets}
 
--- the octets of the buffer become what is last written through the result
+-- The buffer holds the octets last written through the result.
 abbrev pub with_octets : PduBuf → Octets → PduBuf
 with_octets pdu written =
     let same = length_refill (array_vec_len pdu.octets.now) pdu.octets.now.items written refl in
@@ -20,6 +20,7 @@ with_octets pdu written =
       room = subst (λ n. needed pdu.end pdu.mtu ≤ n) same pdu.room;
     }
 
--- they do so once the borrow ends
 abbrev pub LendsOctets : MutBor PduBuf → MutBor Octets → Fml
-LendsOctets pdu result = Lends (the_row (record { mir = named 1; lft = [] })) (Array u8 0) pdu result (with_octets pdu.now)
+LendsOctets pdu result =
+    Lends (the_row (record { mir = named 1; lft = [] })) (Array u8 0) pdu result
+    (with_octets pdu.now)

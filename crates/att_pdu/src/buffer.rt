@@ -1,18 +1,18 @@
-//! Octets that are put into the buffer of a PDU.
+//! Writes to the buffer of a PDU.
 
 ghost use Rattle.std.specs.Prelude.{◌≡◌, ◌+◌, ◌≤◌, ◌++◌, length, take, drop};
 ghost use Rattle.arrayvec.specs.ArrayVec.{array_vec_len};
 
-use octets::{MAX_PDU, PduOctets, set_length, write_parts};
+use octet_io::{MAX_PDU, PduOctets, set_length, write_parts};
 
-/// Puts octets of two places in place of all that a buffer holds.
+/// Replaces the buffer's contents by `first` and `rest`.
 #[inline(always)]
 pub(crate) fn replace_all(buffer: &mut PduOctets, first: &[u8], rest: &[u8])
     requires { length first.now + length rest.now ≤ MAX_PDU }
     ensures { buffer.new.items ≡ first.now ++ rest.now }
 {
     if buffer.is_empty() {
-        // No zeros make it longer first.
+        // Appending avoids filling with zeros first.
         extend(buffer, first);
         extend(buffer, rest);
     } else {
@@ -21,7 +21,7 @@ pub(crate) fn replace_all(buffer: &mut PduOctets, first: &[u8], rest: &[u8])
     }
 }
 
-/// Gives a buffer a length, which it mostly has.
+/// Sets the buffer's length, which is usually right already.
 #[inline(always)]
 pub(crate) fn resize(buffer: &mut PduOctets, size: usize)
     requires { size ≤ MAX_PDU }
@@ -33,7 +33,6 @@ pub(crate) fn resize(buffer: &mut PduOctets, size: usize)
     }
 }
 
-/// Gives a buffer a length. It stands apart from the code of each request.
 #[inline(never)]
 fn resize_apart(buffer: &mut PduOctets, size: usize)
     requires { size ≤ MAX_PDU }
@@ -43,7 +42,7 @@ fn resize_apart(buffer: &mut PduOctets, size: usize)
     set_length(buffer, size);
 }
 
-/// Appends octets for which there is room, so the `unwrap` is proved and tests nothing.
+/// Appends octets; the precondition makes `unwrap` free.
 #[inline(always)]
 pub(crate) fn extend(octets: &mut PduOctets, more: &[u8])
     requires { array_vec_len octets.old + length more.now ≤ MAX_PDU }
@@ -52,7 +51,7 @@ pub(crate) fn extend(octets: &mut PduOctets, more: &[u8])
     octets.try_extend_from_slice(more).unwrap();
 }
 
-/// Writes octets over others from a place on.
+/// Overwrites octets from `place` on.
 #[inline(always)]
 pub(crate) fn write(octets: &mut [u8], place: usize, more: &[u8])
     requires { place + length more.now ≤ length octets.old }
@@ -62,7 +61,7 @@ pub(crate) fn write(octets: &mut [u8], place: usize, more: &[u8])
     octets[place..place + more.len()].copy_from_slice(more);
 }
 
-/// Writes octets of two places, a few and a value behind them, over others from a place on.
+/// Overwrites octets from `place` on with `first` and `value`.
 #[inline(always)]
 pub(crate) fn write_both(octets: &mut [u8], place: usize, first: &[u8], value: &[u8])
     requires { place + length first.now + length value.now ≤ length octets.old }
@@ -74,7 +73,7 @@ pub(crate) fn write_both(octets: &mut [u8], place: usize, first: &[u8], value: &
     copy(&mut octets[middle..middle + value.len()], value);
 }
 
-/// Copies octets. It is not inlined, so that the loop of a list has few values to keep.
+/// Copies octets, out of line: saves registers in loops that append elements.
 #[inline(never)]
 fn copy(to: &mut [u8], from: &[u8])
     requires { length to.old ≡ length from.now }

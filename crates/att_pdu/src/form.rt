@@ -1,4 +1,4 @@
-//! The forms of the parameters behind each opcode.
+//! The format of the parameters after each opcode.
 ghost use Rattle.att_numbers.specs.declared.opcode.TheConstants.{EXCHANGE_MTU_REQUEST, FIND_INFORMATION_REQUEST, FIND_BY_TYPE_VALUE_REQUEST, READ_BY_TYPE_REQUEST, READ_REQUEST, READ_BLOB_REQUEST, READ_MULTIPLE_REQUEST, READ_BY_GROUP_TYPE_REQUEST, WRITE_REQUEST, PREPARE_WRITE_REQUEST, EXECUTE_WRITE_REQUEST, HANDLE_VALUE_CONFIRMATION, WRITE_COMMAND};
 ghost use Rattle.att_pdu.specs.Form.{IsForm, form_of, exchange_mtu_form, find_information_form, find_by_type_value_form, read_by_type_form, read_form, read_blob_form, read_multiple_form, read_by_group_type_form, write_form, prepare_write_form, execute_write_form, confirmation_form, write_command_form};
 
@@ -6,7 +6,7 @@ use crate::request::{ExecuteFlags, Request};
 use crate::uuid::Uuid;
 use att_numbers::opcode;
 
-/// The request that parameters spell behind an opcode, however long they are.
+/// Parses the parameters of an opcode, whatever their length.
 #[inline(always)]
 #[tactic(auto, unfolding(crate::specs::Form::form_of))]
 pub(crate) fn request(opcode: u8, parameters: &[u8]) -> Option<Request<'_>>
@@ -30,7 +30,7 @@ pub(crate) fn request(opcode: u8, parameters: &[u8]) -> Option<Request<'_>>
     }
 }
 
-/// Core 5.0, Vol 3 Part F, 3.4.2.1.
+/// Parses the parameters (Core 5.0, Vol 3 Part F, 3.4.2.1).
 fn exchange_mtu(parameters: &[u8]) -> Option<Request<'_>>
     ensures { IsForm EXCHANGE_MTU_REQUEST parameters.now (exchange_mtu_form parameters.now) result }
 {
@@ -42,7 +42,7 @@ fn exchange_mtu(parameters: &[u8]) -> Option<Request<'_>>
     }
 }
 
-/// Core 5.0, Vol 3 Part F, 3.4.3.1.
+/// Parses the parameters (Core 5.0, Vol 3 Part F, 3.4.3.1).
 fn find_information(parameters: &[u8]) -> Option<Request<'_>>
     ensures { IsForm FIND_INFORMATION_REQUEST parameters.now
         (find_information_form parameters.now) result }
@@ -56,7 +56,7 @@ fn find_information(parameters: &[u8]) -> Option<Request<'_>>
     }
 }
 
-/// Core 5.0, Vol 3 Part F, 3.4.3.3.
+/// Parses the parameters (Core 5.0, Vol 3 Part F, 3.4.3.3).
 fn find_by_type_value(parameters: &[u8]) -> Option<Request<'_>>
     ensures { IsForm FIND_BY_TYPE_VALUE_REQUEST parameters.now
         (find_by_type_value_form parameters.now) result }
@@ -80,7 +80,7 @@ fn find_by_type_value(parameters: &[u8]) -> Option<Request<'_>>
     }
 }
 
-/// Core 5.0, Vol 3 Part F, 3.4.4.1.
+/// Parses the parameters (Core 5.0, Vol 3 Part F, 3.4.4.1).
 #[inline(always)]
 fn read_by_type(parameters: &[u8]) -> Option<Request<'_>>
     ensures { IsForm READ_BY_TYPE_REQUEST parameters.now (read_by_type_form parameters.now) result }
@@ -95,7 +95,7 @@ fn read_by_type(parameters: &[u8]) -> Option<Request<'_>>
     }
 }
 
-/// Core 5.0, Vol 3 Part F, 3.4.4.3.
+/// Parses the parameters (Core 5.0, Vol 3 Part F, 3.4.4.3).
 fn read(parameters: &[u8]) -> Option<Request<'_>>
     ensures { IsForm READ_REQUEST parameters.now (read_form parameters.now) result }
 {
@@ -107,7 +107,7 @@ fn read(parameters: &[u8]) -> Option<Request<'_>>
     }
 }
 
-/// Core 5.0, Vol 3 Part F, 3.4.4.5.
+/// Parses the parameters (Core 5.0, Vol 3 Part F, 3.4.4.5).
 fn read_blob(parameters: &[u8]) -> Option<Request<'_>>
     ensures { IsForm READ_BLOB_REQUEST parameters.now (read_blob_form parameters.now) result }
 {
@@ -120,7 +120,7 @@ fn read_blob(parameters: &[u8]) -> Option<Request<'_>>
     }
 }
 
-/// Core 5.0, Vol 3 Part F, 3.4.4.7.
+/// Parses the parameters (Core 5.0, Vol 3 Part F, 3.4.4.7).
 #[tactic(auto, using(crate::proofs::Handles::handles_in_pairs, crate::proofs::Handles::handles_spelled))]
 fn read_multiple(parameters: &[u8]) -> Option<Request<'_>>
     ensures { IsForm READ_MULTIPLE_REQUEST parameters.now
@@ -132,7 +132,7 @@ fn read_multiple(parameters: &[u8]) -> Option<Request<'_>>
     }
 }
 
-/// Core 5.0, Vol 3 Part F, 3.4.4.9.
+/// Parses the parameters (Core 5.0, Vol 3 Part F, 3.4.4.9).
 #[inline(always)]
 fn read_by_group_type(parameters: &[u8]) -> Option<Request<'_>>
     ensures { IsForm READ_BY_GROUP_TYPE_REQUEST parameters.now
@@ -148,7 +148,7 @@ fn read_by_group_type(parameters: &[u8]) -> Option<Request<'_>>
     }
 }
 
-/// Core 5.0, Vol 3 Part F, 3.4.5.1.
+/// Parses the parameters (Core 5.0, Vol 3 Part F, 3.4.5.1).
 fn write(parameters: &[u8]) -> Option<Request<'_>>
     ensures { IsForm WRITE_REQUEST parameters.now (write_form parameters.now) result }
 {
@@ -161,7 +161,7 @@ fn write(parameters: &[u8]) -> Option<Request<'_>>
     }
 }
 
-/// Core 5.0, Vol 3 Part F, 3.4.6.1.
+/// Parses the parameters (Core 5.0, Vol 3 Part F, 3.4.6.1).
 fn prepare_write(parameters: &[u8]) -> Option<Request<'_>>
     ensures { IsForm PREPARE_WRITE_REQUEST parameters.now
         (prepare_write_form parameters.now) result }
@@ -176,7 +176,7 @@ fn prepare_write(parameters: &[u8]) -> Option<Request<'_>>
     }
 }
 
-/// Core 5.0, Vol 3 Part F, 3.4.6.3.
+/// Parses the parameters (Core 5.0, Vol 3 Part F, 3.4.6.3).
 fn execute_write(parameters: &[u8]) -> Option<Request<'_>>
     ensures { IsForm EXECUTE_WRITE_REQUEST parameters.now
         (execute_write_form parameters.now) result }
@@ -192,7 +192,7 @@ fn execute_write(parameters: &[u8]) -> Option<Request<'_>>
     }
 }
 
-/// Core 5.0, Vol 3 Part F, 3.4.7.3.
+/// Parses the parameters (Core 5.0, Vol 3 Part F, 3.4.7.3).
 fn confirmation(parameters: &[u8]) -> Option<Request<'_>>
     ensures { IsForm HANDLE_VALUE_CONFIRMATION parameters.now
         (confirmation_form parameters.now) result }
@@ -203,7 +203,7 @@ fn confirmation(parameters: &[u8]) -> Option<Request<'_>>
     }
 }
 
-/// Core 5.0, Vol 3 Part F, 3.4.5.3.
+/// Parses the parameters (Core 5.0, Vol 3 Part F, 3.4.5.3).
 fn write_command(parameters: &[u8]) -> Option<Request<'_>>
     ensures { IsForm WRITE_COMMAND parameters.now (write_command_form parameters.now) result }
 {

@@ -7,28 +7,27 @@ use crate::form;
 use crate::request::Request;
 use att_numbers::opcode;
 
-/// Why octets are no request that can be served.
+/// The reason why a PDU is not served.
 #[derive(Clone, Copy, Debug, PartialEq, Eq)]
 pub enum PduFault {
-    /// It is passed over, with no answer: an empty PDU, what only a server sends, an unknown
-    /// command, and a confirmation or a Write Command that is malformed or longer than the
-    /// ATT_MTU.
+    /// Ignored without a response: an empty PDU, a server's PDU, an unknown command, or a malformed
+    /// or too long confirmation or Write Command.
     Ignored,
-    /// The opcode is that of a request and the form is not its own, or the PDU is longer than the
-    /// ATT_MTU: answered by the error Invalid PDU.
+    /// A malformed or too long request: rejected with Invalid PDU.
     Invalid(u8),
-    /// The opcode is unknown: answered by the error Request Not Supported, whatever its length.
+    /// An unknown opcode that is no command: rejected with Request Not Supported at any length.
     Unsupported(u8),
 }
 
-/// Reads the request that a PDU spells, where the connection's ATT_MTU is `mtu` octets. Handles of
-/// a Read Multiple Request and parts of a value are borrowed from the PDU.
+/// Parses a PDU on a connection whose ATT_MTU is `mtu` octets.
+///
+/// The request borrows values and handles from the PDU.
 #[inline(always)]
 pub fn read_request(pdu: &[u8], mtu: u16) -> Result<Request<'_>, PduFault>
     ensures exact { result_map_both asked (λ fault. fault) result ≡ request_of pdu.now mtu }
     ensures spelled { IfOk result (λ request. spelled (asked request) ≡ pdu.now) }
     ensures within_mtu { IfOk result (λ _. length pdu.now ≤ mtu) }
-    // Nothing in the grammar is refused.
+    // Every well-formed request is accepted.
     ensures accepted { (request : Asked) → HasOctetFields request → spelled request ≡ pdu.now
         → length pdu.now ≤ mtu
         → request_of pdu.now mtu ≡ Ok request }
@@ -39,8 +38,7 @@ pub fn read_request(pdu: &[u8], mtu: u16) -> Result<Request<'_>, PduFault>
     read_parameters(*opcode, parameters, mtu)
 }
 
-/// Reads the request that the PDU of an opcode and these parameters spells: `read_request` of a PDU
-/// whose opcode is known.
+/// Parses a PDU whose opcode is already read; otherwise like `read_request`.
 #[inline(always)]
 pub fn read_parameters(opcode: u8, parameters: &[u8], mtu: u16) -> Result<Request<'_>, PduFault>
     ensures exact { result_map_both asked (λ fault. fault) result
@@ -57,7 +55,7 @@ pub fn read_parameters(opcode: u8, parameters: &[u8], mtu: u16) -> Result<Reques
     }
 }
 
-/// What is wrong with a PDU that begins with this opcode and asks for nothing.
+/// Returns the fault of a PDU with this opcode that is no valid request.
 #[tactic(auto, unfolding(crate::specs::Grammar::fault_of))]
 pub fn fault_of(opcode: u8) -> PduFault
     ensures fault { result ≡ fault_of opcode }
@@ -88,15 +86,14 @@ pub fn fault_of(opcode: u8) -> PduFault
         | opcode::EXECUTE_WRITE_RESPONSE
         | opcode::HANDLE_VALUE_NOTIFICATION
         | opcode::HANDLE_VALUE_INDICATION => PduFault::Ignored,
-        // It has an arm of its own, since two neighbors in one would be asked for as a range, behind
-        // the jump by the opcode.
+        // A separate arm: the compiler would otherwise test a range after the jump.
         opcode::HANDLE_VALUE_CONFIRMATION => PduFault::Ignored,
         command if command & opcode::COMMAND_FLAG != 0 => PduFault::Ignored,
         unknown => PduFault::Unsupported(unknown),
     }
 }
 
-/// Whether a PDU is answered, where the connection's ATT_MTU is `mtu` octets.
+/// Returns true if the server must respond to a PDU. `mtu` is the ATT_MTU in octets.
 #[inline(never)]
 pub fn answer_due(pdu: &[u8], mtu: u16) -> bool
     ensures { result ≡ is_due (request_of pdu.now mtu) }

@@ -1,5 +1,4 @@
-//! The PDUs of the Attribute Protocol (ATT): which request octets ask for, and answers that never
-//! outgrow the ATT_MTU.
+//! Attribute Protocol (ATT) PDUs: parses requests and builds responses within the ATT_MTU.
 #![tactic(auto)]
 
 mod buffer;

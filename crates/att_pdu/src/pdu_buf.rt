@@ -9,38 +9,33 @@ mod appending;
 use crate::buffer::{replace_all, resize, write, write_both};
 use att_numbers::limit::MAX_VALUE;
 use att_numbers::opcode;
-use octets::{MAX_PDU, PduOctets, write_front};
+use octet_io::{MAX_PDU, PduOctets, write_front};
 
-/// The least ATT_MTU of an LE link, in octets: Core 5.0, Vol 3 Part G, 5.2.1.
+/// The least ATT_MTU of an LE link in octets (Core 5.0, Vol 3 Part G, 5.2.1).
 pub const MIN_MTU: u16 = 23;
-/// The largest ATT_MTU that this profile serves, in octets: the largest value in one PDU.
+/// The largest ATT_MTU of this profile in octets.
 pub const MAX_MTU: u16 = MAX_PDU as u16;
 
-// The largest value stands in one PDU behind an opcode, a handle and an offset.
+// A PDU holds opcode, handle, offset and the largest value.
 const _: () = prove!(1 + 2 + 2 + MAX_VALUE == MAX_PDU);
 
-/// How many octets an Error Response has: Core 5.0, Vol 3 Part F, 3.4.1.1.
 const ERROR_SIZE: usize = 5;
 
-/// How many octets an Exchange MTU Response has: Core 5.0, Vol 3 Part F, 3.4.2.2.
 const EXCHANGE_MTU_SIZE: usize = 3;
 
-/// Where a PDU ends in its buffer.
+/// The end of a PDU in its buffer.
 #[derive(Clone, Copy)]
 pub(crate) enum End {
-    /// Where the buffer ends.
     OfBuffer,
-    /// Before this octet of a buffer that keeps its length, so that none of its octets is cleared.
+    /// Before this index of a buffer whose length is fixed, so nothing is cleared.
     Before(usize),
 }
 
-/// A PDU that is being put together in a buffer of its caller's, and never outgrows an ATT_MTU of
-/// `MIN_MTU` to `MAX_MTU` octets.
+/// A PDU under construction in the caller's buffer, never longer than the ATT_MTU.
 #[derive(Drop)]
 pub struct PduBuf<'a> {
     octets: &'a mut PduOctets,
     end: End,
-    /// The ATT_MTU, in octets.
     mtu: usize,
     pub ghost least: { MIN_MTU ≤ mtu },
     pub ghost most: { mtu ≤ MAX_MTU },
@@ -53,7 +48,7 @@ impl<'a> PduBuf<'a> {
     ghost use Rattle.att_pdu.specs.PduBuf.{contents, mtu_of, IsIn, IsOver, StandsOver, IsSameBuffer};
     ghost use Rattle.att_pdu.specs.Response.{OfAttribute, element_octets, ErrorResponse, ExchangeMtuResponse, sent};
 
-    /// An empty PDU in `octets`, whose content is dropped.
+    /// Creates an empty PDU; clears `octets`.
     pub fn new(octets: &'a mut PduOctets, mtu: u16) -> PduBuf<'a>
         requires least { MIN_MTU ≤ mtu }
         requires most { mtu ≤ MAX_MTU }
@@ -69,7 +64,7 @@ impl<'a> PduBuf<'a> {
         }
     }
 
-    /// The PDU that `octets` hold, cut to the ATT_MTU, for what replaces it.
+    /// Adopts the PDU in `octets`, cut to the ATT_MTU.
     #[inline(always)]
     pub fn of(octets: &'a mut PduOctets, mtu: u16) -> PduBuf<'a>
         requires least { MIN_MTU ≤ mtu }
@@ -87,7 +82,7 @@ impl<'a> PduBuf<'a> {
         }
     }
 
-    /// An empty PDU at the front of `octets`, which are as many as the ATT_MTU at least, and stay as many.
+    /// Creates an empty PDU at the start of `octets`, whose length stays fixed.
     #[inline(always)]
     pub fn over(octets: &'a mut PduOctets, mtu: u16) -> PduBuf<'a>
         requires least { MIN_MTU ≤ mtu }
@@ -104,7 +99,7 @@ impl<'a> PduBuf<'a> {
         }
     }
 
-    /// How many octets a PDU has that stands over a buffer.
+    /// Returns the length of a PDU made by `over`.
     #[inline(always)]
     pub fn len_over(&self) -> usize
         requires { StandsOver self.now }
@@ -117,7 +112,7 @@ impl<'a> PduBuf<'a> {
         }
     }
 
-    /// The ATT_MTU that the PDU keeps within, in octets.
+    /// Returns the ATT_MTU in octets.
     #[inline(always)]
     pub fn mtu(&self) -> u16
         ensures mtu { result ≡ mtu_of self.now }
@@ -127,7 +122,7 @@ impl<'a> PduBuf<'a> {
         self.mtu as u16
     }
 
-    /// Replaces the content by the Error Response to a request: Core 5.0, Vol 3 Part F, 3.4.1.1.
+    /// Replaces the PDU by an Error Response (Core 5.0, Vol 3 Part F, 3.4.1.1).
     pub fn error(&mut self, request_opcode: u8, handle: u16, code: u8)
         ensures error { contents self.new ≡ sent (ErrorResponse request_opcode handle code) }
         ensures same_buffer { IsSameBuffer self.old self.new }
@@ -139,8 +134,7 @@ impl<'a> PduBuf<'a> {
         }
     }
 
-    /// Whether the buffer holds nothing, or need not change its length where this many octets replace
-    /// the content.
+    /// Returns true if the buffer is empty or needs no resize.
     #[inline(always)]
     fn keeps_length(&self, size: usize) -> bool {
         match self.end {
@@ -149,8 +143,7 @@ impl<'a> PduBuf<'a> {
         }
     }
 
-    /// Puts an Error Response into a buffer that has to get its length first. It is not inlined, so
-    /// that no registers are saved for it where an error takes the place of none or of another.
+    /// Writes an Error Response after a resize; out of line, to save registers.
     #[inline(never)]
     fn put_error_anew(&mut self, request_opcode: u8, handle: u16, code: u8)
         ensures error { contents self.new ≡ sent (ErrorResponse request_opcode handle code) }
@@ -159,7 +152,6 @@ impl<'a> PduBuf<'a> {
         self.put_error(request_opcode, handle, code);
     }
 
-    /// Puts an Error Response in place of the content.
     #[inline(always)]
     fn put_error(&mut self, request_opcode: u8, handle: u16, code: u8)
         ensures error { contents self.new ≡ sent (ErrorResponse request_opcode handle code) }
@@ -170,7 +162,7 @@ impl<'a> PduBuf<'a> {
         self.replace(&error, &[]);
     }
 
-    /// Replaces the content by the Exchange MTU Response: Core 5.0, Vol 3 Part F, 3.4.2.2.
+    /// Replaces the PDU by an Exchange MTU Response (Core 5.0, Vol 3 Part F, 3.4.2.2).
     #[inline(always)]
     pub fn exchange_mtu(&mut self, server_rx_mtu: u16)
         ensures response { contents self.new ≡ sent (ExchangeMtuResponse server_rx_mtu) }
@@ -183,8 +175,6 @@ impl<'a> PduBuf<'a> {
         }
     }
 
-    /// Puts an Exchange MTU Response into a buffer that has to get its length first, as
-    /// `put_error_anew` does.
     #[inline(never)]
     fn put_exchange_mtu_anew(&mut self, server_rx_mtu: u16)
         ensures response { contents self.new ≡ sent (ExchangeMtuResponse server_rx_mtu) }
@@ -193,7 +183,6 @@ impl<'a> PduBuf<'a> {
         self.put_exchange_mtu(server_rx_mtu);
     }
 
-    /// Puts an Exchange MTU Response in place of the content.
     #[inline(always)]
     fn put_exchange_mtu(&mut self, server_rx_mtu: u16)
         ensures response { contents self.new ≡ sent (ExchangeMtuResponse server_rx_mtu) }
@@ -204,8 +193,7 @@ impl<'a> PduBuf<'a> {
         self.replace(&response, &[]);
     }
 
-    /// Replaces the content by octets of two places, one behind the other: an opcode with what is fixed
-    /// behind it, and the rest.
+    /// Replaces the PDU by `first` and `rest`.
     #[inline(always)]
     pub fn replace(&mut self, first: &[u8], rest: &[u8])
         requires { length first.now + length rest.now ≤ mtu_of self.old }
@@ -221,7 +209,7 @@ impl<'a> PduBuf<'a> {
         }
     }
 
-    /// Gives the content a length: it ends early, or octets come behind it that are to be written over.
+    /// Sets the PDU's length; the caller must write any new octets.
     #[inline(always)]
     pub fn resize(&mut self, size: usize)
         requires { size ≤ mtu_of self.old }
@@ -236,7 +224,7 @@ impl<'a> PduBuf<'a> {
         }
     }
 
-    /// Lends the octets of the buffer, to be written over. The first of them are the content.
+    /// Lends the whole buffer for writing; the PDU is its first part.
     #[inline(always)]
     pub fn octets_mut(&mut self) -> &mut [u8]
         ensures* written { sem 𝓛 (LendsOctets self.entry result) }
@@ -246,7 +234,7 @@ impl<'a> PduBuf<'a> {
         self.octets.as_mut_slice()
     }
 
-    /// Puts octets over those of the content from `place` on.
+    /// Overwrites the PDU from `place` on.
     #[inline(always)]
     #[tactic(auto, using(crate::proofs::Ends::written))]
     pub fn put(&mut self, place: usize, octets: &[u8])
@@ -261,8 +249,7 @@ impl<'a> PduBuf<'a> {
         write(self.octets.as_mut_slice(), place, octets);
     }
 
-    /// Puts octets of two places, a few and a value behind them, over those of the content from `place`
-    /// on.
+    /// Overwrites the PDU from `place` on with `first` and `value`.
     #[inline(always)]
     pub fn put_both(&mut self, place: usize, first: &[u8], value: &[u8])
         requires { place + length first.now + length value.now ≤ length (contents self.old) }
@@ -276,7 +263,7 @@ impl<'a> PduBuf<'a> {
         write_both(self.octets.as_mut_slice(), place, first, value);
     }
 
-    /// Puts a handle and octets over those of the content from `place` on.
+    /// Overwrites the PDU from `place` on with a handle and octets.
     #[inline(always)]
     pub fn put_pair(&mut self, place: usize, handle: u16, octets: &[u8])
         requires { place + 2 + length octets.now ≤ length (contents self.old) }
@@ -291,7 +278,7 @@ impl<'a> PduBuf<'a> {
         self.put_both(place, &handle.to_le_bytes(), octets);
     }
 
-    /// Ends the content before its octet `place`, where it is longer.
+    /// Cuts the PDU to at most `place` octets.
     #[inline(always)]
     pub fn truncate(&mut self, place: usize)
         ensures ended { contents self.new ≡ take place (contents self.old) }
@@ -302,8 +289,8 @@ impl<'a> PduBuf<'a> {
         }
     }
 
-    /// Replaces the content by an opcode and as much of a value, from its front, as fits: a value that
-    /// is read is cut to the ATT_MTU (Core 5.0, Vol 3 Part F, 3.4.4.4).
+    /// Replaces the PDU by an opcode and a value, cut to the ATT_MTU (Core 5.0, Vol 3 Part F,
+    /// 3.4.4.4).
     #[inline(always)]
     pub fn replace_by_front(&mut self, opcode: u8, octets: &[u8])
         ensures replaced { contents self.new
@@ -314,7 +301,7 @@ impl<'a> PduBuf<'a> {
         self.replace(&[opcode], &octets[..octets.len().min(most)]);
     }
 
-    /// Drops the content, if there is any.
+    /// Clears the PDU.
     #[inline(always)]
     pub fn clear(&mut self)
         ensures cleared { contents self.new ≡ [] }
@@ -323,7 +310,6 @@ impl<'a> PduBuf<'a> {
         self.truncate(0);
     }
 
-    /// How many octets the PDU has.
     #[inline(always)]
     fn len(&self) -> usize
         ensures count { result ≡ length (contents self.now) }

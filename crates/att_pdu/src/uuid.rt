@@ -3,8 +3,7 @@ ghost use Rattle.att_pdu.specs.Uuid.{uuid_number, uuid_form, uuid_octets};
 
 use att_numbers::attribute_type;
 
-/// An attribute type as a request spells it, by a UUID of 16 or of 128 bits: Core 5.0, Vol 3
-/// Part F, 3.2.1.
+/// An attribute type as sent, a 16-bit or 128-bit UUID (Core 5.0, Vol 3 Part F, 3.2.1).
 #[derive(Clone, Copy, Debug, PartialEq, Eq)]
 pub enum Uuid {
     Short(u16),
@@ -12,8 +11,7 @@ pub enum Uuid {
 }
 
 impl Uuid {
-    /// The number of 128 bits by which types are compared, however they were spelled: Core 5.0,
-    /// Vol 3 Part B, 2.5.1.
+    /// Returns the 128-bit number by which types are compared (Core 5.0, Vol 3 Part B, 2.5.1).
     pub fn number(self) -> u128
         ensures { result ≡ uuid_number self }
     {
@@ -23,7 +21,7 @@ impl Uuid {
         }
     }
 
-    /// The type that 2 or 16 octets spell, the lowest octet first.
+    /// Reads a type of 2 or 16 octets, least significant first.
     pub(crate) fn read(octets: &[u8]) -> Option<Uuid>
         ensures form { result ≡ uuid_form octets.now }
         ensures spelled { IfSome result (λ uuid. uuid_octets uuid ≡ octets.now) }

@@ -1,5 +1,5 @@
--- The policy: the rules of an access in their order, what breaks each, and its error code.
--- The codes are those of Core 5.0, Vol 3 Part F, 3.4.1.1; the order is this profile's own.
+-- The rules of an access in this profile's order, with their error codes (Core 5.0, Vol 3 Part F,
+-- 3.4.1.1).
 use Rattle.std.specs.Prelude.{◌≡◌, ℕ, ◌+◌, ◌<◌, Bool, true, false, ◌==◌, ◌&&◌, ◌||◌, not, nat_lt, nat_le, is_none, if◌then◌else◌, List, [], ◌∷◌, Option, Some, None}
 use Rattle.std.specs.Int.RustNames.{bit_and}
 use Rattle.std.specs.List.{find}
@@ -19,7 +19,6 @@ use Rattle.att_policy.specs.declared.standing.KeyFacts.{KeyFacts}
 use Rattle.att_policy.specs.declared.standing.Standing.{Standing}
 use Rattle.att_policy.specs.Need.{needs_encryption_of, needs_authentication_of, key_size_of}
 
--- the property that an access asks for: read, write, and write without response
 abbrev pub property_of : Access → Properties
 property_of Read = READ
 property_of Write = WRITE
@@ -28,15 +27,15 @@ property_of Command = WRITE_WITHOUT_RESPONSE
 abbrev pub has_property : Properties → Properties → Bool
 has_property properties property = bit_and properties.0 property.0 == property.0
 
--- what an access needs of the connection
 abbrev pub need_of : Access → Guard → Need
 need_of Read guard = guard.read
 need_of Write guard = guard.write
 need_of Command guard = guard.write
 
--- the facts of the link's key: a link with no key meets none
+-- A link without a key has no authenticated or secure key, and key size 0.
 abbrev pub has_authenticated_key : Standing → Bool
-has_authenticated_key standing = option_map_or (λ (key : KeyFacts). key.authenticated) standing.key false
+has_authenticated_key standing =
+    option_map_or (λ (key : KeyFacts). key.authenticated) standing.key false
 
 abbrev pub has_secure_key : Standing → Bool
 has_secure_key standing = option_map_or (λ (key : KeyFacts). key.secure) standing.key false
@@ -44,31 +43,32 @@ has_secure_key standing = option_map_or (λ (key : KeyFacts). key.secure) standi
 abbrev pub size_of_key : Standing → ℕ
 size_of_key standing = option_map_or (λ (key : KeyFacts). key.size) standing.key 0
 
--- whether a connection fails a rule on what is needed of it
+-- The connection fails a rule of `rules_of_need`.
 abbrev pub is_unmet : Need → Standing → Rule → Bool
 is_unmet need standing HandleExists = false
 is_unmet need standing Property = false
 is_unmet need standing Encryption = needs_encryption_of need && is_none standing.key
-is_unmet need standing Authentication = needs_authentication_of need && not (has_authenticated_key standing)
+is_unmet need standing Authentication =
+    needs_authentication_of need && not (has_authenticated_key standing)
 is_unmet need standing KeySize = nat_lt (size_of_key standing) (key_size_of need)
 is_unmet need standing SecureConnections = need.secure && not (has_secure_key standing)
 is_unmet need standing Authorization = need.authorized && nat_le standing.until standing.now
 
--- whether an access to the attribute with this guard breaks a rule, or to a handle with no attribute
+-- An access without an attribute at its handle breaks only `HandleExists`.
 abbrev pub is_broken : Access → Option Guard → Standing → Rule → Bool
 is_broken access None standing HandleExists = true
 is_broken access None standing _ = false
-is_broken access (Some guard) standing Property = not (has_property guard.properties (property_of access))
+is_broken access (Some guard) standing Property =
+    not (has_property guard.properties (property_of access))
 is_broken access (Some guard) standing rule = is_unmet (need_of access guard) standing rule
 
--- the rules on what is needed, and all rules, in the order in which they are judged
+-- The rules on the connection, in the order of checking.
 abbrev pub rules_of_need : List Rule
 rules_of_need = Encryption ∷ Authentication ∷ KeySize ∷ SecureConnections ∷ Authorization ∷ []
 
 abbrev pub rules_in_order : List Rule
 rules_in_order = HandleExists ∷ Property ∷ rules_of_need
 
--- the place of a rule in that order
 abbrev pub rule_place : Rule → ℕ
 rule_place HandleExists = 1
 rule_place Property = 2
@@ -78,61 +78,65 @@ rule_place KeySize = 5
 rule_place SecureConnections = 6
 rule_place Authorization = 7
 
--- the error code of an access that the properties do not have
 abbrev pub not_permitted_code : Access → Code
 not_permitted_code Read = READ_NOT_PERMITTED
 not_permitted_code Write = WRITE_NOT_PERMITTED
 not_permitted_code Command = WRITE_NOT_PERMITTED
 
--- the error code of a broken rule. A peer that has a key is asked to encrypt, and another one to
--- authenticate (Core 5.0, Vol 3 Part C, 10.3.1)
+-- The error code of a broken rule: a peer with a key must encrypt, any other must authenticate
+-- (Core 5.0, Vol 3 Part C, 10.3.1).
 abbrev pub code_of : Access → Standing → Rule → Code
 code_of access standing HandleExists = INVALID_HANDLE
 code_of access standing Property = not_permitted_code access
-code_of access standing Encryption = if standing.key_known then INSUFFICIENT_ENCRYPTION else INSUFFICIENT_AUTHENTICATION
+code_of access standing Encryption =
+    if standing.key_known then INSUFFICIENT_ENCRYPTION else INSUFFICIENT_AUTHENTICATION
 code_of access standing Authentication = INSUFFICIENT_AUTHENTICATION
 code_of access standing KeySize = INSUFFICIENT_ENCRYPTION_KEY_SIZE
 code_of access standing SecureConnections = INSUFFICIENT_AUTHENTICATION
 code_of access standing Authorization = INSUFFICIENT_AUTHORIZATION
 
--- the first rule on what is needed that a connection fails
 abbrev pub first_unmet_rule_of : Need → Standing → Option Rule
 first_unmet_rule_of need standing = find (is_unmet need standing) rules_of_need
 
--- the first rule that an access breaks, and the same with its code
+-- The first rule that an access breaks; `first_broken_of` adds its error code.
 abbrev pub first_broken_rule_of : Access → Option Guard → Standing → Option Rule
 first_broken_rule_of access guard standing = find (is_broken access guard standing) rules_in_order
 
 abbrev pub first_broken_of : Access → Option Guard → Standing → Option (Rule × Code)
 first_broken_of access guard standing =
-    option_map (λ rule. (rule, code_of access standing rule)) (first_broken_rule_of access guard standing)
+    option_map (λ rule. (rule, code_of access standing rule))
+    (first_broken_rule_of access guard standing)
 
--- no rule is broken
 abbrev pub IsPermitted : Access → Option Guard → Standing → Type 0
 IsPermitted access guard standing = (rule : Rule) → is_broken access guard standing rule ≡ false
 
--- whether an access is permitted to whoever asks: it has its property, and nothing is needed
+-- Every connection may make the access.
 abbrev pub is_open_of : Access → Guard → Bool
 is_open_of access guard =
-    has_property guard.properties (property_of access) && not (needs_encryption_of (need_of access guard) || (need_of access guard).authorized)
+    has_property guard.properties (property_of access)
+    && not (needs_encryption_of (need_of access guard) || (need_of access guard).authorized)
 
--- this rule is broken, and none before it
-pub record IsFirstBroken (access : Access) (guard : Option Guard) (standing : Standing) (rule : Rule) : Type 0 where
+-- The access breaks this rule and no earlier one.
+pub record IsFirstBroken (access : Access) (guard : Option Guard) (standing : Standing)
+    (rule : Rule) : Type 0 where
   pub broken : is_broken access guard standing rule ≡ true
-  pub none_before : (earlier : Rule) → rule_place earlier < rule_place rule → is_broken access guard standing earlier ≡ false
+  pub none_before : (earlier : Rule) → rule_place earlier < rule_place rule
+      → is_broken access guard standing earlier ≡ false
 
--- the bits that a client characteristic configuration may have, by its value's properties: Core 5.0, Vol 3 Part G, 3.3.3.3
+-- The bits that a client characteristic configuration may have (Core 5.0, Vol 3 Part G, 3.3.3.3).
 abbrev pub configuration_bits_of : Properties → ℕ
 configuration_bits_of properties =
-    (if has_property properties NOTIFY then NOTIFICATION else 0) + (if has_property properties INDICATE then INDICATION else 0)
+    (if has_property properties NOTIFY then NOTIFICATION else 0)
+    + (if has_property properties INDICATE then INDICATION else 0)
 
--- whether a client that has configured these bits may hear of a value: one of them is allowed, and nothing is unmet that
--- reading needs. The property to read is not needed (this profile's own)
+-- A client with these bits may be notified: one is allowed and the requirements for reading are
+-- met. The read property is not required (this profile's own).
 abbrev pub may_hear_of : Guard → ℕ → Standing → Bool
 may_hear_of guard bits standing =
-    not (bit_and bits (configuration_bits_of guard.properties) == 0) && is_none (first_unmet_rule_of guard.read standing)
+    not (bit_and bits (configuration_bits_of guard.properties) == 0)
+    && is_none (first_unmet_rule_of guard.read standing)
 
--- the same in the words of the rules
+-- `may_hear_of` in terms of the rules.
 pub record MayHear (guard : Guard) (bits : ℕ) (standing : Standing) : Type 0 where
   pub allowed : 0 < bit_and bits (configuration_bits_of guard.properties)
   pub met : (rule : Rule) → is_unmet guard.read standing rule ≡ false

@@ -4,8 +4,7 @@ ghost use Rattle.att_policy.specs.Need.{needs_encryption_of, needs_authenticatio
 
 use bitflags::{Flag, Flags, bitflag_items};
 
-/// What may be done with an attribute: the characteristic properties of Core 5.0, Vol 3 Part G,
-/// 3.3.1.1, as far as this profile has them.
+/// The characteristic properties that this profile supports (Core 5.0, Vol 3 Part G, 3.3.1.1).
 #[derive(Clone, Copy, Debug, PartialEq, Eq)]
 pub struct Properties(pub u8);
 
@@ -43,16 +42,14 @@ impl Flags for Properties {
     }
 }
 
-/// The bit of a client characteristic configuration that asks for notifications: Core 5.0, Vol 3
-/// Part G, 3.3.3.3.
+/// The CCCD bit for notifications (Core 5.0, Vol 3 Part G, 3.3.3.3).
 const NOTIFICATION: u8 = 0x01;
 
-/// The bit of a client characteristic configuration that asks for indications.
+/// The CCCD bit for indications.
 pub const INDICATION: u8 = 0x02;
 
 impl Properties {
-    /// The bits that the client characteristic configuration of a characteristic with these
-    /// properties may have: 1 where it notifies, 2 where it indicates.
+    /// Returns the bits that the CCCD may have: 1 notifies, 2 indicates.
     pub fn configuration_bits(self) -> u8
         ensures bits { result ≡ configuration_bits_of self }
         ensures known { result ≤ 3 }
@@ -68,25 +65,23 @@ impl Properties {
     }
 }
 
-/// What an attribute asks of a connection before it may be read, or before it may be written, as
-/// the maker of a table writes it. The fields that imply others need not repeat them: ask the
-/// methods what is needed.
+/// The requirements for reading or writing an attribute.
+///
+/// A field need not repeat what another implies; the methods combine them.
 #[derive(Clone, Copy, Debug, PartialEq, Eq)]
 pub struct Need {
-    /// The link is encrypted.
     pub encrypted: bool,
-    /// The link's key was exchanged with protection against a man in the middle.
+    /// Key exchange with protection against a man in the middle.
     pub authenticated: bool,
-    /// The link's key has at least this size, from 7 to 16 octets.
+    /// Least key size, 7 to 16 octets.
     pub key_size: Option<u8>,
-    /// The user has let this connection through.
+    /// Authorization by the user.
     pub authorized: bool,
-    /// The link's key was made by LE Secure Connections: security mode 1, level 4.
+    /// LE Secure Connections (security mode 1, level 4).
     pub secure: bool,
 }
 
 impl Need {
-    /// Nothing is needed.
     pub const NONE: Need = Need {
         encrypted: false,
         authenticated: false,
@@ -95,22 +90,21 @@ impl Need {
         secure: false,
     };
 
-    /// Whether the link must have a key.
+    /// Returns true if the link must have a key.
     pub fn needs_encryption(&self) -> bool
         ensures { result ≡ needs_encryption_of self.now }
     {
-        // All four are looked at, so that they take one decision.
         self.encrypted | self.authenticated | self.key_size.is_some() | self.secure
     }
 
-    /// Whether the link's key must be authenticated.
+    /// Returns true if the link's key must be authenticated.
     pub fn needs_authentication(&self) -> bool
         ensures { result ≡ needs_authentication_of self.now }
     {
         self.authenticated || self.secure
     }
 
-    /// The least size of the link's key, in octets: 0 where any will do.
+    /// Returns the least size of the link's key in octets, 0 for any.
     pub fn least_key_size(&self) -> u8
         ensures { result ≡ key_size_of self.now }
     {
@@ -122,13 +116,10 @@ impl Need {
     }
 }
 
-/// Who may use an attribute, and how.
+/// The access rules of an attribute.
 #[derive(Clone, Copy, Debug, PartialEq, Eq)]
 pub struct Guard {
-    /// What may be done with it at all.
     pub properties: Properties,
-    /// What reading it needs.
     pub read: Need,
-    /// What writing it needs.
     pub write: Need,
 }

@@ -1,5 +1,5 @@
-//! The access policy: which accesses to an attribute a connection may make, and the error of the
-//! Attribute Protocol (ATT) that each other one is answered with.
+//! The access policy: decides which accesses a connection may make, and with which ATT error the
+//! server rejects the others.
 #![tactic(auto)]
 
 mod guard;

@@ -7,19 +7,17 @@ use crate::standing::Standing;
 use att_numbers::error_code;
 use bitflags::Flags;
 
-/// How a connection wants to use an attribute.
+/// The kind of an access to an attribute.
 #[derive(Clone, Copy, Debug, PartialEq, Eq)]
 pub enum Access {
-    /// Any request that reads its value.
     Read,
     /// A Write Request, or a prepared write and its execution.
     Write,
-    /// A Write Command, which is never answered.
+    /// A Write Command.
     Command,
 }
 
 impl Access {
-    /// The property without which this access is not permitted.
     fn property(self) -> Properties
         ensures { result ≡ property_of self }
     {
@@ -30,7 +28,6 @@ impl Access {
         }
     }
 
-    /// What this access to the guarded attribute needs.
     fn need(self, guard: &Guard) -> &Need
         ensures { result.now ≡ need_of self guard.now }
     {
@@ -40,7 +37,6 @@ impl Access {
         }
     }
 
-    /// The error code of an access that the properties do not have.
     fn not_permitted(self) -> u8
         ensures { result ≡ not_permitted_code self }
     {
@@ -51,27 +47,23 @@ impl Access {
     }
 }
 
-/// A rule of the policy, in the order in which they are judged.
+/// A rule of the policy, in the order of checking; those after `Property` apply if required.
 #[derive(Clone, Copy, Debug, PartialEq, Eq)]
 pub enum Rule {
-    /// There is an attribute at the handle.
+    /// The handle has an attribute.
     HandleExists,
     /// The attribute has the property of the access.
     Property,
-    /// The link is encrypted, where that is needed.
     Encryption,
-    /// The link's key is authenticated, where that is needed.
     Authentication,
-    /// The link's key is as long as is needed.
     KeySize,
-    /// The link's key was made by LE Secure Connections, where that is needed.
     SecureConnections,
-    /// The connection is authorized at this moment, where that is needed.
     Authorization,
 }
 
-/// The first rule that an access breaks, with its ATT error code, or `None` where the access is
-/// permitted. `guard` is that of the attribute, `None` where the handle has none.
+/// Returns the first rule that an access breaks and its ATT error code.
+///
+/// `None`: the access is permitted. `guard` is `None` if the handle has no attribute.
 #[inline(always)]
 pub fn first_broken(
     access: Access,
@@ -90,9 +82,7 @@ pub fn first_broken(
     Some((rule, code(rule, access, standing)))
 }
 
-/// The first rule that an access breaks, with its ATT error code, or `None` where the access is
-/// permitted. All rules are judged in the code of the caller: for a request of one attribute, which then
-/// saves no registers for a call, and knows the error code of each rule.
+/// Does the same as `first_broken`, inlined: faster for a request of one attribute.
 #[inline(always)]
 pub fn first_broken_in_place(
     access: Access,
@@ -111,8 +101,7 @@ pub fn first_broken_in_place(
     Some((rule, code(rule, access, standing)))
 }
 
-/// Whether an access to an attribute is permitted to every connection: it has its property, and nothing
-/// is needed.
+/// Returns true if every connection is permitted this access.
 #[inline(always)]
 pub fn is_open(access: Access, guard: &Guard) -> bool
     ensures exact { result ≡ is_open_of access guard.now }
@@ -123,9 +112,9 @@ pub fn is_open(access: Access, guard: &Guard) -> bool
     guard.properties.contains(access.property()) && !(need.needs_encryption() | need.authorized)
 }
 
-/// Whether a client that has configured these bits may be notified of a value, or have it indicated:
-/// 1 asks for notifications, 2 for indications (Core 5.0, Vol 3 Part G, 3.3.3.3). The value has the
-/// property of one of them, and the connection all that reading the value needs.
+/// Returns true if a client with these CCCD bits may be notified of a value.
+///
+/// Requires the property of a set bit (Core 5.0, Vol 3 Part G, 3.3.3.3), and what reading requires.
 pub fn may_hear(guard: &Guard, bits: u8, standing: &Standing) -> bool
     ensures exact { result ≡ may_hear_of guard.now bits standing.entry.now }
     ensures heard { IsTrue result ↔ MayHear guard.now bits standing.entry.now }
@@ -134,8 +123,7 @@ pub fn may_hear(guard: &Guard, bits: u8, standing: &Standing) -> bool
         && first_unmet_rule(&guard.read, standing).is_none()
 }
 
-/// The first rule that an access to an attribute breaks: that it exists, that its properties permit the
-/// access, and then what its guard needs, which is judged apart, or in the code of the caller.
+/// Returns the first broken rule. `APART` checks the guard out of line.
 #[inline(always)]
 fn first_broken_rule<const APART: bool>(
     access: Access,
@@ -162,8 +150,7 @@ fn first_broken_rule<const APART: bool>(
     None
 }
 
-/// The first rule on what is needed that a connection fails. It is not inlined where many attributes
-/// are read, or one is written, most of which need nothing.
+/// Does the same as `first_unmet_rule`, out of line: most attributes require nothing.
 #[inline(never)]
 fn first_unmet_rule_apart(need: &Need, standing: &Standing) -> Option<Rule>
     ensures { result ≡ first_unmet_rule_of need.now standing.entry.now }
@@ -171,7 +158,6 @@ fn first_unmet_rule_apart(need: &Need, standing: &Standing) -> Option<Rule>
     first_unmet_rule(need, standing)
 }
 
-/// The first rule on what is needed that a connection fails.
 #[inline(always)]
 fn first_unmet_rule(need: &Need, standing: &Standing) -> Option<Rule>
     ensures { result ≡ first_unmet_rule_of need.now standing.entry.now }
@@ -196,14 +182,13 @@ fn first_unmet_rule(need: &Need, standing: &Standing) -> Option<Rule>
     None
 }
 
-/// The ATT error code of a broken rule.
 fn code(rule: Rule, access: Access, standing: &Standing) -> u8
     ensures { result ≡ code_of access standing.entry.now rule }
 {
     match rule {
         Rule::HandleExists => error_code::INVALID_HANDLE,
         Rule::Property => access.not_permitted(),
-        // A peer that could encrypt the link is told so: Core 5.0, Vol 3 Part C, 10.3.1.
+        // A peer with a key can encrypt the link (Core 5.0, Vol 3 Part C, 10.3.1).
         Rule::Encryption if standing.key_known => error_code::INSUFFICIENT_ENCRYPTION,
         Rule::Encryption | Rule::Authentication | Rule::SecureConnections => {
             error_code::INSUFFICIENT_AUTHENTICATION

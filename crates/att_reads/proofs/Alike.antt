@@ -23,7 +23,7 @@ use Rattle.att_reads.specs.Answer.{is_match, group_of, information_answer, found
 use Rattle.att_reads.specs.List.{cut_of, element_of, candidate_of}
 use Rattle.att_reads.specs.Listing.{Candidate, is_listed, candidate_size, size_of_first, first_refusal, elements, elements_within}
 use Rattle.att_reads.specs.Refusals.{unless_refused, range_refusal, group_type_refusal, not_found, offset_refusal}
-use Rattle.octets.specs.Number.{Octets}
+use Rattle.octet_io.specs.Number.{Octets}
 
 -- the same attributes with other values
 abbrev with_values : Contents → ValueList → Contents

@@ -14,7 +14,7 @@ use Rattle.att_reads.specs.List.{listing_request, head_of, cut_of, element_of, c
 use Rattle.att_reads.specs.Listing.{candidate_size, size_of_first, elements_within, with_listed}
 use Rattle.att_reads.specs.Refusals.{unless_refused}
 use Rattle.att_reads.proofs.Listed.{list_begun}
-use Rattle.octets.specs.Number.{Octets}
+use Rattle.octet_io.specs.Number.{Octets}
 
 element_size : (listing : Listing) (table : Contents) (handle : Handle) (front : Octets) → length (element_octets (element_of listing table handle front)) ≡ head_of listing + length front
 element_size Values table handle front = omega arith

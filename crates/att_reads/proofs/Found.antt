@@ -8,7 +8,7 @@ use Rattle.att_table.specs.Table.{Contents}
 use Rattle.att_reads.specs.Answer.{group_of, with_groups}
 use Rattle.att_reads.specs.Refusals.{unless_refused, not_found}
 use Rattle.att_reads.proofs.Listed.{rooms}
-use Rattle.octets.specs.Number.{Octets}
+use Rattle.octet_io.specs.Number.{Octets}
 
 take-none : (n : ℕ) → take {A = Handle} n [] ≡ []
 take-none zero = refl

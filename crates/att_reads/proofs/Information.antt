@@ -14,7 +14,7 @@ use Rattle.att_reads.specs.Listing.{candidate_size, elements, elements_within, r
 use Rattle.att_reads.specs.Refusals.{not_found, unless_refused}
 use Rattle.att_reads.proofs.Listed.{listed_next, listed_stop}
 use Rattle.att_reads.proofs.Lists.{drop_next}
-use Rattle.octets.specs.Number.{Octets, two_octets}
+use Rattle.octet_io.specs.Number.{Octets, two_octets}
 
 pub types_next : (of mtu : Mtu) (size : ℕ) (old new : Octets) (attributes : List Attr) (i : ℕ) (default : Attr) → i < length attributes → 0 < size
     → of ≡ mtu → HasNext of size (information_of (get_or attributes i default)) old new

@@ -8,7 +8,7 @@ use Rattle.std.proofs.lemmas.List.Sums.{take_while-cons}
 use Rattle.std.specs.List.{flat_map, prefix_len}
 use Rattle.att_pdu.specs.Response.{element_octets}
 use Rattle.att_reads.specs.Listing.{Candidate, candidate_size, is_listed, run_within, elements, elements_within, with_listed, HasNext, HasNoNext}
-use Rattle.octets.specs.Number.{Octets}
+use Rattle.octet_io.specs.Number.{Octets}
 
 -- the octets of those that are listed
 abbrev joined : List Candidate → Octets

@@ -1,6 +1,6 @@
 -- What is left of a list, and what a test finds in it.
 use Rattle.std.proofs.Common.{◌≡◌, ◌<◌, ◌≤◌, ℕ, ◌+◌, ◌-◌, ◌*◌, Bool, true, false, List, [], ◌∷◌, length, take, drop, get_or, suc, refl, sym, ap, ◌∙◌, arith, length-drop}
-use Rattle.std.specs.Prelude.{filter, ◌||◌}
+use Rattle.std.specs.Prelude.{filter}
 use Rattle.std.specs.List.{list_any}
 use Rattle.std.proofs.Math.Nat.{mul-suc}
 use Rattle.std.proofs.Math.Seq.{drop-cons}
@@ -45,10 +45,6 @@ any_here p x xs is = rw is refl
 
 pub any_later : (p : ℕ → Bool) (x : ℕ) (xs : List ℕ) → p x ≡ false → list_any p (x ∷ xs) ≡ list_any p xs
 any_later p x xs is = rw is refl
-
-pub or_true : (found : Bool) → (found || true) ≡ true
-or_true true = refl
-or_true false = refl
 
 -- where nothing passes the test, the list of what does is empty, and else it is not
 none-at : (p : ℕ → Bool) (x : ℕ) (xs : List ℕ) (test : Bool) → p x ≡ test → (list_any p xs ≡ false → filter p xs ≡ [])

@@ -11,7 +11,7 @@ use Rattle.att_table.specs.Table.{Contents}
 use Rattle.att_reads.specs.Access.{refusal_at, read_refusal, value_for}
 use Rattle.att_reads.specs.Answer.{multiple_answer}
 use Rattle.att_reads.specs.Refusals.{unless_refused}
-use Rattle.octets.specs.Number.{Octets}
+use Rattle.octet_io.specs.Number.{Octets}
 
 -- octets behind others, as many as fit
 abbrev pub filled : Mtu → Octets → Octets → Octets

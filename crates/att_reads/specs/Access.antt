@@ -1,4 +1,4 @@
--- What a client may read of an attribute, and what it reads there.
+-- The values that a client may read.
 use Rattle.std.specs.Prelude.{◌≡◌, if◌then◌else◌, List, [], ◌∷◌, Option, None}
 use Rattle.std.specs.Option.{option_map}
 use Rattle.att_numbers.specs.Types.{Handle, Code, Row}
@@ -10,25 +10,26 @@ use Rattle.att_attributes.specs.declared.attr.Attr.{Attr}
 use Rattle.att_attributes.specs.Attributes.{guard_at, is_configuration_at}
 use Rattle.att_table.specs.ConfigRow.{bits_at}
 use Rattle.att_table.specs.Table.{Contents, value_at}
-use Rattle.octets.specs.Number.{Octets}
+use Rattle.octet_io.specs.Number.{Octets}
 
--- the error code of the first rule that reading there breaks, if it breaks one
+-- The error code of the first rule that reading breaks.
 abbrev pub refusal_at : List Attr → Standing → Handle → Option Code
 refusal_at attributes standing handle =
     option_map (λ broken. broken.1) (first_broken_of Read (guard_at attributes handle) standing)
 
--- the same with the handle
 abbrev pub read_refusal : List Attr → Standing → Handle → Option Refusal
 read_refusal attributes standing handle =
-    option_map (λ code. record { handle = handle; code = code }) (refusal_at attributes standing handle)
+    option_map (λ code. record { handle = handle; code = code })
+    (refusal_at attributes standing handle)
 
--- the value that a client reads at a handle: its configurations are its own (Core 5.0, Vol 3 Part G, 3.3.3.3)
+-- The value that a client reads; its configurations are its own (Core 5.0, Vol 3 Part G, 3.3.3.3).
 abbrev pub value_for : Contents → Row → Handle → Octets
 value_for table row handle =
     if is_configuration_at table.attributes handle then bits_at row handle ∷ 0 ∷ []
     else value_at table.values handle
 
--- another table that differs in nothing but values that a client of this standing may not read
+-- The tables differ only in values that a client with this standing may not read.
 pub record IsAlike (standing : Standing) (table other : Contents) : Type 0 where
   pub attributes : other.attributes ≡ table.attributes
-  pub readable : (handle : Handle) → refusal_at table.attributes standing handle ≡ None → value_at other.values handle ≡ value_at table.values handle
+  pub readable : (handle : Handle) → refusal_at table.attributes standing handle ≡ None
+      → value_at other.values handle ≡ value_at table.values handle

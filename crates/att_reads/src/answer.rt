@@ -15,10 +15,10 @@ use att_pdu::{PduBuf, Request, Uuid};
 use att_policy::Standing;
 use att_table::{ConfigRow, Table, Uncounted, is_service};
 
-/// Answers a request that reads: Find Information, Find By Type Value, Read By Type, Read, Read
-/// Blob, Read Multiple or Read By Group Type (Core 5.0, Vol 3 Part F, 3.4.3 and 3.4.4). `row` is
-/// what the client has configured, `standing` what the policy sees of it, and `mtu` the ATT_MTU of
-/// `out`, whose content the answer replaces. Any other request leaves it empty.
+/// Writes to `out` the response to a request that reads; empty for other requests.
+///
+/// The requests are those of Core 5.0, Vol 3 Part F, 3.4.3 and 3.4.4. `row` has the client's
+/// configurations, `standing` its security state; `mtu` is the ATT_MTU of `out`.
 #[inline(always)]
 #[tactic(auto, using(crate::proofs::Alike::alike))]
 pub fn answer_read(
@@ -32,7 +32,7 @@ pub fn answer_read(
     requires mtu { mtu_of out.old ≡ mtu }
     ensures answer { contents out.new
         ≡ sent_if_any (read_answer table.now row.now standing.entry.now mtu (asked request.now)) }
-    // The answer tells nothing of values that the client may not read.
+    // The response is independent of values that the client may not read.
     ensures undisclosed { (other : Contents) → IsAlike standing.entry.now table.now other
         → contents out.new ≡ sent_if_any
         (read_answer other row.now standing.entry.now mtu (asked request.now)) }
@@ -48,7 +48,6 @@ pub fn answer_read(
     answer_to(reader, request, out);
 }
 
-/// Answers a request of a client that reads.
 #[inline(always)]
 fn answer_to(reader: Reader<'_>, request: &Request<'_>, out: &mut PduBuf<'_>)
     ensures answer { contents out.new ≡ sent_if_any
@@ -88,14 +87,13 @@ fn answer_to(reader: Reader<'_>, request: &Request<'_>, out: &mut PduBuf<'_>)
     }
 }
 
-/// Whether a range begins with a handle and is not empty: Core 5.0, Vol 3 Part F, 3.4.3.1.
+/// Returns true if a range is valid (Core 5.0, Vol 3 Part F, 3.4.3.1).
 fn is_range(first: u16, last: u16) -> bool
     ensures { result ≡ not ((first == 0) || nat_lt last first) }
 {
     first != 0 && first <= last
 }
 
-/// Answers a Find Information Request.
 #[tactic(auto, unfolding(crate::specs::Answer::information_answer))]
 fn find_information(table: &Table, first: u16, last: u16, out: &mut PduBuf<'_>)
     ensures answer { contents out.new
@@ -113,7 +111,6 @@ fn find_information(table: &Table, first: u16, last: u16, out: &mut PduBuf<'_>)
     find::information(table.in_range(first, last), first, out);
 }
 
-/// Answers a Find By Type Value Request.
 #[tactic(auto, unfolding(crate::specs::Answer::found_answer))]
 fn find_by_type_value(
     reader: Reader<'_>,
@@ -143,7 +140,6 @@ fn find_by_type_value(
     find::by_type_value(reader, handles, first, value, out);
 }
 
-/// Answers a Read By Type Request.
 #[tactic(auto, unfolding(crate::specs::Answer::values_answer))]
 fn read_by_type(
     reader: Reader<'_>,
@@ -171,7 +167,7 @@ fn read_by_type(
     list::answer(Listing::Values, reader, handles, first, out);
 }
 
-/// Answers a Read By Group Type Request: only services are groups that can be read so.
+/// Responds to a Read By Group Type Request; only services can be read so.
 #[tactic(auto, unfolding(crate::specs::Answer::groups_answer))]
 fn read_by_group_type(
     reader: Reader<'_>,

@@ -1,4 +1,4 @@
-//! The requests that find attributes: Core 5.0, Vol 3 Part F, 3.4.3.
+//! Find requests (Core 5.0, Vol 3 Part F, 3.4.3).
 
 ghost use Rattle.std.specs.Prelude.{◌≡◌, ◌-◌, ◌<◌, ◌≤◌, ◌+◌, ◌*◌, ◌/◌, ◌∷◌, ◌++◌, [], map, filter, length, take, drop, IsSome};
 ghost use Rattle.std.specs.List.{list_any};
@@ -19,15 +19,12 @@ use att_numbers::{error_code, opcode};
 use att_pdu::PduBuf;
 use att_table::{Attr, Table, is_of_16_bits};
 
-/// The format of the answer to a Find Information Request that lists types of 16 bits: Core 5.0, Vol 3
-/// Part F, 3.4.3.2.
+/// The formats for 16-bit and, below, 128-bit types (Core 5.0, Vol 3 Part F, 3.4.3.2).
 const SHORT_TYPES: u8 = 1;
 
-/// The format of the one that lists types of 128 bits: Core 5.0, Vol 3 Part F, 3.4.3.2.
 const LONG_TYPES: u8 = 2;
 
-/// Answers a Find Information Request of these attributes, which begin at `start`. It needs no
-/// permission.
+/// Responds to a Find Information Request; needs no permission. The attributes begin at `start`.
 pub fn information(attributes: &[Attr], start: u16, out: &mut PduBuf<'_>)
     ensures answer { let types = map information_of attributes.now in
         contents out.new ≡ sent
@@ -44,7 +41,7 @@ pub fn information(attributes: &[Attr], start: u16, out: &mut PduBuf<'_>)
         );
         return;
     };
-    // Each is a copy for one size, in which the other is never asked for.
+    // Inlined once per size, so neither copy tests for the other.
     if is_of_16_bits(first.kind) {
         list(attributes, SHORT_TYPES, 4, out);
     } else {
@@ -52,7 +49,7 @@ pub fn information(attributes: &[Attr], start: u16, out: &mut PduBuf<'_>)
     }
 }
 
-/// Lists these attributes, up to the first that has another size or does not fit.
+/// Lists attributes up to the first of another size or without space.
 #[inline(always)]
 fn list(attributes: &[Attr], format: u8, size: usize, out: &mut PduBuf<'_>)
     requires size { 0 < size }
@@ -68,8 +65,7 @@ fn list(attributes: &[Attr], format: u8, size: usize, out: &mut PduBuf<'_>)
     out.truncate(end);
 }
 
-/// Puts the opcode, the format and these attributes over octets, of which there are enough, up to the
-/// first attribute that has another size, and answers where the list ends.
+/// Writes opcode, format and attributes up to the first of another size; returns the end.
 #[inline(always)]
 fn put_list(attributes: &[Attr], format: u8, size: usize, octets: &mut [u8]) -> usize
     requires size { 0 < size }
@@ -84,8 +80,7 @@ fn put_list(attributes: &[Attr], format: u8, size: usize, octets: &mut [u8]) -> 
     put_all(attributes, size, octets)
 }
 
-/// Puts these attributes over octets, behind the first two, up to the first that has another size, and
-/// answers where the list ends.
+/// Writes the attributes after the header, likewise.
 #[inline(always)]
 fn put_all(attributes: &[Attr], size: usize, octets: &mut [u8]) -> usize
     requires size { 0 < size }
@@ -106,7 +101,7 @@ fn put_all(attributes: &[Attr], size: usize, octets: &mut [u8]) -> usize
     place
 }
 
-/// Puts an attribute that has this size over octets.
+/// Writes an attribute if it has this size.
 #[inline(always)]
 fn put_next(attr: &Attr, size: usize, place: usize, octets: &mut [u8]) -> bool
     requires { place + size ≤ length octets.old }
@@ -128,7 +123,6 @@ fn put_next(attr: &Attr, size: usize, place: usize, octets: &mut [u8]) -> bool
     true
 }
 
-/// Puts octets over others from a place on.
 #[inline(always)]
 fn write(octets: &mut [u8], place: usize, more: &[u8])
     requires { place + length more.now ≤ length octets.old }
@@ -139,7 +133,6 @@ fn write(octets: &mut [u8], place: usize, more: &[u8])
     octets[place..place + more.len()].copy_from_slice(more);
 }
 
-/// Puts a handle and octets over others from a place on.
 #[inline(always)]
 fn write_pair(octets: &mut [u8], place: usize, handle: u16, more: &[u8])
     requires { place + 2 + length more.now ≤ length octets.old }
@@ -150,7 +143,6 @@ fn write_pair(octets: &mut [u8], place: usize, handle: u16, more: &[u8])
     write_both(octets, place, &handle.to_le_bytes(), more);
 }
 
-/// Puts octets of two places, one behind the other, over others from a place on.
 #[inline(always)]
 fn write_both(octets: &mut [u8], place: usize, first: &[u8], second: &[u8])
     requires { place + length first.now + length second.now ≤ length octets.old }
@@ -162,8 +154,7 @@ fn write_both(octets: &mut [u8], place: usize, first: &[u8], second: &[u8])
     octets[middle..middle + second.len()].copy_from_slice(second);
 }
 
-/// Answers a Find By Type Value Request of the attributes at these handles, of which all have the
-/// type that is asked for.
+/// Responds to a Find By Type Value Request. `handles` have the requested type.
 pub fn by_type_value(
     reader: Reader<'_>,
     handles: &[u16],
@@ -186,8 +177,7 @@ pub fn by_type_value(
     }
 }
 
-/// Answers that no attribute has the value. It is not inlined, so that the loop before it has few values
-/// to keep.
+/// Reports Attribute Not Found, out of line: saves registers in the loop.
 #[inline(never)]
 fn find_none(start: u16, out: &mut PduBuf<'_>)
     ensures error { contents out.new
@@ -201,8 +191,7 @@ fn find_none(start: u16, out: &mut PduBuf<'_>)
     );
 }
 
-/// Appends the groups of these attributes that have the value, as many as fit, and tells whether
-/// there are any.
+/// Appends the groups that match, if they fit; returns true if any matches.
 fn append_matches(reader: Reader<'_>, handles: &[u16], value: &[u8], out: &mut PduBuf<'_>) -> bool
     ensures any { result
         ≡ list_any (is_match reader.entry.table.now reader.entry.row.now reader.entry.standing.now
@@ -225,8 +214,6 @@ fn append_matches(reader: Reader<'_>, handles: &[u16], value: &[u8], out: &mut P
     found
 }
 
-/// Appends the group that the attribute at a handle begins, where it fits. It stands apart for its
-/// proof.
 fn append_group(table: &Table, handle: u16, out: &mut PduBuf<'_>) -> bool
     requires { IsSome (attribute_at table.now.attributes handle) }
     ensures { AppendsWhereFits out.old out.new (element_octets (group_of table.now handle)) result }
@@ -234,7 +221,7 @@ fn append_group(table: &Table, handle: u16, out: &mut PduBuf<'_>) -> bool
     out.numbers(handle, table.group_end(handle))
 }
 
-/// Whether the client may read the attribute at a handle, and its whole value is this one.
+/// Returns true if the client may read the attribute and its whole value is `value`.
 fn is_match(reader: Reader<'_>, handle: u16, value: &[u8]) -> bool
     ensures is { result ≡ is_match reader.entry.table.now reader.entry.row.now
         reader.entry.standing.now value.now handle }

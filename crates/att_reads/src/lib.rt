@@ -1,5 +1,4 @@
-//! The answers to the requests of the Attribute Protocol that read: Core 5.0, Vol 3 Part F, 3.4.3
-//! and 3.4.4.
+//! Responses to find and read requests (Core 5.0, Vol 3 Part F, 3.4.3 and 3.4.4).
 #![tactic(auto)]
 
 mod answer;

@@ -1,5 +1,5 @@
-//! Answers that list the values of one type, all of one length: Core 5.0, Vol 3 Part F, 3.4.4.1,
-//! 3.4.4.2, 3.4.4.9 and 3.4.4.10.
+//! Responses that list values of one type and length (Core 5.0, Vol 3 Part F, 3.4.4.1, 3.4.4.2,
+//! 3.4.4.9 and 3.4.4.10).
 
 ghost use Rattle.std.specs.Prelude.{◌≡◌, ◌+◌, ◌*◌, ◌/◌, ◌≤◌, ◌<◌, ◌∷◌, ◌++◌, min, map, length, take, IsSome};
 ghost use Rattle.att_pdu.specs.PduBuf.{contents, mtu_of, IsSameBuffer};
@@ -14,21 +14,20 @@ use att_numbers::{error_code, opcode};
 use att_pdu::PduBuf;
 use att_table::Table;
 
-/// The most octets of an attribute in a list, with its handles: their number is told by one octet.
-/// Core 5.0, Vol 3 Part F, 3.4.4.2 and 3.4.4.10.
+/// The largest element of a list, because one octet has its length (Core 5.0, Vol 3 Part F, 3.4.4.2
+/// and 3.4.4.10).
 pub const MAX_ELEMENT: u16 = 255;
 
-/// What is listed.
+/// The content of a list.
 #[derive(Clone, Copy)]
 pub enum Listing {
-    /// The attributes of a type, each by its handle and its value.
+    /// Attributes, as handle and value.
     Values,
-    /// The groups of a type, each by its first and its last handle and its value.
+    /// Groups, as first handle, last handle and value.
     Groups,
 }
 
 impl Listing {
-    /// The opcode of the request.
     fn request(self) -> u8
         ensures { result ≡ listing_request self }
     {
@@ -38,7 +37,7 @@ impl Listing {
         }
     }
 
-    /// How many octets stand before each value.
+    /// Returns the octets before each value.
     fn head(self) -> u16
         ensures { result ≡ head_of self }
     {
@@ -48,8 +47,7 @@ impl Listing {
         }
     }
 
-    /// How many octets of a value are listed at an ATT_MTU: what fits beside its handles, in the
-    /// answer and in `MAX_ELEMENT`.
+    /// Returns how many octets of a value are listed at an ATT_MTU.
     #[inline(always)]
     fn cut(self, mtu: u16) -> usize
         requires { MIN_MTU ≤ mtu }
@@ -58,7 +56,7 @@ impl Listing {
         usize::from(mtu.min(2 + MAX_ELEMENT)) - usize::from(2 + self.head())
     }
 
-    /// Puts an attribute with the front of its value over the content from `place` on.
+    /// Overwrites the PDU from `place` on with an element.
     #[inline(always)]
     fn put(self, table: &Table, handle: u16, front: &[u8], place: usize, out: &mut PduBuf<'_>)
         requires exists { IsSome (attribute_at table.now.attributes handle) }
@@ -80,7 +78,7 @@ impl Listing {
     }
 }
 
-/// How many of `count` elements of `size` octets fit into `room` octets.
+/// Returns how many of `count` elements fit into `room` octets.
 pub(crate) fn fitting(count: usize, size: u16, room: u16) -> usize
     requires { 0 < size }
     ensures count { result ≡ min count (room / size) }
@@ -89,8 +87,7 @@ pub(crate) fn fitting(count: usize, size: u16, room: u16) -> usize
     count.min(usize::from(room / size))
 }
 
-/// Answers with the list of the attributes at these handles, of which all have the type that is
-/// asked for.
+/// Lists the attributes at `handles`, which have the requested type.
 #[inline(always)]
 pub fn answer(
     listing: Listing,
@@ -122,7 +119,6 @@ pub fn answer(
     }
 }
 
-/// The front of a value, of at most this many octets.
 #[inline(always)]
 fn front(value: &[u8], most: usize) -> &[u8]
     ensures { result.now ≡ take most value.now }
@@ -130,7 +126,7 @@ fn front(value: &[u8], most: usize) -> &[u8]
     &value[..value.len().min(most)]
 }
 
-/// Begins an answer by its opcode, the octets of each attribute, and the first one.
+/// Writes the opcode, the element size and the first element.
 #[inline(always)]
 fn begin(listing: Listing, table: &Table, handle: u16, front: &[u8], out: &mut PduBuf<'_>)
     requires exists { IsSome (attribute_at table.now.attributes handle) }
@@ -164,9 +160,9 @@ fn begin(listing: Listing, table: &Table, handle: u16, front: &[u8], out: &mut P
     }
 }
 
-/// Puts the attributes at these handles, for which there is just room, behind the first one, each
-/// with at most `cut` octets of its value, up to the first that is refused or has another size, where
-/// the list ends.
+/// Writes the other elements.
+///
+/// Ends the PDU before the first that is not permitted or has another size.
 #[inline(always)]
 fn put_all(
     listing: Listing,
@@ -195,7 +191,7 @@ fn put_all(
     }
 }
 
-/// Puts an attribute that is not refused and has this size.
+/// Writes an element if it is permitted and has this size.
 #[inline(always)]
 fn put_next(
     listing: Listing,

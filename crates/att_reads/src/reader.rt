@@ -7,18 +7,17 @@ use att_attributes::Attr;
 use att_policy::{Access, Standing, first_broken, first_broken_in_place, is_open};
 use att_table::{ConfigRow, Role, Table};
 
-/// A client that reads: the table, what the client has configured, and what the policy sees of it.
+/// A client that reads.
 #[derive(Clone, Copy)]
 pub struct Reader<'a> {
-    /// The attributes and their values.
     pub table: &'a Table,
     /// The client's own configurations.
     pub row: &'a ConfigRow,
-    /// What the policy sees of the client.
+    /// The client's security state.
     pub standing: &'a Standing,
 }
 
-/// The value of a client characteristic configuration with these bits.
+/// Returns the value of a CCCD.
 fn configuration(bits: u8) -> &'static [u8]
     requires { bits ≤ 3 }
     ensures { result.now ≡ bits ∷ 0 ∷ [] }
@@ -32,8 +31,7 @@ fn configuration(bits: u8) -> &'static [u8]
 }
 
 impl<'a> Reader<'a> {
-    /// The value of the attribute at a handle, or the error code of the first rule of the policy
-    /// that reading it breaks.
+    /// Returns the value at a handle, or the error code of the first broken rule.
     #[inline(always)]
     pub fn read(self, handle: u16) -> Result<&'a [u8], u8>
         ensures permitted { IfOk result
@@ -55,7 +53,7 @@ impl<'a> Reader<'a> {
         Ok(self.value_of(attr, handle))
     }
 
-    /// The value of the attribute at a handle, where every client may read it.
+    /// Returns the value at a handle if every client may read it.
     #[inline(always)]
     pub fn read_open(self, handle: u16) -> Option<&'a [u8]>
         ensures permitted { IfSome result
@@ -71,8 +69,7 @@ impl<'a> Reader<'a> {
         Some(self.value_of(Some(attr), handle))
     }
 
-    /// The value of the attribute at a handle, or the error code of the first rule of the policy
-    /// that reading it breaks, for a request of one value: all rules are judged in place.
+    /// Does the same as `read`, inlined: faster for a request of one value.
     #[inline(always)]
     pub fn read_one(self, handle: u16) -> Result<&'a [u8], u8>
         ensures permitted { IfOk result
@@ -94,8 +91,7 @@ impl<'a> Reader<'a> {
         Ok(self.value_of(attr, handle))
     }
 
-    /// The value of the attribute at a handle: that of a client characteristic configuration is the
-    /// client's own.
+    /// Returns the value; a CCCD's is the client's own.
     #[inline(always)]
     fn value_of(self, attr: Option<&Attr>, handle: u16) -> &'a [u8]
         requires attribute { option_copied attr

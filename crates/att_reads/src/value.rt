@@ -1,5 +1,4 @@
-//! The values of attributes that are asked for by their handles: Core 5.0, Vol 3 Part F, 3.4.4.3
-//! to 3.4.4.8.
+//! Requests for values by handle (Core 5.0, Vol 3 Part F, 3.4.4.3 to 3.4.4.8).
 
 ghost use Rattle.std.specs.Prelude.{◌≡◌, ◌-◌, [], ◌∷◌, map, take, drop};
 ghost use Rattle.std.specs.Int.{w16, from_le_bytes};
@@ -15,7 +14,7 @@ use att_pdu::PduBuf;
 use att_policy::Standing;
 use att_table::{ConfigRow, Table};
 
-/// Answers a Read Request.
+/// Responds to a Read Request.
 #[inline(always)]
 #[tactic(auto, unfolding(crate::specs::Answer::value_answer))]
 pub fn read(reader: Reader<'_>, handle: u16, out: &mut PduBuf<'_>)
@@ -30,8 +29,7 @@ pub fn read(reader: Reader<'_>, handle: u16, out: &mut PduBuf<'_>)
     }
 }
 
-/// Answers a Read Request of a value that not every client may read. It is not inlined, so that few
-/// registers are saved where every client may.
+/// Responds if not every client may read the value; out of line, to save registers.
 #[inline(never)]
 #[tactic(auto, unfolding(crate::specs::Answer::value_answer))]
 fn read_guarded(
@@ -56,7 +54,7 @@ fn read_guarded(
     }
 }
 
-/// Answers a Read Blob Request.
+/// Responds to a Read Blob Request.
 #[inline(always)]
 #[tactic(auto, unfolding(crate::specs::Answer::part_answer))]
 pub fn read_blob(reader: Reader<'_>, handle: u16, offset: u16, out: &mut PduBuf<'_>)
@@ -80,7 +78,6 @@ pub fn read_blob(reader: Reader<'_>, handle: u16, offset: u16, out: &mut PduBuf<
     }
 }
 
-/// Answers a Read Blob Request of a value that not every client may read.
 #[inline(never)]
 #[tactic(auto, unfolding(crate::specs::Answer::part_answer))]
 fn read_blob_guarded(
@@ -106,7 +103,7 @@ fn read_blob_guarded(
     }
 }
 
-/// Answers with the part of a value from an offset on.
+/// Responds with the value from `offset` on.
 #[inline(always)]
 fn part(value: &[u8], handle: u16, offset: u16, out: &mut PduBuf<'_>)
     ensures answer { contents out.new
@@ -124,8 +121,9 @@ fn part(value: &[u8], handle: u16, offset: u16, out: &mut PduBuf<'_>)
     }
 }
 
-/// Answers a Read Multiple Request, whose handles have the lower octet first. All of them are
-/// judged, those too whose values do not fit any more.
+/// Responds to a Read Multiple Request with little-endian handles.
+///
+/// Checks all of them, even those whose values no longer fit.
 pub fn read_multiple(reader: Reader<'_>, handles: &[[u8; 2]], out: &mut PduBuf<'_>)
     ensures answer { contents out.new ≡ sent
         (multiple_answer reader.entry.table.now reader.entry.row.now reader.entry.standing.now
@@ -146,7 +144,7 @@ pub fn read_multiple(reader: Reader<'_>, handles: &[[u8; 2]], out: &mut PduBuf<'
     }
 }
 
-/// Refuses a Read Multiple Request. It is not inlined, so that its loop has few values to keep.
+/// Rejects the request, out of line: saves registers in the loop.
 #[inline(never)]
 fn refuse_multiple(handle: u16, code: u8, out: &mut PduBuf<'_>)
     ensures refused { contents out.new

@@ -5,8 +5,8 @@ use Rattle.hex.specs.Hex.{decode_of}
 use Rattle.hex.specs.declared.error.FromHexError.{FromHexError}
 use Rattle.toml.specs.Data.{Data, Items, no_items, item, Members, as_str, as_integer, as_table}
 use Rattle.toml.specs.Parse.{parse_document}
-use Rattle.toml_tables.specs.Reading.{◌>>=◌, unless, require, each, text_at, integer_at, flag_at, array_at, items_at, table_at}
-use Rattle.toml_tables.specs.Shape.{is_shaped}
+use Rattle.toml_schema.specs.Reading.{◌>>=◌, unless, require, each, text_at, integer_at, flag_at, array_at, items_at, table_at}
+use Rattle.toml_schema.specs.Shape.{is_shaped}
 use Rattle.att_numbers.specs.AttributeType.{type_octets}
 use Rattle.att_numbers.specs.declared.attribute_type.TheConstants.{INCLUDE, CHARACTERISTIC}
 use Rattle.att_policy.specs.declared.guard.Need.{Need}

@@ -7,7 +7,8 @@ use Rattle.std.specs.Str.{bytes_eq}
 use Rattle.std.proofs.Math.Seq.{drop-cons}
 use Rattle.std.proofs.lemmas.Bool.Decides.{nat_tests}
 use Rattle.std.proofs.lemmas.List.{reverse-append, take_more}
-use Rattle.octets.specs.Number.{Octets}
+use Rattle.octet_io.proofs.Choices.{and_true_left}
+use Rattle.octet_io.specs.Number.{Octets}
 use Rattle.att_numbers.specs.AttributeType.{type_octets}
 use Rattle.att_numbers.specs.Types.{Handle, AttributeType}
 use Rattle.att_values.specs.Cell.{Cell, IsUsed}
@@ -36,10 +37,6 @@ place_used attributes cells k d kept below =
     let place = at-place attributes 1 k d kept.numbered.handles below in
     let count = kept-length attributes cells kept in
     (omega (arith, place.0), omega (arith, place.0))
-
-pub both : (one two : Bool) → one && two ≡ true → one ≡ true
-both true two is = refl
-both false two is = cc is
 
 -- What is left of the attributes begins with the one at the place.
 pub left_at : (attributes : List Attr) (k : ℕ) (d : Attr) → k < length attributes → drop k attributes ≡ get_or attributes k d ∷ drop (k + 1) attributes
@@ -88,7 +85,7 @@ value_at_handle attributes k d characteristic handles below is =
     let place = at-place attributes 1 k d handles below in
     let before : k ≡ attr.handle - 1 = omega (arith, place.0) in
     let there = attribute-there attributes attr.handle attr (omega (arith, place.0)) (sym (ap (slice_get attributes) before) ∙ place.1) in
-    ap (λ (at : Option Attr). option_map_or (λ (a : Attr). is_value a.role) at false) there ∙ both (is_value attr.role) (attr.kind == characteristic) is
+    ap (λ (at : Option Attr). option_map_or (λ (a : Attr). is_value a.role) at false) there ∙ and_true_left (is_value attr.role) (attr.kind == characteristic) is
 
 counted : (place : ℕ) (attributes : List Attr) → handle_numbered (suc place) attributes ≡ option_map (λ (attr : Attr). attr.handle) (slice_get attributes place)
 counted place attributes =

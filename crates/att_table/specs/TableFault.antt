@@ -1,4 +1,4 @@
--- The numbers of the faults of a table file: this profile's own.
+-- The numbers of the faults of a table file (this profile's own).
 use Rattle.std.specs.Prelude.{ℕ}
 use Rattle.att_table.specs.declared.table_fault.TableFault.{TableFault}
 use Rattle.att_table.specs.declared.table_fault.TableFault.TheVariants.{NotToml, Missing, BadUuid, BadHex, TooLong, BadSecurity, BadProperty, TooMany, BadInclude, OutOfMemory, Shape}

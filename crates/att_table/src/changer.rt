@@ -1,10 +1,9 @@
-//! The changer of a table, by which clients are told that the table was replaced: the value of the
-//! Service Changed characteristic, Core 5.0, Vol 3 Part G, 7.1.
+//! The Service Changed value of a table (Core 5.0, Vol 3 Part G, 7.1).
 
 ghost use Rattle.std.specs.Prelude.{◌≡◌, ◌==◌, ◌&&◌};
 ghost use Rattle.std.specs.Option.{option_copied};
 ghost use Rattle.std.specs.Str.{bytes_eq};
-ghost use Rattle.octets.specs.Number.{two_octets};
+ghost use Rattle.octet_io.specs.Number.{two_octets};
 ghost use Rattle.att_numbers.specs.declared.attribute_type.TheConstants.{GENERIC_ATTRIBUTE_SERVICE, PRIMARY_SERVICE};
 ghost use Rattle.att_values.specs.Cell.{IsUsed};
 ghost use Rattle.att_table.specs.Changer.{last_service, is_changer, changer_of};
@@ -16,10 +15,10 @@ use att_policy::Properties;
 use att_values::FlatStore;
 use bitflags::Flags;
 
-/// The octets of its value: the first and the last handle that are affected.
+/// The value's length: the first and the last affected handle.
 const CHANGER_LEN: u16 = 4;
 
-/// The handle of the first changer among the attributes of a table.
+/// Returns the handle of the first Service Changed value.
 pub fn changer_of(attributes: &[Attr], values: &FlatStore) -> Option<u16>
     requires { IsKept attributes.now values.now }
     ensures { result
@@ -33,7 +32,7 @@ pub fn changer_of(attributes: &[Attr], values: &FlatStore) -> Option<u16>
     None
 }
 
-/// Whether an attribute of a table is a changer.
+/// Returns true if the attribute is an indicated, fixed Service Changed value.
 fn is_changer(attr: &Attr, attributes: &[Attr], values: &FlatStore) -> bool
     requires { IsKept attributes.now values.now }
     ensures { result
@@ -55,7 +54,6 @@ fn is_changer(attr: &Attr, attributes: &[Attr], values: &FlatStore) -> bool
     }
 }
 
-/// Whether an attribute declares the Generic Attribute Profile as a primary service.
 fn declares_generic_attribute(attr: &Attr, values: &FlatStore) -> bool
     requires { IsUsed values.now attr.now.handle }
     ensures { result ≡ ((attr.now.kind == PRIMARY_SERVICE)
@@ -66,7 +64,6 @@ fn declares_generic_attribute(attr: &Attr, values: &FlatStore) -> bool
     attr.kind == PRIMARY_SERVICE && values.value_at(attr.handle) == uuid.as_slice()
 }
 
-/// The last of some attributes that begins a service.
 fn last_service(attributes: &[Attr]) -> Option<&Attr>
     ensures { option_copied result ≡ last_service attributes.now }
 {

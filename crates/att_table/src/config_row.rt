@@ -9,8 +9,7 @@ use att_attributes::Role;
 use att_numbers::limit::MAX_CONFIGURATIONS;
 use std::marker::Model;
 
-/// What one client has written to the client characteristic configurations of a table, by
-/// handle. (Core 5.0, Vol 3 Part G, 3.3.3.3)
+/// The configurations that one client has written, by handle (Core 5.0, Vol 3 Part G, 3.3.3.3).
 #[derive(Drop)]
 pub struct ConfigRow {
     entries: RowEntries,
@@ -30,7 +29,7 @@ impl Model for ConfigRow {
 }
 
 impl ConfigRow {
-    /// A row with no entry.
+    /// Creates an empty row.
     pub fn new() -> Self
         ensures { result ≡ [] }
     {
@@ -39,7 +38,7 @@ impl ConfigRow {
         }
     }
 
-    /// The bits at a handle: 0 where the row has no entry.
+    /// Returns the bits at a handle, 0 without an entry.
     #[inline(always)]
     #[tactic(auto, using(crate::proofs::Rows::bits_at_le))]
     pub fn get(&self, handle: u16) -> u8
@@ -49,7 +48,7 @@ impl ConfigRow {
         self.entries.bits_at(handle)
     }
 
-    /// How many entries there are.
+    /// Returns the number of entries.
     #[inline(always)]
     pub fn len(&self) -> usize
         ensures value { result ≡ length self.now }
@@ -58,7 +57,7 @@ impl ConfigRow {
         self.entries.len()
     }
 
-    /// Whether there is no entry.
+    /// Returns true if the row has no entry.
     #[inline(always)]
     pub fn is_empty(&self) -> bool
         ensures { result ≡ (length self.now == 0) }
@@ -66,8 +65,9 @@ impl ConfigRow {
         self.entries.len() == 0
     }
 
-    /// The entry at a place, a handle and its bits. Entries stand in the order in which their handles
-    /// were set first.
+    /// Returns the handle and bits of an entry.
+    ///
+    /// Entries are in the order in which their handles were first set.
     #[tactic(auto, using(crate::proofs::Rows::is_entry_at))]
     pub fn entry(&self, place: usize) -> (u16, u8)
         requires { place < length self.now }
@@ -77,15 +77,16 @@ impl ConfigRow {
         self.entries.get(place)
     }
 
-    /// Whether the bits at a handle can be set: its entry is there, or there is room for it.
+    /// Returns true if the handle has an entry or the row has space for one.
     pub fn can_set(&self, handle: u16) -> bool
         ensures { result ≡ has_room self.now handle }
     {
         self.entries.contains(handle) || self.entries.len() < MAX_CONFIGURATIONS
     }
 
-    /// Sets the bits at a handle. The row has an entry there, or room for one: it has for each
-    /// configuration of a table if all its handles are those of configurations of that table.
+    /// Sets the bits at a handle.
+    ///
+    /// A row whose handles are all configurations of one table has space for each of that table.
     #[inline(never)]
     #[tactic(auto, using(crate::proofs::Rows::writes, crate::proofs::Configurations::row_of))]
     pub fn set(&mut self, handle: u16, bits: u8)
@@ -102,9 +103,10 @@ impl ConfigRow {
         write(&mut self.entries, handle, bits);
     }
 
-    /// Takes in that a table was replaced: an entry stays where both tables have a configuration of a
-    /// value of the same type at its handle, and the new one may have its bits. The others are
-    /// dropped.
+    /// Adapts the row to a replaced table.
+    ///
+    /// Keeps an entry only if both tables have a configuration at its handle, for values of one
+    /// type, and the new one supports its bits.
     pub fn keep(&mut self, old: &Table, new: &Table)
         ensures kept { self.new ≡ kept_row old.now.attributes new.now.attributes self.old }
         ensures bits { (handle : ℕ) → bits_at self.new handle
@@ -115,7 +117,6 @@ impl ConfigRow {
     }
 }
 
-/// Drops the entries that do not stay when a table is replaced. It stands apart for its proof.
 fn retain_kept(entries: &mut RowEntries, old: &Table, new: &Table)
     ensures { entries.new ≡ kept_row old.now.attributes new.now.attributes entries.old }
 {
@@ -127,7 +128,6 @@ fn retain_kept(entries: &mut RowEntries, old: &Table, new: &Table)
     *entries = kept;
 }
 
-/// Appends an entry if it stays.
 fn keep_entry(kept: &mut RowEntries, old: &Table, new: &Table, handle: u16, bits: u8)
     requires { length kept.old < MAX_CONFIGURATIONS }
     ensures kept { kept.new ≡ (if is_supported new.now.attributes (handle, bits)
@@ -140,14 +140,12 @@ fn keep_entry(kept: &mut RowEntries, old: &Table, new: &Table, handle: u16, bits
     }
 }
 
-/// Whether a configuration is one of a value of the same type in both tables.
 fn has_its_meaning(old: &Table, new: &Table, handle: u16) -> bool
     ensures { result ≡ has_its_meaning old.now.attributes new.now.attributes handle }
 {
     is_configuration(old, handle) && configured_type(old, handle) == configured_type(new, handle)
 }
 
-/// Whether the attribute at a handle is a configuration.
 fn is_configuration(table: &Table, handle: u16) -> bool
     ensures { result ≡ is_configuration_at table.now.attributes handle }
 {
@@ -157,7 +155,6 @@ fn is_configuration(table: &Table, handle: u16) -> bool
     }
 }
 
-/// The type of the value that the configuration at a handle is of.
 fn configured_type(table: &Table, handle: u16) -> u128
     ensures { result ≡ type_at table.now.attributes (handle - 1) }
 {
@@ -167,7 +164,6 @@ fn configured_type(table: &Table, handle: u16) -> u128
     }
 }
 
-/// Writes the bits over those at a handle, or appends an entry where there is none.
 #[tactic(auto, using(crate::proofs::Rows::append_missing))]
 fn write(entries: &mut RowEntries, handle: u16, bits: u8)
     requires { IsTrue (has_room entries.old handle) }

@@ -1,6 +1,6 @@
-//! Table files to begin with, the same as in `examples/`.
+//! Example table files, the same as in `examples/`.
 
-/// A door lock: `examples/door.toml`.
+/// A door lock, `examples/door.toml`.
 pub const DOOR: &str = r#"# The table of an example door lock.
 [[service]]
 uuid = "1800"
@@ -54,7 +54,7 @@ max = 512
 properties = ["read", "write", "command"]
 "#;
 
-/// A bell: `examples/bell.toml`.
+/// A bell, `examples/bell.toml`.
 pub const BELL: &str = r#"# The table of an example door bell.
 [[service]]
 uuid = "fff8"
@@ -73,7 +73,7 @@ secondary = true
 include = [0]
 "#;
 
-/// A letter box: `examples/post.toml`.
+/// A letter box, `examples/post.toml`.
 pub const POST: &str =
     r#"# The table of an example letter box: its count is for authorized connections alone.
 [[service]]
@@ -85,7 +85,7 @@ properties = ["read", "notify", "indicate"]
 read = { authorized = true }
 "#;
 
-/// A porch light: `examples/porch.toml`.
+/// A porch light, `examples/porch.toml`.
 pub const PORCH: &str =
     r#"# The table of an example porch light, which may be replaced while phones are connected.
 [[service]]
@@ -110,7 +110,7 @@ max = 16
 properties = ["read", "write"]
 "#;
 
-/// The table that replaces it: `examples/porch_next.toml`.
+/// A replacement for the porch light's table, `examples/porch_next.toml`.
 pub const PORCH_NEXT: &str = r#"# The table that replaces that of the porch light.
 [[service]]
 uuid = "1801"

@@ -1,11 +1,11 @@
-//! The table file: TOML that describes services, their characteristics and descriptors.
+//! The table file: services, characteristics and descriptors in TOML.
 
 ghost use Rattle.std.specs.Prelude.{◌≡◌, IsErrOf};
-ghost use Rattle.octets.specs.Memory.{Gives};
+ghost use Rattle.octet_io.specs.Memory.{Gives};
 ghost use Rattle.toml.specs.Parse.{parse_document};
 ghost use Rattle.toml.specs.View.{table_view};
 ghost use Rattle.att_table.specs.declared.table_fault.TableFault.TheVariants.{OutOfMemory};
-ghost use Rattle.att_table.specs.file.TableFile.{table_of, table_read};
+ghost use Rattle.att_table.specs.file.TableFile.{table_in, table_of, table_read};
 
 mod characteristic;
 mod descriptor;
@@ -24,10 +24,12 @@ use crate::file::service::Service;
 use crate::table::Table;
 use crate::table_fault::{TableFault, TableKey};
 use std::alloc::Global;
+use std::str;
 
 impl Table {
-    /// Reads a table file, and gives the table that it describes or its first fault. Memory may be
-    /// refused at any point.
+    /// Reads a table file, or returns its first fault.
+    ///
+    /// `OutOfMemory` may occur at any point.
     #[tactic(auto, using(crate::proofs::Faults::not_toml))]
     pub fn read(alloc: Global, text: &str) -> Result<Table, TableFault>
         ensures table { Gives OutOfMemory (table_read text.now) result }
@@ -39,16 +41,28 @@ impl Table {
             Err(_) => Err(TableFault::NotToml),
         }
     }
+
+    /// Reads the bytes of a table file, or returns its first fault (`NotToml` if not UTF-8).
+    ///
+    /// `OutOfMemory` may occur at any point.
+    #[tactic(auto, using(octet_io::proofs::Texts::of_text, octet_io::proofs::Texts::of_no_text), unfolding(crate::specs::file::TableFile::table_in))]
+    pub fn from_bytes(alloc: Global, bytes: &[u8]) -> Result<Table, TableFault>
+        ensures table { Gives OutOfMemory (table_in bytes.now) result }
+    {
+        match str::from_utf8(bytes) {
+            Ok(text) => Table::read(alloc, text),
+            Err(_) => Err(TableFault::NotToml),
+        }
+    }
 }
 
-/// The table of a document.
 fn read_document(alloc: Global, document: &toml::Table) -> Result<Table, TableFault>
     ensures { Gives OutOfMemory (table_of (table_view document.now)) result }
 {
-    if !toml_tables::is_shaped(document, &keys::ROOT) {
+    if !toml_schema::is_shaped(document, &keys::ROOT) {
         return Err(TableFault::Shape);
     }
-    let services = toml_tables::array(document, "service").ok_or(TableFault::Missing(
+    let services = toml_schema::array(document, "service").ok_or(TableFault::Missing(
         TableKey::Service,
     ))?;
     let mut draft = Draft::new(alloc);

@@ -1,5 +1,5 @@
-//! The search for a value by the types of its service and of its characteristic: Core 5.0, Vol 3
-//! Part G, 4.4.2 and 4.6.2.
+//! The search for a value by service and characteristic type (Core 5.0, Vol 3 Part G, 4.4.2 and
+//! 4.6.2).
 
 ghost use Rattle.std.specs.Prelude.{◌≡◌, ◌&&◌, true, if◌then◌else◌, IfSome};
 ghost use Rattle.std.specs.Str.{bytes_eq};
@@ -12,8 +12,9 @@ ghost use Rattle.att_table.specs.Table.{value_at, values_of, IsKept};
 use att_attributes::{Attr, Role, is_service, type_octets};
 use att_values::FlatStore;
 
-/// Returns the handle of a characteristic value: of those with this type in services with this type,
-/// in the order of their handles, the one with this number, from 1.
+/// Returns the handle of the characteristic value with this number, from 1.
+///
+/// Counts, in handle order, the values with this type in services with this type.
 #[tactic(auto, using(crate::proofs::Found::place_used))]
 pub fn find_value(
     attributes: &[Attr],
@@ -44,14 +45,13 @@ pub fn find_value(
     None
 }
 
-/// Returns whether an attribute is the value of a characteristic of a type, in a service of a type.
 fn is_wanted(is_inside: bool, attr: &Attr, characteristic: u128) -> bool
     ensures { result ≡ (is_value_of_type characteristic attr.now && is_inside) }
 {
     attr.role == Role::Value && attr.kind == characteristic && is_inside
 }
 
-/// Returns whether the attribute after this one belongs to a service with the type of these octets.
+/// Returns true if the next attribute is in a service of type `uuid`.
 fn is_inside_after(is_inside: bool, attr: &Attr, values: &FlatStore, uuid: &[u8]) -> bool
     requires { IsUsed values.now attr.now.handle }
     ensures { result ≡ (if is_service_type attr.now.kind then

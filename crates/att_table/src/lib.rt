@@ -1,4 +1,4 @@
-//! The attribute table of a server: attributes by their handles, and their values in one vector.
+//! The attribute table of a server: attributes by handle, with their values.
 #![tactic(auto)]
 
 mod changer;

@@ -1,4 +1,4 @@
-//! The entries of a row, with their handles side by side, so that many are compared at once.
+//! The entries of a row, with adjacent handles for vector comparison.
 
 ghost use Rattle.std.specs.Prelude.{◌≡◌, ◌+◌, ◌<◌, ◌≤◌, ◌++◌, ◌==◌, [], ◌∷◌, length, take, drop, slice_get, slice_index, position, Some, None, IfSome, IsNone};
 ghost use Rattle.std.specs.Bool.{OnTrue, OnFalse};
@@ -10,14 +10,14 @@ use att_numbers::limit::MAX_CONFIGURATIONS;
 use std::marker::Model;
 use std::simd::prelude::*;
 
-/// How many handles are compared at once.
+/// The number of handles compared at once.
 const LANES: usize = 32;
 
-/// A handle and its bits for each entry of a row, in the order in which the handles were set first.
+/// The handle and bits of each entry, in the order in which the handles were first set.
 #[derive(Drop)]
 pub(crate) struct RowEntries {
     handles: [u16; MAX_CONFIGURATIONS],
-    /// None are set where there is no entry.
+    /// 0 past the last entry.
     bits: [u8; MAX_CONFIGURATIONS],
     len: usize,
 }
@@ -37,7 +37,6 @@ impl Model for RowEntries {
 }
 
 impl RowEntries {
-    /// No entry.
     pub(crate) fn new() -> Self
         ensures { result ≡ [] }
     {
@@ -48,7 +47,6 @@ impl RowEntries {
         }
     }
 
-    /// How many entries there are.
     #[inline(always)]
     pub(crate) fn len(&self) -> usize
         ensures value { result ≡ length self.now }
@@ -57,7 +55,6 @@ impl RowEntries {
         self.len
     }
 
-    /// The entry at a place.
     pub(crate) fn get(&self, place: usize) -> (u16, u8)
         requires { place < length self.now }
         ensures { slice_get self.now place ≡ Some result }
@@ -65,19 +62,18 @@ impl RowEntries {
         entry_at(&self.handles, &self.bits, place)
     }
 
-    /// The bits at a handle: 0 where there is no entry.
+    /// Returns the bits at a handle, 0 without an entry.
     #[inline(always)]
     pub(crate) fn bits_at(&self, handle: u16) -> u8
         ensures { result ≡ bits_at self.now handle }
     {
-        // No bits are set where there is no entry, so that it matters not what handle stands there.
+        // A match past the last entry is harmless: its bits are 0.
         match place_among(&self.handles, self.len, handle) {
             Some(place) => self.bits[place],
             None => 0,
         }
     }
 
-    /// Where the entry at a handle is.
     fn place_of(&self, handle: u16) -> Option<usize>
         ensures { result ≡ position (λ entry. entry.0 == handle) self.now }
     {
@@ -87,7 +83,6 @@ impl RowEntries {
         }
     }
 
-    /// Whether there is an entry at a handle.
     #[tactic(auto, using(crate::proofs::Rows::has_found, crate::proofs::Rows::has_missing))]
     pub(crate) fn contains(&self, handle: u16) -> bool
         ensures { result ≡ has_entry self.now handle }
@@ -95,7 +90,7 @@ impl RowEntries {
         self.place_of(handle).is_some()
     }
 
-    /// Writes the bits over those at a handle, or answers `false` where there is no entry.
+    /// Overwrites the bits at a handle; false if there is no entry.
     #[tactic(auto, using(crate::proofs::Rows::has_found, crate::proofs::Rows::has_missing))]
     pub(crate) fn overwrite(&mut self, handle: u16, bits: u8) -> bool
         ensures found { result ≡ has_entry self.old handle }
@@ -111,7 +106,6 @@ impl RowEntries {
         }
     }
 
-    /// Appends an entry. There must be room.
     pub(crate) fn push(&mut self, handle: u16, bits: u8)
         requires { length self.old < MAX_CONFIGURATIONS }
         ensures { self.new ≡ self.old ++ (handle, bits) ∷ [] }
@@ -122,7 +116,6 @@ impl RowEntries {
     }
 }
 
-/// A handle and the bits at it. It stands apart for its proof.
 #[inline(always)]
 fn entry_at(
     handles: &[u16; MAX_CONFIGURATIONS],
@@ -135,8 +128,9 @@ fn entry_at(
     (handles[place], bits[place])
 }
 
-/// Where a handle is first among others, of which those from `len` on need not be looked at. Most rows
-/// have one entry or two, so that these are compared one by one.
+/// Returns the first place of a handle; may ignore places from `len`.
+///
+/// Most rows have one or two entries, so those are compared singly.
 #[inline(always)]
 fn place_among(handles: &[u16; MAX_CONFIGURATIONS], len: usize, handle: u16) -> Option<usize>
     requires { len ≤ MAX_CONFIGURATIONS }
@@ -158,8 +152,7 @@ fn place_among(handles: &[u16; MAX_CONFIGURATIONS], len: usize, handle: u16) -> 
     }
 }
 
-/// Where a handle is first among others, compared `LANES` at once, of which those from `len` on need not
-/// be looked at.
+/// Does the same as `place_among`, comparing `LANES` handles at once.
 #[inline(always)]
 fn place_in_lanes(handles: &[u16; MAX_CONFIGURATIONS], len: usize, handle: u16) -> Option<usize>
     requires { len ≤ MAX_CONFIGURATIONS }
@@ -178,8 +171,7 @@ fn place_in_lanes(handles: &[u16; MAX_CONFIGURATIONS], len: usize, handle: u16) 
     None
 }
 
-/// How many of the handles that are compared at once come before this one: all of them where it is none
-/// of them.
+/// Returns the lane of a handle, `LANES` if none.
 #[inline(always)]
 fn lanes_before(handles: &[u16], at: usize, handle: u16) -> usize
     requires { at + LANES ≤ length handles.now }

@@ -17,7 +17,7 @@ use att_attributes::{Attr, Role, Run, Steps};
 use att_values::FlatStore;
 use std::marker::Model;
 
-/// The attributes that a server has, by handles from 1 without gaps, and their values.
+/// The attributes of a server, by handles from 1 without gaps, and their values.
 #[derive(Drop)]
 pub struct Table {
     attributes: Vec<Attr>,
@@ -38,8 +38,7 @@ impl Model for Table {
 }
 
 impl Table {
-    /// A table of these attributes, with their values, the ends of their groups, their handles by
-    /// type, and the runs of these.
+    /// Builds a table from its attributes, values and indexes.
     pub(crate) fn from_parts(
         attributes: Vec<Attr>,
         values: FlatStore,
@@ -65,7 +64,7 @@ impl Table {
         }
     }
 
-    /// How many attributes the table has. Whoever asks knows what holds of each table.
+    /// Returns the number of attributes. Its contract states the facts of every table.
     #[tactic(auto, using(crate::proofs::Facts::facts_of))]
     pub fn len(&self) -> usize
         ensures count { result ≡ length self.now.attributes }
@@ -74,21 +73,21 @@ impl Table {
         self.attributes.len()
     }
 
-    /// The attribute at a handle, if there is one.
+    /// Returns the attribute at a handle.
     #[tactic(auto, using(crate::proofs::Configurations::room_in_row))]
     pub fn get(&self, handle: u16) -> Option<&Attr>
         ensures attribute { option_copied result ≡ attribute_at self.now.attributes handle }
-        // It has a value, and a client's row has room for it if it is a configuration.
+        // It has a value, and if it is a configuration, each row has space for it.
         ensures value { IfSome result (λ attr. handle ≤ length self.now.values) }
         ensures used { IfSome result (λ attr. 0 < handle) }
         ensures most { IfSome result (λ attr. handle ≤ MAX_ATTRIBUTES) }
         ensures row { HasRowRoom self.now.attributes handle }
     {
-        // No attribute stands before the first: the place of handle 0 is behind the last.
+        // Handle 0 wraps to a place past the end.
         self.attributes.get(usize::from(handle).wrapping_sub(1))
     }
 
-    /// The attributes whose handles are from `first` to `last`.
+    /// Returns the attributes with handles from `first` to `last`.
     pub fn in_range(&self, first: u16, last: u16) -> &[Attr]
         ensures { result.now ≡ attributes_in self.now.attributes first last }
     {
@@ -98,8 +97,7 @@ impl Table {
             .unwrap_or(&[])
     }
 
-    /// The value of the attribute at a handle. That of a client characteristic configuration is
-    /// empty here.
+    /// Returns the value at a handle; empty for a CCCD.
     pub fn value(&self, handle: u16) -> &[u8]
         requires { IsSome (attribute_at self.now.attributes handle) }
         ensures { result.now ≡ value_at self.now.values handle }
@@ -107,8 +105,7 @@ impl Table {
         self.values.value_at(handle)
     }
 
-    /// The value of the attribute at a handle, if there is one. That of a client characteristic
-    /// configuration is empty here.
+    /// Returns the value at a handle, if there is one; empty for a CCCD.
     pub fn value_of(&self, handle: u16) -> Option<&[u8]>
         ensures { option_map (λ value. value.now) result ≡ value_where self.now handle }
     {
@@ -116,10 +113,10 @@ impl Table {
         Some(self.value(handle))
     }
 
-    /// Returns the handle of a characteristic value: of those with this type in services with this
-    /// type, primary or secondary, in the order of their handles, the one with this number, from 1.
-    /// Types are UUIDs as numbers; one of 16 bits is written out in full (Core 5.0, Vol 3 Part B,
-    /// 2.5.1).
+    /// Returns the handle of the characteristic value with this number, from 1.
+    ///
+    /// Counts, in handle order, the values with this type in all services, primary or secondary,
+    /// with this type. Types are 128-bit UUIDs (Core 5.0, Vol 3 Part B, 2.5.1).
     pub fn find(&self, service: u128, characteristic: u128, number: u16) -> Option<u16>
         ensures found { result ≡ value_found self.now service characteristic number }
         ensures value { IfSome result (λ handle. is_value_at self.now.attributes handle ≡ true) }
@@ -133,9 +130,10 @@ impl Table {
         )
     }
 
-    /// The last handle of the group that the attribute at a handle begins: of a service up to the
-    /// next service, of a characteristic up to the next characteristic or service, and both up to
-    /// the table's end. Where it begins none, its own handle.
+    /// Returns the last handle of the group that an attribute begins, else its own handle.
+    ///
+    /// A service ends before the next service, a characteristic before the next characteristic or
+    /// service, the last with the table.
     pub fn group_end(&self, handle: u16) -> u16
         requires { IsSome (attribute_at self.now.attributes handle) }
         ensures { result ≡ group_end_at self.now.attributes handle }
@@ -143,8 +141,9 @@ impl Table {
         self.group_ends[usize::from(handle) - 1]
     }
 
-    /// The handles of the attributes of a type, from `first` to `last`, ascending. It takes at most
-    /// 22 comparisons, which are counted in `steps`.
+    /// Returns the handles of a type from `first` to `last`, ascending.
+    ///
+    /// Needs at most 22 comparisons, which `steps` counts.
     pub fn of_type<S: Steps>(&self, kind: u128, first: u16, last: u16, steps: &mut S) -> &[u16]
         ensures handles { result.now ≡ handles_of_type self.now.attributes kind first last }
         ensures steps { S.count steps.new ≤ S.count steps.old + 22 }
@@ -160,8 +159,9 @@ impl Table {
         )
     }
 
-    /// How many octets the value of the attribute at a handle may have: a fixed value keeps its
-    /// length.
+    /// Returns the largest length that a write may give the value, in octets.
+    ///
+    /// A fixed value keeps its length.
     pub fn room(&self, handle: u16) -> usize
         requires { IsSome (attribute_at self.now.attributes handle) }
         ensures { result ≡ room_at self.now handle }
@@ -174,7 +174,6 @@ impl Table {
         }
     }
 
-    /// Whether the value of the attribute at a handle keeps its length.
     fn is_fixed(&self, handle: u16) -> bool
         requires { IsSome (attribute_at self.now.attributes handle) }
         ensures { result ≡ is_fixed_at self.now.attributes handle }
@@ -182,7 +181,7 @@ impl Table {
         self.attributes[usize::from(handle) - 1].fixed
     }
 
-    /// Replaces the value of the attribute at a handle, a fixed one by as many octets.
+    /// Replaces the value at a handle; a fixed value keeps its length.
     pub fn set(&mut self, handle: u16, octets: &[u8])
         requires exists { IsSome (attribute_at self.old.attributes handle) }
         requires fits { length octets.now ≤ room_at self.old handle }
@@ -194,8 +193,9 @@ impl Table {
         self.values.patch_at(handle, 0, octets, false);
     }
 
-    /// Writes a part of the value of the attribute at a handle, from an offset on. A variable value
-    /// ends with the part, and a fixed one keeps the octets after it.
+    /// Writes a part of the value at an offset.
+    ///
+    /// A variable value ends with the part; a fixed one keeps its other octets.
     pub fn patch(&mut self, handle: u16, offset: u16, part: &[u8])
         requires exists { IsSome (attribute_at self.old.attributes handle) }
         requires offset { offset ≤ length (value_at self.old.values handle) }
@@ -210,8 +210,7 @@ impl Table {
             .patch_at(handle, usize::from(offset), part, fixed);
     }
 
-    /// The bits that the client characteristic configuration at a handle may have. Its characteristic
-    /// value stands before it.
+    /// Returns the bits that the CCCD at a handle may have. The value is the attribute before it.
     pub fn configuration_bits(&self, handle: u16) -> u8
         ensures { result ≡ configuration_bits_at self.now.attributes handle }
     {
@@ -221,8 +220,9 @@ impl Table {
         }
     }
 
-    /// Whether the attribute at a handle is a client characteristic configuration that may have
-    /// these bits. A client's row of the table has room for it.
+    /// Returns true if the attribute is a CCCD that may have these bits.
+    ///
+    /// A client's row then has space for it.
     #[tactic(auto, using(crate::proofs::Configurations::room_in_row))]
     pub fn supports(&self, handle: u16, bits: u8) -> bool
         ensures supported { result ≡ is_supported self.now.attributes (handle, bits) }
@@ -236,9 +236,9 @@ impl Table {
         }
     }
 
-    /// The handle of the changer, by which clients are told that the table was replaced, if the table
-    /// has one. No write makes another one: whoever keeps the table asks once. (Core 5.0, Vol 3
-    /// Part G, 7.1)
+    /// Returns the handle of the Service Changed value, if any (Core 5.0, Vol 3 Part G, 7.1).
+    ///
+    /// Writes never change it, so callers may cache it.
     pub fn changer(&self) -> Option<u16>
         ensures changer { result ≡ changer_of self.now }
         ensures found { IfSome result (λ handle. IsOfAChanger self.now handle) }
@@ -247,7 +247,7 @@ impl Table {
         changer::changer_of(&self.attributes, &self.values)
     }
 
-    /// How many octets the table keeps for its values: the sum of their largest lengths.
+    /// Returns the sum of the values' largest lengths in octets.
     pub fn octets(&self) -> usize
         ensures sum { result ≡ sum_by (λ (attr : Attr). attr.largest) self.now.attributes }
         ensures most { result ≤ MAX_TABLE_OCTETS }

@@ -1,4 +1,4 @@
-//! A table that grows by one attribute at a time, until it is whole.
+//! A table under construction.
 
 ghost use Rattle.std.specs.Prelude.{◌≡◌, ◌+◌, ◌<◌, ◌≤◌, ◌∷◌, ◌++◌, [], length, IfOk, IsSome, OnOk, OnErr};
 ghost use Rattle.att_attributes.specs.Attributes.{attribute_at, configurations_of};
@@ -11,7 +11,7 @@ use att_values::FlatStore;
 use std::alloc::{AllocError, Global};
 use std::marker::Model;
 
-/// The attributes that a table is to have, by handles from 1 without gaps, and their values.
+/// The attributes of a future table, by handles from 1 without gaps, and their values.
 #[derive(Drop)]
 pub struct TableBuilder {
     attributes: Vec<Attr>,
@@ -28,7 +28,6 @@ impl Model for TableBuilder {
 }
 
 impl TableBuilder {
-    /// A builder with no attributes.
     pub fn new(alloc: Global) -> Self
         ensures attributes { result.attributes ≡ [] }
         ensures values { result.values ≡ [] }
@@ -39,8 +38,7 @@ impl TableBuilder {
         }
     }
 
-    /// Adds an attribute at the next handle, with its value, up to `MAX_ATTRIBUTES` of them. Where
-    /// memory is refused, the builder stays as it was.
+    /// Adds an attribute with its value at the next handle; on error nothing changes.
     pub fn push(&mut self, attr: Attr, value: &[u8]) -> Result<(), AllocError>
         requires room { length self.old.attributes < MAX_ATTRIBUTES }
         requires next { IsNext self.old.attributes attr value.now }
@@ -55,21 +53,18 @@ impl TableBuilder {
         Ok(())
     }
 
-    /// How many attributes the builder has.
     pub fn len(&self) -> usize
         ensures { result ≡ length self.now.attributes }
     {
         self.attributes.len()
     }
 
-    /// The attributes so far, in the order of their handles.
     pub fn attributes(&self) -> &[Attr]
         ensures { result.now ≡ self.now.attributes }
     {
         &self.attributes
     }
 
-    /// The value of the attribute at a handle.
     pub fn value(&self, handle: u16) -> &[u8]
         requires { IsSome (attribute_at self.now.attributes handle) }
         ensures { result.now ≡ value_at self.now.values handle }
@@ -77,8 +72,7 @@ impl TableBuilder {
         self.values.value_at(handle)
     }
 
-    /// The table of these attributes, of which at most `MAX_CONFIGURATIONS` are configurations,
-    /// with the ends of their groups and their handles by type.
+    /// Builds the table with its indexes; at most `MAX_CONFIGURATIONS` configurations.
     pub fn finish(self, alloc: Global) -> Result<Table, AllocError>
         requires few { configurations_of self.attributes ≤ MAX_CONFIGURATIONS }
         requires counted { value_octets self.attributes ≤ MAX_VALUES_OCTETS }

@@ -6,52 +6,45 @@ use std::alloc::AllocError;
 use std::error::Error;
 use std::fmt;
 
-/// A key of a table file that has to be there.
+/// A required key of a table file.
 #[derive(Clone, Copy, Debug, PartialEq, Eq)]
 pub enum TableKey {
-    /// The array of services.
     Service,
-    /// The type of a service, a characteristic or a descriptor.
+    /// Type of a service, characteristic or descriptor.
     Uuid,
-    /// The properties of a characteristic or a descriptor.
+    /// Properties of a characteristic or descriptor.
     Properties,
-    /// The value of a characteristic or a descriptor.
+    /// Value of a characteristic or descriptor.
     Value,
 }
 
-/// Why a table file is refused: the first fault of the file, read from its beginning.
+/// The first fault in a table file.
 #[derive(Clone, Copy, Debug, PartialEq, Eq)]
 pub enum TableFault {
-    /// The text is not TOML.
     NotToml,
-    /// A key that has to be there is not.
+    /// A required key is absent.
     Missing(TableKey),
-    /// A text is no UUID, or the UUID of a declaration or a client characteristic configuration
-    /// where one of a value is wanted.
+    /// A malformed UUID, or that of a declaration or CCCD for a value.
     BadUuid,
-    /// A value is not an even number of hexadecimal digits.
+    /// A value that is not an even number of hexadecimal digits.
     BadHex,
-    /// A value has more than `MAX_VALUE` octets, or its largest length is below its length or above
-    /// that.
+    /// A value or `max` above `MAX_VALUE` octets, or a `max` that does not suit the value's length.
     TooLong,
-    /// A need has a key size that is not from 7 to 16, a key that is unknown, or one of another type.
+    /// Requirements with an unknown key, a wrong type, or a key size outside 7 to 16.
     BadSecurity,
-    /// A property is unknown or not allowed there, or a client characteristic configuration has
-    /// nothing to configure.
+    /// An unknown or disallowed property, or requirements without a CCCD.
     BadProperty,
-    /// There are more than 1,024 attributes, more than 64 client characteristic configurations, or
-    /// values whose largest lengths are more than 65,536 octets together.
+    /// More than 1,024 attributes, 64 CCCDs or 65,536 octets of largest lengths.
     TooMany,
-    /// An included service does not stand before the service that includes it.
+    /// An include of a service that is not earlier.
     BadInclude,
-    /// Memory was refused.
     OutOfMemory,
-    /// A key is unknown, or its value is of another TOML type than its own.
+    /// An unknown key, or a value of the wrong TOML type.
     Shape,
 }
 
 impl TableFault {
-    /// The number by which the fault is told, from 1.
+    /// Returns the fault's number, from 1.
     pub fn number(self) -> u8
         ensures { result ≡ table_fault_number self }
     {

@@ -1,4 +1,4 @@
-//! A connection that hears of a table's values, step by step.
+//! A connection that is notified of values, step by step.
 
 use att_policy::Standing;
 use att_table::examples::{BELL, DOOR, POST};
@@ -7,27 +7,27 @@ use gatt_subs::Pending;
 use std::alloc::Global;
 use std::process::Abort;
 
-/// What happens to a connection, and what it is told.
+/// A step, and its expected result.
 #[derive(Clone, Copy)]
 pub enum Step {
-    /// The policy sees this of the connection from here on.
+    /// The standing from now on.
     Stands(Standing),
-    /// The client configures these bits at a handle.
+    /// The client configures bits at a handle.
     Configures(u16, u8),
-    /// The value at a handle is written at this backlog: whether a notification is due.
+    /// A value is written at this backlog; true if a notification must be sent.
     Raise(u16, usize, bool),
-    /// An event ends at this backlog and time: which indication is due.
+    /// An event ends at this backlog and time; the indication to be sent.
     Release(usize, u64, Option<u16>),
     Confirm,
-    /// The time, in milliseconds.
+    /// The time in milliseconds.
     Tick(u64),
     Replace,
     End,
-    /// Whether a confirmation now would tell that the client knows the value at a handle.
+    /// True if a confirmation now would be for the value at this handle.
     Told(u16, bool),
 }
 
-/// The link is not encrypted, and the peer has no key.
+/// An unencrypted link without a key.
 pub const PLAIN: Standing = Standing {
     key: None,
     key_known: false,
@@ -51,7 +51,7 @@ fn text_of(example: Example) -> &'static str {
     }
 }
 
-/// Makes the steps of a new connection over each table.
+/// Runs the steps with a new connection to each table.
 pub fn check(rt: &impl Abort, alloc: Global, cases: &[(Example, &[Step])]) {
     for (place, &(example, steps)) in cases.iter().enumerate() {
         assert_none_wrong(rt, first_wrong(alloc, text_of(example), steps), place);
@@ -71,7 +71,7 @@ fn assert_no_step(rt: &impl Abort, wrong: Option<usize>, place: usize) {
     }
 }
 
-/// The place of the first step that does something else, if one does.
+/// Returns the first step that fails, if any.
 fn first_wrong(alloc: Global, text: &str, steps: &[Step]) -> Option<Option<usize>> {
     let table = Table::read(alloc, text).ok()?;
     Some(first_wrong_with(&table, steps))
@@ -91,7 +91,7 @@ fn first_wrong_with(table: &Table, steps: &[Step]) -> Option<usize> {
     None
 }
 
-/// Makes a step, and answers whether it did what it was to do.
+/// Returns true if a step has the expected result.
 fn make(
     table: &Table,
     row: &mut ConfigRow,
@@ -121,7 +121,7 @@ fn make(
     true
 }
 
-/// Configures bits at a handle, and tells whether there is room for them.
+/// Returns false if the configurations are full.
 fn configures(row: &mut ConfigRow, handle: u16, bits: u8) -> bool {
     if handle == 0 || bits > 3 || !row.can_set(handle) {
         return false;

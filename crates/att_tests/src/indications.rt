@@ -1,9 +1,8 @@
-//! What a connection is told unasked, step by step.
+//! Notifications and indications, step by step.
 
 use crate::hearer::{Example, PLAIN, Step, check};
 use att_policy::{KeyFacts, Standing};
 
-/// The link is encrypted.
 const ENCRYPTED: Standing = Standing {
     key: Some(KeyFacts {
         size: 16,
@@ -15,7 +14,7 @@ const ENCRYPTED: Standing = Standing {
     now: 0,
 };
 
-/// The connection is authorized up to the moment 1000, at two times, and then up to 2000.
+/// Authorization until 1000, at two times, and then until 2000.
 const AT_999: Standing = Standing {
     key: None,
     key_known: false,
@@ -61,7 +60,7 @@ const ONE_AT_A_TIME: &[Step] = &[
     Step::Release(0, 29999, None),
 ];
 
-/// A client that does not confirm within 30,000 ms is told nothing more.
+/// A client that does not confirm within 30,000 ms gets nothing more.
 const NOT_CONFIRMED: &[Step] = &[
     Step::Configures(4, 2),
     Step::Configures(7, 2),
@@ -82,7 +81,7 @@ const NOT_CONFIRMED: &[Step] = &[
     Step::Raise(3, 0, false),
 ];
 
-/// Values wait in the order of their first writes, and what nobody asks for any more is passed over.
+/// Values wait in the order of first writes; those no longer configured are skipped.
 const IN_ORDER: &[Step] = &[
     Step::Configures(4, 2),
     Step::Configures(7, 2),
@@ -108,7 +107,7 @@ const IN_ORDER: &[Step] = &[
     Step::Release(0, 0, None),
 ];
 
-/// Nothing is told at a backlog of 8. A notification is lost there, and an indication waits.
+/// Nothing is sent at a backlog of 8: a notification is lost, an indication waits.
 const BACKLOG: &[Step] = &[
     Step::Configures(4, 1),
     Step::Raise(3, 7, true),
@@ -123,7 +122,7 @@ const BACKLOG: &[Step] = &[
     Step::Release(7, 0, Some(3)),
 ];
 
-/// Only values are told, and only to a client that has asked.
+/// Only values are sent, and only to a client that configured them.
 const UNASKED: &[Step] = &[
     Step::Raise(3, 0, false),
     Step::Release(0, 0, None),
@@ -145,7 +144,7 @@ const UNASKED: &[Step] = &[
     Step::Release(0, 0, Some(3)),
 ];
 
-/// A replacement drops what waits, and what is unconfirmed then tells nothing.
+/// A replacement drops waiting values; a later confirmation is for no value.
 const REPLACED: &[Step] = &[
     Step::Configures(4, 2),
     Step::Configures(7, 2),
@@ -169,7 +168,7 @@ const REPLACED: &[Step] = &[
     Step::Told(3, true),
 ];
 
-/// An indication from before a replacement has to be confirmed in time too.
+/// An indication before a replacement must also be confirmed in time.
 const STILL_LATE: &[Step] = &[
     Step::Configures(4, 2),
     Step::Raise(3, 0, false),
@@ -184,7 +183,6 @@ const STILL_LATE: &[Step] = &[
     Step::Release(0, 30000, None),
 ];
 
-/// Nothing is left of a connection that ends.
 const ENDED: &[Step] = &[
     Step::Configures(4, 2),
     Step::Configures(7, 2),
@@ -198,7 +196,7 @@ const ENDED: &[Step] = &[
     Step::Release(0, 30000, None),
 ];
 
-/// The state of the lock is told over an encrypted link alone.
+/// The state of the lock is sent only on an encrypted link.
 const STATE_OF_THE_LOCK: &[Step] = &[
     Step::Configures(11, 1),
     Step::Raise(10, 0, false),
@@ -211,7 +209,7 @@ const STATE_OF_THE_LOCK: &[Step] = &[
     Step::Release(0, 0, None),
 ];
 
-/// The count of letters is told while the connection is authorized.
+/// The count of letters is sent while the connection is authorized.
 const LETTERS_NOTIFIED: &[Step] = &[
     Step::Configures(4, 1),
     Step::Raise(3, 0, false),
@@ -223,7 +221,7 @@ const LETTERS_NOTIFIED: &[Step] = &[
     Step::Raise(3, 0, true),
 ];
 
-/// What waits when the authorization ends is passed over.
+/// A value that waits when the authorization ends is skipped.
 const LETTERS_INDICATED: &[Step] = &[
     Step::Configures(4, 2),
     Step::Stands(AT_999),
@@ -239,7 +237,6 @@ const LETTERS_INDICATED: &[Step] = &[
     Step::Release(0, 1000, Some(3)),
 ];
 
-/// Tables, each with what happens to a new connection.
 const CASES: &[(Example, &[Step])] = &[
     (Example::Bell, ONE_AT_A_TIME),
     (Example::Bell, NOT_CONFIRMED),

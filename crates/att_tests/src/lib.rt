@@ -1,4 +1,4 @@
-//! Tests of the attribute layers: PDUs of clients to example tables, each with its answer.
+//! Tests of the attribute layers: client PDUs to example tables, with their responses.
 #![tactic(auto)]
 
 #[cfg(test)]

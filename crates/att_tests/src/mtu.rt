@@ -32,15 +32,15 @@ fn exchanges_of_the_mtu(rt: HostRuntime) {
     play_limited(&rt, rt.alloc(), DOOR, 517, OF_THE_LARGEST);
 }
 
-/// Sessions with a new table each.
 fn play_each(rt: &impl Abort, alloc: Global, sessions: &[&[Step]]) {
     for steps in sessions {
         play(rt, alloc, DOOR, steps);
     }
 }
 
-/// A value of 512 octets is written and read whole at the largest ATT_MTU, and its first 253 octets
-/// are read by type. One more octet is refused.
+/// At the largest ATT_MTU, 512 octets are written and read, 513 are refused.
+///
+/// A read by type returns 253 of them.
 const THE_LARGEST_VALUE: &[Step] = &[
     Pdu("020502", "030502"),
     Long("121500", 513, "011215000d", 0),

@@ -1,10 +1,9 @@
-//! PDUs that are put together.
+//! PDUs built from parts.
 
 use arrayvec::ArrayVec;
 use att_pdu::PduBuf;
 use std::process::Abort;
 
-/// What is appended to a PDU, or replaces it.
 #[derive(Clone, Copy)]
 enum Part {
     Value(&'static [u8]),
@@ -14,7 +13,7 @@ enum Part {
     Error(u8, u16, u8),
 }
 
-/// Puts a PDU of 23 octets at most together, of parts that fit or do not, and compares its octets.
+/// Builds a PDU of at most 23 octets, and compares it.
 fn put(rt: &impl Abort, parts: &[(Part, bool)], wanted: &[u8]) {
     let mut octets = ArrayVec::new();
     append_all(rt, &mut PduBuf::new(&mut octets, 23), parts);
@@ -31,7 +30,6 @@ fn append_all(rt: &impl Abort, pdu: &mut PduBuf<'_>, parts: &[(Part, bool)]) {
     }
 }
 
-/// Appends a part, and tells whether it fits.
 fn append(pdu: &mut PduBuf<'_>, part: Part) -> bool {
     match part {
         Part::Value(octets) => pdu.value(octets),
@@ -57,7 +55,7 @@ fn fills_to_the_mtu(rt: HostRuntime) {
     put(&rt, TO_THE_MTU, &[0x01, 0x0A, 0x02, 0x01, 0x05]);
 }
 
-/// Behind the first four 17 octets stand, and 6 are left.
+/// After the first four parts, 6 octets are left.
 const ELEMENTS: &[(Part, bool)] = &[
     (Part::Value(&[0x11, 0x06]), true),
     (Part::Group(1, 0x0203, &[0x00, 0x18]), true),

@@ -1,4 +1,4 @@
-//! What the policy sees of the peers of the example key files.
+//! The standing of the peers of the example key files.
 
 use att_policy::Standing;
 use le_hci::{PUBLIC_ADDRESS, Peer, RANDOM_ADDRESS};
@@ -7,23 +7,21 @@ use le_security::{Keys, Link, LinkChange};
 use std::alloc::Global;
 use std::process::Abort;
 
-/// Who a client is.
+/// A client.
 #[derive(Clone, Copy)]
 pub enum Who {
-    /// A peer without a key.
     Stranger,
-    /// It has a key that is not authenticated.
+    /// Has an unauthenticated key.
     Phone,
-    /// It has two authenticated keys, of 16 octets and of 7: this is it by the longer one.
+    /// Has two authenticated keys, of 16 and 7 octets, and uses the longer.
     Tablet,
-    /// It has those two keys: this is it by the shorter one.
+    /// The same with the shorter.
     TabletByItsShortKey,
-    /// It has a key of LE Secure Connections.
+    /// Has a key of LE Secure Connections.
     Watch,
 }
 
-/// The peer that a client is, and what its key is asked for by: a random number, all its octets the
-/// same, and a diversifier.
+/// Returns a peer, the octet of its random number, and its diversifier.
 fn key_request(who: Who) -> (Peer, u8, u16) {
     match who {
         Who::Stranger => (peer(RANDOM_ADDRESS, [0x0a, 0, 0, 0, 0, 0xc0]), 0x0a, 0),
@@ -42,14 +40,12 @@ fn peer(kind: u8, address: [u8; 6]) -> Peer {
     Peer { kind, address }
 }
 
-/// What the policy sees of a client over a link that is not encrypted, or is by the key that it was
-/// asked for, until it is authorized no more.
+/// Returns a client's standing, its link encrypted or not, authorized until `until`.
 pub fn standing(rt: &impl Abort, alloc: Global, who: Who, encrypted: bool, until: u64) -> Standing {
     let keys = read_keys(rt, alloc);
     standing_by(rt, &keys, who, encrypted, until)
 }
 
-/// The keys of both example files.
 fn read_keys(rt: &impl Abort, alloc: Global) -> Keys {
     let text = both_files(rt, alloc);
     Keys::read(alloc, &text).expect(rt, "the keys")
@@ -62,7 +58,6 @@ fn both_files(rt: &impl Abort, alloc: Global) -> String {
     }
 }
 
-/// How a client stands, by these keys.
 fn standing_by(rt: &impl Abort, keys: &Keys, who: Who, encrypted: bool, until: u64) -> Standing {
     let (peer, random_number, diversifier) = key_request(who);
     let mut link = Link::new();

@@ -1,4 +1,4 @@
-//! The rules of the policy, in their order.
+//! The rules of the policy, in order.
 
 use att_policy::{Access, Guard, KeyFacts, Need, Properties, Rule, Standing, first_broken};
 use std::process::Abort;
@@ -32,28 +32,25 @@ const AUTHENTICATED: Need = Need {
     ..ENCRYPTED
 };
 
-/// A value that is read by an encrypted link and written by an authenticated one.
 const LOCK_STATE: Guard = Guard {
     properties: READ_WRITE,
     read: ENCRYPTED,
     write: AUTHENTICATED,
 };
 
-/// A value that needs an authenticated key of 16 octets and an authorized connection.
 const LOCK_CODE: Guard = Guard {
     properties: READ_WRITE,
     read: AUTHORIZED_LONG_KEY,
     write: AUTHORIZED_LONG_KEY,
 };
 
-/// One that needs a key of LE Secure Connections besides.
 const SECURE_LOCK_CODE: Guard = Guard {
     properties: READ_WRITE,
     read: SECURE_LONG_KEY,
     write: SECURE_LONG_KEY,
 };
 
-/// A link that has no key or is not encrypted, of a client whose key is not known.
+/// A link without encryption, of a client without a known key.
 const STRANGER: Standing = Standing {
     key: None,
     key_known: false,
@@ -61,13 +58,13 @@ const STRANGER: Standing = Standing {
     now: 0,
 };
 
-/// Such a link of a client whose key is known.
+/// The same of a client with a known key.
 const PLAIN: Standing = Standing {
     key_known: true,
     ..STRANGER
 };
 
-/// A link that is encrypted by a key, which is not authenticated.
+/// A link encrypted by an unauthenticated key.
 const BY_A_KEY: Standing = Standing {
     key: Some(KeyFacts {
         size: 16,
@@ -79,7 +76,7 @@ const BY_A_KEY: Standing = Standing {
     now: 0,
 };
 
-/// By an authenticated key, of 7 octets and of 16.
+/// Encrypted by an authenticated key, of 7 or 16 octets.
 const BY_A_SHORT_KEY: Standing = Standing {
     key: Some(KeyFacts {
         size: 7,
@@ -98,7 +95,6 @@ const BY_A_LONG_KEY: Standing = Standing {
     ..BY_A_KEY
 };
 
-/// By one of LE Secure Connections.
 const BY_A_SECURE_KEY: Standing = Standing {
     key: Some(KeyFacts {
         size: 16,
@@ -108,7 +104,7 @@ const BY_A_SECURE_KEY: Standing = Standing {
     ..BY_A_KEY
 };
 
-/// What is asked of a guard, or of an attribute that does not exist, and the rule that is broken.
+/// An access, the guard of the attribute if any, a standing, and the broken rule.
 type Case = (Access, Option<&'static Guard>, Standing, Option<(Rule, u8)>);
 
 const OF_LOCK_STATE: &[Case] = &[

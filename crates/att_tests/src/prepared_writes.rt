@@ -5,7 +5,7 @@ use crate::session::Step::{
 use crate::session::{Step, play, play_limited};
 use att_table::examples::DOOR;
 
-/// Unknown flags leave what is prepared.
+/// Unknown flags keep the prepared writes.
 const TWO_CLIENTS: &[Step] = &[
     Pdu("161500000061", "171500000061"),
     Second,
@@ -30,8 +30,7 @@ fn two_clients(rt: HostRuntime) {
     play(&rt, rt.alloc(), DOOR, TWO_CLIENTS);
 }
 
-/// All is written or nothing, and nothing is left prepared in both cases. Each part is judged by what
-/// the parts before it have written.
+/// All parts are written or none, each checked after those before it. The queue is then empty.
 const EXECUTIONS: &[Step] = &[
     Pdu("16150000006161", "17150000006161"),
     Pdu("161500050062", "171500050062"),
@@ -55,7 +54,7 @@ fn executions(rt: HostRuntime) {
     play(&rt, rt.alloc(), DOOR, EXECUTIONS);
 }
 
-/// The offset of the third is 0x0300, and its part is empty.
+/// The third has offset 0x0300 and an empty part.
 const OF_CONFIGURATIONS: &[Step] = &[
     Pdu("16070001000100", "17070001000100"),
     Pdu("1801", "0118070007"),
@@ -78,7 +77,7 @@ fn configurations(rt: HostRuntime) {
     play(&rt, rt.alloc(), DOOR, OF_CONFIGURATIONS);
 }
 
-/// The most prepared writes, all of one value.
+/// The longest queue of prepared writes, all of one value.
 const THIRTY_TWO: &[Step] = &[
     Times(32, "161500000061", "171500000061"),
     Pdu("161500000061", "0116150009"),
@@ -91,7 +90,7 @@ fn thirty_two(rt: HostRuntime) {
     play(&rt, rt.alloc(), DOOR, THIRTY_TWO);
 }
 
-/// The most octets of parts, in two parts of the largest value.
+/// The most octets, in two parts of the largest value.
 const LARGEST: &[Step] = &[
     Pdu("020502", "030502"),
     Mtu(517),
@@ -107,7 +106,7 @@ fn a_thousand_and_twenty_four_octets(rt: HostRuntime) {
     play_limited(&rt, rt.alloc(), DOOR, 517, LARGEST);
 }
 
-/// The policy is that of the execution, whatever it was when the parts were prepared.
+/// The policy applies at execution, not at preparation.
 const POLICY_OF_THE_EXECUTION: &[Step] = &[
     NewRow,
     Authorized(Tablet),

@@ -5,7 +5,7 @@ use att_table::examples::{BELL, DOOR};
 use std::alloc::Global;
 use std::process::Abort;
 
-/// PDUs of a stranger to the door.
+/// A stranger's PDUs.
 const OF_THE_DOOR: &[Step] = &[
     Pdu("0a0300", "0b4c6f636b"),
     Pdu("0a0000", "010a000001"),
@@ -68,7 +68,7 @@ fn reads_of_the_phone(rt: HostRuntime) {
     play(&rt, rt.alloc(), DOOR, OF_THE_PHONE);
 }
 
-/// A value that needs an authenticated key of 16 octets, and an authorization.
+/// Requires an authenticated key of 16 octets and authorization.
 const OF_THE_TABLET: &[Step] = &[
     Plain(Tablet),
     Pdu("0a0d00", "010a0d000f"),
@@ -87,7 +87,7 @@ fn reads_of_the_tablet(rt: HostRuntime) {
     play(&rt, rt.alloc(), DOOR, OF_THE_TABLET);
 }
 
-/// That value, where it also needs a key of LE Secure Connections.
+/// Also requires a key of LE Secure Connections.
 const OF_THE_WATCH: &[Step] = &[
     Encrypted(TabletByItsShortKey),
     Pdu("0a0d00", "010a0d000c"),
@@ -110,7 +110,6 @@ fn reads_of_a_secure_value(rt: HostRuntime) {
     play(&rt, rt.alloc(), &secure, OF_THE_WATCH);
 }
 
-/// The table of the door, with other text in place of some.
 fn door_with(rt: &impl Abort, alloc: Global, from: &str, to: &str) -> String {
     match DOOR.replace(alloc, from, to) {
         Ok(text) => text,
@@ -118,7 +117,6 @@ fn door_with(rt: &impl Abort, alloc: Global, from: &str, to: &str) -> String {
     }
 }
 
-/// Requests that read, of a stranger.
 const OF_A_STRANGER: &[Step] = &[
     Pdu("100100ffff0028", "1106010003000018040007000f1808001500f0ff"),
     Pdu("100100ffff0328", "0110010010"),
@@ -143,7 +141,7 @@ const OF_A_STRANGER: &[Step] = &[
     Pdu("0a1100", "010a110005"),
 ];
 
-/// Another value where the client may not read changes no answer.
+/// Another value that the client may not read changes no response.
 #[test]
 fn reads_of_a_stranger(rt: HostRuntime) {
     play(&rt, rt.alloc(), DOOR, OF_A_STRANGER);

@@ -3,13 +3,12 @@
 use att_pdu::{ExecuteFlags, PduFault, Request, Uuid, answer_due, read_request};
 use std::process::Abort;
 
-/// A type of 128 bits, in a request of 21 octets.
+/// A 128-bit type in a request.
 const LONG: [u8; 21] = [
     0x08, 0x01, 0x00, 0xFF, 0xFF, 0xEF, 0xCD, 0xAB, 0x89, 0x67, 0x45, 0x23, 0x01, 0xF0, 0xDE, 0xBC,
     0x9A, 0x78, 0x56, 0x34, 0x12,
 ];
 
-/// PDUs, and the request that each is.
 const REQUESTS: &[(&[u8], Request<'static>)] = &[
     (b"\x02\xF7\x00", Request::ExchangeMtu { client_rx_mtu: 247 }),
     (b"\x02\x00\x01", Request::ExchangeMtu { client_rx_mtu: 256 }),
@@ -20,7 +19,7 @@ const REQUESTS: &[(&[u8], Request<'static>)] = &[
             last: 0xFFFF,
         },
     ),
-    // Whether a range holds anything is not judged here.
+    // An empty range is not checked here.
     (
         b"\x04\x03\x00\x02\x00",
         Request::FindInformation { first: 3, last: 2 },
@@ -135,12 +134,10 @@ fn assert_requests(rt: &impl Abort, cases: &[(&[u8], Request<'static>)]) {
     }
 }
 
-/// Whether a PDU is read so, and whether an answer to it is due.
 fn is_read(pdu: &[u8], request: Result<Request<'static>, PduFault>, due: bool) -> bool {
     read_request(pdu, 23) == request && answer_due(pdu, 23) == due
 }
 
-/// PDUs that have no answer.
 const UNANSWERED: &[(&[u8], Result<Request<'static>, PduFault>)] = &[
     (b"\x1E", Ok(Request::Confirmation)),
     (b"\x1E\x00", Err(PduFault::Ignored)),
@@ -176,7 +173,6 @@ fn assert_unanswered(rt: &impl Abort, cases: &[(&[u8], Result<Request<'static>, 
     }
 }
 
-/// The opcodes of what a server sends.
 const OF_A_SERVER: [u8; 14] = [
     0x01, 0x03, 0x05, 0x07, 0x09, 0x0B, 0x0D, 0x0F, 0x11, 0x13, 0x17, 0x19, 0x1B, 0x1D,
 ];
@@ -192,12 +188,12 @@ fn assert_ignored(rt: &impl Abort, opcodes: &[u8]) {
     }
 }
 
-/// Whether the opcode is refused so, alone and at the front of a PDU that is longer than the ATT_MTU.
+/// Compares the fault of the opcode alone and in a PDU longer than the ATT_MTU.
 fn is_refused(opcode: u8, fault: PduFault, due: bool) -> bool {
     is_read(&[opcode], Err(fault), due) && is_read(&[opcode; 24], Err(fault), due)
 }
 
-/// PDUs that are not of the form of their opcode, or too long.
+/// PDUs that are too long or not of the form of their opcode.
 const INVALID: &[&[u8]] = &[
     b"\x02\xF7",
     b"\x02\xF7\x00\x00",
@@ -245,7 +241,6 @@ fn is_invalid(pdu: &[u8]) -> bool {
     }
 }
 
-/// Opcodes that no PDU has.
 const UNSUPPORTED: [u8; 11] = [
     0x00, 0x14, 0x15, 0x1A, 0x1C, 0x1F, 0x20, 0x3F, 0x80, 0x92, 0xBF,
 ];

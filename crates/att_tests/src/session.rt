@@ -11,47 +11,45 @@ use gatt_conn::{Answered, Conn, answer};
 use std::alloc::Global;
 use std::process::Abort;
 
-/// One step of a session. PDUs are hexadecimal, and an answer is empty where none is due.
+/// A step of a session. PDUs are hexadecimal; an empty response means none.
 #[derive(Clone, Copy)]
 pub enum Step {
-    /// From here on the second client speaks, or the first one again.
+    /// The second client sends from now on, or the first again.
     Second,
     First,
-    /// A PDU, and its answer.
+    /// A PDU and its response.
     Pdu(&'static str, &'static str),
-    /// A PDU, its answer, and the handles that it writes.
+    /// A PDU, its response, and the written handles.
     Writes(&'static str, &'static str, &'static [u16]),
-    /// A PDU and its answer, each of which ends with this many octets `61`.
+    /// A PDU and its response, each with this many final octets `61`.
     Long(&'static str, usize, &'static str, usize),
-    /// A PDU several times, each time with this answer.
+    /// A repeated PDU, each time with this response.
     Times(usize, &'static str, &'static str),
-    /// The policy sees this of the client: its link is not encrypted.
+    /// The link is unencrypted.
     Plain(Who),
-    /// The client's link is encrypted by its key.
+    /// The link is encrypted by the client's key.
     Encrypted(Who),
-    /// And it is authorized without an end.
+    /// It is also authorized forever.
     Authorized(Who),
-    /// The ATT_MTU is this.
     Mtu(u16),
-    /// The server drops what is prepared.
+    /// The server drops the prepared writes.
     Cancel,
-    /// What the client has configured is forgotten.
+    /// The client's configurations are dropped.
     NewRow,
 }
 
-/// One client of a table.
 #[derive(Drop)]
 struct Client {
     row: ConfigRow,
     conn: Conn,
 }
 
-/// Makes the steps of a session with a new table, whose server receives PDUs of at most 247 octets.
+/// Runs a session with a new table; the server receives PDUs of at most 247 octets.
 pub fn play(rt: &impl Abort, alloc: Global, text: &str, steps: &[Step]) {
     play_limited(rt, alloc, text, 247, steps);
 }
 
-/// Makes the steps of a session with a new table, whose server receives PDUs of at most `rx_mtu` octets.
+/// Runs a session with a new table; the server receives PDUs of at most `rx_mtu` octets.
 pub fn play_limited(rt: &impl Abort, alloc: Global, text: &str, rx_mtu: u16, steps: &[Step])
     requires least { 23 ≤ rx_mtu }
     requires most { rx_mtu ≤ 517 }
@@ -60,7 +58,6 @@ pub fn play_limited(rt: &impl Abort, alloc: Global, text: &str, rx_mtu: u16, ste
     play_with(rt, alloc, &mut table, rx_mtu, steps);
 }
 
-/// Makes the steps of a session with this table.
 fn play_with(rt: &impl Abort, alloc: Global, table: &mut Table, rx_mtu: u16, steps: &[Step])
     requires least { 23 ≤ rx_mtu }
     requires most { rx_mtu ≤ 517 }
@@ -83,7 +80,6 @@ fn new_client(rt: &impl Abort, alloc: Global, rx_mtu: u16) -> Client
     }
 }
 
-/// Makes the steps, each of the client that speaks then.
 fn make_all(
     rt: &impl Abort,
     alloc: Global,
@@ -106,7 +102,6 @@ fn make_all(
     }
 }
 
-/// Makes one step of a client.
 fn make(rt: &impl Abort, alloc: Global, table: &mut Table, client: &mut Client, step: Step)
     requires row { IsRowOf table.old.attributes client.old.row }
     ensures attributes { table.new.attributes ≡ table.old.attributes }
@@ -121,18 +116,17 @@ fn make(rt: &impl Abort, alloc: Global, table: &mut Table, client: &mut Client, 
     }
 }
 
-/// PDUs that are sent, and what comes of each.
 #[derive(Clone, Copy)]
 struct Exchange {
     times: usize,
-    /// Hexadecimal, and the number of octets `61` behind it.
+    /// Hexadecimal, and a number of final octets `61`.
     pdu: (&'static str, usize),
     answer: (&'static str, usize),
-    /// The handles that are written, where the step names them.
+    /// The handles written, if the step names them.
     handles: Option<&'static [u16]>,
 }
 
-/// The PDUs that a step sends, if it is of this kind.
+/// Returns the PDUs of a step, if it has any.
 fn exchange_of(step: Step) -> Option<Exchange> {
     let (times, pdu, answer, handles) = match step {
         Step::Pdu(pdu, answer) => (1, (pdu, 0), (answer, 0), None),
@@ -151,7 +145,6 @@ fn exchange_of(step: Step) -> Option<Exchange> {
     })
 }
 
-/// Makes a step that exchanges no PDUs.
 fn change(rt: &impl Abort, alloc: Global, conn: &mut Conn, step: Step) {
     if let Some((who, encrypted, until)) = seen_from(step) {
         conn.stand(standing(rt, alloc, who, encrypted, until));
@@ -160,8 +153,7 @@ fn change(rt: &impl Abort, alloc: Global, conn: &mut Conn, step: Step) {
     }
 }
 
-/// The client that the policy sees from this step on, whether its link is encrypted, and the end of
-/// its authorization.
+/// Returns the client, true for encryption, and the end of authorization.
 fn seen_from(step: Step) -> Option<(Who, bool, u64)> {
     match step {
         Step::Plain(who) => Some((who, false, 0)),
@@ -171,7 +163,6 @@ fn seen_from(step: Step) -> Option<(Who, bool, u64)> {
     }
 }
 
-/// Makes a step of the connection alone.
 fn act(rt: &impl Abort, conn: &mut Conn, step: Step) {
     match step {
         Step::Mtu(mtu) => assert!(rt; conn.mtu() == mtu, "{mtu}"),
@@ -180,7 +171,6 @@ fn act(rt: &impl Abort, conn: &mut Conn, step: Step) {
     }
 }
 
-/// Serves the PDUs of an exchange.
 fn serve_times(rt: &impl Abort, table: &mut Table, client: &mut Client, exchange: Exchange)
     requires row { IsRowOf table.old.attributes client.old.row }
     ensures attributes { table.new.attributes ≡ table.old.attributes }
@@ -191,7 +181,6 @@ fn serve_times(rt: &impl Abort, table: &mut Table, client: &mut Client, exchange
     }
 }
 
-/// Serves a PDU, and compares its answer and the handles that it wrote.
 fn serve(rt: &impl Abort, table: &mut Table, client: &mut Client, exchange: Exchange)
     requires row { IsRowOf table.old.attributes client.old.row }
     ensures attributes { table.new.attributes ≡ table.old.attributes }
@@ -203,7 +192,6 @@ fn serve(rt: &impl Abort, table: &mut Table, client: &mut Client, exchange: Exch
     assert!(rt; served, "{text}");
 }
 
-/// Whether a PDU has the answer of an exchange, and writes its handles.
 fn serves_spelled(
     rt: &impl Abort,
     table: &mut Table,
@@ -220,7 +208,6 @@ fn serves_spelled(
     serves(table, client, pdu, wanted.as_slice(), exchange.handles)
 }
 
-/// Whether a PDU has this answer, and writes these handles.
 fn serves(
     table: &mut Table,
     client: &mut Client,
@@ -237,7 +224,6 @@ fn serves(
     octets.as_slice() == wanted && is_told(&answered, pdu, wanted, handles)
 }
 
-/// Has the server answer a PDU.
 fn answered(
     table: &mut Table,
     client: &mut Client,
@@ -252,14 +238,13 @@ fn answered(
     answer(table, &mut client.row, &mut client.conn, pdu, &mut out)
 }
 
-/// Whether what is told of a PDU fits with its answer and these handles.
 fn is_told(answered: &Answered, pdu: &[u8], wanted: &[u8], handles: Option<&[u16]>) -> bool {
     answered.due != wanted.is_empty()
         && answered.confirmed == (pdu == b"\x1e".as_slice())
         && is_written(answered.touched.as_slice(), pdu, wanted, handles)
 }
 
-/// Whether these handles were to be written: those of a Write Request that is accepted are known.
+/// Checks the handles, also those of an accepted Write Request.
 fn is_written(touched: &[u16], pdu: &[u8], wanted: &[u8], handles: Option<&[u16]>) -> bool {
     if let Some(handle) = accepted_write(pdu, wanted) {
         if touched != [handle].as_slice() {
@@ -272,7 +257,6 @@ fn is_written(touched: &[u16], pdu: &[u8], wanted: &[u8], handles: Option<&[u16]
     }
 }
 
-/// The handle of a Write Request that is accepted.
 fn accepted_write(pdu: &[u8], wanted: &[u8]) -> Option<u16> {
     match pdu {
         [0x12, low, high, ..] if wanted == [0x13].as_slice() => Some(u16::from_le_bytes([
@@ -282,7 +266,7 @@ fn accepted_write(pdu: &[u8], wanted: &[u8]) -> Option<u16> {
     }
 }
 
-/// The octets that hexadecimal text spells, and behind them some octets `61`.
+/// Decodes hexadecimal and appends octets `61`.
 fn octets(rt: &impl Abort, text: &str, more: usize) -> ArrayVec<u8, 520> {
     let mut octets = ArrayVec::new();
     append_spelled(rt, text, &mut octets);

@@ -26,7 +26,7 @@ fn writes_of_a_guarded_value(rt: HostRuntime) {
     play(&rt, rt.alloc(), DOOR, OF_A_GUARDED_VALUE);
 }
 
-/// Another client has configurations of its own.
+/// Each client has its own configurations.
 const OF_CONFIGURATIONS: &[Step] = &[
     Pdu("1207000100", "13"),
     Pdu("1207000200", "01120700ff"),

@@ -3,16 +3,15 @@ ghost use Rattle.att_values.specs.Change.{ChangeFits, ChangesFit, after_change, 
 
 use crate::value_store::ValueStore;
 
-/// One change of a value.
+/// A change of a value.
 #[derive(Clone, Copy)]
 pub enum Change<'a> {
-    /// The value at a handle becomes these octets.
+    /// Replaces the value.
     Set {
         handle: u16,
         octets: &'a [u8],
     },
-    /// A part is written into the value at a handle, from an offset on. The value keeps the octets
-    /// after the part where `keep` is set, and else ends with the part.
+    /// Writes a part at an offset; without `keep`, the value ends with the part.
     Patch {
         handle: u16,
         offset: usize,
@@ -38,8 +37,7 @@ pub fn apply<S: ValueStore>(store: &mut S, change: &Change<'_>)
     }
 }
 
-/// Makes changes in order. What the store then contains depends on what it contained, and not on how
-/// it keeps it.
+/// Makes changes in order. Every store ends with the same contents.
 pub fn run<S: ValueStore>(store: &mut S, changes: &[Change<'_>])
     requires { ChangesFit (S.room store.old) (S.contents store.old) changes.now }
     ensures contents { S.contents store.new ≡ contents_after changes.now (S.contents store.old) }

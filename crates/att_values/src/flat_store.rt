@@ -7,19 +7,16 @@ use crate::value_store::ValueStore;
 use std::alloc::{AllocError, Global};
 use std::marker::Model;
 
-/// Where a value stands in the vector of all values.
+/// The place of a value in the vector of all values.
 #[derive(Clone, Copy)]
 struct Place {
-    /// Where its first octet stands.
     start: usize,
-    /// How many octets it has.
     len: u16,
-    /// The most octets that it may ever have, at most `MAX_VALUE`.
+    /// The value's largest length, at most `MAX_VALUE`.
     room: u16,
 }
 
-/// The values of attributes in one vector, each from a fixed place on, with room for its largest
-/// length.
+/// The values in one vector, each with space for its largest length.
 #[derive(Drop)]
 pub struct FlatStore {
     octets: Vec<u8>,
@@ -39,7 +36,7 @@ impl Model for FlatStore {
 }
 
 impl FlatStore {
-    /// A store with no value.
+    /// Creates a store without values.
     pub fn new(alloc: Global) -> Self
         ensures { result ≡ [] }
     {
@@ -49,21 +46,21 @@ impl FlatStore {
         }
     }
 
-    /// How many values there are: their handles are 1 to that.
+    /// Returns the number of values; their handles are 1 to that.
     pub fn len(&self) -> usize
         ensures { result ≡ length self.now }
     {
         self.places.len()
     }
 
-    /// How many octets all values together may have.
+    /// Returns the sum of all rooms in octets.
     pub fn octets(&self) -> usize
         ensures { result ≡ sum_by (λ (cell : Cell). cell.room) self.now }
     {
         self.octets.len()
     }
 
-    /// The room of the value at a handle, in octets.
+    /// Returns the largest length of the value at a handle, in octets.
     pub fn room_at(&self, handle: u16) -> usize
         requires { IsUsed self.now handle }
         ensures { result ≡ (cell_at self.now handle).room }
@@ -71,7 +68,7 @@ impl FlatStore {
         usize::from(self.places[usize::from(handle) - 1].room)
     }
 
-    /// The value at a handle.
+    /// Returns the value at a handle.
     pub fn value_at(&self, handle: u16) -> &[u8]
         requires { IsUsed self.now handle }
         ensures value { result.now ≡ (cell_at self.now handle).octets }
@@ -80,8 +77,7 @@ impl FlatStore {
         octets_at(&self.octets, self.places[usize::from(handle) - 1])
     }
 
-    /// Writes a part of the value at a handle, from an offset on. The value keeps the octets after
-    /// the part where `keep` is set, and else ends with the part.
+    /// Writes a part at an offset; without `keep`, the value ends with the part.
     pub fn patch_at(&mut self, handle: u16, offset: usize, part: &[u8], keep: bool)
         requires exists { IsUsed self.old handle }
         requires offset { offset ≤ length (cell_at self.old handle).octets }
@@ -93,7 +89,7 @@ impl FlatStore {
         set_end(place, offset + part.len(), keep);
     }
 
-    /// Appends a value with its room, in octets. Where memory runs out the store stays as it was.
+    /// Appends a value with its largest length in octets; on error nothing changes.
     pub fn push(&mut self, room: u16, octets: &[u8]) -> Result<(), AllocError>
         requires fits { length octets.now ≤ room }
         requires room { room ≤ MAX_VALUE }
@@ -145,7 +141,6 @@ impl ValueStore for FlatStore {
     }
 }
 
-/// The octets of the value at a place. It stands apart for its proof.
 fn octets_at(octets: &[u8], place: Place) -> &[u8]
     requires { place.start + place.len ≤ length octets.now }
     ensures { result.now ≡ (cell_in octets.now place).octets }
@@ -153,7 +148,6 @@ fn octets_at(octets: &[u8], place: Place) -> &[u8]
     &octets[place.start..place.start + usize::from(place.len)]
 }
 
-/// Copies a part over the octets from a place on.
 fn write_part(octets: &mut [u8], start: usize, part: &[u8])
     requires { start + length part.now ≤ length octets.old }
     ensures { octets.new
@@ -162,7 +156,7 @@ fn write_part(octets: &mut [u8], start: usize, part: &[u8])
     octets[start..start + part.len()].copy_from_slice(part);
 }
 
-/// Ends a value before its octet `end`, or, where it is longer and `keep` is set, where it ended.
+/// Ends a value at `end`; with `keep`, never earlier than before.
 fn set_end(place: &mut Place, end: usize, keep: bool)
     requires { end ≤ MAX_VALUE }
     ensures { place.new ≡ record place.old { len = if keep then max place.old.len end else end } }
@@ -171,7 +165,7 @@ fn set_end(place: &mut Place, end: usize, keep: bool)
     place.len = if keep { place.len.max(end) } else { end };
 }
 
-/// Appends octets, and as many zeros as there is room for.
+/// Appends octets and zeros, `room` octets in all.
 fn append(all: &mut Vec<u8>, octets: &[u8], room: usize) -> Result<(), AllocError>
     requires { length octets.now ≤ room }
     ensures ok { OnOk result

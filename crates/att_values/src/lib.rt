@@ -1,5 +1,4 @@
-//! The values of attributes by their handles: what a store of them does, two stores that do it, and
-//! changes over any of them.
+//! Attribute values by handle: a trait for stores, two stores, and changes of any store.
 #![tactic(auto)]
 
 mod change;

@@ -8,15 +8,14 @@ use att_numbers::limit::MAX_VALUE;
 use std::alloc::{AllocError, Global};
 use std::marker::Model;
 
-/// A value, in a buffer of its own.
 #[derive(Drop)]
 struct Slot {
-    /// The most octets that it may ever have, at most `MAX_VALUE`.
+    /// The value's largest length, at most `MAX_VALUE`.
     room: u16,
     octets: ArrayVec<u8, MAX_VALUE>,
 }
 
-/// The values of attributes, each in a buffer of its own: the plain store, to test others against.
+/// The values in separate buffers: a reference store for tests.
 #[derive(Drop)]
 pub struct PlainStore {
     slots: Vec<Slot>,
@@ -35,7 +34,7 @@ impl Model for PlainStore {
 }
 
 impl PlainStore {
-    /// A store with no value.
+    /// Creates a store without values.
     pub fn new(alloc: Global) -> Self
         ensures { result ≡ [] }
     {
@@ -44,7 +43,7 @@ impl PlainStore {
         }
     }
 
-    /// Appends a value with its room, in octets. Where memory runs out the store stays as it was.
+    /// Appends a value with its largest length in octets; on error nothing changes.
     pub fn push(&mut self, room: u16, octets: &[u8]) -> Result<(), AllocError>
         requires fits { length octets.now ≤ room }
         requires room { room ≤ MAX_VALUE }
@@ -59,14 +58,12 @@ impl PlainStore {
         Ok(())
     }
 
-    /// How many values there are.
     fn len(&self) -> usize
         ensures { result ≡ length self.now }
     {
         self.slots.len()
     }
 
-    /// The room of the value at a handle, in octets.
     fn room_at(&self, handle: u16) -> usize
         requires { IsUsed self.now handle }
         ensures { result ≡ (cell_at self.now handle).room }
@@ -74,7 +71,6 @@ impl PlainStore {
         usize::from(self.slots[usize::from(handle) - 1].room)
     }
 
-    /// The value at a handle.
     fn value_at(&self, handle: u16) -> &[u8]
         requires { IsUsed self.now handle }
         ensures value { result.now ≡ (cell_at self.now handle).octets }
@@ -83,8 +79,6 @@ impl PlainStore {
         self.slots[usize::from(handle) - 1].octets.as_slice()
     }
 
-    /// Writes a part of the value at a handle, from an offset on. The value keeps the octets after
-    /// the part where `keep` is set, and else ends with the part.
     fn patch_at(&mut self, handle: u16, offset: usize, part: &[u8], keep: bool)
         requires exists { IsUsed self.old handle }
         requires offset { offset ≤ length (cell_at self.old handle).octets }
@@ -128,7 +122,6 @@ impl ValueStore for PlainStore {
     }
 }
 
-/// A copy of a value, in a buffer.
 fn copy(value: &[u8]) -> ArrayVec<u8, MAX_VALUE>
     requires { length value.now ≤ MAX_VALUE }
     ensures { result.items ≡ value.now }
@@ -138,7 +131,6 @@ fn copy(value: &[u8]) -> ArrayVec<u8, MAX_VALUE>
     buffer
 }
 
-/// Writes a part of a value in its buffer.
 fn write_part(value: &mut ArrayVec<u8, MAX_VALUE>, offset: usize, part: &[u8], keep: bool)
     requires offset { offset ≤ array_vec_len value.old }
     requires fits { offset + length part.now ≤ MAX_VALUE }

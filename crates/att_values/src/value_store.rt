@@ -4,31 +4,30 @@ ghost use Rattle.att_numbers.specs.Types.{Handle};
 ghost use Rattle.att_values.specs.Cell.{value_with_part};
 ghost use Rattle.att_values.specs.ValueStore.{ByHandle, value_in};
 
-/// The values of attributes, by handles from 1 without gaps. Each has a fixed room: the most octets
-/// that it may ever have, at most `MAX_VALUE`.
+/// The values of attributes, by handles from 1 without gaps.
+///
+/// The room of a value is its largest length in octets, at most `MAX_VALUE`.
 pub trait ValueStore {
-    /// The value of each handle.
     ghost contents: { Self → ByHandle };
 
-    /// The room of the value at a handle, in octets: 0 where there is none.
+    /// The room of a handle, 0 without a value.
     ghost room: { Self → Handle → ℕ };
 
-    /// Whether there is a value at a handle.
+    /// Returns true if the handle has a value.
     fn contains(&self, handle: u16) -> bool
         ensures { result ≡ is_some (map.get (contents self.now) handle) };
 
-    /// The room of the value at a handle, in octets: 0 where there is none.
+    /// Returns the room of the handle, 0 without a value.
     fn room(&self, handle: u16) -> usize
         ensures { result ≡ room self.now handle };
 
-    /// The value at a handle.
+    /// Returns the value at a handle.
     fn value(&self, handle: u16) -> &[u8]
         requires { IsSome (map.get (contents self.now) handle) }
         ensures value { map.get (contents self.now) handle ≡ Some result.now }
         ensures fits { length result.now ≤ room self.now handle };
 
-    /// Writes a part of the value at a handle, from an offset on. The value keeps the octets after
-    /// the part where `keep` is set, and else ends with the part.
+    /// Writes a part at an offset; without `keep`, the value ends with the part.
     fn patch(&mut self, handle: u16, offset: usize, part: &[u8], keep: bool)
         requires exists { IsSome (map.get (contents self.old) handle) }
         requires offset { offset ≤ length (value_in (contents self.old) handle) }
@@ -38,7 +37,7 @@ pub trait ValueStore {
             (value_with_part keep (value_in (contents self.old) handle) offset part.now) }
         ensures room { room self.new ≡ room self.old };
 
-    /// Sets the value at a handle.
+    /// Replaces the value at a handle.
     fn set(&mut self, handle: u16, octets: &[u8])
         requires exists { IsSome (map.get (contents self.old) handle) }
         requires fits { length octets.now ≤ room self.old handle }

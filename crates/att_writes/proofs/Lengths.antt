@@ -18,7 +18,7 @@ use Rattle.att_writes.specs.SameBut.{SameBut, SameApplied}
 use Rattle.att_writes.proofs.AtOnce.{fits_unless_refused}
 use Rattle.att_writes.proofs.Reached.{same_by_then}
 use Rattle.att_writes.proofs.Sizes.{used, value_written}
-use Rattle.octets.specs.Number.{Octets}
+use Rattle.octet_io.specs.Number.{Octets}
 
 -- a value that is stored behind the end of the list changes nothing
 pub behind : (values : Values) (handle : Handle) (value : Octets) → length values < handle → with_value values handle value ≡ values

@@ -16,7 +16,7 @@ use Rattle.att_writes.proofs.AtOnce.{fits_unless_refused}
 use Rattle.att_writes.proofs.Lengths.{behind}
 use Rattle.att_writes.proofs.Sizes.{used, value_written}
 use Rattle.att_writes.proofs.Untouched.{keeps_others}
-use Rattle.octets.specs.Number.{Octets}
+use Rattle.octet_io.specs.Number.{Octets}
 
 -- equal at each handle, equal lists
 next_value : (x : Octets) (xs : Values) (n : ℕ) → value_at (x ∷ xs) (n + 1 + 1) ≡ value_at xs (n + 1)

@@ -1,8 +1,9 @@
 -- What is written is the old row with the bits of the touched configurations set.
-use Rattle.std.proofs.Common.{◌≡◌, ℕ, Bool, true, false, ◌==◌, ◌||◌, if◌then◌else◌, List, [], ◌∷◌, length, map, filter, Option, Some, None, Ok, refl, sym, ap, ◌∙◌, arith}
+use Rattle.std.proofs.Common.{◌≡◌, ℕ, Bool, true, false, ◌==◌, if◌then◌else◌, List, [], ◌∷◌, length, map, filter, Option, Some, None, Ok, refl, sym, ap, ◌∙◌, arith}
 use Rattle.std.proofs.lemmas.Bool.Decides.{nat_tests}
 use Rattle.std.proofs.lemmas.Grind.{common_steps}
 use Rattle.std.specs.List.{list_any}
+use Rattle.std.proofs.lemmas.Bool.{or_from}
 use Rattle.att_numbers.specs.Types.{Handle, Code, Row}
 use Rattle.att_policy.specs.declared.policy.Access.{Access}
 use Rattle.att_policy.specs.declared.standing.Standing.{Standing}
@@ -15,6 +16,7 @@ use Rattle.att_writes.specs.Entry.{Entry}
 use Rattle.att_writes.specs.Fault.{entry_fault}
 use Rattle.att_writes.specs.SameBut.{is_touched, bits_put}
 use Rattle.att_writes.proofs.Untouched.{keeps_others}
+use Rattle.octet_io.proofs.Choices.{or_false_left, or_false_right}
 
 -- bits that are set twice at a handle are the last
 twice-at : (row : Row) (entry : Handle × ℕ) (handle bits last : ℕ) (here : Bool) → (entry.0 == handle) ≡ here
@@ -128,29 +130,18 @@ not_own : (attributes : List Attr) (first handle : Handle) (same : Bool) → (fi
 not_own attributes first handle true is not of = let equal : first ≡ handle = grind (arith, nat_tests) in absurd (cc (not, of, equal))
 not_own attributes first handle false is not of = refl
 
-neither : (here there : Bool) → here ≡ false → there ≡ false → (here || there) ≡ false
-neither here there is was = rw (is, was) refl
-
-neither_first : (here there : Bool) → (here || there) ≡ false → here ≡ false
-neither_first true there none = none
-neither_first false there none = refl
-
-neither_later : (here there : Bool) → (here || there) ≡ false → there ≡ false
-neither_later true there none = absurd (cc none)
-neither_later false there none = none
-
 none_touched-at : (attributes : List Attr) (first : Entry) (rest : List Entry) (handle : Handle) (own : Bool) → is_configuration_at attributes first.handle ≡ own → is_configuration_at attributes handle ≡ true
     → (is_in (configured attributes rest) handle ≡ false → is_touched rest handle ≡ false)
     → is_in (configured attributes (first ∷ rest)) handle ≡ false → is_touched (first ∷ rest) handle ≡ false
 none_touched-at attributes first rest handle true is of later none =
     let all : configured attributes (first ∷ rest) ≡ first.handle ∷ configured attributes rest = rw is refl in
     let split : is_in (first.handle ∷ configured attributes rest) handle ≡ false = ap (λ handles. is_in handles handle) (sym all) ∙ none in
-    neither (first.handle == handle) (is_touched rest handle) (neither_first (first.handle == handle) (is_in (configured attributes rest) handle) split)
-    (later (neither_later (first.handle == handle) (is_in (configured attributes rest) handle) split))
+    or_from (first.handle == handle) (is_touched rest handle) (or_false_left (first.handle == handle) (is_in (configured attributes rest) handle) split)
+    (later (or_false_right (first.handle == handle) (is_in (configured attributes rest) handle) split))
 none_touched-at attributes first rest handle false is of later none =
     let all : configured attributes (first ∷ rest) ≡ configured attributes rest = rw is refl in
     let left : is_in (configured attributes rest) handle ≡ false = ap (λ handles. is_in handles handle) (sym all) ∙ none in
-    neither (first.handle == handle) (is_touched rest handle) (not_own attributes first.handle handle (first.handle == handle) refl is of) (later left)
+    or_from (first.handle == handle) (is_touched rest handle) (not_own attributes first.handle handle (first.handle == handle) refl is of) (later left)
 
 none_touched : (attributes : List Attr) (entries : List Entry) (handle : Handle) → is_configuration_at attributes handle ≡ true → is_in (configured attributes entries) handle ≡ false → is_touched entries handle ≡ false
 none_touched attributes [] handle of none = refl

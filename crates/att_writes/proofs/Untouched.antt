@@ -17,7 +17,7 @@ use Rattle.att_writes.specs.Fault.{entry_fault}
 use Rattle.att_writes.specs.SameBut.{KeepsOthers, is_touched}
 use Rattle.att_writes.proofs.AtOnce.{fits_unless_refused}
 use Rattle.att_writes.proofs.Sizes.{used}
-use Rattle.octets.specs.Number.{Octets}
+use Rattle.octet_io.specs.Number.{Octets}
 
 -- a value that is stored leaves the others
 value_kept : (values : Values) (handle other : Handle) (value : Octets) → 0 < handle → 0 < other → (handle == other) ≡ false → value_at (with_value values handle value) other ≡ value_at values other

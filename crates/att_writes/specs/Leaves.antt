@@ -1,11 +1,11 @@
--- What writes leave of a table and a row.
+-- The state that writes leave.
 use Rattle.std.specs.Prelude.{◌≡◌}
 use Rattle.att_numbers.specs.Types.{Row}
 use Rattle.att_table.specs.ConfigRow.{IsRowOf}
 use Rattle.att_table.specs.Table.{Contents}
 use Rattle.att_writes.specs.Applied.{Stored}
 
--- these values and this row, which is still one of the table; and the same attributes
+-- The attributes stay, and the row is still one of the table.
 pub record LeavesStored (stored : Stored) (before after : Contents) (row_after : Row) : Type 0 where
   pub values : after.values ≡ stored.values
   pub row : row_after ≡ stored.row

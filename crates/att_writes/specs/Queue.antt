@@ -1,4 +1,4 @@
--- The prepared writes of a client: Core 5.0, Vol 3 Part F, 3.4.6.
+-- The queue of prepared writes of a client (Core 5.0, Vol 3 Part F, 3.4.6).
 use Rattle.std.specs.Prelude.{◌≡◌, ℕ, ◌+◌, ◌≤◌, Bool, ◌==◌, ◌&&◌, not, nat_lt, nat_le, if◌then◌else◌, List, [], ◌∷◌, ◌++◌, length, map, take, drop, filter, sum_by, Option, Some, None, Result, Ok, Err}
 use Rattle.att_numbers.specs.Types.{Handle, Code}
 use Rattle.att_numbers.specs.declared.error_code.TheConstants.{PREPARE_QUEUE_FULL}
@@ -15,17 +15,19 @@ use Rattle.att_writes.specs.declared.outcome.Outcome.{Outcome}
 use Rattle.att_writes.specs.declared.outcome.Outcome.TheVariants.{Queued, Denied}
 use Rattle.att_writes.specs.declared.queue.Place.{Place}
 use Rattle.att_writes.specs.Entry.{Entry}
-use Rattle.octets.specs.Number.{Octets}
+use Rattle.octet_io.specs.Number.{Octets}
 use Rattle.att_writes.specs.declared.queue.TheConstants.{MAX_PREPARED, MAX_PREPARED_OCTETS}
 
--- how many octets the parts of prepared writes have together, and whether one more has room: this profile's own
+-- The length of all parts, and the limit of the queue (this profile's own).
 abbrev pub prepared_octets : List Entry → ℕ
 prepared_octets entries = sum_by (λ (entry : Entry). length entry.part) entries
 
 abbrev pub has_queue_room : List Entry → Octets → Bool
-has_queue_room entries part = nat_lt (length entries) MAX_PREPARED && nat_le (prepared_octets entries + length part) MAX_PREPARED_OCTETS
+has_queue_room entries part =
+    nat_lt (length entries) MAX_PREPARED
+    && nat_le (prepared_octets entries + length part) MAX_PREPARED_OCTETS
 
--- the handles that writes are of, each once, in the order of their first writes
+-- The handles, each once, in the order of their first writes.
 abbrev pub once_each : List Handle → List Handle
 once_each [] = []
 once_each (handle ∷ rest) = handle ∷ filter (λ other. not (other == handle)) (once_each rest)
@@ -33,33 +35,35 @@ once_each (handle ∷ rest) = handle ∷ filter (λ other. not (other == handle)
 abbrev pub handles_of_entries : List Entry → List Handle
 handles_of_entries entries = once_each (map (λ (entry : Entry). entry.handle) entries)
 
--- prepared writes whose parts stand one behind the other; this and what follows is of the code alone
+-- The entries of these places, with their parts in sequence.
 abbrev pub entries_in : List Place → Octets → List Entry
 entries_in [] octets = []
 entries_in (place ∷ places) octets =
-    record { handle = place.handle; offset = place.offset; part = take place.len octets } ∷ entries_in places (drop place.len octets)
+    record { handle = place.handle; offset = place.offset; part = take place.len octets }
+    ∷ entries_in places (drop place.len octets)
 
 abbrev pub sizes_of : List Place → ℕ
 sizes_of places = sum_by (λ (place : Place). place.len) places
 
--- the parts, in octets of which so many are used, have the lengths that their places say, within the limits, for which there is room
-pub record PartsAreLaidOut (places : List Place) (octets : Octets) (used place_room : ℕ) : Type 0 where
-  pub sizes : sizes_of places ≡ used
-  pub few_entries : length places ≤ MAX_PREPARED
-  pub few_octets : used ≤ MAX_PREPARED_OCTETS
-  pub has_place_room : MAX_PREPARED ≤ place_room
-  pub has_octet_room : length octets ≡ MAX_PREPARED_OCTETS
+-- The parts match their places, within the limits and the allocated memory.
+pub record PartsAreLaidOut (places : List Place) (octets : Octets) (used place_room : ℕ) : Type 0
+  where
+    pub sizes : sizes_of places ≡ used
+    pub few_entries : length places ≤ MAX_PREPARED
+    pub few_octets : used ≤ MAX_PREPARED_OCTETS
+    pub has_place_room : MAX_PREPARED ≤ place_room
+    pub has_octet_room : length octets ≡ MAX_PREPARED_OCTETS
 
--- why a write is not prepared, if it is not: the policy goes before the room
+-- The policy is checked before the space in the queue.
 abbrev pub broken_or_full : Option (Rule × Code) → Bool → Option Code
 broken_or_full (Some broken) fits = Some broken.1
 broken_or_full None fits = if fits then None else Some PREPARE_QUEUE_FULL
 
 abbrev pub prepare_fault : List Attr → Standing → List Entry → Entry → Option Code
 prepare_fault attributes standing entries entry =
-    broken_or_full (first_broken_of Write (guard_at attributes entry.handle) standing) (has_queue_room entries entry.part)
+    broken_or_full (first_broken_of Write (guard_at attributes entry.handle) standing)
+    (has_queue_room entries entry.part)
 
--- a prepared write is added at the end, or refused
 abbrev pub queue_after : List Entry → Entry → Option Code → List Entry
 queue_after entries entry (Some code) = entries
 queue_after entries entry None = entries ++ entry ∷ []
@@ -68,7 +72,6 @@ abbrev pub prepare_outcome : Entry → Option Code → Outcome
 prepare_outcome entry (Some code) = Denied PREPARE_WRITE_REQUEST entry.handle code
 prepare_outcome entry None = Queued
 
--- the handles that an execution wrote
 abbrev pub touched_by : List Entry → Result Stored Refusal → List Handle
 touched_by entries (Ok stored) = handles_of_entries entries
 touched_by entries (Err refusal) = []

@@ -1,10 +1,8 @@
-/// A write into the value of one attribute.
+/// A write to one attribute's value.
 #[derive(Clone, Copy)]
 pub(crate) struct EntryRef<'a> {
-    /// The handle of the attribute.
     pub handle: u16,
-    /// The offset in its value, in octets.
+    /// The offset in octets.
     pub offset: u16,
-    /// What is written from there on.
     pub part: &'a [u8],
 }

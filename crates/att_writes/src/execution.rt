@@ -1,4 +1,4 @@
-//! Writes that are prepared, and made together: Core 5.0, Vol 3 Part F, 3.4.6.
+//! The queue of prepared writes (Core 5.0, Vol 3 Part F, 3.4.6).
 
 ghost use Rattle.std.specs.Prelude.{◌≡◌, ◌≤◌, [], length, map, IfSome, IsNone, Err, Ok};
 ghost use Rattle.att_numbers.specs.Types.{Row};
@@ -21,8 +21,9 @@ use att_numbers::{error_code, opcode};
 use att_policy::{Access, Standing, first_broken};
 use att_table::{ConfigRow, Table};
 
-/// Adds the part of a Prepare Write Request to the queue of a client, or refuses it and changes
-/// nothing. Its offset and its length are judged when it is executed.
+/// Queues the part of a Prepare Write Request, or rejects it and changes nothing.
+///
+/// Offset and length are checked at execution.
 pub fn prepare(
     table: &Table,
     standing: &Standing,
@@ -59,9 +60,10 @@ pub fn prepare(
     Outcome::Queued
 }
 
-/// Makes all prepared writes of a client, in their order, or refuses them all and changes nothing.
-/// The policy is that of this moment. In both cases the queue is empty afterwards, and `touched`
-/// has the handles that were written, each once, in the order of their first entries.
+/// Executes all prepared writes in order, or rejects all and changes nothing.
+///
+/// Applies the policy of this moment and empties the queue in either case. `touched` lists each
+/// written handle once, in the order of first entries.
 pub fn execute(
     table: &mut Table,
     row: &mut ConfigRow,
@@ -95,8 +97,8 @@ pub fn execute(
     outcome
 }
 
-/// The handle of the first entry that is refused, with its error code, if one is. The parts of the
-/// entries stand one behind the other.
+/// Returns the handle and error code of the first rejected entry. `octets` has the parts in
+/// sequence.
 fn first_refused(
     table: &Table,
     standing: &Standing,
@@ -129,7 +131,7 @@ fn first_refused(
     None
 }
 
-/// Writes entries, each of which fits in its turn. Their parts stand one behind the other.
+/// Writes entries that fit.
 fn put_all(table: &mut Table, row: &mut ConfigRow, places: &[Place], octets: &[u8])
     requires sizes { sizes_of places.now ≡ length octets.now }
     requires row { IsRowOf table.old.attributes row.old }
@@ -146,7 +148,7 @@ fn put_all(table: &mut Table, row: &mut ConfigRow, places: &[Place], octets: &[u
     }
 }
 
-/// Puts the handles of entries, each once, into an empty buffer.
+/// Adds each handle once to an empty buffer.
 fn touch_all(places: &[Place], touched: &mut Touched)
     requires empty { touched.old.items ≡ [] }
     requires few { length places.now ≤ MAX_PREPARED }
@@ -159,7 +161,7 @@ fn touch_all(places: &[Place], touched: &mut Touched)
     }
 }
 
-/// Drops the prepared writes of a client.
+/// Empties the queue.
 pub fn cancel(queue: &mut Queue)
     ensures { queue.new ≡ [] }
 {

@@ -1,4 +1,4 @@
-//! When a write is refused: Core 5.0, Vol 3 Part F, 3.4.1.1.
+//! The reasons for rejecting a write (Core 5.0, Vol 3 Part F, 3.4.1.1).
 
 ghost use Rattle.std.specs.Prelude.{◌≡◌, ◌≤◌, length, Some, IsNone};
 ghost use Rattle.att_attributes.specs.Attributes.{attribute_at};
@@ -12,8 +12,7 @@ use att_numbers::error_code;
 use att_policy::{Access, Standing, first_broken};
 use att_table::{Attr, Role, Table};
 
-/// The error code by which a client is refused a write, if it is, once the entries at these earlier
-/// places are written.
+/// Returns the error code for an entry after the `earlier` ones, if it is rejected.
 #[inline(always)]
 pub(crate) fn fault_of(
     access: Access,
@@ -39,7 +38,6 @@ pub(crate) fn fault_of(
     }
 }
 
-/// The error code by which another value than a configuration is refused, if it is.
 fn value_fault(table: &Table, attr: &Attr, earlier: &[Place], entry: EntryRef<'_>) -> Option<u8>
     requires { attribute_at table.now.attributes entry.handle ≡ Some attr.now }
     ensures { result ≡ value_fault table.now.attributes
@@ -62,7 +60,7 @@ fn value_fault(table: &Table, attr: &Attr, earlier: &[Place], entry: EntryRef<'_
     }
 }
 
-/// How many octets the value of an attribute has once the entries at these places are written.
+/// Returns a value's length after these entries are written.
 fn size_after(table: &Table, attr: &Attr, places: &[Place], handle: u16) -> usize
     requires { attribute_at table.now.attributes handle ≡ Some attr.now }
     ensures { result ≡ size_after table.now.attributes table.now.values handle places.now }
@@ -75,8 +73,6 @@ fn size_after(table: &Table, attr: &Attr, places: &[Place], handle: u16) -> usiz
     }
 }
 
-/// How many octets a variable value of this length at a handle has once the entries at these places
-/// are written.
 fn size_with(handle: u16, len: usize, places: &[Place]) -> usize
     ensures { result ≡ size_with handle len places.now }
 {
@@ -89,7 +85,6 @@ fn size_with(handle: u16, len: usize, places: &[Place]) -> usize
     size
 }
 
-/// The error code by which a client characteristic configuration is refused, if it is.
 fn configuration_fault(table: &Table, entry: EntryRef<'_>) -> Option<u8>
     ensures { result ≡ configuration_fault table.now.attributes (entry_of entry.entry) }
 {

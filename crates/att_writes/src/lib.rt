@@ -1,4 +1,4 @@
-//! The changes that a client makes: Core 5.0, Vol 3 Part F, 3.4.5 and 3.4.6.
+//! Write requests and commands (Core 5.0, Vol 3 Part F, 3.4.5 and 3.4.6).
 #![tactic(auto)]
 
 mod entry;

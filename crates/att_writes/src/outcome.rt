@@ -1,10 +1,10 @@
-/// How a write of a client ended.
+/// The result of a client's write.
 #[derive(Clone, Copy, Debug, PartialEq, Eq)]
 pub enum Outcome {
-    /// All was written that was to be.
+    /// Everything was written.
     Written,
-    /// It is in the queue.
+    /// The write is in the queue.
     Queued,
-    /// It was refused: the opcode of the request, the handle of the attribute, and the error code.
+    /// The write was rejected: request opcode, attribute handle, error code.
     Denied(u8, u16, u8),
 }

@@ -8,28 +8,24 @@ use arrayvec::ArrayVec;
 use std::alloc::{AllocError, Global};
 use std::marker::Model;
 
-/// The most prepared writes in a queue: this profile's own.
+/// The most prepared writes in a queue (this profile's own).
 pub const MAX_PREPARED: usize = 32;
 
-/// The handles of the attributes that were written, each once.
+/// The handles that were written, each once.
 pub type Touched = ArrayVec<u16, MAX_PREPARED>;
 
-/// The most octets of all parts in a queue: this profile's own.
+/// The most octets of all parts in a queue (this profile's own).
 const MAX_PREPARED_OCTETS: usize = 1_024;
 
-/// Where a prepared write is to be made, and how many octets its part has.
+/// A prepared write without its part; offset and length in octets.
 #[derive(Clone, Copy)]
 pub(crate) struct Place {
-    /// The handle of the attribute.
     pub handle: u16,
-    /// The offset in its value, in octets.
     pub offset: u16,
-    /// The length of the part, in octets.
     pub len: u16,
 }
 
 impl Place {
-    /// The entry with this part.
     pub(crate) fn entry(self, part: &[u8]) -> EntryRef<'_>
         ensures { entry_of result
             ≡ record { handle = self.handle; offset = self.offset; part = part.now } }
@@ -42,14 +38,13 @@ impl Place {
     }
 }
 
-/// The prepared writes of one client, in their order, within the limits of a queue. (Core 5.0, Vol 3
-/// Part F, 3.4.6)
+/// The queue of prepared writes of one client (Core 5.0, Vol 3 Part F, 3.4.6).
 #[derive(Drop)]
 pub struct Queue {
     places: Vec<Place>,
-    /// As many octets as all parts may have: at their front the parts, one behind the other.
+    /// A buffer of fixed length that begins with the parts in sequence.
     octets: Vec<u8>,
-    /// How many octets the parts have.
+    /// The length of all parts.
     used: usize,
 }
 
@@ -68,10 +63,10 @@ impl Model for Queue {
 }
 
 impl Queue {
-    /// An empty queue, with all the room that it will need.
+    /// Creates an empty queue and allocates all its memory.
     pub fn new(alloc: Global) -> Result<Queue, AllocError>
         ensures empty { IfOk result (λ queue. queue ≡ []) }
-        // What holds of all writes, prepared or not.
+        // Facts of all writes, prepared or not.
         ensures lengths { JudgesByLengths }
         ensures others { LeavesOthers }
         ensures stored { StoresTouched }
@@ -84,7 +79,6 @@ impl Queue {
         })
     }
 
-    /// Whether the queue takes one more entry, with this part.
     #[tactic(auto, using(crate::proofs::Laid::laid))]
     pub(crate) fn has_room(&self, part: &[u8]) -> bool
         ensures { result ≡ has_queue_room self.now part.now }
@@ -92,7 +86,7 @@ impl Queue {
         self.places.len() < MAX_PREPARED && self.used + part.len() <= MAX_PREPARED_OCTETS
     }
 
-    /// Adds an entry at the end. It takes no memory.
+    /// Appends an entry; allocates nothing.
     #[tactic(auto, using(crate::proofs::Laid::laid))]
     pub(crate) fn push(&mut self, entry: EntryRef<'_>)
         requires room { IsTrue (has_queue_room self.old entry.part.now) }
@@ -108,7 +102,7 @@ impl Queue {
         self.used += entry.part.len();
     }
 
-    /// Where the entries are to be made, and their parts, one behind the other.
+    /// Returns the entries without parts, and the parts in sequence.
     pub(crate) fn parts(&self) -> (&[Place], &[u8])
         ensures entries { entries_in result.0.now result.1.now ≡ self.now }
         ensures sizes { sizes_of result.0.now ≡ length result.1.now }
@@ -117,7 +111,6 @@ impl Queue {
         (&self.places, &self.octets[..self.used])
     }
 
-    /// Drops all entries.
     pub(crate) fn clear(&mut self)
         ensures { self.new ≡ [] }
     {
@@ -126,17 +119,14 @@ impl Queue {
     }
 }
 
-/// Adds a place, for which the room is there. It stands apart for its proof.
 fn push_place(places: &mut Vec<Place>, place: Place)
     requires room { length places.old.items < vec_capacity places.old }
     ensures items { places.new.items ≡ places.old.items ++ place ∷ [] }
-    // So it takes no memory.
     ensures capacity { vec_capacity places.new ≡ vec_capacity places.old }
 {
     places.push_reserved(place);
 }
 
-/// Writes a part behind the octets that are used. It stands apart for its proof.
 fn write_part(octets: &mut [u8], used: usize, part: &[u8])
     requires room { used + length part.now ≤ length octets.old }
     ensures front { take (used + length part.now) octets.new ≡ take used octets.old ++ part.now }

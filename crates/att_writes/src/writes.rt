@@ -1,4 +1,4 @@
-//! Writes that are made at once: Core 5.0, Vol 3 Part F, 3.4.5.
+//! Immediate writes (Core 5.0, Vol 3 Part F, 3.4.5).
 
 ghost use Rattle.std.specs.Prelude.{◌≡◌, [], ◌∷◌};
 ghost use Rattle.att_numbers.specs.declared.opcode.TheConstants.{WRITE_REQUEST, WRITE_COMMAND};
@@ -17,9 +17,10 @@ use att_numbers::opcode;
 use att_policy::{Access, Standing};
 use att_table::{ConfigRow, Role, Table};
 
-/// Makes the change that a Write Request asks for, or refuses it and changes nothing. `row` is what
-/// the client has configured, `standing` what the policy sees of it. A value that keeps its length
-/// keeps the octets behind those that are written.
+/// Executes a Write Request, or rejects it and changes nothing.
+///
+/// `row` has the client's configurations, `standing` its security state. A fixed value keeps the
+/// octets after the written ones.
 pub fn write(
     table: &mut Table,
     row: &mut ConfigRow,
@@ -50,7 +51,7 @@ pub fn write(
     )
 }
 
-/// Does what a Write Command asks, which is never answered.
+/// Executes a Write Command, which has no response; otherwise like `write`.
 pub fn command(
     table: &mut Table,
     row: &mut ConfigRow,
@@ -81,7 +82,7 @@ pub fn command(
     )
 }
 
-/// Writes one entry, or refuses it under the opcode of the request that asks for it.
+/// Writes one entry or rejects it.
 #[inline(always)]
 #[tactic(auto, using(crate::proofs::AtOnce::at_once))]
 fn write_at_once(
@@ -124,10 +125,9 @@ pub(crate) fn put(table: &mut Table, row: &mut ConfigRow, entry: EntryRef<'_>)
     }
 }
 
-/// Whether the attribute at a handle is a client characteristic configuration.
 fn is_configuration(table: &Table, handle: u16) -> bool
     ensures is { result ≡ is_configuration_at table.now.attributes handle }
-    // A client's row has room for it then.
+    // The client's row then has space for it.
     ensures row { HasRowRoom table.now.attributes handle }
 {
     table

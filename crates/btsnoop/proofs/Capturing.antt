@@ -6,8 +6,8 @@ use Rattle.std.proofs.lemmas.List.{append-nil}
 use Rattle.std.proofs.lemmas.List.Elements.{All-nil, All-cons, All-append}
 use Rattle.std.specs.Io.KnownBytes.{Appends}
 use Rattle.std.specs.List.{All}
-use Rattle.octets.specs.Number.{Octets}
-use Rattle.octets.specs.Stream.{WritesFront}
+use Rattle.octet_io.specs.Number.{Octets}
+use Rattle.octet_io.specs.Stream.{WritesFront}
 use Rattle.btsnoop.specs.Capture.{CapturesFront, CapturesUpTo}
 use Rattle.btsnoop.specs.Packet.{IsPacket, IsLostPacket, joined_packets}
 use Rattle.btsnoop.specs.Record.{record_of, records_of}

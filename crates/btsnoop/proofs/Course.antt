@@ -6,7 +6,7 @@ use Rattle.std.proofs.lemmas.List.{append-nil}
 use Rattle.std.proofs.lemmas.List.Elements.{All-nil, All-append}
 use Rattle.std.specs.Io.KnownBytes.{Appends}
 use Rattle.std.specs.List.{All}
-use Rattle.octets.specs.Number.{Octets}
+use Rattle.octet_io.specs.Number.{Octets}
 use Rattle.btsnoop.specs.Course.{CaptureCall, Unfinished, nothing_begun, begun_in, with_begun, Leads, one_way, octets_one_way, packets_one_way, records_in, ConsistsOf, RecordsThePackets}
 use Rattle.btsnoop.specs.Packet.{IsPacket, IsUnfinished, joined_packets}
 use Rattle.btsnoop.specs.Record.{records_of}

@@ -1,4 +1,4 @@
-//! The octets so far of one packet.
+//! The octets of one packet so far, and none after it.
 
 ghost use Rattle.std.specs.Prelude.{◌≡◌, ◌≤◌, ◌++◌, [], length, take, drop};
 ghost use Rattle.btsnoop.specs.Packet.{Progresses};
@@ -8,14 +8,13 @@ use arrayvec::ArrayVec;
 use le_h4::MAX_PACKET_IN;
 use std::marker::Model;
 
-/// The octets so far of one packet, and none behind it.
 #[derive(Drop)]
 pub(crate) struct Begun {
     octets: ArrayVec<u8, MAX_PACKET_IN>,
 }
 
 impl Model for Begun {
-    ghost use Rattle.octets.specs.Number.{Octets};
+    ghost use Rattle.octet_io.specs.Number.{Octets};
 
     ghost Value = { Octets };
 
@@ -27,7 +26,6 @@ impl Model for Begun {
 }
 
 impl Begun {
-    /// No octets.
     pub(crate) fn new() -> Self
         ensures { result ≡ [] }
     {
@@ -36,7 +34,6 @@ impl Begun {
         }
     }
 
-    /// The octets.
     pub(crate) fn as_slice(&self) -> &[u8]
         ensures octets { result.now ≡ self.now }
         ensures few { length result.now ≤ MAX_PACKET_IN }
@@ -44,14 +41,13 @@ impl Begun {
         self.octets.as_slice()
     }
 
-    /// How far the packet has come.
     pub(crate) fn progress(&self) -> Progress
         ensures { Progresses self.now result }
     {
         progress_at(self.octets.as_slice())
     }
 
-    /// Appends octets, as many as there are of those that are missing, and answers what follows.
+    /// Appends at most `missing` octets and returns the rest.
     #[tactic(auto, using(crate::proofs::Beginning::goes_on))]
     pub(crate) fn fill<'a>(&mut self, missing: usize, octets: &'a [u8]) -> &'a [u8]
         requires { Progresses self.old (Progress.Lacks missing) }
@@ -63,7 +59,6 @@ impl Begun {
         later
     }
 
-    /// Forgets the octets.
     pub(crate) fn clear(&mut self)
         ensures { self.new ≡ [] }
     {

@@ -1,8 +1,8 @@
-//! A capture that is written as its packets go by.
+//! A capture that records packets as they pass.
 
 ghost use Rattle.std.specs.Prelude.{◌≡◌, [], None, IsSome};
 ghost use Rattle.std.specs.Result.{result_err};
-ghost use Rattle.octets.specs.Stream.{CountsIf};
+ghost use Rattle.octet_io.specs.Stream.{CountsIf};
 ghost use Rattle.btsnoop.specs.Record.{SpellsTheExample};
 ghost use Rattle.btsnoop.specs.Capture.{capture_fault, is_write_failure, received_of, sent_by_capture, sink_of};
 ghost use Rattle.btsnoop.specs.Capture.{fault_of_next, Begins, Captures};
@@ -11,32 +11,31 @@ ghost use Rattle.btsnoop.specs.Course.{RecordsThePackets};
 use crate::begun::Begun;
 use crate::packet::Progress;
 use crate::record::{Direction, write_file_header, write_record};
-use octets::Sink;
+use octet_io::Sink;
 
-/// Why no more packets are recorded.
+/// Reason why a capture records no more packets.
 #[derive(Clone, Copy, Debug, PartialEq, Eq)]
 pub enum CaptureFault {
-    /// A record, or what stands before all of them, could not be written.
+    /// The sink did not accept the file header or a record.
     Write,
-    /// Octets went by with which no packet of at most 1,029 octets begins.
+    /// No packet of at most 1,029 octets begins with the octets that passed.
     Packet,
 }
 
-/// A capture: packets of both directions are recorded in a sink, in the order in which they end.
+/// A capture, which records the packets of both directions in a sink, in the order in which they
+/// end.
 #[derive(Drop)]
 pub struct Capture<C> {
-    /// Where the records go.
     sink: C,
-    /// The octets so far of a packet to the controller.
+    /// Unfinished packet to the controller.
     sent: Begun,
-    /// The octets so far of a packet from it.
+    /// Unfinished packet from the controller.
     received: Begun,
-    /// Why no more packets are recorded.
     fault: Option<CaptureFault>,
 }
 
 impl<C: Sink> Capture<C> {
-    /// Begins a capture: writes what stands before all records.
+    /// Begins a capture by writing the file header.
     #[tactic(auto, using(crate::proofs::Example::spells, crate::proofs::Course::records_the_packets))]
     pub fn begin(sink: C) -> Self
         ensures sent { sent_by_capture result ≡ [] }
@@ -45,9 +44,8 @@ impl<C: Sink> Capture<C> {
             (C.contents (sink_of result)) }
         ensures failures { CountsIf (is_write_failure (capture_fault result)) (C.failures sink)
             (C.failures (sink_of result)) }
-        // What a capture is, by an example.
         ensures example { SpellsTheExample }
-        // However what goes by is cut into calls, the packets recorded are those of which it consists.
+        // However the octets are cut into calls, all their packets are recorded.
         ensures packets { RecordsThePackets }
     {
         let mut sink = sink;
@@ -63,9 +61,10 @@ impl<C: Sink> Capture<C> {
         }
     }
 
-    /// Takes in octets that have gone to the controller, which may begin and end anywhere in its
-    /// packets, and records each packet that they end, at a time in microseconds since the start of
-    /// 1970. After a fault nothing changes.
+    /// Records the packets that end in `octets`, which went to the controller.
+    ///
+    /// `octets` may begin and end anywhere in a packet. `time` is in microseconds since 1970. After
+    /// a fault nothing changes.
     pub fn went(&mut self, octets: &[u8], time: u64)
         ensures captured { capture_fault self.old ≡ None
             → Captures Direction.Sent time (sent_by_capture self.old) octets.now
@@ -90,9 +89,8 @@ impl<C: Sink> Capture<C> {
         }
     }
 
-    /// Takes in octets that have come from the controller, which may begin and end anywhere in its
-    /// packets, and records each packet that they end, at a time in microseconds since the start of
-    /// 1970. After a fault nothing changes.
+    /// Records the packets that end in `octets`, which came from the controller. `went` documents
+    /// the parameters.
     pub fn came(&mut self, octets: &[u8], time: u64)
         ensures captured { capture_fault self.old ≡ None
             → Captures Direction.Received time (received_of self.old) octets.now
@@ -118,8 +116,8 @@ impl<C: Sink> Capture<C> {
 }
 
 impl<C> Capture<C> {
-    /// A new stream begins, both ways: what is unfinished of the one before is dropped. A capture that
-    /// could not divide that one goes on; one that could not be written does not.
+    /// Begins a new stream in both directions, and drops unfinished packets. Clears the fault
+    /// `Packet`, but not `Write`.
     pub fn next_stream(&mut self)
         ensures sent { sent_by_capture self.new ≡ [] }
         ensures received { received_of self.new ≡ [] }
@@ -133,14 +131,14 @@ impl<C> Capture<C> {
         }
     }
 
-    /// Why no more packets are recorded, if that is so.
+    /// Returns why no more packets are recorded, if there was a fault.
     pub fn fault(&self) -> Option<CaptureFault>
         ensures { result ≡ capture_fault self.now }
     {
         self.fault
     }
 
-    /// Where the records go.
+    /// Returns the sink of the records.
     pub fn sink(&self) -> &C
         ensures { result.now ≡ sink_of self.now }
     {
@@ -148,8 +146,6 @@ impl<C> Capture<C> {
     }
 }
 
-/// Takes in octets of one direction behind those of an unfinished packet, and records each packet
-/// that they end.
 fn record_each<C: Sink>(
     direction: Direction,
     time: u64,

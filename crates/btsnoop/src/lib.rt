@@ -1,5 +1,4 @@
-//! What goes between a host and its controller, as a capture in the form of btsnoop: each packet
-//! with its direction and its time. There is no file in it.
+//! A btsnoop capture of the packets between a host and its controller. It does not open files.
 #![tactic(auto)]
 
 mod begun;

@@ -1,22 +1,20 @@
-//! How far the octets of one packet have come, whichever way it goes.
+//! Progress of a packet of either direction.
 
 ghost use Rattle.std.specs.Prelude.{◌≡◌};
 ghost use Rattle.btsnoop.specs.Packet.{needed_behind_two, needed_of, IsBegunPacket, Progresses};
 
 use le_h4::{MAX_PACKET_IN, indicator};
 
-/// How far the octets of a packet have come.
 #[derive(Clone, Copy, PartialEq, Eq)]
 pub(crate) enum Progress {
-    /// At least so many more belong to it.
+    /// Minimum number of missing octets.
     Lacks(usize),
-    /// They are all there.
     Whole,
-    /// No packet that is captured begins so.
+    /// No captured packet begins so.
     Lost,
 }
 
-/// How far a packet has come of which these octets are there, from its indicator on.
+/// Returns the progress of a packet, from its indicator on.
 pub(crate) fn progress_at(octets: &[u8]) -> Progress
     requires { IsBegunPacket octets.now }
     ensures { Progresses octets.now result }
@@ -33,7 +31,7 @@ pub(crate) fn progress_at(octets: &[u8]) -> Progress
     }
 }
 
-/// How many octets the packet has that these begin, as far as they tell.
+/// Returns the size of the packet in octets, as far as it is known.
 fn needed(octets: &[u8]) -> Option<usize>
     ensures { result ≡ needed_of octets.now }
 {
@@ -55,8 +53,7 @@ fn needed(octets: &[u8]) -> Option<usize>
     }
 }
 
-/// How many octets a command or synchronous data has, as far as can be told: its size stands behind
-/// two octets.
+/// Returns the size of a command or SCO packet, whose length follows two octets.
 fn needed_behind_two(rest: &[u8]) -> usize
     ensures { result ≡ needed_behind_two rest.now }
 {

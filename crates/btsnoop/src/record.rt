@@ -1,28 +1,27 @@
-//! The records of a capture.
+//! Records of a capture.
 
 ghost use Rattle.std.specs.Prelude.{◌≡◌, ◌≤◌, length, OnOk, OnErr};
 ghost use Rattle.std.specs.Io.KnownBytes.{Appends};
 ghost use Rattle.btsnoop.specs.Record.{file_header, flags_of, header_of, record_of};
-ghost use Rattle.octets.specs.Stream.{CountsFailure, WritesFront};
+ghost use Rattle.octet_io.specs.Stream.{CountsFailure, WritesFront};
 
 use arrayvec::ArrayVec;
 use le_h4::{MAX_PACKET_IN, indicator};
-use octets::{Failed, Sink, write_all};
+use octet_io::{Failed, Sink, write_all};
 
-/// Identification, version 1, and the data link of H4 packets: 1002.
+/// Identification, version 1, and data link 1002 (H4).
 const FILE_HEADER: [u8; 16] = *b"btsnoop\0\0\0\0\x01\0\0\x03\xea";
 
-/// The microseconds from the start of the year 0 to that of 1970, as readers of btsnoop take them: of
-/// 719,540 days, twelve more than by the Gregorian calendar.
+/// Microseconds from the year 0 to 1970, as btsnoop readers count them: 719,540 days.
 const EPOCH: u64 = 719_540 * 86_400 * 1_000_000;
 
-/// The octets of a record before its packet.
+/// Octets of a record before its packet.
 const HEADER: usize = 24;
 
-/// The most octets of a record.
+/// Maximum octets of a record.
 const RECORD: usize = HEADER + MAX_PACKET_IN;
 
-/// Which way a packet goes.
+/// Direction of a packet.
 #[derive(Clone, Copy, Debug, PartialEq, Eq)]
 pub enum Direction {
     /// From the host to the controller.
@@ -31,7 +30,7 @@ pub enum Direction {
     Received,
 }
 
-/// Writes what stands before all records, or the front of it where the sink fails.
+/// Writes the file header, or a prefix of it if the sink fails.
 #[tactic(auto, unfolding(crate::specs::Record::file_header))]
 pub(crate) fn write_file_header<C: Sink>(sink: &mut C) -> Result<(), Failed>
     ensures ok { OnOk result (Appends (C.contents sink.old) (C.contents sink.new) file_header) }
@@ -42,8 +41,8 @@ pub(crate) fn write_file_header<C: Sink>(sink: &mut C) -> Result<(), Failed>
     write_all(&FILE_HEADER, sink)
 }
 
-/// Writes the record of a packet at a time, in microseconds since the start of 1970, or the front
-/// of it where the sink fails.
+/// Writes the record of a packet, or a prefix of it if the sink fails. `time` is in microseconds
+/// since 1970.
 pub(crate) fn write_record<C: Sink>(
     direction: Direction,
     time: u64,
@@ -66,7 +65,6 @@ pub(crate) fn write_record<C: Sink>(
     write_all(record.as_slice(), sink)
 }
 
-/// What stands before a packet in its record.
 #[tactic(auto, unfolding(crate::specs::Record::header_of))]
 fn header(direction: Direction, time: u64, packet: &[u8]) -> ArrayVec<u8, HEADER>
     requires { length packet.now ≤ MAX_PACKET_IN }
@@ -85,7 +83,6 @@ fn header(direction: Direction, time: u64, packet: &[u8]) -> ArrayVec<u8, HEADER
     header
 }
 
-/// Which way a packet goes, and whether it is a command or an event.
 fn flags(direction: Direction, packet: &[u8]) -> u32
     ensures { result ≡ flags_of direction packet.now }
 {

@@ -11,7 +11,7 @@ const INPUT: &[u8] = b"0a0300\n0a0000\n12030041\n0a03\n20\nd20300\n";
 
 const OUTPUT: &[u8] = b"0b4c6f636b\n010a000001\n0112030003\n010a000004\n0120000006\n-\n";
 
-/// Gives what a reader gives in pieces of at most `piece` octets, and fails once `reads` are done.
+/// A reader in pieces of at most `piece` bytes, which fails after `reads` reads.
 #[derive(Drop)]
 struct Pieces<R> {
     reader: R,
@@ -30,7 +30,6 @@ impl<R: Read> Read for Pieces<R> {
     }
 }
 
-/// Counts a read down, and says whether it is the one that fails.
 fn is_failing(reads: &mut u64) -> bool {
     if *reads == 0 {
         *reads = u64::MAX;
@@ -49,7 +48,7 @@ fn in_pieces<R: Read>(reader: R, piece: usize) -> Pieces<R> {
     }
 }
 
-/// Takes `room` octets, and then fails.
+/// A writer that accepts `room` bytes and then fails.
 #[derive(Drop)]
 struct Room {
     room: usize,
@@ -75,7 +74,7 @@ impl Write for Room {
     }
 }
 
-/// Runs the command over an input, and compares how it ends and what it has printed.
+/// Runs the command over an input, and compares its result and output.
 fn answers<R: Read>(
     rt: &impl Abort,
     alloc: Global,
@@ -96,7 +95,6 @@ fn is_answered<R: Read>(
     att_lines(alloc, input, &mut printed) == ended && printed.as_slice() == output
 }
 
-/// Ends the test unless the front of the output is printed of an input that cannot be read to its end.
 fn breaks_off<R: Read>(rt: &impl Abort, alloc: Global, input: &mut R, output: &[u8]) {
     assert!(rt; is_broken_off(alloc, input, output));
 }
@@ -115,7 +113,6 @@ fn answers_however_the_input_is_cut(rt: HostRuntime) {
     }
 }
 
-/// Inputs, what is printed for them, and how the command ends.
 const ENDS: &[(&[u8], &[u8], Result<(), ShellFault>)] = &[
     (b"", b"", Ok(())),
     (b"\n\n", b"", Ok(())),
@@ -199,7 +196,6 @@ fn tells_a_failed_write(rt: HostRuntime) {
     }
 }
 
-/// Whether an output with room for so many octets takes them, and the failed write is told.
 fn is_unwritten(alloc: Global, room: usize) -> bool {
     let mut input = INPUT;
     let mut output = Room {

@@ -10,7 +10,6 @@ use std::io;
 use std::io::{ErrorKind, Read};
 use std::process::Abort;
 
-/// Fails at each read.
 #[derive(Drop)]
 struct Unreadable;
 
@@ -20,7 +19,6 @@ impl Read for Unreadable {
     }
 }
 
-/// Judges two inputs, and compares how that ends and what it has printed.
 fn judges<T: Read, K: Read>(
     rt: &impl Abort,
     alloc: Global,
@@ -44,7 +42,6 @@ fn is_judged<T: Read, K: Read>(
         && output.as_slice() == printed.as_bytes()
 }
 
-/// Tables and keys, how `check` ends, and what it prints.
 const TEXTS: &[(&str, &str, Result<(), ShellFault>, &str)] = &[
     (DOOR, KEYS, Ok(()), "attributes 21\nkeys 3\n"),
     (BELL, "", Ok(()), "attributes 9\nkeys 0\n"),
@@ -56,7 +53,6 @@ const TEXTS: &[(&str, &str, Result<(), ShellFault>, &str)] = &[
     ("service = []", "bell = 1", Err(ShellFault::Keys(9)), ""),
 ];
 
-/// Octets that are no text, as tables and keys, and how `check` ends.
 const OCTETS: &[(&[u8], &[u8], Result<(), ShellFault>)] = &[
     (b"service = [] # \xFF", b"", Err(ShellFault::Table(1))),
     (b"service = []", b"# \xFF", Err(ShellFault::Keys(1))),
@@ -73,7 +69,6 @@ fn counts_attributes_and_keys_or_tells_the_fault(rt: HostRuntime) {
     }
 }
 
-/// Judges the octets of a table and of keys.
 fn judge(
     rt: &impl Abort,
     alloc: Global,
@@ -93,7 +88,7 @@ fn reads_the_keys_behind_the_table(rt: HostRuntime) {
     leaves_keys(&rt, rt.alloc(), b"key");
 }
 
-/// Nothing is read of keys behind a table that cannot be read.
+/// Keys after a table that cannot be read are not read.
 fn leaves_keys(rt: &impl Abort, alloc: Global, keys: &[u8]) {
     let mut rest = keys;
     let unreadable = Err(ShellFault::Unreadable);
@@ -101,13 +96,11 @@ fn leaves_keys(rt: &impl Abort, alloc: Global, keys: &[u8]) {
     assert!(rt; rest == keys);
 }
 
-/// Judges a table beside keys that cannot be read.
 fn judges_table(rt: &impl Abort, alloc: Global, table: &[u8], answer: Result<(), ShellFault>) {
     let mut table = table;
     judges(rt, alloc, &mut table, &mut Unreadable, answer, "");
 }
 
-/// Judges the files at two paths, and says whether that ends so and this is printed.
 fn are_judged(
     rt: &(impl AllocGlobal + Files),
     paths: (TablePath<'_>, KeysPath<'_>),
@@ -131,8 +124,7 @@ const TABLE: &str = "check_table.toml";
 
 const PEERS: &str = "check_keys.toml";
 
-/// The first path is that of the table, and the second that of the keys. One that leads nowhere is
-/// told once it is its turn.
+/// Paths of a table and of keys. A missing file is reported only when it is read.
 const PATHS: &[(&str, &str, Result<(), ShellFault>, &str)] = &[
     (TABLE, PEERS, Ok(()), "attributes 9\nkeys 3\n"),
     (PEERS, TABLE, Err(ShellFault::Table(11)), ""),

@@ -1,9 +1,8 @@
-//! An output that takes nothing.
+//! An output that accepts nothing.
 
 use std::io;
 use std::io::{ErrorKind, Write};
 
-/// Fails at each write and flush.
 #[derive(Drop)]
 pub struct Closed;
 

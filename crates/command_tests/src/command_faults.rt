@@ -4,7 +4,6 @@ use arrayvec::ArrayVec;
 use gatt_commands::{ShellFault, status, text};
 use std::process::Abort;
 
-/// Faults, with the text and the status of each.
 const FAULTS: &[(ShellFault, &str, u8)] = &[
     (ShellFault::Table(3), "table: fault 3", 1),
     (ShellFault::Keys(0), "keys: fault 0", 1),
@@ -35,7 +34,7 @@ fn says_each_fault(rt: HostRuntime) {
     says(&rt, &mut ArrayVec::new(), FAULTS);
 }
 
-/// One text after the other takes the place of the one before.
+/// Each text replaces the one before it.
 fn says(rt: &impl Abort, out: &mut ArrayVec<u8, 40>, cases: &[(ShellFault, &str, u8)]) {
     for (fault, wanted, code) in cases {
         assert!(rt; is_said(fault, out, wanted, *code), "{wanted}");

@@ -1,6 +1,7 @@
-//! Two phones send their lines in several orders, and each phone is sent the same in all of them. In the
-//! first test no phone writes a value that the other reads or is notified of. In the second test the
-//! writes that a phone sees stay at the same place among its own lines.
+//! Two phones send their lines in several orders, and each receives the same in all of them.
+//!
+//! In the first test no phone writes a value that the other reads or is notified of. In the second
+//! test, the writes that a phone sees keep their places among its own lines.
 
 use crate::run_files::{Inputs, run};
 use le_security::examples::KEYS;
@@ -8,8 +9,7 @@ use std::alloc::{AllocError, Global};
 use std::str;
 use std::str::Lines;
 
-/// Two services with a level and a note each: the level at 3 and the note at 6 are those of the phone
-/// U, and the level at 9 and the note at 12 those of the phone V.
+/// A level (handles 3 and 9) and a note (6 and 12) for each of the phones U and V.
 const TABLE: &str = r#"
 [[service]]
 uuid = "fff0"
@@ -39,7 +39,6 @@ properties = ["read", "write"]
 write = { encrypted = true }
 "#;
 
-/// The lines of U, and of the application about its level.
 const LINES_OF_U: &str = "\
 connect U 1 c0:00:00:00:00:0a
 U < 021900
@@ -60,8 +59,10 @@ U < 1e
 U < 1e
 ";
 
-/// What U hears: its ATT_MTU is 25, so 24 octets of its note at once. What it writes itself it is not
-/// told of. The level of the last update waits until the indication of the one before is confirmed.
+/// The packets to U. With an ATT_MTU of 25, a Read Response has 24 octets.
+///
+/// U is not notified of its own writes. The last level waits for the confirmation of the indication
+/// before it.
 const HEARD_BY_U: &str = "\
 U > 03f700
 U > 13
@@ -79,8 +80,7 @@ U > 0b04
 U > 1d030004
 ";
 
-/// The lines of V, and of the application about its level. It prepares a write of the note of U and
-/// drops it, and a write of the level of U is refused.
+/// V also prepares and cancels a write of U's note. Its write of U's level is refused.
 const LINES_OF_V: &str = "\
 connect V 1 c0:00:00:00:00:01
 encrypt V 0101010101010101 257
@@ -104,7 +104,7 @@ done V 2
 drop V
 ";
 
-/// What V hears. Where packets are not completed, two are on their way and the others wait.
+/// While packets are held, two are sent and the others wait.
 const HEARD_BY_V: &str = "\
 V > 03f700
 V > 13
@@ -123,15 +123,14 @@ V > 0b0100
 V > 1b090009
 ";
 
-/// Whose line comes next, until all have come: 17 are those of U, and 20 those of V.
+/// The phone whose line comes next: 17 lines of U, and 20 of V.
 const ORDERS: &[&str] = &[
     "UUUUUUUUUUUUUUUUUVVVVVVVVVVVVVVVVVVVV",
     "VVVVVVVVVVVVVVVVVVVVUUUUUUUUUUUUUUUUU",
     "VUVUVVUVUUVUVUVVUVUUVUVVUUVVVUVUVUUVV",
 ];
 
-/// All that U sees: its own lines, what the application writes, and what V writes. Of its level it is
-/// told both times.
+/// All lines that U can see. It is notified of both writes of its level.
 const SEEN_BY_U: &str = "\
 connect U 1 c0:00:00:00:00:0a
 U < 021900
@@ -142,8 +141,7 @@ update 3 06
 V < 12030007
 ";
 
-/// What V does besides, of which U sees nothing: it comes, exchanges its ATT_MTU, reads, prepares a
-/// write and drops it, and is refused an attribute that is not there.
+/// The lines of V that U cannot see.
 const UNSEEN_BY_U: &str = "\
 connect V 1 c0:00:00:00:00:01
 V < 026400
@@ -162,10 +160,9 @@ U > 1b030006
 U > 1b030007
 ";
 
-/// What U sees stays in its order, and the rest falls between: V comes first, or behind U.
+/// The lines that U sees keep their order.
 const UNSEEN_ORDERS: &[&str] = &["VVVVVVUUUUUUU", "UUUVUVUVUVVVU", "VUVUVUVUVVUUU"];
 
-/// Lines of U and of V, and what phones hear of them, by their names.
 struct View {
     of_u: &'static str,
     of_v: &'static str,
@@ -184,7 +181,6 @@ const SEEN: &View = &View {
     heard: &[("U", TOLD_U)],
 };
 
-/// Writes lines of two texts in an order, U for the first of them and V for the other.
 fn interleave(
     order: &str,
     first: &str,
@@ -198,7 +194,6 @@ fn interleave(
     Ok(())
 }
 
-/// The next line of a phone, and nothing behind its last.
 fn next_line<'a>(phone: u8, of_u: &mut Lines<'a>, of_v: &mut Lines<'a>) -> &'a str {
     let line = if phone == b'U' {
         of_u.next()
@@ -213,7 +208,6 @@ fn put_line(line: &str, script: &mut String) -> Result<(), AllocError> {
     script.push('\n')
 }
 
-/// Whether phones hear what they are to hear of a script with these lines in an order.
 fn hear(alloc: Global, order: &str, view: &View) -> bool {
     let mut script = String::new(alloc);
     interleave(order, view.of_u, view.of_v, &mut script).is_ok()
@@ -225,7 +219,6 @@ fn hear_script(alloc: Global, script: &str, heard: &[(&str, &str)]) -> bool {
     is_run(alloc, script, &mut printed) && are_heard(printed.as_slice(), heard)
 }
 
-/// Runs a script, and writes what is printed.
 fn is_run(alloc: Global, script: &str, printed: &mut Vec<u8>) -> bool {
     let inputs = Inputs {
         table: TABLE,
@@ -249,7 +242,7 @@ fn are_heard(printed: &[u8], heard: &[(&str, &str)]) -> bool {
     true
 }
 
-/// Whether the lines that begin with a name are these.
+/// Returns true if exactly these lines begin with a name.
 fn is_heard_by(printed: &str, name: &str, heard: &str) -> bool {
     let mut wanted = heard.lines();
     for line in printed.lines() {
@@ -260,7 +253,6 @@ fn is_heard_by(printed: &str, name: &str, heard: &str) -> bool {
     wanted.next().is_none()
 }
 
-/// Whether a line is the next of these, where it begins with a name.
 fn is_next(line: &str, name: &str, wanted: &mut Lines<'_>) -> bool {
     !line.starts_with(name) || wanted.next() == Some(line)
 }

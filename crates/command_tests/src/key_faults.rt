@@ -1,11 +1,10 @@
-//! Where key files and rows files have their faults, and what these are, as they are told.
+//! The places and texts of faults in key files and subscriptions files.
 
 use crate::table_faults::tells;
 use gatt_show::{add_keys_fault, add_rows_fault};
 use std::alloc::Global;
 use std::process::Abort;
 
-/// An entry of a key file without a fault.
 const ENTRY: &str = r#"
 [[key]]
 address = "c0:00:00:00:00:01"
@@ -17,7 +16,7 @@ size = 16
 authenticated = false
 "#;
 
-/// Key files, each behind a good entry, and what is told of their first faults.
+/// Entries after a correct one, with the text of their first fault.
 const KEYS: &[(&str, &str)] = &[
     ("", ""),
     (
@@ -89,7 +88,7 @@ const KEYS: &[(&str, &str)] = &[
     ),
 ];
 
-/// Further key files, each behind a good entry, and what is told of their first faults: in their numbers.
+/// More entries, with faults in their numbers.
 const KEY_NUMBERS: &[(&str, &str)] = &[
     (
         r#"
@@ -175,7 +174,6 @@ const KEY_NUMBERS: &[(&str, &str)] = &[
     ),
 ];
 
-/// Rows files, and what is told of their first faults.
 const ROWS: &[(&str, &str)] = &[
     ("1 c0:00:00:00:00:01 4 2\n! 1 c0:00:00:00:00:01\n", ""),
     (

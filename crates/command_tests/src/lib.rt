@@ -1,5 +1,4 @@
-//! Tests of the commands and of what each says where it ends: inputs, with what is printed and written
-//! for them, what is shown of tables and of faults in files, and a controller over a connection.
+//! Tests of the commands: results, outputs, and a controller over a connection.
 #![tactic(auto)]
 
 #[cfg(test)]

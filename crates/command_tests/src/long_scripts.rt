@@ -6,7 +6,7 @@ use att_table::examples::DOOR;
 use std::alloc::{AllocError, Global};
 use std::process::Abort;
 
-/// A script over a table, and what it prints: pieces of a text, and how often each stands.
+/// A script and its output, each as pieces of text with numbers of repetitions.
 #[derive(Clone, Copy)]
 struct LongRun {
     table: &'static str,
@@ -37,7 +37,6 @@ fn is_printed_of<'a>(alloc: Global, table: &'a str, script: &'a str, printed: &'
     is_printed(alloc, &run)
 }
 
-/// The pieces of a text, one behind the other.
 fn text_of(alloc: Global, pieces: &[(&str, usize)]) -> Result<String, AllocError> {
     let mut text = String::new(alloc);
     for &(piece, times) in pieces {
@@ -62,7 +61,7 @@ fn runs_each_line(rt: HostRuntime) {
     prints(&rt, rt.alloc(), &[MANY_LINES]);
 }
 
-/// The longest value there is, and its last two octets.
+/// The longest value, and its last two octets.
 const LONGEST_VALUE: LongRun = LongRun {
     table: DOOR,
     script: &[
@@ -78,7 +77,6 @@ fn takes_all_octets_of_a_line(rt: HostRuntime) {
     prints(&rt, rt.alloc(), &[LONGEST_VALUE]);
 }
 
-/// A table with one value, which may be long.
 const SIGN: &str = r#"
 [[service]]
 uuid = "fff0"
@@ -89,7 +87,7 @@ max = 512
 properties = ["read", "notify"]
 "#;
 
-/// Each phone is told the front of a value, in ten packets.
+/// Each phone is notified of the prefix of a value, in ten packets.
 const MANY_PACKETS: LongRun = LongRun {
     table: SIGN,
     script: &[
@@ -132,8 +130,8 @@ fn hands_over_all_packets_of_a_line(rt: HostRuntime) {
     prints(&rt, rt.alloc(), &[MANY_PACKETS]);
 }
 
-/// Two packets of 27 octets may be on their way to a phone. An answer with 49 octets of a value fills
-/// them, with its opcode and the header of its frame. One octet more waits for a third packet.
+/// Two packets of 27 octets may be unacknowledged. A response with 49 octets of a value fills them,
+/// and one octet more waits for a third packet.
 const PACKET_ROOM: LongRun = LongRun {
     table: DOOR,
     script: &[

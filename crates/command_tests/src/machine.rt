@@ -6,7 +6,7 @@ use std::io;
 use std::io::ErrorKind;
 use std::net::{Net, SocketAddr, TcpListener, TcpStream};
 
-/// Opens the files at these paths and no others, as `system` does, and listens at this address alone.
+/// Opens only the files at these paths, through `system`, and listens only at this address.
 #[derive(Drop)]
 pub struct Machine<'a, R> {
     pub system: &'a R,

@@ -1,9 +1,9 @@
-//! Addresses, random numbers and diversifiers whose octets are not the same from both ends.
+//! Addresses, random numbers and diversifiers whose octets differ when reversed.
 
 use crate::run_files::{Inputs, Outcome, runs};
 use att_table::examples::DOOR;
 
-/// More keys than the example of a door lock has.
+/// More keys than the door lock example has.
 const KEYS: &str = r#"
 [[key]]
 address = "c0:00:00:00:00:01"
@@ -51,8 +51,8 @@ size = 16
 authenticated = false
 "#;
 
-/// Of no other order and no other kind of address is there a key. Where the peer has another one, a
-/// read tells that it may be encrypted.
+/// There is a key only in this order and for this type of address. Otherwise a read reports
+/// insufficient encryption only if the peer has another key.
 const ORDERS: Inputs<'static> = Inputs {
     table: DOOR,
     next: None,

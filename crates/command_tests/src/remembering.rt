@@ -3,7 +3,7 @@
 use gatt_commands::{RowsStore, ShellFault};
 use gatt_host::{ArraySink, Rows};
 
-/// Remembers how often it was asked to save rows, and their texts, one behind the other.
+/// The number of saves, and the saved texts in a row.
 #[derive(Drop)]
 pub struct Remembering {
     times: u32,
@@ -11,7 +11,6 @@ pub struct Remembering {
 }
 
 impl Remembering {
-    /// Nothing was asked yet.
     pub fn new() -> Remembering {
         Remembering {
             times: 0,
@@ -19,7 +18,7 @@ impl Remembering {
         }
     }
 
-    /// Whether it was asked so often, for these texts.
+    /// Returns true if exactly these texts were saved.
     pub fn has_saved(&self, times: u32, texts: &str) -> bool {
         self.times == times && self.texts.octets() == texts.as_bytes()
     }

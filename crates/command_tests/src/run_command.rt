@@ -1,4 +1,4 @@
-//! The command `run`: scripts, and what is printed for them.
+//! The command `run`: scripts and their output.
 
 use crate::run_files::{Inputs, UNASKED, run_showing};
 use att_table::examples::{DOOR, PORCH, PORCH_NEXT, POST};
@@ -7,8 +7,7 @@ use le_security::examples::KEYS;
 use std::alloc::Global;
 use std::process::Abort;
 
-/// A script over a table and, where there is one, another that replaces it; what is shown beside what
-/// the phones hear; and what it prints.
+/// A script with its table, a replacement if any, the options of the output, and the output.
 #[derive(Clone, Copy)]
 pub struct Run<'a> {
     pub shows: Shows,
@@ -18,7 +17,7 @@ pub struct Run<'a> {
     pub printed: &'a str,
 }
 
-/// Runs scripts, each over a host of its own with no rows, and compares what they print.
+/// Runs each script over a host without subscriptions, and compares the output.
 pub fn prints(rt: &impl Abort, alloc: Global, runs: &[Run<'_>]) {
     for run in runs {
         assert!(rt; is_printed(alloc, run), "{}", run.script);
@@ -30,7 +29,6 @@ pub fn is_printed(alloc: Global, run: &Run<'_>) -> bool {
     is_run(alloc, run, &mut printed) && printed.as_slice() == run.printed.as_bytes()
 }
 
-/// Runs a script, and writes what is printed.
 fn is_run(alloc: Global, run: &Run<'_>, printed: &mut Vec<u8>) -> bool {
     let inputs = Inputs {
         table: run.table,
@@ -89,8 +87,8 @@ fn prints_what_each_phone_hears_by_channel(rt: HostRuntime) {
     prints(&rt, rt.alloc(), BY_CHANNEL);
 }
 
-/// What one phone has prepared, another neither writes nor drops. A third kind of Execute Write is
-/// not there.
+/// No phone executes or cancels what another has prepared. A third kind of Execute Write is
+/// refused.
 const PREPARED: Run<'_> = Run {
     script: "\
 connect A 1 c0:00:00:00:00:0a
@@ -122,7 +120,7 @@ fn keeps_what_each_phone_prepares_apart(rt: HostRuntime) {
     prints(&rt, rt.alloc(), APART);
 }
 
-/// What is prepared, and what is configured for a value of another type, goes with the old table.
+/// Prepared writes, and configurations for a value of another type, end with the old table.
 const REPLACED: Run<'_> = Run {
     shows: UNASKED,
     table: PORCH,
@@ -154,7 +152,7 @@ U > 0b0200
 ",
 };
 
-/// The two tables change places each time, and each keeps the values that it has.
+/// The two tables are swapped twice, and each keeps its values.
 const REPLACED_TWICE: Run<'_> = Run {
     shows: UNASKED,
     table: PORCH,
@@ -180,7 +178,7 @@ fn replaces_the_table(rt: HostRuntime) {
     prints(&rt, rt.alloc(), REPLACEMENTS);
 }
 
-/// A phone is authorized up to a moment, and not at it. That moment stays past.
+/// An authorization ends exactly at its moment.
 const AUTHORIZED: Run<'_> = Run {
     shows: UNASKED,
     table: POST,
@@ -222,7 +220,7 @@ U > 010a030008
 ",
 };
 
-/// What is allowed or denied to one phone is not to another.
+/// Allowing or denying one phone does not affect another.
 const SECOND_ALLOWED: Run<'_> = Run {
     shows: UNASKED,
     table: POST,
@@ -287,7 +285,7 @@ U > 0b4c6f636b
     ..AT_THE_DOOR
 };
 
-/// There is room for four connections.
+/// At most four connections are possible.
 const ACTS_REFUSED: Run<'_> = Run {
     script: "\
 drop U
@@ -317,7 +315,7 @@ fn prints_the_number_of_each_refusal(rt: HostRuntime) {
     prints(&rt, rt.alloc(), REFUSALS);
 }
 
-/// A link that had a key goes on without one: authentication failure.
+/// A link that had a key continues without one: authentication failure.
 const CLEARED: Run<'_> = Run {
     script: "\
 connect P 1 c0:00:00:00:00:01
@@ -334,8 +332,7 @@ P refused 1
     ..AT_THE_DOOR
 };
 
-/// Two packets may be on their way to a phone, and sixteen answers wait for them: remote user
-/// terminated connection.
+/// Two packets may be unacknowledged and sixteen responses queued: then the host disconnects.
 const NOT_FETCHED: Run<'_> = Run {
     script: "\
 connect U 1 c0:00:00:00:00:0a
@@ -368,7 +365,7 @@ U ended 13
     ..AT_THE_DOOR
 };
 
-/// A phone that is held gets as many packets more as it has taken.
+/// A held phone receives one more packet for each one completed.
 const FETCHED: Run<'_> = Run {
     script: "\
 connect U 1 c0:00:00:00:00:0a

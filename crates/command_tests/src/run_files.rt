@@ -1,4 +1,4 @@
-//! The command `run`: the order in which its files are judged, and the rows that it writes.
+//! The command `run`: the order of checking its files, and the subscriptions that it writes.
 
 use crate::closed::Closed;
 use crate::remembering::Remembering;
@@ -9,7 +9,6 @@ use std::alloc::Global;
 use std::io::Write;
 use std::process::Abort;
 
-/// The files of a run.
 #[derive(Clone, Copy)]
 pub struct Inputs<'a> {
     pub table: &'a str,
@@ -19,7 +18,6 @@ pub struct Inputs<'a> {
     pub script: &'a str,
 }
 
-/// What a run prints, the rows that it writes, and how it ends.
 #[derive(Clone, Copy)]
 pub struct Outcome {
     pub printed: &'static str,
@@ -27,13 +25,12 @@ pub struct Outcome {
     pub ended: Result<(), ShellFault>,
 }
 
-/// Nothing is printed beside what the phones hear.
+/// Prints only the packets to phones.
 pub const UNASKED: Shows = Shows {
     notices: false,
     lines: false,
 };
 
-/// Runs over inputs, and writes the rows and what is printed to two writers.
 pub fn run<V: Write, W: Write>(
     alloc: Global,
     inputs: &Inputs<'_>,
@@ -43,7 +40,6 @@ pub fn run<V: Write, W: Write>(
     run_showing(alloc, inputs, rows, UNASKED, printed)
 }
 
-/// Runs over inputs, and prints what `shows` asks for too.
 pub fn run_showing<V: Write, W: Write>(
     alloc: Global,
     inputs: &Inputs<'_>,
@@ -54,7 +50,6 @@ pub fn run_showing<V: Write, W: Write>(
     run_saving(alloc, inputs, &mut RowsOut::new(rows), shows, printed)
 }
 
-/// Runs over inputs, and has a store save the rows.
 fn run_saving<S: RowsStore, W: Write>(
     alloc: Global,
     inputs: &Inputs<'_>,
@@ -79,7 +74,6 @@ fn next_of<'a>(inputs: &Inputs<'a>) -> Option<&'a [u8]> {
     inputs.next.map(|next| next.as_bytes())
 }
 
-/// Runs over inputs, and compares what that prints and writes, and how it ends.
 pub fn runs(rt: &impl Abort, alloc: Global, cases: &[(Inputs<'_>, Outcome)]) {
     for (inputs, outcome) in cases {
         assert!(rt; leads_to(alloc, inputs, outcome), "{}", inputs.script);
@@ -92,7 +86,6 @@ fn leads_to(alloc: Global, inputs: &Inputs<'_>, outcome: &Outcome) -> bool {
         && printed.as_slice() == outcome.printed.as_bytes()
 }
 
-/// Whether a run ends so and writes these rows. What it prints goes to a writer.
 fn is_written<W: Write>(
     alloc: Global,
     inputs: &Inputs<'_>,
@@ -104,7 +97,6 @@ fn is_written<W: Write>(
         && rows.as_slice() == outcome.rows.as_bytes()
 }
 
-/// A phone with a key has subscribed to the battery level.
 const SUBSCRIBED: &str = "1 c0:00:00:00:00:01 7 1\n";
 
 const GOOD: Inputs<'static> = Inputs {
@@ -115,7 +107,7 @@ const GOOD: Inputs<'static> = Inputs {
     script: "connect U 1 c0:00:00:00:00:0a\nU < 0a0300\n",
 };
 
-/// Nothing is printed or written where a file is refused.
+/// Nothing is printed or written if a file is refused.
 const fn refused(fault: ShellFault) -> Outcome {
     Outcome {
         printed: "",
@@ -124,7 +116,7 @@ const fn refused(fault: ShellFault) -> Outcome {
     }
 }
 
-/// All files are bad, and then one after the other is good.
+/// All files are bad at first, and then one after the other is corrected.
 const BAD: Inputs<'static> = Inputs {
     table: "service",
     next: Some(""),
@@ -172,7 +164,7 @@ fn is_refused(alloc: Global, inputs: &Inputs<'_>, fault: ShellFault) -> bool {
     leads_to(alloc, inputs, &refused(fault))
 }
 
-/// Lines that are bad, and the number of each: blank lines and comments count.
+/// Bad lines with their numbers, which count blank lines and comments.
 const BAD_LINES: &[(&str, u64)] = &[
     (
         "connect U 1 c0:00:00:00:00:0a\n\n# A phone.\nU < 0a030\n",
@@ -196,7 +188,7 @@ fn is_bad_line(alloc: Global, script: &str, line: u64) -> bool {
     is_refused(alloc, &inputs, ShellFault::Script(line))
 }
 
-/// The rows are those of the phones with keys: what a phone has configured, and what was there.
+/// The subscriptions of phones with keys, new and old, are written.
 const WRITTEN: &[(Inputs<'_>, Outcome)] = &[
     (
         GOOD,
@@ -248,10 +240,9 @@ fn writes_the_rows_at_the_end(rt: HostRuntime) {
     runs(&rt, rt.alloc(), WRITTEN);
 }
 
-/// A phone reads a value, and is answered.
 const READS: &Inputs<'static> = &GOOD;
 
-/// The rows are written, and what is printed is not.
+/// The subscriptions are written although the output fails.
 const UNPRINTED: &Outcome = &Outcome {
     printed: "",
     rows: SUBSCRIBED,
@@ -268,14 +259,13 @@ fn tells_rows_that_cannot_be_written(rt: HostRuntime) {
     assert!(&rt; is_unwritten(rt.alloc(), b"U > 0b4c6f636b\n"));
 }
 
-/// Whether the rows are not written, and this is printed.
 fn is_unwritten(alloc: Global, wanted: &[u8]) -> bool {
     let mut printed: Vec<u8> = Vec::new(alloc);
     run(alloc, READS, &mut Closed, &mut printed) == Err(ShellFault::Unwritten)
         && printed.as_slice() == wanted
 }
 
-/// A phone with a key subscribes to the battery level, and is answered.
+/// A phone with a key subscribes to the battery level.
 const SUBSCRIBES: &Inputs<'static> = &Inputs {
     rows: "",
     script: "connect P 1 c0:00:00:00:00:01\nencrypt P 0101010101010101 257\nP < 1207000100\n",
@@ -287,7 +277,6 @@ fn saves_the_rows_once_where_the_output_fails(rt: HostRuntime) {
     assert!(&rt; is_saved_once(rt.alloc(), SUBSCRIBES, SUBSCRIBED));
 }
 
-/// Whether a run whose output fails has asked once for this text of the rows to be saved.
 fn is_saved_once(alloc: Global, inputs: &Inputs<'_>, text: &str) -> bool {
     let mut store = Remembering::new();
     run_saving(alloc, inputs, &mut store, UNASKED, &mut Closed) == Err(ShellFault::Unwritten)
@@ -299,7 +288,6 @@ fn saves_no_rows_where_a_file_is_refused(rt: HostRuntime) {
     assert!(&rt; is_unsaved(rt.alloc(), GOOD_ROWS));
 }
 
-/// Whether a run is refused for its script, and no rows are to be saved.
 fn is_unsaved(alloc: Global, inputs: &Inputs<'_>) -> bool {
     let mut store = Remembering::new();
     run_saving(alloc, inputs, &mut store, UNASKED, &mut Closed) == Err(ShellFault::Script(2))

@@ -4,7 +4,7 @@ use crate::run_command::{Run, prints};
 use att_table::examples::{BELL, DOOR};
 use gatt_commands::Shows;
 
-/// Notices alone, lines alone, and both.
+/// Notices, lines, or both.
 const NOTICES: Shows = Shows {
     notices: true,
     lines: false,
@@ -46,7 +46,7 @@ Q ended 05
 ",
 };
 
-/// Prepared writes are told once they are executed, and a value of no octets as a hyphen.
+/// Prepared writes are reported when executed, and an empty value as a hyphen.
 const WRITES: Run<'_> = Run {
     shows: NOTICES,
     table: DOOR,
@@ -76,7 +76,7 @@ U refused 1
 ",
 };
 
-/// An indication is confirmed, and another one is not in time.
+/// One indication is confirmed, and another is late.
 const INDICATIONS: Run<'_> = Run {
     shows: NOTICES,
     table: BELL,
@@ -104,7 +104,7 @@ fault 2
 ",
 };
 
-/// What two phones do is told by their handles, and of a phone that acts alone nothing is told again.
+/// Notices name two phones by their handles. No notice is repeated.
 const TWO: Run<'_> = Run {
     shows: NOTICES,
     table: DOOR,
@@ -125,7 +125,7 @@ done P 1
 ",
 };
 
-/// Where there is no room for an answer the connection is ended.
+/// The host disconnects a phone if the queue is full.
 const FULL_QUEUE: Run<'_> = Run {
     shows: NOTICES,
     table: DOOR,
@@ -163,8 +163,7 @@ U ended 13
 ",
 };
 
-/// A comment and a blank line stand in front of the line behind them, and what stands behind the last
-/// line brings nothing.
+/// Comments and blank lines precede the next line. After the last line they print nothing.
 const ECHOED: Run<'_> = Run {
     shows: LINES,
     table: DOOR,
@@ -187,7 +186,7 @@ U < 520300ff
 ",
 };
 
-/// A line is printed before its notices, and the last one may lack its line feed.
+/// A line precedes its notices, and the last line may lack its line feed.
 const ECHOED_WITH_NOTICES: Run<'_> = Run {
     shows: ALL,
     table: DOOR,

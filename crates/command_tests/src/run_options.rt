@@ -19,12 +19,11 @@ const PEERS: &str = "options_keys.toml";
 
 const SCRIPT: &str = "options_script.txt";
 
-/// A file of the machine that may not be opened.
+/// A file that may not be opened.
 const SEALED: &str = "options_sealed.txt";
 
 const PATHS: &[&str] = &[TABLE, NEXT, PEERS, SCRIPT];
 
-/// A script with the two paths that a run need not have, and what it comes to.
 struct Case {
     next: Option<&'static str>,
     rows: Option<&'static str>,
@@ -33,7 +32,7 @@ struct Case {
     ended: Result<(), ShellFault>,
 }
 
-/// A phone is told that another table stands.
+/// A phone with a subscription receives Service Changed.
 const REPLACED: Case = Case {
     next: Some(NEXT),
     rows: None,
@@ -42,7 +41,7 @@ const REPLACED: Case = Case {
     ended: Ok(()),
 };
 
-/// What a phone with a key has configured is kept nowhere.
+/// Subscriptions are saved nowhere.
 const KEPT_NOWHERE: Case = Case {
     next: None,
     rows: None,
@@ -51,7 +50,7 @@ const KEPT_NOWHERE: Case = Case {
     ended: Ok(()),
 };
 
-/// A file that cannot be opened is not one that is not there.
+/// A file that cannot be opened differs from a missing one.
 const SEALED_NEXT: Case = Case {
     next: Some(SEALED),
     printed: b"",
@@ -66,7 +65,6 @@ const SEALED_ROWS: Case = Case {
     ..KEPT_NOWHERE
 };
 
-/// The files beside the script.
 const FILES: &[(&str, &str)] = &[(TABLE, PORCH), (NEXT, PORCH_NEXT), (PEERS, KEYS)];
 
 const CASES: &[Case] = &[REPLACED, KEPT_NOWHERE, SEALED_NEXT, SEALED_ROWS];
@@ -80,7 +78,6 @@ fn opens_the_files_that_it_is_given(rt: HostRuntime) {
     remove_files(&rt, PATHS);
 }
 
-/// Writes a script and runs it.
 fn is_script(rt: &(impl AllocGlobal + Files), case: &Case) -> bool {
     fs::write(rt, SCRIPT, case.script).is_ok() && is_run(rt, case)
 }

@@ -18,7 +18,6 @@ const ROWS: &str = "run_rows.txt";
 
 const SCRIPT: &str = "run_script.txt";
 
-/// Runs a script over the other files, and says whether it ends so and the rows file then has this text.
 fn leaves(
     rt: &(impl AllocGlobal + Files),
     script: &str,
@@ -41,13 +40,11 @@ fn run(rt: &(impl AllocGlobal + Files)) -> Result<(), ShellFault> {
     run_paths(rt.alloc(), rt, paths, &mut printed)
 }
 
-/// The table and the keys. There is no rows file at first.
+/// At first there is no subscriptions file.
 const FILES: &[(&str, &str)] = &[(TABLE, DOOR), (PEERS, KEYS)];
 
-/// All files in the end.
 const PATHS: &[&str] = &[TABLE, PEERS, ROWS, SCRIPT];
 
-/// A phone with a key subscribes to the battery level.
 const SUBSCRIBES: &str = "\
 connect P 1 c0:00:00:00:00:01
 encrypt P 0101010101010101 257
@@ -56,8 +53,8 @@ P < 1207000100
 
 const SUBSCRIBED: &str = "1 c0:00:00:00:00:01 7 1\n";
 
-/// Scripts, how each ends, and what the rows file has then: it is written at the end of a run, and
-/// not where a file is refused.
+/// Scripts, results, and the subscriptions file afterwards. It is written at the end of a run, but
+/// not if a file is refused.
 const CASES: &[(&str, Result<(), ShellFault>, &str)] = &[
     ("", Ok(()), ""),
     (SUBSCRIBES, Ok(()), SUBSCRIBED),
@@ -67,7 +64,7 @@ const CASES: &[(&str, Result<(), ShellFault>, &str)] = &[
 
 #[test]
 fn keeps_the_rows_file(rt: HostRuntime) {
-    // Only a run that was stopped has left one.
+    // An interrupted run may have left one.
     let _ = fs::remove_file(&rt, ROWS);
     make_files(&rt, FILES);
     for (script, ended, rows) in CASES {

@@ -16,7 +16,7 @@ use std::os::fd::OwnedFd;
 use std::process::Abort;
 use std::time::Duration;
 
-/// What the controller sends: it is initialised, and a phone connects.
+/// The controller is initialised, and a phone connects.
 pub const TOLD: &[&[u8]] = &[
     &[0x04, 0x0e, 0x04, 0x01, 0x03, 0x0c, 0x00],
     &[0x04, 0x0e, 0x04, 0x01, 0x01, 0x0c, 0x00],
@@ -31,7 +31,6 @@ pub const TOLD: &[&[u8]] = &[
     ],
 ];
 
-/// What the host writes.
 pub const WRITTEN: &[&[u8]] = &[
     &[0x01, 0x03, 0x0c, 0x00],
     &[
@@ -51,10 +50,8 @@ pub const WRITTEN: &[&[u8]] = &[
     &[0x01, 0x0a, 0x20, 0x01, 0x01],
 ];
 
-/// A phone with a key has subscribed to the battery level.
 const SUBSCRIBED: &str = "1 c0:00:00:00:00:01 7 1\n";
 
-/// A host with two slots, at the public address of its controller.
 fn opened(rt: &impl Abort, alloc: Global) -> Host {
     Host::open(
         alloc,
@@ -91,14 +88,12 @@ fn config() -> Config {
     }
 }
 
-/// A listener on this machine.
 pub fn listening<R: Abort + Net<Listener = TcpListener, Stream = TcpStream>>(
     rt: &R,
 ) -> TcpListener {
     TcpListener::bind(rt, "127.0.0.1:0").expect(rt, "a listener")
 }
 
-/// A controller that has connected to a listener.
 pub fn connected_to<R: Abort + Net<Listener = TcpListener, Stream = TcpStream>>(
     rt: &R,
     listener: &TcpListener,
@@ -110,7 +105,6 @@ fn address_of(rt: &impl Abort, listener: &TcpListener) -> SocketAddr {
     listener.local_addr().expect(rt, "an address")
 }
 
-/// Sends packets, and them all again, so many times.
 pub fn sends(rt: &impl Abort, stream: &TcpStream, packets: &[&[u8]], times: usize) {
     for _ in 0..times {
         send(stream, packets).expect(rt, "octets that are sent");
@@ -128,8 +122,8 @@ pub fn sends_no_more(rt: &impl Abort, stream: &TcpStream) {
     assert!(rt; stream.shutdown(Shutdown::Write).is_ok());
 }
 
-/// Serves a listener with a new host, and compares how that ends. The rows are written at the end
-/// where a connection was accepted.
+/// Serves a new host, and compares the result and the subscriptions, written only if a connection
+/// was accepted.
 fn serves(
     rt: &impl Abort,
     alloc: Global,
@@ -140,7 +134,7 @@ fn serves(
     assert!(rt; is_served_by_new(rt, alloc, listener, ended, rows));
 }
 
-/// The host is ended by `drop`, which costs the proof less than the end of its scope.
+/// Ending the host with `drop` keeps the proof small.
 fn is_served_by_new(
     rt: &impl Abort,
     alloc: Global,
@@ -166,7 +160,6 @@ fn is_served(
     served == ended && written.as_slice() == rows.as_bytes()
 }
 
-/// Compares what has come back with these packets, one behind the other, and then the end.
 pub fn hears(rt: &impl Abort, stream: &TcpStream, packets: &[&[u8]]) {
     hears_first(rt, stream, packets);
     assert!(rt; ends(stream));
@@ -197,14 +190,13 @@ fn ends(mut stream: &TcpStream) -> bool {
     matches!(stream.read(&mut [0; 1]), Ok(0))
 }
 
-/// What a controller sends, and how often, how serving it ends, and what it hears.
 struct Served {
     told: &'static [(&'static [&'static [u8]], usize)],
     ended: Result<(), ShellFault>,
     heard: &'static [&'static [&'static [u8]]],
 }
 
-/// A controller sends packets and no more, and is served from then on. The rows are written.
+/// Sends all input, closes, and only then serves. The subscriptions are written.
 fn plays<R: Abort + AllocGlobal + Net<Listener = TcpListener, Stream = TcpStream>>(
     rt: &R,
     served: &Served,
@@ -233,10 +225,9 @@ fn serves_the_first_connection(rt: HostRuntime) {
     plays(&rt, INITIALISED);
 }
 
-/// An event that no host knows, in two parts.
+/// An unknown event, in two parts.
 const UNKNOWN: &[&[u8]] = &[&[0x04, 0xff, 0xff], &[0x00; 255]];
 
-/// A phone asks for a value, and what it is answered.
 const ASKED: &[&[u8]] = &[&[
     0x02, 0x40, 0x20, 0x07, 0x00, 0x03, 0x00, 0x04, 0x00, 0x0a, 0x03, 0x00,
 ]];
@@ -245,7 +236,7 @@ const ANSWERED: &[u8] = &[
     0x02, 0x40, 0x00, 0x09, 0x00, 0x05, 0x00, 0x04, 0x00, 0x0b, 0x4c, 0x6f, 0x63, 0x6b,
 ];
 
-/// 220 unknown events take more than a hundred reads of 512 octets.
+/// 220 unknown events take more than a hundred reads of 512 bytes.
 const MANY_READS: &Served = &Served {
     told: &[(TOLD, 1), (UNKNOWN, 220), (ASKED, 1)],
     ended: Ok(()),
@@ -258,8 +249,7 @@ fn serves_as_many_reads_as_it_may_make(rt: HostRuntime) {
     plays(&rt, MANY_READS);
 }
 
-/// Has reads of what is accepted fail where nothing comes for a short time: a new connection has the
-/// options of its listener.
+/// Makes reads time out early: a new connection inherits the options of its listener.
 fn be_impatient(rt: &impl Abort, listener: &TcpListener) {
     set_read_timeout(listener).expect(rt, "an option");
 }
@@ -278,7 +268,7 @@ fn tells_a_read_that_fails(rt: HostRuntime) {
     serves(&rt, rt.alloc(), &listener, Err(fault), SUBSCRIBED);
 }
 
-/// The rows are written after a fault too.
+/// The subscriptions are written after a fault too.
 const LOST: &Served = &Served {
     told: &[(&[&[0x07]], 1)],
     ended: Err(ShellFault::Host(1)),

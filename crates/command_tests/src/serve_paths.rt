@@ -1,4 +1,4 @@
-//! The command `serve` over files at paths, and an address where nothing can be accepted.
+//! The command `serve` over files at paths, and an address that cannot be used.
 
 use crate::files::{has_text, make_files, remove_files};
 use att_table::examples::DOOR;
@@ -15,7 +15,6 @@ const ROWS: &str = "serve_rows.txt";
 
 const SUBSCRIBED: &str = "1 c0:00:00:00:00:01 7 1\n";
 
-/// Serves files at an address, and says whether that has this fault. The rows file stays as it is.
 fn fails(
     rt: &(impl AllocGlobal + Files + Net<Listener = TcpListener, Stream = TcpStream>),
     table: &str,
@@ -42,8 +41,7 @@ const FILES: &[(&str, &str)] = &[(TABLE, DOOR), (PEERS, KEYS), (ROWS, SUBSCRIBED
 
 const PATHS: &[&str] = &[TABLE, PEERS, ROWS];
 
-/// Tables and addresses, and the fault of each: the files are judged in front of the address. The
-/// first address is that of another machine.
+/// Files are checked before the address. The first address is another machine's.
 const CASES: &[(&str, &str, ShellFault)] = &[
     (TABLE, "192.0.2.1:5000", ShellFault::Listen),
     (TABLE, "localhost:5000", ShellFault::Listen),

@@ -1,4 +1,4 @@
-//! The command `serve` over files at paths, with a controller that has connected already.
+//! The command `serve` over files at paths, with a controller that has already connected.
 
 use crate::files::{has_text, make_files, remove_files};
 use crate::machine::Machine;
@@ -22,8 +22,8 @@ const PATHS: &[&str] = &[TABLE, PEERS, ROWS];
 
 const ADDRESS: &str = "127.0.0.1:5000";
 
-/// What the controller sends once a first phone is there: four more connect, and there is room for three.
-/// The last of these asks for the MTU of the host, and the first phone for a value.
+/// Four more phones connect, of which three fit. The third one exchanges the MTU, and the first
+/// phone reads a value.
 const TOLD_THEN: &[&[u8]] = &[
     ENABLED,
     &[
@@ -56,7 +56,7 @@ const ENABLED: &[u8] = &[0x04, 0x0e, 0x04, 0x01, 0x0a, 0x20, 0x00];
 
 const ENABLE: &[u8] = &[0x01, 0x0a, 0x20, 0x01, 0x01];
 
-/// What the host writes then: there are four connections at most.
+/// The host accepts at most four connections.
 const WRITTEN_THEN: &[&[u8]] = &[
     ENABLE,
     ENABLE,
@@ -68,15 +68,13 @@ const WRITTEN_THEN: &[&[u8]] = &[
     ],
 ];
 
-/// The rows that are read, and as they are written.
 const READ: &str = "1 C0:00:00:00:00:01 7 1\n\n0 00:11:22:33:44:55 11 1";
 
 const KEPT: &str = "0 00:11:22:33:44:55 11 1\n1 c0:00:00:00:00:01 7 1\n";
 
 const FILES: &[(&str, &str)] = &[(TABLE, DOOR), (PEERS, KEYS), (ROWS, READ)];
 
-/// The rows are read at the start and written at the end, in order. Where none are asked for, no file
-/// of rows is opened.
+/// Subscriptions are written in order. Without a path, no subscriptions file is opened.
 #[test]
 fn serves_files_at_an_address(rt: HostRuntime) {
     make_files(&rt, FILES);

@@ -1,5 +1,4 @@
-//! What is shown of tables, and of who may use their attributes: expected by the rules of the
-//! profile, as the files say them.
+//! Tables as shown, and who may use their attributes by the profile's rules.
 
 use att_policy::KeyFacts;
 use att_table::Table;
@@ -10,7 +9,6 @@ use std::alloc::Global;
 use std::process::Abort;
 use std::test::Fail;
 
-/// The lines of the door lock.
 const DOOR_LINES: &str = r"   1  service         1800 Generic Access
    2  characteristic  2a00 Device Name
    3  value           2a00 Device Name                          0-4   read
@@ -34,7 +32,6 @@ const DOOR_LINES: &str = r"   1  service         1800 Generic Access
   21  value           fff4                                      0-512 read write command
 ";
 
-/// The lines of the door bell.
 const BELL_LINES: &str = r"   1  service         fff8
    2  characteristic  fff9
    3  value           fff9                                      0-1   read notify indicate
@@ -46,14 +43,12 @@ const BELL_LINES: &str = r"   1  service         fff8
    9  include         fff8 at 1
 ";
 
-/// Tables, and what is shown of them.
 const TABLES: &[(&str, &str)] = &[
     (DOOR, DOOR_LINES),
     (BELL, BELL_LINES),
     ("service = []", "no attributes\n"),
 ];
 
-/// Who uses the door lock with which key, and what is shown of it.
 const HOLDERS: &[(&str, Option<KeyFacts>, &str)] = &[
     (
         "stranger",
@@ -109,7 +104,6 @@ const HOLDERS: &[(&str, Option<KeyFacts>, &str)] = &[
     ),
 ];
 
-/// Key files, and what is shown of who may use the door lock, after a stranger.
 const KEY_FILES: &[(&str, &str)] = &[
     (
         KEYS,
@@ -146,7 +140,6 @@ random c0:00:00:00:00:02, key of 16, authenticated, secure connections
     ("", ""),
 ];
 
-/// What is shown of a stranger, behind a blank line.
 const STRANGER: &str = r"
 stranger
   read: 3 6 7 11 15 19 21
@@ -155,7 +148,6 @@ stranger
   hear of: 6
 ";
 
-/// Numbers of types, and their names.
 const NAMES: &[(u16, Option<&str>)] = &[
     (0x1800, Some("Generic Access")),
     (0x180F, Some("Battery")),
@@ -204,7 +196,6 @@ fn names_the_common_types(rt: HostRuntime) {
     }
 }
 
-/// Shows a table, and compares the lines.
 fn shows(rt: &impl Abort, alloc: Global, table: &str, lines: &str) {
     assert!(rt; is_shown(alloc, table, lines), "{lines}");
 }
@@ -217,7 +208,6 @@ fn is_shown(alloc: Global, table: &str, lines: &str) -> bool {
     add_table(alloc, &mut text, &table).is_ok() && text.as_slice() == lines.as_bytes()
 }
 
-/// Shows what somebody may do with the door lock, and compares the lines.
 fn shows_holder(rt: &impl Abort, alloc: Global, name: &str, key: Option<KeyFacts>, lines: &str) {
     assert!(rt; is_shown_of(alloc, DOOR, name, key, lines), "{lines}");
 }
@@ -231,7 +221,6 @@ fn is_shown_of(alloc: Global, table: &str, name: &str, key: Option<KeyFacts>, li
         && text.as_slice() == lines.as_bytes()
 }
 
-/// Shows who has which key and what he may do with the door lock, and compares the lines.
 fn shows_holders(rt: &impl Abort, alloc: Global, keys: &str, lines: &str) {
     assert!(rt; are_shown(alloc, keys, lines), "{lines}");
 }

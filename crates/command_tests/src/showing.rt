@@ -6,14 +6,13 @@ use std::alloc::Global;
 use std::process::Abort;
 use std::test::Fail;
 
-/// What is shown where a table has no attributes and there are no keys.
+/// The output for no attributes and no keys.
 const NOBODY: &str =
     "no attributes\n\nstranger\n  read: -\n  write: -\n  command: -\n  hear of: -\n";
 
-/// A table file, a key file, if there is one, and a rows file.
 type Files = (&'static [u8], Option<&'static [u8]>, &'static [u8]);
 
-/// Files, how `show` ends, what it prints, and what it tells of where a fault is.
+/// Files, result, output, and the place of a fault.
 const FILES: &[(Files, Result<(), ShellFault>, &str, &str)] = &[
     ((b"service = []", None, b""), Ok(()), "no attributes\n", ""),
     (
@@ -55,7 +54,6 @@ fn shows_files_or_tells_where_a_fault_is(rt: HostRuntime) {
     }
 }
 
-/// Shows files, and compares how that ends, what is printed, and what is told of a fault.
 fn shows(
     rt: &impl Abort,
     alloc: Global,

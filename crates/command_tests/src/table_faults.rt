@@ -1,4 +1,4 @@
-//! Where table files have their faults, and what these are, as they are told.
+//! The places and texts of faults in table files.
 
 use att_table::examples::DOOR;
 use gatt_show::add_table_fault;
@@ -6,10 +6,9 @@ use std::alloc::Global;
 use std::process::Abort;
 use std::test::Fail;
 
-/// A table file without a fault.
 const FAULTLESS: &[(&str, &str)] = &[(DOOR, "")];
 
-/// Table files, and what is told of their first faults, in services.
+/// Faults in services.
 const SERVICES: &[(&str, &str)] = &[
     (
         "service = ",
@@ -40,7 +39,7 @@ const SERVICES: &[(&str, &str)] = &[
     ),
 ];
 
-/// In the keys of characteristics.
+/// Faults in the keys of characteristics.
 const CHARACTERISTICS: &[(&str, &str)] = &[
     (
         r#"
@@ -117,7 +116,7 @@ const CHARACTERISTICS: &[(&str, &str)] = &[
     ),
 ];
 
-/// In what characteristics need, and in their descriptors.
+/// Faults in the needs of characteristics, and in descriptors.
 const GUARDS: &[(&str, &str)] = &[
     (
         r#"
@@ -181,7 +180,7 @@ const GUARDS: &[(&str, &str)] = &[
     ),
 ];
 
-/// A table file up to the end of a characteristic without a fault.
+/// A table file up to the end of a correct characteristic.
 const CHARACTERISTIC: &str = r#"
 [[service]]
 uuid = "180f"
@@ -191,8 +190,7 @@ value = "64"
 properties = ["read"]
 "#;
 
-/// Table files with a characteristic that has a fault at a key, by what stands there, and what is told
-/// of it behind the characteristic.
+/// Faults at a key of a characteristic.
 const FIELDS: &[(&str, &str)] = &[
     (
         "write = { encrypted = 1 }",
@@ -241,7 +239,7 @@ const FIELDS: &[(&str, &str)] = &[
     ),
 ];
 
-/// Further table files, and what is told of their first faults.
+/// Further faults.
 const MORE_TABLES: &[(&str, &str)] = &[
     (
         "[[service]]\nuuid = \"1800\"\ninclude = [\"0\"]",
@@ -314,7 +312,6 @@ fn tell_of_tables(rt: &impl Abort, alloc: Global, cases: &[(&str, &str)]) {
     }
 }
 
-/// Fails a test where what is wanted is not told.
 pub(crate) fn tells(rt: &impl Abort, is_told: bool, told: &str) {
     assert!(rt; is_told, "{told}");
 }

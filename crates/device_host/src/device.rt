@@ -1,4 +1,4 @@
-//! What happens to a host: its controller and its application, as sockets have them, and the time.
+//! The events of a host: those of its controller, its application and the clock.
 
 ghost use Rattle.std.specs.Prelude.{None};
 
@@ -12,23 +12,20 @@ use std::fs::{File, Files};
 use std::net::{Net, TcpListener, TcpStream};
 use std::time::Clock;
 
-/// The controller, the application, the clock and the files of a device.
 #[derive(Drop)]
 pub(crate) struct Device<'a, R> {
     pub(crate) alloc: Global,
     pub(crate) session: Session<'a, R>,
-    /// What is saved, if something is.
     pub(crate) keeping: Option<Keeping>,
-    /// The connections that are to be ended, since what they changed is not saved.
+    /// The connections whose changes are not saved, to be disconnected.
     pub(crate) ending: ArrayVec<u16, MAX_SLOTS>,
-    /// When the device ends at the latest, in milliseconds, if it is to end.
+    /// When a stopping device ends at the latest, in milliseconds.
     pub(crate) stop: Option<u64>,
-    /// The number of this start of the device.
+    /// The random number of this start.
     pub(crate) started: u64,
 }
 
 impl<R> Device<'_, R> {
-    /// When a failed save is tried again, in milliseconds, if one has failed.
     fn retry(&self) -> Option<u64> {
         match &self.keeping {
             Some(keeping) => keeping.retry(),
@@ -59,7 +56,6 @@ impl<
     }
 }
 
-/// What happens next: the time is told, the controller has octets, or something is asked.
 fn next<
     'b,
     R: Files<File = File> + Net<Listener = TcpListener, Stream = TcpStream> + Clock + Eprint,
@@ -76,7 +72,6 @@ fn next<
     }
 }
 
-/// Octets of the controller.
 fn octets<'b, R: Clock + Eprint>(session: &mut Session<'_, R>, buffer: &'b mut [u8]) -> Next<'b> {
     match session.read(buffer) {
         Ok(None) => Next::Octets(&[]),

@@ -1,26 +1,23 @@
-//! The files that a device reads at its start. Of one that is refused standard error has the path, and
-//! why and where.
+//! The files that a device reads at its start.
+//!
+//! Standard error reports the path of a refused file, with the reason and the place of the fault.
 
 use crate::stop::{Stop, refuse};
 use arrayvec::ArrayVec;
-use gatt_files::{ShellFault, judged_keys, judged_rows, judged_table};
 use gatt_host::{Keys, Rows, Table};
+use shell_files::{ShellFault, judged_keys, judged_rows, judged_table};
 use show_command::{tell_keys_fault, tell_rows_fault, tell_table_fault};
 use std::alloc::{AllocError, Global};
 use std::fs::{File, Files};
 use std::io::ErrorKind;
 use std::str;
 
-/// A table file, with its octets.
 #[derive(Drop)]
 pub(crate) struct TableFile {
-    /// What it says.
     pub(crate) table: Table,
-    /// Its octets.
     pub(crate) text: Vec<u8>,
 }
 
-/// Reads a table file.
 pub(crate) fn read_table<R: Files<File = File> + Eprint>(
     alloc: Global,
     rt: &R,
@@ -39,7 +36,6 @@ pub(crate) fn read_table<R: Files<File = File> + Eprint>(
     }
 }
 
-/// Reads a key file.
 pub(crate) fn read_keys<R: Files<File = File> + Eprint>(
     alloc: Global,
     rt: &R,
@@ -58,7 +54,7 @@ pub(crate) fn read_keys<R: Files<File = File> + Eprint>(
     }
 }
 
-/// Reads a file of subscriptions. One that is not there has none.
+/// Reads a subscriptions file. A missing file counts as an empty one.
 pub(crate) fn read_subscriptions<R: Files<File = File> + Eprint>(
     alloc: Global,
     rt: &R,
@@ -75,7 +71,7 @@ pub(crate) fn read_subscriptions<R: Files<File = File> + Eprint>(
     }
 }
 
-/// Returns the octets of a file, if it is there.
+/// Returns the bytes of a file, or `None` if it is missing.
 pub(crate) fn read_file<R: Files<File = File> + Eprint>(
     alloc: Global,
     rt: &R,
@@ -86,14 +82,13 @@ pub(crate) fn read_file<R: Files<File = File> + Eprint>(
         Err(error) if error.kind() == ErrorKind::NotFound => return Ok(None),
         Err(error) => return Err(refuse(rt, format!(in alloc; "{path}: {error}").ok())),
     };
-    match gatt_files::read_all(alloc, &mut file) {
+    match shell_files::read_all(alloc, &mut file) {
         Ok(octets) => Ok(Some(octets)),
         Err(ShellFault::Memory) => Err(Stop::Fault(ShellFault::Memory)),
         Err(_) => Err(refuse(rt, format!(in alloc; "{path}: cannot be read").ok())),
     }
 }
 
-/// Refuses a file for a fault, which is told with its place, if memory was left for that.
 fn refuse_at<R: Eprint>(
     alloc: Global,
     rt: &R,
@@ -103,7 +98,7 @@ fn refuse_at<R: Eprint>(
     place: &[u8],
 ) -> Stop {
     let mut text = ArrayVec::new();
-    gatt_files::text(&fault, &mut text);
+    shell_files::text(&fault, &mut text);
     let words = str::from_utf8(text.as_slice()).unwrap_or("");
     let place = if told.is_ok() {
         str::from_utf8(place).unwrap_or("")

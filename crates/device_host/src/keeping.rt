@@ -1,47 +1,40 @@
-//! What of a host is saved, and when.
+//! The saved data of a host.
 
 use app_lines::Told;
 use device_io::{Lock, SavedFile};
 use device_session::Session;
 use device_state::{Saves, may_be_saved, state_text};
 use gatt_host::{Host, Rows, Table};
-use octets::Writer;
+use octet_io::Writer;
 use std::alloc::Global;
 use std::fs::{File, Files};
 use std::io::ErrorKind;
 use std::time::Clock;
 use std::{io, str};
 
-/// After how long a failed save is tried again, in milliseconds.
+/// Time between attempts to save, in milliseconds.
 const RETRY_TIME: u64 = 1_000;
 
-/// What the saved text has.
 #[derive(Drop)]
 pub(crate) enum Contents {
-    /// The subscriptions.
     Subscriptions,
-    /// The state.
     State(Served),
 }
 
-/// The table that is served.
 #[derive(Drop)]
 pub(crate) struct Served {
-    /// The text of its file.
     pub(crate) text: Vec<u8>,
     /// The table with the values of its file.
     pub(crate) initial: Table,
-    /// Which values are saved.
     pub(crate) saves: Saves,
 }
 
 impl Contents {
-    /// Whether values are saved that phones write.
+    /// Returns true if values that phones write are saved.
     pub(crate) fn has_values(&self) -> bool {
         matches!(self, Contents::State(_))
     }
 
-    /// Whether the value at a handle is saved.
     fn has(&self, table: &Table, handle: u16) -> bool {
         match (self, table.get(handle)) {
             (Contents::State(served), Some(attr)) => may_be_saved(attr, served.saves),
@@ -49,12 +42,11 @@ impl Contents {
         }
     }
 
-    /// The text for a host as it stands.
     fn text(&self, alloc: Global, host: &Host) -> io::Result<Vec<u8>> {
         match self {
             Contents::Subscriptions => subscriptions_text(alloc, host.rows()),
             Contents::State(served) => {
-                // A table file is text, or it was refused.
+                // A table file is UTF-8: other files were refused.
                 let table_text = str::from_utf8(served.text.as_slice()).unwrap_or("");
                 let (rows, table) = (host.rows(), host.table());
                 let text = state_text(
@@ -71,7 +63,6 @@ impl Contents {
     }
 }
 
-/// The lines of subscriptions.
 pub(crate) fn subscriptions_text(alloc: Global, rows: &Rows) -> io::Result<Vec<u8>> {
     let mut text = Vec::new(alloc);
     match rows.text(&mut Writer::new(&mut text)) {
@@ -80,23 +71,21 @@ pub(crate) fn subscriptions_text(alloc: Global, rows: &Rows) -> io::Result<Vec<u
     }
 }
 
-/// The file in which a host is saved.
 #[derive(Drop)]
 pub(crate) struct Keeping {
     alloc: Global,
     _lock: Option<Lock>,
     file: SavedFile,
     pub(crate) contents: Contents,
-    /// Whether something has changed since all was saved.
+    /// Set if something has changed since the last save.
     is_due: bool,
-    /// When a failed save is tried again, in milliseconds.
+    /// When to retry a failed save, in milliseconds.
     retry: Option<u64>,
-    /// Which file the last save failed for and why, if it failed.
+    /// The file and the error of the last save, if it failed.
     failure: Option<String>,
 }
 
 impl Keeping {
-    /// Nothing is saved yet.
     pub(crate) fn new(
         alloc: Global,
         lock: Option<Lock>,
@@ -114,23 +103,22 @@ impl Keeping {
         }
     }
 
-    /// When a failed save is tried again, in milliseconds.
     pub(crate) fn retry(&self) -> Option<u64> {
         self.retry
     }
 
-    /// The application has updated the value at a handle.
     pub(crate) fn note_update(&mut self, table: &Table, handle: u16) {
         self.is_due |= self.contents.has(table, handle);
     }
 
-    /// Phones have changed something that is saved.
+    /// Notes that phones changed something that is saved.
     pub(crate) fn note_change(&mut self) {
         self.is_due = true;
     }
 
-    /// Saves a host as it stands, if something has changed and it is time to try: whether all is
-    /// saved. The log and the application are told when this changes.
+    /// Saves a host if necessary and if it is time. Returns true if everything is saved.
+    ///
+    /// Notifies the log and the application when saving begins to fail, or succeeds again.
     pub(crate) fn save<R: Files<File = File> + Clock + Eprint>(
         &mut self,
         host: &Host,
@@ -145,7 +133,6 @@ impl Keeping {
         !self.is_due
     }
 
-    /// Whether a save may be tried.
     fn is_time(&self, now: u64) -> bool {
         match self.retry {
             Some(retry) => retry <= now,
@@ -153,14 +140,13 @@ impl Keeping {
         }
     }
 
-    /// Tells the application that not all is saved, and why, if the last save failed.
+    /// Notifies the application if the last save failed.
     pub(crate) fn tell_failure<R: Clock + Eprint>(&self, session: &mut Session<'_, R>) {
         if let Some(failure) = &self.failure {
             session.tell(&Told::Unsaved(failure.as_str()));
         }
     }
 
-    /// All is saved.
     fn succeed<R: Clock + Eprint>(&mut self, session: &mut Session<'_, R>) {
         self.is_due = false;
         if self.retry.is_some() {
@@ -171,7 +157,6 @@ impl Keeping {
         }
     }
 
-    /// Not all is saved, and it is tried again later.
     fn fail<R: Clock + Eprint>(&mut self, session: &mut Session<'_, R>, error: &io::Error) {
         let is_first = self.retry.is_none();
         self.retry = Some(session.log().now().saturating_add(RETRY_TIME));
@@ -183,7 +168,6 @@ impl Keeping {
         }
     }
 
-    /// Writes the text of a host.
     fn write<R: Files>(&mut self, host: &Host, files: &R) -> io::Result<()> {
         let text = self.contents.text(self.alloc, host)?;
         self.file.save(files, text)

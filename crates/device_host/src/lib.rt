@@ -1,11 +1,11 @@
-//! The command `host`: it serves one controller after another, lets an application take part, and
-//! saves what has to survive a restart. What is heard, said and taken in are libraries, and so are the
-//! ends that it has outside; here they are joined to a host.
+//! The command `host`: it serves one controller after another, with an application, and saves what
+//! must survive a restart.
+//!
+//! Other crates handle input, output and files; this one connects them with a host.
 #![tactic(auto)]
 
 mod device;
 mod files;
-mod hearing;
 mod keeping;
 mod opening;
 mod outgoing;
@@ -14,7 +14,8 @@ mod serving;
 mod starting;
 mod stop;
 mod stopping;
-mod telling;
+mod turn_effects;
+mod turn_notices;
 
 pub use device_options::OptionTexts;
 pub use serving::serve_devices;

@@ -1,4 +1,4 @@
-//! The host that is served: what its files say, and what was saved of it before.
+//! Opens the host that is served, from its files and the saved data.
 
 use crate::files::{TableFile, read_file, read_keys, read_subscriptions, read_table};
 use crate::keeping::{Contents, Keeping, Served, subscriptions_text};
@@ -8,27 +8,24 @@ use att_numbers::attribute_type::SERVICE_CHANGED;
 use device_io::{Lock, LockFault, Log, SavedFile, unknown_peer};
 use device_options::{HostOptions, HostSettings, Saved};
 use device_state::{Saves, State, restore};
-use gatt_files::{ShellFault, judged_rows, judged_table};
-use gatt_host::{Config, Host, Keys, PacketOctets, Rows, Table};
+use gatt_host::{Config, Host, Keys, PacketOctets, RX_MTU, Rows, Table};
+use shell_files::{ShellFault, judged_rows, judged_table};
 use std::alloc::Global;
 use std::fs::{File, Files};
 use std::io::ErrorKind;
 use std::str;
 use std::time::Clock;
 
-/// The largest PDU of the Attribute Protocol that the host receives, in octets.
-const RX_MTU: u16 = 247;
-
-/// The permission of a new file of subscriptions, as far as the user lets others read files.
+/// The permission of a new subscriptions file, before the umask.
 const FOR_ALL: u32 = 0o666;
 
-/// The permission of a new state, which has values.
+/// The permission of a new state file.
 const OWNER_ALONE: u32 = 0o600;
 
-/// As many packets are taken out of a host that nobody was connected to: it owes a Reset at most.
+/// More packets than a host without connections has: at most a Reset.
 const MOST_PACKETS: usize = 8;
 
-/// A host with what its files say and with what was saved, and how it is saved from now on.
+/// Opens the host of the options, and the file in which it is saved.
 pub(crate) fn open_host<R: Files<File = File> + Clock + Eprint>(
     alloc: Global,
     log: &Log<'_, R>,
@@ -60,7 +57,6 @@ pub(crate) fn open_host<R: Files<File = File> + Clock + Eprint>(
     }
 }
 
-/// A host with the subscriptions of a file.
 fn open_with_subscriptions<R: Files<File = File> + Clock + Eprint>(
     alloc: Global,
     log: &Log<'_, R>,
@@ -77,7 +73,6 @@ fn open_with_subscriptions<R: Files<File = File> + Clock + Eprint>(
     Ok((host, Some(keeping)))
 }
 
-/// A host with the state of a folder.
 fn open_with_state<R: Files<File = File> + Clock + Eprint>(
     alloc: Global,
     log: &Log<'_, R>,
@@ -104,7 +99,7 @@ fn open_with_state<R: Files<File = File> + Clock + Eprint>(
     Ok((host, Some(keeping)))
 }
 
-/// The file at a path, which is written later.
+/// Returns the file at a path. Refuses a path of anything else.
 fn find_file<R: Files<File = File> + Clock + Eprint>(
     alloc: Global,
     log: &Log<'_, R>,
@@ -120,8 +115,9 @@ fn find_file<R: Files<File = File> + Clock + Eprint>(
     }
 }
 
-/// Locks the file whose path is that of another one with an end. A disk that is full or can only be
-/// read is no reason not to serve: it is logged that there is no lock then.
+/// Locks the file at `path` followed by `end`.
+///
+/// A full or read-only disk does not stop the device: it logs that there is no lock.
 fn lock_file<R: Files<File = File> + Clock + Eprint>(
     alloc: Global,
     log: &Log<'_, R>,
@@ -153,12 +149,10 @@ fn lock_file<R: Files<File = File> + Clock + Eprint>(
     }
 }
 
-/// Returns no subscriptions.
 fn no_rows(alloc: Global) -> Result<Rows, ShellFault> {
     judged_rows(alloc, &[])
 }
 
-/// The state that a file has, if it is there.
 fn find_state<R: Files<File = File> + Clock + Eprint>(
     alloc: Global,
     log: &Log<'_, R>,
@@ -173,7 +167,7 @@ fn find_state<R: Files<File = File> + Clock + Eprint>(
     }
 }
 
-/// A host that goes on with a state.
+/// Opens a host that resumes a state.
 fn resume<R: Files<File = File> + Clock + Eprint>(
     alloc: Global,
     log: &Log<'_, R>,
@@ -218,14 +212,13 @@ fn restore_values<R: Clock + Eprint>(
     }
 }
 
-/// A table that takes the place of another one.
 #[derive(Drop)]
 struct Replacement {
     before: Table,
     table: Table,
 }
 
-/// A host with subscriptions that were made at another table, which is replaced.
+/// Opens a host whose subscriptions belong to another table, which is replaced.
 fn open_changed<R: Files<File = File> + Clock + Eprint>(
     alloc: Global,
     log: &Log<'_, R>,
@@ -251,7 +244,7 @@ fn open_changed<R: Files<File = File> + Clock + Eprint>(
     Ok(host)
 }
 
-/// Replaces the table of a host, or gives it back and logs why.
+/// Replaces the table of a host. Returns the new table if the host refuses it.
 fn replace_table<R: Clock + Eprint>(
     alloc: Global,
     log: &Log<'_, R>,
@@ -272,7 +265,7 @@ fn replace_table<R: Clock + Eprint>(
     }
 }
 
-/// Takes out what a host owes its controller.
+/// Removes the packets that a host has for its controller.
 fn take_out(host: &mut Host) {
     let mut packet = PacketOctets::new();
     for _packet in 0..MOST_PACKETS {
@@ -282,7 +275,7 @@ fn take_out(host: &mut Host) {
     }
 }
 
-/// A host with these subscriptions. Those that the host drops are logged.
+/// Opens a host with subscriptions, and logs those that it drops.
 fn open_with<R: Eprint + Clock>(
     alloc: Global,
     log: &Log<'_, R>,
@@ -302,19 +295,18 @@ fn open_with<R: Eprint + Clock>(
     Ok(host)
 }
 
-/// Whether a peer among lines of subscriptions is still to be told that the table has changed.
+/// Returns true if a peer has a pending Service Changed.
 fn is_change_pending(lines: &[u8]) -> bool {
     lines.contains(&b'!')
 }
 
-/// Sets that all handles have changed, as the value of Service Changed: Core 5.0, Vol 3 Part G, 7.1.
+/// Sets Service Changed to all handles (Core 5.0, Vol 3 Part G, 7.1).
 fn set_whole_range(table: &mut Table) {
     if let Some(handle) = table.changer() {
         restore(table, handle, SERVICE_CHANGED, &[0x01, 0x00, 0xFF, 0xFF]);
     }
 }
 
-/// The lines of subscriptions.
 fn saved_lines(alloc: Global, rows: &Rows) -> Result<Vec<u8>, Stop> {
     match subscriptions_text(alloc, rows) {
         Ok(text) => Ok(text),
@@ -322,7 +314,6 @@ fn saved_lines(alloc: Global, rows: &Rows) -> Result<Vec<u8>, Stop> {
     }
 }
 
-/// Logs each of these lines that subscriptions have no more.
 fn log_dropped<R: Clock + Eprint>(alloc: Global, log: &Log<'_, R>, saved: &[u8], rows: &Rows) {
     let Ok(text) = subscriptions_text(alloc, rows) else {
         log.say("memory: refused for the subscriptions that were dropped");
@@ -336,7 +327,7 @@ fn log_dropped<R: Clock + Eprint>(alloc: Global, log: &Log<'_, R>, saved: &[u8],
     }
 }
 
-/// Whether a text has a line. Each has the empty one.
+/// Returns true if a text has a line, or if the line is empty.
 fn has_line(text: &str, line: &str) -> bool {
     for other in text.split('\n') {
         if other == line {
@@ -346,7 +337,7 @@ fn has_line(text: &str, line: &str) -> bool {
     line.is_empty()
 }
 
-/// Refuses subscriptions of a peer without a key, unless such subscriptions are dropped.
+/// Refuses subscriptions of a peer without a key, unless the options drop them.
 fn refuse_unknown<R: Eprint>(
     alloc: Global,
     rt: &R,
@@ -372,7 +363,6 @@ fn refuse_unknown<R: Eprint>(
     }
 }
 
-/// A host with these, as the words say.
 fn open(
     alloc: Global,
     table: Table,
@@ -386,7 +376,6 @@ fn open(
     }
 }
 
-/// With what a host is opened beside its files.
 fn config(options: &HostSettings) -> Config {
     let mut advertising = ArrayVec::new();
     advertising
@@ -400,7 +389,7 @@ fn config(options: &HostSettings) -> Config {
     }
 }
 
-/// A host with what another one has left.
+/// Opens a host with the data of another one.
 pub(crate) fn reopen(alloc: Global, host: Host, options: &HostSettings) -> Result<Host, Stop> {
     let (table, keys, rows) = host.into_parts();
     open(alloc, table, keys, rows, options)

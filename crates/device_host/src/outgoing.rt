@@ -1,22 +1,20 @@
-//! What waits to be sent to a controller.
+//! The octets that wait for a controller.
 
 ghost use Rattle.std.specs.Prelude.{None, Some};
 
 use device_loop::{Outgoing, withhold};
-use octets::{Failed, Sink};
+use octet_io::{Failed, Sink};
 use std::alloc::Global;
 
-/// As many octets may wait for a controller.
+/// The most octets that may wait.
 const LIMIT: usize = 1_048_576;
 
-/// The octets that wait for a controller.
 #[derive(Drop)]
 pub(crate) struct ToController {
     octets: Vec<u8>,
 }
 
 impl ToController {
-    /// Nothing waits yet.
     pub(crate) fn new(alloc: Global) -> ToController {
         ToController {
             octets: Vec::new(alloc),

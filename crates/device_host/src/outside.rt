@@ -1,8 +1,8 @@
-//! What a device does outside of its host, with its log, its files and its sockets.
+//! The work of a device outside its host: saving and sending.
 
 use crate::device::Device;
-use crate::hearing::Hearing;
-use crate::telling::settle;
+use crate::turn_effects::settle;
+use crate::turn_notices::Hearing;
 use device_loop::{Outside, Saving, Sending};
 use gatt_host::Host;
 use std::fs::{File, Files};

@@ -1,20 +1,20 @@
-//! One controller after another is served.
+//! Serves one controller after another.
 
 use crate::device::Device;
-use crate::hearing::Hearing;
 use crate::keeping::Keeping;
 use crate::opening::{open_host, reopen};
 use crate::outgoing::ToController;
 use crate::starting::{begin_capture, reaching};
 use crate::stop::Stop;
 use crate::stopping::{finish, is_stopped};
+use crate::turn_notices::Hearing;
 use app_lines::Told;
 use device_io::Log;
 use device_loop::{End, Sending, serve_turn};
 use device_options::{HostOptions, OptionTexts};
 use device_session::{Heard, Session};
-use gatt_files::ShellFault;
 use gatt_host::{Host, HostFault};
+use shell_files::ShellFault;
 use std::alloc::Global;
 use std::fs::{File, Files};
 use std::net::{Net, TcpListener, TcpStream};
@@ -22,19 +22,16 @@ use std::random::RandomSource;
 use std::rt::Env;
 use std::time::Clock;
 
-/// Why a controller is served no longer.
+/// Why a controller is no longer served.
 #[derive(Clone, Copy)]
 enum Over {
-    /// Its stream has ended, or it could not be read or written.
     Gone(&'static str),
-    /// The host has stopped.
     Stopped(HostFault),
-    /// The application has asked for the end of the device.
+    /// The application has asked the device to stop.
     Asked,
 }
 
 impl Over {
-    /// What it comes to, where no other controller is served.
     fn outcome(self) -> Result<(), Stop> {
         match self {
             Over::Gone(_) | Over::Asked => Ok(()),
@@ -43,7 +40,7 @@ impl Over {
     }
 }
 
-/// Serves one controller after another, as the words say: for ever, or until the first is gone.
+/// Serves one controller after another: for ever, or only the first.
 pub fn serve_devices<
     R: Files<File = File>
         + Net<Listener = TcpListener, Stream = TcpStream>
@@ -63,15 +60,14 @@ pub fn serve_devices<
     prepare_and_serve(rt.alloc(), log, &options, number_of_start(rt))
 }
 
-/// A number that no other start of a device has, as far as chance can tell.
+/// Returns a random number for this start.
 fn number_of_start<R: RandomSource>(rt: &R) -> u64 {
     let mut octets = [0; 4];
-    // The device serves also if there is no chance to be had: then the number is 0.
+    // Without randomness, the device serves with the number 0.
     let _ = rt.fill_bytes(&mut octets);
     u64::from(u32::from_le_bytes(octets))
 }
 
-/// Reads the files, listens, and serves.
 fn prepare_and_serve<
     R: Files<File = File> + Net<Listener = TcpListener, Stream = TcpStream> + Clock + Eprint,
 >(alloc: Global, log: Log<'_, R>, options: &HostOptions<'_>, started: u64) -> Result<(), Stop> {
@@ -79,7 +75,7 @@ fn prepare_and_serve<
     listen_and_serve(alloc, log, options, host, keeping, started)
 }
 
-/// Listens, and serves a host. Host and device are dropped as a whole, here and below, for the proof.
+/// Listens, and serves a host. Dropping hosts and devices as a whole keeps the proof small.
 fn listen_and_serve<
     R: Files<File = File> + Net<Listener = TcpListener, Stream = TcpStream> + Clock + Eprint,
 >(
@@ -103,7 +99,7 @@ fn listen_and_serve<
     }
 }
 
-/// Saves a host for the first time, and serves it. If it cannot be saved, that is tried again.
+/// Serves a host after a first save, which is retried later if it fails.
 fn save_and_serve<
     R: Files<File = File> + Net<Listener = TcpListener, Stream = TcpStream> + Clock + Eprint,
 >(options: &HostOptions<'_>, host: Host, device: &mut Device<'_, R>) -> Result<(), Stop> {
@@ -122,7 +118,6 @@ fn save_and_serve<
     }
 }
 
-/// Serves the first controller alone.
 fn serve_once<
     R: Files<File = File> + Net<Listener = TcpListener, Stream = TcpStream> + Clock + Eprint,
 >(device: &mut Device<'_, R>, host: Host, logs_values: bool) -> Result<(), Stop> {
@@ -134,7 +129,7 @@ fn serve_once<
     over.outcome()
 }
 
-/// Serves each controller with what the one before has left.
+/// Serves each controller with the data of the one before.
 fn serve_each<
     R: Files<File = File> + Net<Listener = TcpListener, Stream = TcpStream> + Clock + Eprint,
 >(device: &mut Device<'_, R>, host: Host, options: &HostOptions<'_>) -> Result<(), Stop> {
@@ -152,7 +147,6 @@ fn serve_each<
     Ok(())
 }
 
-/// What is heard of a host from now on.
 fn hearing_of<R>(device: &Device<'_, R>, logs_values: bool) -> Hearing {
     let saves_values = match &device.keeping {
         Some(keeping) => keeping.contents.has_values(),
@@ -161,12 +155,11 @@ fn hearing_of<R>(device: &Device<'_, R>, logs_values: bool) -> Hearing {
     Hearing::new(Heard::new(device.alloc, logs_values), saves_values)
 }
 
-/// Serves a controller, and tells why it is served no longer.
 fn serve_one<
     R: Files<File = File> + Net<Listener = TcpListener, Stream = TcpStream> + Clock + Eprint,
 >(device: &mut Device<'_, R>, host: &mut Host, hearing: &mut Hearing) -> Over {
     hearing.begin();
-    // They were connections of the controller before.
+    // The connections belong to the last controller.
     device.session.know(&hearing.heard);
     device.ending.clear();
     let over = serve_turns(device, host, hearing);
@@ -178,7 +171,6 @@ fn serve_one<
     over
 }
 
-/// Serves a controller, once it is address, until it is gone or the host has stopped.
 fn serve_turns<
     R: Files<File = File> + Net<Listener = TcpListener, Stream = TcpStream> + Clock + Eprint,
 >(device: &mut Device<'_, R>, host: &mut Host, heard: &mut Hearing) -> Over {
@@ -191,7 +183,7 @@ fn serve_turns<
     Over::Gone("gone")
 }
 
-/// Serves a controller for a turn: why it is served no longer, if so.
+/// Serves one turn. Returns why serving has ended, if so.
 fn over_in_turn<
     R: Files<File = File> + Net<Listener = TcpListener, Stream = TcpStream> + Clock + Eprint,
 >(
@@ -216,7 +208,6 @@ fn over_in_turn<
     }
 }
 
-/// Tells the log and the application why a controller is served no longer.
 fn tell_over<R: Clock + Eprint>(alloc: Global, session: &mut Session<'_, R>, over: Over) {
     match over {
         Over::Gone(how) => session.log().say_of("controller", how),
@@ -229,7 +220,6 @@ fn tell_over<R: Clock + Eprint>(alloc: Global, session: &mut Session<'_, R>, ove
     session.flush();
 }
 
-/// Tells the log and the application that the host has stopped.
 fn tell_stopped<R: Clock + Eprint>(alloc: Global, session: &mut Session<'_, R>, fault: HostFault) {
     if let Ok(words) = format!(in alloc; "{fault}") {
         session.log().say_of("stopped:", words.as_str());

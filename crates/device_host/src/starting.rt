@@ -1,4 +1,4 @@
-//! The start of a device, as its options ask for it.
+//! The start of a device.
 
 use crate::device::Device;
 use crate::keeping::Keeping;
@@ -14,8 +14,7 @@ use std::io::ErrorKind;
 use std::net::{Net, TcpListener, TcpStream};
 use std::time::Clock;
 
-/// A device that waits for its controller and its application. Nothing is written yet, so a start
-/// that fails here changes no file.
+/// Returns a device with its sockets open. If this fails, no file has changed.
 pub(crate) fn reaching<
     'a,
     R: Files<File = File> + Net<Listener = TcpListener, Stream = TcpStream> + Clock + Eprint,
@@ -55,7 +54,6 @@ pub(crate) fn reaching<
     })
 }
 
-/// Tells on standard error why controllers cannot be served.
 fn refuse_controllers<R: Eprint>(
     alloc: Global,
     rt: &R,
@@ -73,7 +71,6 @@ fn refuse_controllers<R: Eprint>(
     )
 }
 
-/// Tells on standard error why no application can connect.
 fn refuse_applications<R: Eprint>(
     alloc: Global,
     rt: &R,
@@ -95,8 +92,10 @@ fn refuse_applications<R: Eprint>(
     )
 }
 
-/// Returns what stands behind the path of a socket in the path that an error is about: the socket is made in
-/// a folder of that name, and nothing else fails since something is there.
+/// Returns the suffix of the path that a socket error is about.
+///
+/// A socket is made in a folder with this suffix, and only making that fails because something is
+/// there.
 fn suffix_of(error: &io::Error) -> &'static str {
     match error.kind() {
         ErrorKind::AlreadyExists | ErrorKind::DirectoryNotEmpty => ".new",
@@ -104,7 +103,7 @@ fn suffix_of(error: &io::Error) -> &'static str {
     }
 }
 
-/// Begins a capture, if one is asked for: once nothing else can stop the start.
+/// Begins the capture, if any: only once nothing else can stop the start.
 pub(crate) fn begin_capture<
     R: Files<File = File> + Net<Listener = TcpListener, Stream = TcpStream> + Clock + Eprint,
 >(session: &mut Session<'_, R>, options: &HostOptions<'_>) -> Result<(), Stop> {

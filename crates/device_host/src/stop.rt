@@ -1,17 +1,17 @@
-//! Why a device serves no longer.
+//! The reasons for a device to stop.
 
-use gatt_files::ShellFault;
+use shell_files::ShellFault;
 
-/// Why a device serves no longer.
+/// Why a device stops.
 #[derive(Clone, Copy)]
 pub enum Stop {
-    /// The words of the command line say nothing that can be done: what is wrong.
+    /// The options make no sense: what is wrong.
     Words(&'static str),
-    /// A file is refused, or cannot be written, for what was told on standard error.
+    /// A file is refused or cannot be written, as reported on standard error.
     File,
-    /// A socket cannot be opened, for what was told on standard error.
+    /// A socket cannot be opened, as reported on standard error.
     Socket,
-    /// For the same reasons as other commands.
+    /// Any fault of other commands.
     Fault(ShellFault),
 }
 
@@ -21,22 +21,19 @@ impl From<ShellFault> for Stop {
     }
 }
 
-/// Tells on standard error which file is refused and why, if memory was left for the line.
 pub(crate) fn refuse<R: Eprint>(rt: &R, line: Option<String>) -> Stop {
     tell(rt, line, Stop::File)
 }
 
-/// Tells on standard error which socket cannot be opened and why, if memory was left for the line.
 pub(crate) fn refuse_socket<R: Eprint>(rt: &R, line: Option<String>) -> Stop {
     tell(rt, line, Stop::Socket)
 }
 
-/// Tells a line on standard error, and returns for what it stops, if memory was left for the line.
 fn tell<R: Eprint>(rt: &R, line: Option<String>, stop: Stop) -> Stop {
     let Some(line) = line else {
         return Stop::Fault(ShellFault::Memory);
     };
-    // If that cannot be written, nobody can be told.
+    // If this fails, the error cannot be reported at all.
     let _ = rt.eprintln(line.as_str());
     stop
 }

@@ -1,4 +1,4 @@
-//! The end of a device that is asked for by the line `stop`.
+//! The stop of a device that the line `stop` asks for.
 
 use crate::device::Device;
 use arrayvec::ArrayVec;
@@ -8,16 +8,16 @@ use std::fs::{File, Files};
 use std::net::{Net, TcpListener, TcpStream};
 use std::time::Clock;
 
-/// After so long the controller is reset at the latest, in milliseconds.
+/// Time limit for the connections to end, in milliseconds.
 const ENDING_TIME: u64 = 3_000;
 
-/// For so long the device waits at most for the answer to the Reset, in milliseconds.
+/// Time limit for the answer to the Reset, in milliseconds.
 const RESET_TIME: u64 = 1_000;
 
-/// The command Reset: Core 5.0, Vol 2 Part E, 7.3.2.
+/// The command Reset (Core 5.0, Vol 2 Part E, 7.3.2).
 const RESET: [u8; 4] = [0x01, 0x03, 0x0C, 0x00];
 
-/// The device is to end: its connections first, and nobody is heard any more.
+/// Begins to stop a device: its connections end first, and no more lines are read.
 pub(crate) fn begin_stop<R: Clock + Eprint>(device: &mut Device<'_, R>) {
     device.session.forget_asked();
     device.session.hold();
@@ -25,8 +25,9 @@ pub(crate) fn begin_stop<R: Clock + Eprint>(device: &mut Device<'_, R>) {
     device.stop = Some(device.session.log().now().saturating_add(ENDING_TIME));
 }
 
-/// Whether a device that is to end has no connection any more, or has waited for that long enough. Its
-/// connections are ended else.
+/// Returns true if a stopping device has no connection left, or its time limit is over.
+///
+/// Otherwise the device disconnects all its connections.
 pub(crate) fn is_stopped<R: Clock + Eprint>(device: &mut Device<'_, R>, host: &Host) -> bool {
     let Some(stop) = device.stop else {
         return false;
@@ -37,7 +38,7 @@ pub(crate) fn is_stopped<R: Clock + Eprint>(device: &mut Device<'_, R>, host: &H
     for connection in host.connections() {
         is_connected = true;
         if !connection.ending {
-            // A host has no more connections than there is room for.
+            // It fits: a host has at most `MAX_SLOTS` connections.
             let _ = ending.try_push(connection.handle);
         }
     }
@@ -45,7 +46,7 @@ pub(crate) fn is_stopped<R: Clock + Eprint>(device: &mut Device<'_, R>, host: &H
     is_late || !is_connected || !device.session.has_controller()
 }
 
-/// Resets the controller, so that it advertises no more, and answers that the device ends.
+/// Resets the controller, so that it stops advertising, and answers `stop`.
 pub(crate) fn finish<
     R: Files<File = File> + Net<Listener = TcpListener, Stream = TcpStream> + Clock + Eprint,
 >(device: &mut Device<'_, R>) {
@@ -58,15 +59,15 @@ pub(crate) fn finish<
     device.session.log().say("stopped");
 }
 
-/// The answer to `stop`.
 fn ok_text(alloc: Global) -> Result<Vec<u8>, AllocError> {
     let mut text = Vec::new(alloc);
     text.extend_from_slice(b"ok\n")?;
     Ok(text)
 }
 
-/// Waits until the controller says something that may be the answer to the Reset, or is gone. A stream
-/// that is closed before it is read may lose what was written last.
+/// Waits until the controller answers, perhaps the Reset, or disconnects.
+///
+/// A stream that is closed before it is read may lose the last bytes written.
 fn wait_for_reset<
     R: Files<File = File> + Net<Listener = TcpListener, Stream = TcpStream> + Clock + Eprint,
 >(device: &mut Device<'_, R>) {
@@ -87,7 +88,6 @@ fn wait_for_reset<
     }
 }
 
-/// Whether octets have the opcode of Reset.
 fn has_reset(octets: &[u8]) -> bool {
     octets
         .windows(2)

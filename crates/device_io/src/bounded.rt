@@ -1,22 +1,20 @@
-//! A file of which the size has a bound.
+//! A file with a bound on its size.
 
 ghost use Rattle.std.specs.Prelude.{◌≡◌, ◌+◌, ◌≤◌, ◌<◌, length, None, IfOk, IfErr};
 
-use octets::{Failed, Sink, write_uninterrupted};
+use octet_io::{Failed, Sink, write_uninterrupted};
 use std::fs::File;
 
-/// A file that is written from its start on, and never has more bytes than a bound.
+/// A file that is written from its start and never exceeds a bound.
 #[derive(Drop)]
 pub(crate) struct Bounded {
     file: File,
-    /// How many more bytes it may have.
     left: u64,
-    /// Set if a write was refused, since the file would have had too many bytes.
     is_full: bool,
 }
 
 impl Bounded {
-    /// Returns an empty file that has so many bytes at most.
+    /// Returns an empty file of at most `most` bytes.
     pub(crate) fn new(file: File, most: u64) -> Bounded {
         Bounded {
             file,
@@ -25,13 +23,11 @@ impl Bounded {
         }
     }
 
-    /// Returns whether a write was refused, since the file would have had too many bytes.
     pub(crate) fn is_full(&self) -> bool {
         self.is_full
     }
 
-    /// Writes a prefix of some bytes if the file may have all of them, and returns how many were
-    /// written. Fails if it may not, or if the file cannot be written.
+    /// Writes a prefix of the bytes. Fails if the bound does not allow all of them.
     fn write_front(&mut self, bytes: &[u8]) -> Result<usize, Failed>
         ensures bound { IfOk result (λ count. count ≤ length bytes.now) }
         ensures progress { IfOk result (λ count. 0 < length bytes.now → 0 < count) }

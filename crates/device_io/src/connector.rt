@@ -6,36 +6,31 @@ use std::io;
 use std::io::ErrorKind;
 use std::net::{Net, SocketAddr, TcpListener, TcpStream};
 
-/// How long a connection may take to be made, in milliseconds.
+/// Time limit for a connection attempt, in milliseconds.
 pub const CONNECT_TIME: u64 = 3_000;
 
-/// How long it takes until a controller that is not there is tried again, in milliseconds.
+/// Time between attempts, in milliseconds.
 pub const RETRY_TIME: u64 = 500;
 
-/// The way in which a controller is reached.
+/// A way to reach a controller.
 #[derive(Drop)]
 pub enum Connector<'a> {
-    /// It connects.
     Listen(TcpListener),
-    /// It listens at an address.
     Connect(SocketAddr),
-    /// It is at the end of a serial line.
     Serial(&'a str),
 }
 
-/// How far a controller is reached.
+/// The result of an attempt.
 #[derive(Drop)]
 pub enum Reach {
-    /// None is there.
     Nobody,
-    /// The connection to one has begun to be made.
+    /// A connection is being made.
     Begun(Transport),
-    /// One is there.
     There(Transport),
 }
 
 impl Connector<'_> {
-    /// Reaches for the next controller, and does not wait for it.
+    /// Tries to reach a controller, without waiting.
     pub fn reach<R: Files<File = File> + Net<Listener = TcpListener, Stream = TcpStream>>(
         &self,
         rt: &R,
@@ -47,13 +42,12 @@ impl Connector<'_> {
         }
     }
 
-    /// Whether it has to be tried again and again.
+    /// Returns true if the device has to retry until it reaches a controller.
     pub fn is_tried(&self) -> bool {
         !matches!(self, Connector::Listen(_))
     }
 }
 
-/// Accepts the next controller that connects, if one does.
 fn accept(listener: &TcpListener) -> io::Result<Reach> {
     match listener.accept() {
         Ok((socket, _)) => Ok(Reach::There(Transport::of_socket(socket)?)),
@@ -61,7 +55,6 @@ fn accept(listener: &TcpListener) -> io::Result<Reach> {
     }
 }
 
-/// Begins to connect to a controller that listens at an address.
 fn connect<R: Net>(rt: &R, address: SocketAddr) -> Reach {
     let Ok(socket) = mio::net::TcpStream::connect(rt, address) else {
         return Reach::Nobody;
@@ -72,7 +65,6 @@ fn connect<R: Net>(rt: &R, address: SocketAddr) -> Reach {
     }
 }
 
-/// Opens the serial line to a controller, if that can be done.
 fn open_line<R: Files<File = File>>(rt: &R, path: &str) -> Reach {
     let Ok(line) = File::options().read(true).write(true).open(rt, path) else {
         return Reach::Nobody;
@@ -83,7 +75,7 @@ fn open_line<R: Files<File = File>>(rt: &R, path: &str) -> Reach {
     }
 }
 
-/// Nobody connects as yet, or it cannot be told who does.
+/// Maps an error to `Nobody` if only no controller connects yet.
 fn nobody(error: io::Error) -> io::Result<Reach> {
     match error.kind() {
         ErrorKind::WouldBlock | ErrorKind::Interrupted => Ok(Reach::Nobody),

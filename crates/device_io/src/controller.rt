@@ -1,4 +1,4 @@
-//! The controller: how it is reached, its transport, and what waits to be written to it.
+//! The controller, its transport, and the bytes that wait for it. All times are in milliseconds.
 
 use crate::connector::{CONNECT_TIME, Connector, RETRY_TIME, Reach};
 use crate::log::Log;
@@ -13,52 +13,48 @@ use std::io::ErrorKind;
 use std::net::{Net, TcpListener, TcpStream};
 use std::time::Clock;
 
-/// How long it takes until a controller that could not be accepted is accepted again, in milliseconds.
+/// Time between attempts to accept a controller.
 const ACCEPT_TIME: u64 = 1_000;
 
-/// The most octets that wait for a controller.
+/// The most bytes that may wait for a controller.
 const LIMIT: usize = 1_048_576;
 
-/// The controller that is served, if there is one, and how the next one is reached.
+/// The current controller, if any, and the way to reach the next one.
 #[derive(Drop)]
 pub struct Controller<'a> {
     connector: Connector<'a>,
     transport: Option<Transport>,
-    /// The transport of the next one, to which a connection is being made.
+    /// The transport while a connection is being made.
     next: Option<Transport>,
-    /// Set once that connection is made, or has failed.
+    /// Set once that connection is made or has failed.
     is_answered: bool,
-    /// Whether it has come in this turn.
+    /// Set if the controller was reached since the last `has_come`.
     is_new: bool,
-    /// Whether it may be read.
     is_readable: bool,
-    /// Whether it sends no more, once what is there is read.
+    /// Set if nothing arrives after the bytes that can be read now.
     is_ending: bool,
-    /// Whether it is logged that none is reached.
+    /// Set once the log says that no controller is reached.
     is_missed: bool,
-    /// When one is tried again, in milliseconds.
+    /// When to try again.
     retry: u64,
-    /// Whether none may be served now.
+    /// Set while no controller may be served.
     is_held: bool,
-    /// Whether one connects that is not taken yet.
+    /// Set if a controller connects that is not accepted yet.
     is_knocking: bool,
-    /// How long it may take nothing, and may take to be initialised, in milliseconds.
     patience: u64,
     outbox: Outbox,
-    /// Since when it has taken nothing of what waits, in milliseconds.
+    /// Since when it has accepted no waiting bytes.
     stalled_since: u64,
-    /// When it was reached, in milliseconds.
     reached_at: u64,
-    /// Whether it is initialised.
     is_initialised: bool,
-    /// Why it cannot be served any longer, if so.
     fault: Option<&'static str>,
 }
 
 impl<'a> Controller<'a> {
-    /// Returns a controller that is not reached yet. It is given up if it takes no octets for `patience`
-    /// milliseconds, or is not initialised within that time. A connection of which nothing was heard for
-    /// twice as long, not even that it is there, is lost.
+    /// Returns a controller that is not reached yet.
+    ///
+    /// It is given up if it accepts no bytes for `patience`, or is not initialised in that time. A
+    /// connection is lost after twice that time without any sign of the peer.
     pub fn new(alloc: Global, connector: Connector<'a>, patience: u64) -> Controller<'a> {
         Controller {
             connector,
@@ -83,34 +79,34 @@ impl<'a> Controller<'a> {
 }
 
 impl Controller<'_> {
-    /// Whether one is served.
+    /// Returns true if a controller is served.
     pub fn is_there(&self) -> bool {
         self.transport.is_some()
     }
 
-    /// Returns whether it may be read, or is to be given up at this time, in milliseconds.
+    /// Returns true if it can be read or must be given up.
     pub fn is_readable(&self, now: u64) -> bool {
         self.is_readable || self.fault.is_some() || self.lapse(now).is_some()
     }
 
-    /// Returns why it cannot be served any longer, if that is known.
+    /// Returns why it can no longer be served, if known.
     pub fn fault(&self) -> Option<&'static str> {
         self.fault
     }
 
-    /// Notes that it is initialised. Returns whether that is new.
+    /// Marks it as initialised. Returns true if that is new.
     pub fn note_initialised(&mut self) -> bool {
         let is_new = self.transport.is_some() && !self.is_initialised;
         self.is_initialised |= is_new;
         is_new
     }
 
-    /// Returns whether one is served that is initialised.
+    /// Returns true if an initialised controller is served.
     pub fn is_initialised(&self) -> bool {
         self.transport.is_some() && self.is_initialised
     }
 
-    /// Returns when it is given up, in milliseconds, unless it takes octets or is initialised before.
+    /// Returns when it is given up, unless it makes progress.
     pub fn due(&self) -> Option<u64> {
         self.transport.as_ref()?;
         let stalled_since = if self.outbox.waiting().is_empty() {
@@ -126,7 +122,7 @@ impl Controller<'_> {
         given_up_at(self.patience, stalled_since, begun)
     }
 
-    /// Returns why it is given up at this time, in milliseconds, if it is.
+    /// Returns why it is given up at `now`, if it is.
     fn lapse(&self, now: u64) -> Option<&'static str> {
         if self.due()? > now {
             return None;
@@ -138,14 +134,14 @@ impl Controller<'_> {
         }
     }
 
-    /// Whether it has come since this was asked last.
+    /// Returns true if it was reached since the last call.
     pub fn has_come(&mut self) -> bool {
         let is_new = self.is_new;
         self.is_new = false;
         is_new
     }
 
-    /// When one is to be tried again, in milliseconds, if none is there and it has to be tried.
+    /// Returns when to try to reach a controller, if necessary.
     pub fn retry(&self) -> Option<u64> {
         let is_due = self.connector.is_tried() || self.is_knocking;
         if self.transport.is_none() && is_due && !self.is_held {
@@ -155,14 +151,14 @@ impl Controller<'_> {
         }
     }
 
-    /// Notes that it may be read, and sends no more then, if it is ending.
+    /// Marks it as readable. If `is_ending`, nothing arrives after the bytes that can be read now.
     pub fn is_ready(&mut self, is_ending: bool) {
         self.is_readable = self.transport.is_some();
         self.is_ending = self.is_ending || is_ending;
         self.is_answered = true;
     }
 
-    /// Serves it no longer. The next one may come, or may wait already.
+    /// Stops serving the controller.
     pub fn lose(&mut self, poller: &Poller) {
         self.transport = None;
         self.is_readable = false;
@@ -172,9 +168,9 @@ impl Controller<'_> {
         listen_again(&self.connector, poller);
     }
 
-    /// Reads once at this time, in milliseconds, and returns how many octets: `None` if nothing is there
-    /// as yet. If more may be there, it is read in a later turn, or `Poller` is asked to tell again. Fails
-    /// also if the controller is given up.
+    /// Reads once. Returns `None` if nothing can be read yet.
+    ///
+    /// If more may be there, a later turn reads it. Fails also if the controller is given up.
     pub fn read(
         &mut self,
         poller: &Poller,
@@ -205,7 +201,6 @@ impl Controller<'_> {
         Ok(read)
     }
 
-    /// Has the transport told again when it may be read, and when it takes more, if octets wait.
     fn watch_again(&self, poller: &Poller) -> io::Result<()> {
         let source = if self.outbox.waiting().is_empty() {
             Source::Controller
@@ -218,8 +213,9 @@ impl Controller<'_> {
         }
     }
 
-    /// Sends octets behind those that wait at this time, in milliseconds. Returns whether one is there.
-    /// Fails if the controller cannot be written, or too many octets wait.
+    /// Queues bytes and writes what the controller accepts. Returns false if none is there.
+    ///
+    /// Fails if the controller cannot be written or too many bytes wait.
     pub fn write(&mut self, octets: &[u8], poller: &Poller, now: u64) -> io::Result<bool> {
         if self.transport.is_none() {
             return Ok(false);
@@ -235,7 +231,7 @@ impl Controller<'_> {
         Ok(true)
     }
 
-    /// Writes what waits, as far as the controller takes it, at this time in milliseconds.
+    /// Writes waiting bytes as far as the controller accepts them.
     pub fn flush(&mut self, poller: &Poller, now: u64) {
         self.is_answered = true;
         if self.write_waiting(poller, now).is_err() {
@@ -243,7 +239,6 @@ impl Controller<'_> {
         }
     }
 
-    /// Writes what waits, as far as the controller takes it.
     fn write_waiting(&mut self, poller: &Poller, now: u64) -> io::Result<()> {
         if self.outbox.waiting().is_empty() {
             return Ok(());
@@ -268,8 +263,7 @@ impl Controller<'_> {
         Ok(())
     }
 
-    /// Reaches for one, if one connects, or if it is time to try again, or takes the one to which a
-    /// connection is made. None is reached for as long as they are held.
+    /// Reaches a controller if one connects or if it is time, unless `is_held`.
     pub fn look<
         R: Files<File = File> + Net<Listener = TcpListener, Stream = TcpStream> + Clock + Eprint,
     >(&mut self, connects: bool, is_held: bool, poller: &Poller, log: &Log<'_, R>) {
@@ -290,7 +284,6 @@ impl Controller<'_> {
         }
     }
 
-    /// Takes the one to which a connection was made, or notes that this has failed.
     fn finish<R: Clock + Eprint>(&mut self, poller: &Poller, log: &Log<'_, R>) {
         let Some(transport) = self.next.take() else {
             return;
@@ -303,7 +296,6 @@ impl Controller<'_> {
         self.take(transport, watched, log);
     }
 
-    /// Reaches for one.
     fn reach<
         R: Files<File = File> + Net<Listener = TcpListener, Stream = TcpStream> + Clock + Eprint,
     >(&mut self, poller: &Poller, log: &Log<'_, R>) {
@@ -311,7 +303,7 @@ impl Controller<'_> {
             self.miss("controller: not there", log);
         }
         let Ok(reached) = self.connector.reach(log.rt) else {
-            // It waits on, and is accepted once that can be done.
+            // The controller keeps waiting.
             self.is_knocking = true;
             self.retry = log.now().saturating_add(ACCEPT_TIME);
             return self.miss("controller: not accepted", log);
@@ -331,7 +323,6 @@ impl Controller<'_> {
         }
     }
 
-    /// Waits for the connection to one that has begun to be made.
     fn begin<R: Clock + Eprint>(
         &mut self,
         transport: Transport,
@@ -346,7 +337,6 @@ impl Controller<'_> {
         self.retry = log.now().saturating_add(CONNECT_TIME);
     }
 
-    /// Takes the transport of one that is reached, if it can be waited for.
     fn take<R: Clock + Eprint>(
         &mut self,
         transport: Transport,
@@ -366,7 +356,6 @@ impl Controller<'_> {
         self.is_ending = false;
     }
 
-    /// Logs once why none is reached: it is tried again and again.
     fn miss<R: Clock + Eprint>(&mut self, words: &str, log: &Log<'_, R>) {
         if !self.is_missed {
             self.is_missed = true;
@@ -375,8 +364,7 @@ impl Controller<'_> {
     }
 }
 
-/// Has one that already waits to be taken told again. Where that cannot be done, the next one that
-/// comes is told.
+/// Makes the poller report waiting controllers. If that fails, it reports only the next one.
 fn listen_again(connector: &Connector<'_>, poller: &Poller) {
     if let Connector::Listen(listener) = connector {
         let _ = poller.again(listener, Source::Controllers);

@@ -1,6 +1,4 @@
-//! What a device uses of its system: the transport to its controller and the connector that reaches
-//! one, the sockets of applications, the poller that waits for all of them, the clock with the log, the
-//! saved file, its lock and the capture.
+//! The parts of the system that a device uses.
 #![tactic(auto)]
 
 mod bounded;

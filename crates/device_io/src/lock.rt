@@ -1,13 +1,12 @@
-//! A lock that one process has at a time.
+//! A lock that only one process can hold.
 
 use std::fs::{File, Files, TryLockError};
 use std::os::unix::fs::OpenOptionsExt;
 use std::{fs, io};
 
-/// A lock file may be opened by its owner alone.
 const OWNER_ALONE: u32 = 0o600;
 
-/// A lock on a file, until this value is dropped or the process ends.
+/// A lock on a file, until it is dropped or the process ends.
 #[derive(Drop)]
 pub struct Lock {
     _file: File,
@@ -16,16 +15,14 @@ pub struct Lock {
 /// Why a file cannot be locked.
 #[derive(Drop)]
 pub enum LockFault {
-    /// Another process has the lock.
     Taken,
-    /// The path is that of a folder, a link, a pipe or something else that is not a file.
+    /// The path leads to a folder, a link, a pipe or the like.
     NotAFile,
-    /// The file cannot be opened or locked.
     Failed(io::Error),
 }
 
 impl Lock {
-    /// Locks the file at a path, which is created if it does not exist.
+    /// Locks the file at a path, and creates it if necessary.
     pub fn take<R: Files<File = File>>(files: &R, path: &str) -> Result<Lock, LockFault> {
         if let Ok(found) = fs::symlink_metadata(files, path)
             && !found.is_file()

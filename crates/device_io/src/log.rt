@@ -1,6 +1,7 @@
-//! The clock of the program, and its log on standard error: a line an event, with the time of day in UTC
-//! unless the reader is the journal of systemd, which notes it.
-//! A reader of the log that does not read stops nothing: lines are dropped then, and counted.
+//! The clock of the program, and its log on standard error.
+//!
+//! Each event is one line, with the time of day in UTC unless systemd's journal adds the time. The
+//! program never waits for the reader of the log: it drops lines and counts them.
 
 ghost use Rattle.std.specs.Prelude.{◌≡◌, ◌++◌, false, Some};
 ghost use Rattle.jiff_core.specs.DateTime.{civil_nanos};
@@ -21,31 +22,26 @@ use std::rt::Env;
 use std::time::{Clock, SystemTime, UNIX_EPOCH};
 use std::{fs, io};
 
-/// The clock of `clock_gettime` that goes on while the machine is suspended: CLOCK_BOOTTIME of Linux.
+/// CLOCK_BOOTTIME of Linux, which counts while the machine is suspended.
 const SINCE_BOOT: i32 = 7;
 
-/// The longest line of the log, in bytes. A pipe that is ready takes that many without waiting: PIPE_BUF of
-/// Linux.
+/// PIPE_BUF of Linux: a ready pipe accepts a line of this length without waiting.
 const LONGEST: usize = 4_096;
 
 /// The clock of the program, and its log.
 #[derive(Drop)]
 pub struct Log<'a, R> {
-    /// The runtime, by which all else of the program is done.
     pub rt: &'a R,
     alloc: Global,
-    /// When the program began, in milliseconds since the machine was started.
+    /// When the program began, in milliseconds since the machine started.
     begun: u64,
-    /// How many lines were dropped since one was written.
     dropped: Cell<u64>,
-    /// The terminal to which lines go, if it is one.
     terminal: Option<Terminal>,
-    /// Set if the journal of systemd reads the lines, which notes the time of each itself.
     is_journal: bool,
 }
 
 impl<'a, R: Files<File = File> + Env> Log<'a, R> {
-    /// The time begins now.
+    /// Starts the log and its clock.
     pub fn new(rt: &'a R, alloc: Global) -> io::Result<Log<'a, R>> {
         Ok(Log {
             rt,
@@ -59,12 +55,12 @@ impl<'a, R: Files<File = File> + Env> Log<'a, R> {
 }
 
 impl<R: Clock + Eprint> Log<'_, R> {
-    /// Returns the time since the start, in milliseconds. The time of a suspend counts.
+    /// Returns the time since `new`, in milliseconds, suspended time included.
     pub fn now(&self) -> u64 {
         since_boot().saturating_sub(self.begun)
     }
 
-    /// The time since the start of 1970, in microseconds.
+    /// Returns the time since the start of 1970, in microseconds.
     pub fn micros(&self) -> u64 {
         let Ok(now) = SystemTime::now(self.rt) else {
             return 0;
@@ -75,7 +71,7 @@ impl<R: Clock + Eprint> Log<'_, R> {
         }
     }
 
-    /// Writes a line, and how many were dropped before it. It is dropped if the reader of the log takes
+    /// Writes a line, after the number of dropped lines if any. Drops it if the reader accepts
     /// nothing now.
     pub fn say(&self, words: &str) {
         if !(self.tell_dropped() && self.write(words)) {
@@ -83,7 +79,7 @@ impl<R: Clock + Eprint> Log<'_, R> {
         }
     }
 
-    /// Writes how many lines were dropped, if some were. Returns whether there is no need of it any more.
+    /// Writes the number of dropped lines, if any. Returns false if that failed.
     fn tell_dropped(&self) -> bool {
         let count = self.dropped.get();
         if count == 0 {
@@ -99,8 +95,7 @@ impl<R: Clock + Eprint> Log<'_, R> {
         is_told
     }
 
-    /// Writes a line, with the time of day unless its reader notes that, cut to the longest line. Returns
-    /// whether it was written.
+    /// Writes a line, with the time if needed. Returns true if it was written.
     fn write(&self, words: &str) -> bool {
         if !takes_bytes() {
             return false;
@@ -116,7 +111,6 @@ impl<R: Clock + Eprint> Log<'_, R> {
         }
     }
 
-    /// Writes a line to the terminal, or to what else standard error is. Returns whether it was written.
     fn write_line(&self, line: &str) -> bool {
         let Some(terminal) = &self.terminal else {
             return self.rt.eprintln(line).is_ok();
@@ -135,8 +129,9 @@ impl<R: Clock + Eprint> Log<'_, R> {
     }
 }
 
-/// Returns whether the journal of systemd reads standard error: JOURNAL_STREAM then has the device and the
-/// inode of that stream, in decimal.
+/// Returns true if systemd's journal reads standard error.
+///
+/// JOURNAL_STREAM then has the device and the inode of that stream, in decimal.
 fn is_journal<R: Files<File = File> + Env>(rt: &R, alloc: Global) -> bool {
     let mut buffer = [0; 64];
     let Ok(count) = rt.var("JOURNAL_STREAM", &mut buffer) else {
@@ -152,7 +147,7 @@ fn is_journal<R: Files<File = File> + Env>(rt: &R, alloc: Global) -> bool {
     }
 }
 
-/// Returns whether standard error takes bytes now, or a write to it fails at once.
+/// Returns true if a write to standard error does not wait.
 fn takes_bytes() -> bool {
     let mut asked = [pollfd {
         fd: libc::STDERR_FILENO,
@@ -177,7 +172,7 @@ fn front_of(text: &str) -> &str {
     ""
 }
 
-/// Returns the time since the machine was started, in milliseconds, or 0 if there is no such clock.
+/// Returns the time since the machine started, in milliseconds, or 0 without such a clock.
 fn since_boot() -> u64 {
     let mut time = timespec {
         tv_sec: 0,
@@ -191,7 +186,7 @@ fn since_boot() -> u64 {
     seconds.saturating_mul(1_000).saturating_add(millis)
 }
 
-/// Returns the time of day, or the start of 1970 if the clock cannot be read.
+/// Returns the time of day, or the start of 1970 without a clock.
 fn time_of_day(clock: &impl Clock) -> ArrayString<33> {
     match Timestamp::now(clock) {
         Ok(now) => moment_text(now),
@@ -199,7 +194,7 @@ fn time_of_day(clock: &impl Clock) -> ArrayString<33> {
     }
 }
 
-/// Returns an instant as RFC 3339 writes it: in UTC, with milliseconds, which are cut and not rounded.
+/// Returns a moment in UTC as RFC 3339 writes it. Milliseconds are truncated.
 fn moment_text(moment: Timestamp) -> ArrayString<33>
     ensures { (utc : DateTime) × (civil_nanos utc ≡ moment.nanosecond)
         × (result.bytes ≡ datetime_text false 84 (Some 3) utc ++ zulu_text false) }

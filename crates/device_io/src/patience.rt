@@ -1,11 +1,9 @@
-//! How long a controller is waited for.
+//! The time limits for a controller.
 
 ghost use Rattle.std.specs.Prelude.{◌≡◌, ◌∷◌, []};
 ghost use Rattle.device_io.specs.Patience.{given_up_at};
 
-/// Returns when a controller is given up, in milliseconds: `patience` after it began to take no octets
-/// that wait for it, or after its initialisation began, whichever is sooner. A wait that has not begun has
-/// no moment.
+/// Returns when a controller is given up, in milliseconds: `patience` after the first wait began.
 #[tactic(auto, unfolding(crate::specs::Patience::given_up_at))]
 pub(crate) fn given_up_at(
     patience: u64,
@@ -26,7 +24,6 @@ pub(crate) fn given_up_at(
     }
 }
 
-/// Returns when a wait ends that began at a moment, in milliseconds, if it began.
 #[tactic(auto, unfolding(crate::specs::Patience::given_up_at))]
 fn wait_end(patience: u64, begun: Option<u64>) -> Option<u64>
     ensures { result ≡ given_up_at patience (begun ∷ []) }

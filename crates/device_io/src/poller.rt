@@ -1,4 +1,4 @@
-//! Poller until something is ready.
+//! The poller, which waits until something is ready.
 
 use mio::unix::SourceFd;
 use mio::{Events, Interest, Poll, Token};
@@ -8,20 +8,18 @@ use std::net::{Net, SocketAddr, TcpListener, TcpStream};
 use std::os::fd::{AsRawFd, RawFd};
 use std::time::Duration;
 
-/// What may be ready.
+/// A kind of watched socket.
 #[derive(Clone, Copy)]
 pub enum Source {
-    /// The stream of the controller.
     Controller,
-    /// The stream of the controller, for which octets wait.
+    /// The controller while bytes wait for it.
     FullController,
-    /// The stream of a controller to which a connection is being made.
+    /// The controller while a connection is being made.
     NewController,
-    /// Where controllers connect.
+    /// The listener for controllers.
     Controllers,
-    /// The stream of the application.
     Application,
-    /// Where applications connect.
+    /// The listener for applications.
     Applications,
 }
 
@@ -36,20 +34,19 @@ impl Source {
     }
 }
 
-/// What is ready.
+/// The sockets that are ready.
 #[derive(Clone, Copy)]
 pub struct Ready {
-    /// Whether the controller may be read.
     pub controller: bool,
-    /// Whether the controller may take more octets.
+    /// The controller accepts more bytes.
     pub takes_more: bool,
-    /// Whether the controller sends no more, once what is there is read.
+    /// Nothing arrives after the bytes that can be read now.
     pub is_ending: bool,
-    /// Whether a controller connects.
+    /// A controller connects.
     pub controllers: bool,
-    /// Whether the application may be read, or takes more.
+    /// The application can be read or accepts more bytes.
     pub application: bool,
-    /// Whether an application connects.
+    /// An application connects.
     pub applications: bool,
 }
 
@@ -61,7 +58,7 @@ pub struct Poller {
 }
 
 impl Poller {
-    /// Waits for nothing yet.
+    /// Returns a poller that watches nothing yet.
     pub fn new(alloc: Global, net: &impl Net) -> io::Result<Poller> {
         Ok(Poller {
             poll: Poll::new(net)?,
@@ -69,7 +66,7 @@ impl Poller {
         })
     }
 
-    /// Watches a socket from now on.
+    /// Begins to watch a socket.
     pub fn watch(&self, socket: &impl AsRawFd, source: Source) -> io::Result<()> {
         let fd: RawFd = socket.as_raw_fd();
         self.poll
@@ -77,7 +74,7 @@ impl Poller {
             .register(&mut SourceFd(&fd), source.token(), interest(source))
     }
 
-    /// Listens at an address for controllers or for applications.
+    /// Listens at an address for controllers or applications.
     pub fn listen<R: Net<Listener = TcpListener, Stream = TcpStream>>(
         &self,
         rt: &R,
@@ -90,7 +87,7 @@ impl Poller {
         Ok(listener)
     }
 
-    /// Has a socket that is still ready told again.
+    /// Makes the poller report a socket again if it is still ready.
     pub fn again(&self, socket: &impl AsRawFd, source: Source) -> io::Result<()> {
         let fd: RawFd = socket.as_raw_fd();
         self.poll
@@ -98,7 +95,7 @@ impl Poller {
             .reregister(&mut SourceFd(&fd), source.token(), interest(source))
     }
 
-    /// Waits until something is ready, or the time is up, if there is one.
+    /// Waits until something is ready or the timeout is over.
     pub fn wait(&mut self, timeout: Option<Duration>) -> io::Result<Ready> {
         self.poll.poll(&mut self.events, timeout)?;
         let mut ready = Ready {
@@ -127,8 +124,6 @@ impl Poller {
     }
 }
 
-/// Returns what is wanted of a socket: of that of the application, and of a controller for which octets
-/// wait, also to hear that it takes more; of one to which a connection is being made, that alone.
 fn interest(source: Source) -> Interest {
     match source {
         Source::Application | Source::FullController => Interest::READABLE | Interest::WRITABLE,

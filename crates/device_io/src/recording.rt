@@ -1,4 +1,4 @@
-//! The capture of what goes to the controller and comes from it, where one is asked for.
+//! The capture of the packets to and from the controller.
 
 use crate::bounded::Bounded;
 use crate::log::Log;
@@ -9,19 +9,17 @@ use std::os::fd::AsRawFd;
 use std::os::unix::fs::OpenOptionsExt;
 use std::time::Clock;
 
-/// What the owner of a capture may do, and nobody else.
 const OWNER_ALONE: u32 = 0o600;
 
 /// A capture, if one is written.
 #[derive(Drop)]
 pub struct Recording {
     capture: Option<Capture<Bounded>>,
-    /// Whether it was told that no more packets are recorded.
     is_told: bool,
 }
 
 impl Recording {
-    /// No capture.
+    /// Returns a recording without a capture.
     pub fn none() -> Recording {
         Recording {
             capture: None,
@@ -29,8 +27,9 @@ impl Recording {
         }
     }
 
-    /// Begins a capture in a file at a path, in place of what that had, of so many bytes at most. One that
-    /// is new is its owner's alone: keys go by in it.
+    /// Begins a capture of at most `most` bytes, which replaces the file at a path.
+    ///
+    /// Only the owner may read a new file, because the packets contain keys.
     pub fn begin<R: Files<File = File>>(rt: &R, path: &str, most: u64) -> io::Result<Recording> {
         let file = File::options()
             .write(true)
@@ -38,7 +37,7 @@ impl Recording {
             .truncate(true)
             .mode(OWNER_ALONE)
             .open(rt, path)?;
-        // A pipe that nobody reads is written no further. Other files take all.
+        // Never waits for a pipe that is not read.
         os::set_nonblocking(file.as_raw_fd(), true);
         Ok(Recording {
             capture: Some(Capture::begin(Bounded::new(file, most))),
@@ -46,7 +45,7 @@ impl Recording {
         })
     }
 
-    /// Octets have gone to the controller.
+    /// Records octets to the controller.
     pub fn went<R: Clock + Eprint>(&mut self, octets: &[u8], log: &Log<'_, R>) {
         if let Some(capture) = &mut self.capture {
             capture.went(octets, log.micros());
@@ -54,7 +53,7 @@ impl Recording {
         }
     }
 
-    /// Octets have come from the controller.
+    /// Records octets from the controller.
     pub fn came<R: Clock + Eprint>(&mut self, octets: &[u8], log: &Log<'_, R>) {
         if let Some(capture) = &mut self.capture {
             capture.came(octets, log.micros());
@@ -62,7 +61,7 @@ impl Recording {
         }
     }
 
-    /// The stream of another controller begins.
+    /// Begins the stream of the next controller.
     pub fn next_stream(&mut self) {
         if let Some(capture) = &mut self.capture {
             capture.next_stream();
@@ -70,7 +69,7 @@ impl Recording {
         }
     }
 
-    /// Logs once that no more packets are recorded, and why.
+    /// Logs once why recording has stopped.
     fn tell<R: Clock + Eprint>(&mut self, log: &Log<'_, R>) {
         let Some(capture) = &self.capture else {
             return;

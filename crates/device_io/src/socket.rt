@@ -1,4 +1,4 @@
-//! The socket of an application: where it connects, and its connection.
+//! The sockets of applications.
 
 ghost use Rattle.std.specs.Prelude.{◌≤◌, length, IfOk};
 
@@ -11,24 +11,22 @@ use std::os::unix::fs::{DirBuilderExt, FileTypeExt, MetadataExt, PermissionsExt}
 use std::os::unix::net::{UnixListener, UnixStream};
 use std::{fs, io};
 
-/// What the owner of a socket may do, and nobody else.
 const OWNER_ALONE: u32 = 0o600;
 
-/// What the owner of a folder may do, and nobody else.
+/// The permission of a folder that only its owner may enter.
 const OWNER_ALONE_ENTERS: u32 = 0o700;
 
-/// Where applications connect.
+/// The listener for applications.
 #[derive(Drop)]
 pub enum Listener {
-    /// At a path.
     Path(UnixListener),
-    /// At an address.
     Port(TcpListener),
 }
 
 impl Listener {
-    /// Accepts the next application that connects, if one does. After an error `Poller` does not tell of
-    /// those that wait already: they are accepted later.
+    /// Accepts the next application that connects, if any.
+    ///
+    /// After an error, applications that already wait are accepted later.
     pub fn accept(&self, poller: &Poller) -> io::Result<Option<Socket>> {
         match self {
             Listener::Path(listener) => accept_at_path(listener, poller),
@@ -40,14 +38,12 @@ impl Listener {
 /// The connection of an application.
 #[derive(Drop)]
 pub enum Socket {
-    /// To a path.
     Path(UnixStream),
-    /// To an address.
     Port(TcpStream),
 }
 
 impl Socket {
-    /// Reads once: how many octets, and none at the end.
+    /// Reads once and returns the number of bytes, 0 at the end.
     pub fn read(&mut self, buffer: &mut [u8]) -> io::Result<usize>
         ensures { IfOk result (λ count. count ≤ length buffer.old) }
     {
@@ -57,7 +53,7 @@ impl Socket {
         }
     }
 
-    /// Writes the front of some octets: how many.
+    /// Writes a prefix of some bytes and returns its length.
     pub fn write(&mut self, octets: &[u8]) -> io::Result<usize>
         ensures { IfOk result (λ count. count ≤ length octets.now) }
     {
@@ -67,7 +63,7 @@ impl Socket {
         }
     }
 
-    /// Watches it from now on.
+    /// Begins to watch the connection.
     pub fn watch(&self, poller: &Poller) -> io::Result<()> {
         match self {
             Socket::Path(stream) => poller.watch(stream, Source::Application),
@@ -76,18 +72,15 @@ impl Socket {
     }
 }
 
-/// When what has failed is tried again.
+/// When to try again after an error.
 #[derive(Clone, Copy)]
 pub enum Retry {
-    /// At once: it was interrupted.
     Now,
-    /// Once more can be done.
     Later,
-    /// Not at all.
     Never,
 }
 
-/// When what has failed so is tried again.
+/// Returns when to try again after an error.
 pub fn retry_after(error: &io::Error) -> Retry {
     match error.kind() {
         ErrorKind::Interrupted => Retry::Now,
@@ -96,9 +89,10 @@ pub fn retry_after(error: &io::Error) -> Retry {
     }
 }
 
-/// Listens at a path. A socket that is there is replaced if it was left behind: it is ours, and nobody
-/// listens there. Nobody but the owner may connect, from the first moment on: the socket is made in a
-/// folder that nobody else may enter, and moved to its path as it is.
+/// Listens at a path, at which only the owner may ever connect.
+///
+/// Replaces a socket of the same user at which nobody listens. The socket is made in a folder that
+/// only the owner may enter, and then moved to its path.
 pub fn bind_at_path<R: Files + Net>(rt: &R, alloc: Global, path: &str) -> io::Result<UnixListener> {
     if is_taken(rt, path)? {
         return Err(io::Error::from(ErrorKind::AddrInUse));
@@ -114,8 +108,7 @@ pub fn bind_at_path<R: Files + Net>(rt: &R, alloc: Global, path: &str) -> io::Re
     bound
 }
 
-/// Returns whether a path has what is not to be replaced: anything but a socket of ours at which nobody
-/// listens.
+/// Returns true unless a path is free or has an unused socket of the same user.
 fn is_taken<R: Files + Net>(rt: &R, path: &str) -> io::Result<bool> {
     let found = match fs::symlink_metadata(rt, path) {
         Ok(found) => found,
@@ -131,8 +124,10 @@ fn is_taken<R: Files + Net>(rt: &R, path: &str) -> io::Result<bool> {
     }
 }
 
-/// Makes a folder that its owner alone may enter. One of ours that was left behind, with the socket that
-/// was made there, is removed first. Fails if anything else is there, such as a link of somebody else.
+/// Makes a folder that only its owner may enter.
+///
+/// Removes first a folder of the same user that was left behind. Fails if the path has anything
+/// else.
 fn make_folder<R: Files>(rt: &R, folder: &str, made: &str) -> io::Result<()> {
     if let Some(kind) = own_kind(rt, folder)
         && kind.is_dir()
@@ -145,7 +140,6 @@ fn make_folder<R: Files>(rt: &R, folder: &str, made: &str) -> io::Result<()> {
         .create(rt, folder)
 }
 
-/// Removes a socket of ours, if it is there, and nothing else.
 fn remove_socket<R: Files>(rt: &R, path: &str) -> io::Result<()> {
     match own_kind(rt, path) {
         Some(kind) if kind.is_socket() => fs::remove_file(rt, path),
@@ -153,7 +147,7 @@ fn remove_socket<R: Files>(rt: &R, path: &str) -> io::Result<()> {
     }
 }
 
-/// Returns the kind of the file at a path, which may be a link, if it is there and is ours.
+/// Returns the kind of a file of this user, links not followed.
 fn own_kind<R: Files>(rt: &R, path: &str) -> Option<FileType> {
     let found = fs::symlink_metadata(rt, path).ok()?;
     if found.uid() == libc::geteuid() {
@@ -163,8 +157,6 @@ fn own_kind<R: Files>(rt: &R, path: &str) -> Option<FileType> {
     }
 }
 
-/// Listens at a path where nothing is, and moves the socket to another path. Nobody but the owner may
-/// connect.
 fn bind<R: Files + Net>(rt: &R, made: &str, path: &str) -> io::Result<UnixListener> {
     let listener = UnixListener::bind(rt, made)?;
     fs::set_permissions(rt, made, Permissions::from_mode(OWNER_ALONE))?;
@@ -173,7 +165,6 @@ fn bind<R: Files + Net>(rt: &R, made: &str, path: &str) -> io::Result<UnixListen
     Ok(listener)
 }
 
-/// Accepts the next application that connects at a path, if one does.
 fn accept_at_path(listener: &UnixListener, poller: &Poller) -> io::Result<Option<Socket>> {
     let accepted = match listener.accept() {
         Ok((stream, _)) => line_at_path(stream)?,
@@ -183,13 +174,11 @@ fn accept_at_path(listener: &UnixListener, poller: &Poller) -> io::Result<Option
     Ok(accepted)
 }
 
-/// The line of an application that has connected at a path.
 fn line_at_path(stream: UnixStream) -> io::Result<Option<Socket>> {
     stream.set_nonblocking(true)?;
     Ok(Some(Socket::Path(stream)))
 }
 
-/// Accepts the next application that connects at a port, if one does.
 fn accept_at_port(listener: &TcpListener, poller: &Poller) -> io::Result<Option<Socket>> {
     let accepted = match listener.accept() {
         Ok((stream, _)) => line_at_port(stream)?,
@@ -199,14 +188,13 @@ fn accept_at_port(listener: &TcpListener, poller: &Poller) -> io::Result<Option<
     Ok(accepted)
 }
 
-/// The line of an application that has connected at a port.
 fn line_at_port(stream: TcpStream) -> io::Result<Option<Socket>> {
     stream.set_nonblocking(true)?;
     stream.set_nodelay(true)?;
     Ok(Some(Socket::Port(stream)))
 }
 
-/// Nobody connects as yet, or it cannot be told who does.
+/// Maps an error to `None` if only no application connects yet.
 fn nobody(error: io::Error) -> io::Result<Option<Socket>> {
     match retry_after(&error) {
         Retry::Now | Retry::Later => Ok(None),

@@ -1,5 +1,6 @@
-//! The terminal that standard error may be, written without waiting: a terminal that is not read takes
-//! part of a line, and then nothing.
+//! Standard error as a terminal, written without waiting.
+//!
+//! A terminal that is not read accepts part of a line, and then nothing.
 
 use std::cell::Cell;
 use std::fs;
@@ -7,7 +8,6 @@ use std::fs::{File, Files};
 use std::os::fd::AsRawFd;
 use std::os::unix::fs::{FileTypeExt, MetadataExt};
 
-/// Standard error, as Linux names it.
 pub(crate) const STANDARD_ERROR: &str = "/proc/self/fd/2";
 
 /// The major numbers of pseudo-terminals on Linux.
@@ -15,16 +15,16 @@ const FIRST_MAJOR: u64 = 136;
 
 const LAST_MAJOR: u64 = 143;
 
-/// A terminal. Other programs that have it as standard error still wait when they write to it.
+/// A terminal. Other programs may still wait when they write to it.
 #[derive(Drop)]
 pub(crate) struct Terminal {
     file: File,
-    /// Set if the last line was cut.
+    /// Set if the last line was written only in part.
     is_cut: Cell<bool>,
 }
 
 impl Terminal {
-    /// Opens the pseudo-terminal that standard error is, if it is one.
+    /// Opens standard error if it is a pseudo-terminal.
     pub(crate) fn open<R: Files<File = File>>(rt: &R) -> Option<Terminal> {
         let found = fs::metadata(rt, STANDARD_ERROR).ok()?;
         let major = found.rdev() >> 8;
@@ -42,7 +42,7 @@ impl Terminal {
         }
     }
 
-    /// Writes a line, which has its line feed, as far as the terminal takes it. Returns whether it took all.
+    /// Writes a line. Returns true if all of it was written.
     pub(crate) fn write(&self, line: &[u8]) -> bool {
         let fd = self.file.as_raw_fd();
         if self.is_cut.get() {

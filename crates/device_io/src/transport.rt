@@ -1,4 +1,4 @@
-//! The stream of a controller. Neither reads nor writes wait.
+//! The stream to and from a controller. Reads and writes never wait.
 
 use crate::vanished::notice_vanished_peer;
 use std::fs::File;
@@ -7,30 +7,29 @@ use std::io::{ErrorKind, Read, Write};
 use std::net::TcpStream;
 use std::os::fd::{AsRawFd, RawFd};
 
-/// How many octets are dropped at once that came before a line was opened, and how often at most.
+/// The size, and the largest number, of the reads that drop old bytes.
 const OLD_OCTETS: usize = 1_024;
 
 const OLD_READS: u32 = 128;
 
-/// The transport of HCI packets to a controller and back.
+/// The transport of HCI packets to and from a controller.
 #[derive(Drop)]
 pub enum Transport {
-    /// A connection.
     Socket(TcpStream),
-    /// A serial line.
     Serial(File),
 }
 
 impl Transport {
-    /// Returns the stream of a connection, which sends at once.
+    /// Returns the transport of a connection.
     pub fn of_socket(socket: TcpStream) -> io::Result<Transport> {
         socket.set_nonblocking(true)?;
         socket.set_nodelay(true)?;
         Ok(Transport::Socket(socket))
     }
 
-    /// Returns the stream of a serial line. Octets that came before are dropped: they may begin in the
-    /// middle of a packet.
+    /// Returns the transport of a serial line.
+    ///
+    /// Drops bytes that arrived before: they may begin in the middle of a packet.
     pub fn of_line(line: File) -> io::Result<Transport> {
         if os::set_nonblocking(line.as_raw_fd(), true) != 0 {
             return Err(io::Error::from(ErrorKind::Unsupported));
@@ -40,7 +39,7 @@ impl Transport {
         Ok(Transport::Serial(line))
     }
 
-    /// Returns whether a connection that was begun is made, once its socket has told that it takes octets.
+    /// Returns true if a connection is made. Call it once the socket is writable.
     pub fn is_connected(&self) -> bool {
         match self {
             Transport::Socket(socket) => {
@@ -50,19 +49,19 @@ impl Transport {
         }
     }
 
-    /// Has reads of a connection fail once its peer has vanished for `time` milliseconds, without an end.
+    /// Makes reads fail if the peer is unreachable for `time` milliseconds.
     pub fn notice_vanished_peer(&self, time: u64) {
         if let Transport::Socket(socket) = self {
             notice_vanished_peer(socket.as_raw_fd(), time);
         }
     }
 
-    /// Returns whether a read that does not fill its buffer has taken all that was there.
+    /// Returns true if a read that does not fill its buffer has read everything.
     pub fn is_emptied(&self) -> bool {
         matches!(self, Transport::Socket(_))
     }
 
-    /// Reads once. `None` if nothing is there as yet; no octets at the end.
+    /// Reads once. Returns `None` if nothing can be read yet, and 0 at the end.
     pub fn read(&mut self, buffer: &mut [u8]) -> io::Result<Option<usize>> {
         let read = match self {
             Transport::Socket(socket) => socket.read(buffer),
@@ -77,8 +76,7 @@ impl Transport {
         }
     }
 
-    /// Writes the front of some octets, and returns how many were written: `None` if no more can be
-    /// written as yet.
+    /// Writes a prefix of some bytes. Returns `None` if nothing fits yet.
     pub fn write(&mut self, octets: &[u8]) -> io::Result<Option<usize>> {
         let written = match self {
             Transport::Socket(socket) => socket.write(octets),
@@ -96,7 +94,7 @@ impl Transport {
     }
 }
 
-/// Drops the octets that a line has now, as far as a system holds so many.
+/// Drops the bytes that a line already has, up to the limit above.
 fn drop_input(line: &mut File) {
     let mut buffer = [0; OLD_OCTETS];
     for _read in 0..OLD_READS {

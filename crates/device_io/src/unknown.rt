@@ -1,14 +1,15 @@
-//! Peers of a rows file without a key.
+//! Peers of a subscriptions file that have no key.
 
 use gatt_subs::Rows;
 use le_hci::Peer;
 use le_security::Keys;
-use octets::Writer;
+use octet_io::Writer;
 use std::alloc::{AllocError, Global};
 use std::str;
 
-/// Tells of the first peer of rows that keys do not know, in words, if there is one. The rows are not
-/// fitted to the keys yet.
+/// Returns the first peer of the saved subscriptions without a key, as text.
+///
+/// The rows need not be fitted to the keys yet.
 pub fn unknown_peer(alloc: Global, rows: &Rows, keys: &Keys) -> Result<Option<String>, AllocError> {
     let mut text = Vec::new(alloc);
     if rows.text(&mut Writer::new(&mut text)).is_err() {
@@ -23,7 +24,6 @@ pub fn unknown_peer(alloc: Global, rows: &Rows, keys: &Keys) -> Result<Option<St
     }
 }
 
-/// The first peer of lines that keys do not know, by the kind of its address and the address.
 fn first_unknown<'a>(lines: &'a str, keys: &Keys) -> Option<(&'a str, &'a str)> {
     for line in lines.split('\n') {
         if let Some(peer) = unknown_in(line, keys) {
@@ -33,7 +33,6 @@ fn first_unknown<'a>(lines: &'a str, keys: &Keys) -> Option<(&'a str, &'a str)> 
     None
 }
 
-/// The peer of a line, by the kind of its address and the address, where keys do not know it.
 fn unknown_in<'a>(line: &'a str, keys: &Keys) -> Option<(&'a str, &'a str)> {
     let (kind, rest) = line.strip_prefix("! ").unwrap_or(line).split_once(' ')?;
     let address = match rest.split_once(' ') {
@@ -48,7 +47,6 @@ fn unknown_in<'a>(line: &'a str, keys: &Keys) -> Option<(&'a str, &'a str)> {
     }
 }
 
-/// The peer of a kind of address and an address.
 fn read_peer(kind: &str, address: &str) -> Option<Peer> {
     Some(Peer {
         kind: kind.parse::<u8>().ok()?,

@@ -1,16 +1,17 @@
-//! Connections whose peer has vanished: it sends no end, so only the system can find out.
+//! Connections whose peer vanished without closing.
 
 use libc::net::{
     IPPROTO_TCP, SO_KEEPALIVE, SOL_SOCKET, TCP_KEEPIDLE, TCP_KEEPINTVL, TCP_USER_TIMEOUT,
 };
 use std::os::fd::RawFd;
 
-/// The most seconds of silence after which Linux asks a peer whether it is there.
+/// The longest silence, in seconds, before Linux probes a peer.
 const LONGEST_IDLE: u64 = 32_767;
 
-/// Has a connection fail whose peer has acknowledged nothing for `time` milliseconds. A peer that is silent
-/// for half of that is asked each second whether it is there. If the system refuses this, a peer that
-/// has vanished is noticed later.
+/// Makes a connection fail if its peer has acknowledged nothing for `time` milliseconds.
+///
+/// Linux probes the peer each second after half of that. If the system refuses the options, a
+/// vanished peer is noticed later.
 pub(crate) fn notice_vanished_peer(fd: RawFd, time: u64) {
     let idle = (time / 2_000).clamp(1, LONGEST_IDLE);
     let _ = unsafe { libc::net::setsockopt(fd, IPPROTO_TCP, TCP_KEEPIDLE, &spelled(idle), 4) };
@@ -19,7 +20,6 @@ pub(crate) fn notice_vanished_peer(fd: RawFd, time: u64) {
     let _ = unsafe { libc::net::setsockopt(fd, SOL_SOCKET, SO_KEEPALIVE, &spelled(1), 4) };
 }
 
-/// Returns a number as C's unsigned int, or the largest one.
 fn spelled(number: u64) -> [u8; 16] {
     let [a, b, c, d] = u32::try_from(number).unwrap_or(u32::MAX).to_ne_bytes();
     [a, b, c, d, 0, 0, 0, 0, 0, 0, 0, 0, 0, 0, 0, 0]

@@ -1,7 +1,7 @@
 -- Which connections have changes that are not saved.
 use Rattle.std.proofs.Common.{◌≡◌, ◌≢◌, ℕ, Bool, true, false, List, [], ◌∷◌, ◌++◌, Some, refl, sym, ap, subst, ◌∙◌, ◌⊎◌, inl, inr}
 use Rattle.std.specs.Prelude.{cond, not, ◌==◌, ◌||◌, All, fold, ◌↔◌}
-use Rattle.std.proofs.lemmas.Bool.{eq-eqb, eqb-true, false≢true}
+use Rattle.std.proofs.lemmas.Bool.{eq-eqb, eqb-true, false≢true, or_left, or_right}
 use Rattle.std.proofs.lemmas.List.Elements.{All-cons, All-head, All-nil, All-tail}
 use Rattle.std.proofs.lemmas.List.Folds.{list_any-append}
 use Rattle.std.proofs.lemmas.List.Sums.{fold-append}
@@ -12,14 +12,6 @@ use Rattle.gatt_laws.specs.machine.Notice.{Notice, Connected, Disconnected, Secu
 either-true : (one other : Bool) → (one || other) ≡ true → (one ≡ true) ⊎ (other ≡ true)
 either-true true other is = inl refl
 either-true false other is = inr is
-
-first-true : (one other : Bool) → one ≡ true → (one || other) ≡ true
-first-true true other is = refl
-first-true false other is = absurd (false≢true is)
-
-other-true : (one other : Bool) → other ≡ true → (one || other) ≡ true
-other-true true other is = refl
-other-true false other is = is
 
 -- with one more
 has-added : (connections : List ℕ) (added handle : ℕ) (there : Bool) → has_connection connections added ≡ there
@@ -41,13 +33,13 @@ added-there : (connections : List ℕ) (handle : ℕ) (there : Bool) → has_con
 added-there connections handle true there = there
 added-there connections handle false there =
     list_any-append (λ connection. connection == handle) connections (handle ∷ [])
-    ∙ other-true (has_connection connections handle) (has_connection (handle ∷ []) handle) (first-true (handle == handle) false (eq-eqb handle handle refl))
+    ∙ or_right (has_connection connections handle) (has_connection (handle ∷ []) handle) (or_left (handle == handle) false (eq-eqb handle handle refl))
 
 stays-with : (connections : List ℕ) (added handle : ℕ) (there : Bool) → has_connection connections handle ≡ true
     → has_connection (cond there connections (connections ++ added ∷ [])) handle ≡ true
 stays-with connections added handle true has = has
 stays-with connections added handle false has =
-    list_any-append (λ connection. connection == handle) connections (added ∷ []) ∙ first-true (has_connection connections handle) (has_connection (added ∷ []) handle) has
+    list_any-append (λ connection. connection == handle) connections (added ∷ []) ∙ or_left (has_connection connections handle) (has_connection (added ∷ []) handle) has
 
 -- with one less
 cons-without : (connection gone handle : ℕ) (others : List ℕ) (same : Bool) → connection == gone ≡ same
@@ -61,10 +53,10 @@ cons-without connection gone handle others true is stays has =
     ]
 cons-without connection gone handle others false is stays has =
     elim (either-true (connection == handle) (has_connection others handle) has) [
-      | inl first ↦ inl (first-true (connection == handle) _ first)
+      | inl first ↦ inl (or_left (connection == handle) _ first)
       | inr later ↦
           elim (stays later) [
-            | inl left ↦ inl (other-true (connection == handle) _ left)
+            | inl left ↦ inl (or_right (connection == handle) _ left)
             | inr same ↦ inr same
           ]
     ]
@@ -85,17 +77,17 @@ cons-left : (connection gone handle : ℕ) (others : List ℕ) (same : Bool) →
     → IsOther (connection ∷ others) gone handle
 cons-left connection gone handle others true is left has =
     let later = left has in
-    record { before = other-true (connection == handle) _ later.before; differs = later.differs }
+    record { before = or_right (connection == handle) _ later.before; differs = later.differs }
 cons-left connection gone handle others false is left has =
     elim (either-true (connection == handle) (has_connection (without_connection others gone) handle) has) [
       | inl first ↦
           record {
-            before = first-true (connection == handle) _ first;
+            before = or_left (connection == handle) _ first;
             differs = λ same. false≢true (sym is ∙ eq-eqb connection gone (eqb-true connection handle first ∙ sym same));
           }
       | inr later ↦
           let others_left = left later in
-          record { before = other-true (connection == handle) _ others_left.before; differs = others_left.differs }
+          record { before = or_right (connection == handle) _ others_left.before; differs = others_left.differs }
     ]
 
 left-without : (connections : List ℕ) (gone handle : ℕ) → has_connection (without_connection connections gone) handle ≡ true → IsOther connections gone handle

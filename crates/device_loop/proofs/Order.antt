@@ -1,7 +1,7 @@
 -- Whatever is recorded of a turn, the state was saved right before anything was sent, or nothing was sent that has to be withheld.
 use Rattle.std.specs.Prelude.{◌||◌, IsSome}
 use Rattle.std.proofs.Common.{◌≡◌, Bool, true, false, List, [], ◌∷◌, ◌++◌, Option, Some, None, Result, Ok, Err, refl, sym, ap, subst, ◌∙◌, ◌⊎◌, inl, inr, append-nil, append_assoc}
-use Rattle.std.proofs.lemmas.Bool.{false≢true}
+use Rattle.std.proofs.lemmas.Bool.{false≢true, or_right}
 use Rattle.device_loop.proofs.Happened.{records_none, records_then}
 use Rattle.device_loop.proofs.Packets.{no_data_left}
 use Rattle.device_loop.specs.declared.outside.Saving.{Saving}
@@ -20,7 +20,7 @@ use Rattle.gatt_host.specs.HostModel.{RefinesRun, HostModel}
 use Rattle.gatt_laws.specs.machine.Input.{Run, Item, after_items, run}
 use Rattle.gatt_laws.specs.machine.Notice.{Received}
 use Rattle.gatt_laws.specs.machine.Start.{Start}
-use Rattle.octets.specs.Number.{Octets}
+use Rattle.octet_io.specs.Number.{Octets}
 
 -- one place in two lists, one behind the other, is in the first or in the second
 abbrev SplitsAt : List HistoryEntry → List HistoryEntry → List HistoryEntry → HistoryEntry → List HistoryEntry → Type 0
@@ -59,13 +59,9 @@ abbrev has_sent : List HistoryEntry → Bool
 has_sent [] = false
 has_sent (entry ∷ entries) = is_sent entry || has_sent entries
 
-or_true : (one other : Bool) → other ≡ true → (one || other) ≡ true
-or_true true other is = refl
-or_true false other is = is
-
 sent_there : (first : List HistoryEntry) (octets : Octets) (rest : List HistoryEntry) → has_sent (first ++ Sent octets ∷ rest) ≡ true
 sent_there [] octets rest = refl
-sent_there (entry ∷ first) octets rest = or_true (is_sent entry) _ (sent_there first octets rest)
+sent_there (entry ∷ first) octets rest = or_right (is_sent entry) _ (sent_there first octets rest)
 
 -- by what happens nothing is sent
 turn_unsent : (at : Run) (happening : DeviceInput) (entries : List HistoryEntry) → has_sent entries ≡ false → has_sent (entries_recorded_of at happening ++ entries) ≡ false

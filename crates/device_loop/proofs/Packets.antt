@@ -9,7 +9,7 @@ use Rattle.std.proofs.lemmas.List.Edits.{take-paste, drop-paste}
 use Rattle.std.proofs.Math.Seq.{paste}
 use Rattle.std.proofs.lemmas.List.Elements.{All-cons, All-head, All-nil, All-tail, filter_passes}
 use Rattle.le_h4.specs.declared.indicator.TheConstants.{COMMAND, ACL}
-use Rattle.octets.specs.Number.{Octets, from_two}
+use Rattle.octet_io.specs.Number.{Octets, from_two}
 use Rattle.device_loop.specs.Withholding.{HasNoDataFor, IsCutIntoPackets, Packets, command_size, data_size, first_and_others, first_size, handle_of_data, is_data_for, is_one_of, joined, packet_size, packets_in, packets_within, size_if_whole, without, without_data_for}
 
 -- the first packet has at least one octet, and is whole

@@ -10,7 +10,7 @@ use Rattle.gatt_host.specs.declared.host_fault.HostFault.{HostFault}
 use Rattle.gatt_host.specs.HostModel.{HostModel}
 use Rattle.gatt_laws.specs.machine.Calls.{Call}
 use Rattle.gatt_laws.specs.machine.Notice.{Received}
-use Rattle.octets.specs.Number.{Octets}
+use Rattle.octet_io.specs.Number.{Octets}
 
 pub serves_as : (result : Result End HostFault) (turns : ℕ) (old new : HostModel) (come : Known) (octets other_octets : Option Octets) (calls other_calls : Option (List Call))
     (history : Option (List HistoryEntry)) (before after : Option Octets) (heard hears hearing : Option (List Received)) → other_octets ≡ octets → other_calls ≡ calls → hearing ≡ hears

@@ -1,4 +1,4 @@
--- What happens to a host, and what is recorded of it: this profile's own.
+-- The events of a host and the history of a device, which this profile defines.
 use Rattle.std.specs.Prelude.{◌≡◌, ℕ, List, [], ◌∷◌, ◌++◌, Option, Some, None}
 use Rattle.std.specs.List.{flat_map}
 use Rattle.att_numbers.specs.Types.{Values}
@@ -8,16 +8,15 @@ use Rattle.gatt_host.specs.ServerState.{ServerState}
 use Rattle.gatt_laws.specs.machine.Calls.{Call, Refused}
 use Rattle.gatt_laws.specs.machine.Input.{Item, ACall}
 use Rattle.gatt_subs.specs.Rows.{Subscriptions}
-use Rattle.octets.specs.Number.{Octets}
+use Rattle.octet_io.specs.Number.{Octets}
 use Rattle.device_loop.specs.declared.happenings.Next.{Next}
 use Rattle.device_loop.specs.declared.happenings.Next.TheVariants as next
 
--- octets came from the controller, or the application asked something
 pub data DeviceInput : Type 0 where
   Came : (octets : Octets) → DeviceInput
   Asked : (call : Call) → DeviceInput
 
--- The state of a host that a device saves: what peers have configured, and the values of its table.
+-- The state that a device saves: subscriptions and the values of the table.
 pub record SavedState : Type 0 where
   pub rows : Subscriptions
   pub values : Values
@@ -25,10 +24,9 @@ pub record SavedState : Type 0 where
 abbrev pub saved_state : ServerState → SavedState
 saved_state server = record { rows = server.rows; values = server.table.values }
 
--- An entry of the history: up to which deadline it was waited, if there was one; what happened then; what a call was answered, which
--- is why it is refused, if it is; that the stream of the controller has ended, or cannot be read; that the state was saved, or
--- that it was not, with the handles of the connections whose changes are not saved; which octets were sent, and which waited on
--- since nobody was there, or were left where sending failed.
+-- An entry of the history. `Answered` has the refusal of the call, if any. `Unsaved` has the
+-- connections with unsaved changes. `Unsent` octets found nobody there, and `Broken` has those left
+-- after a failure.
 pub data HistoryEntry : Type 0 where
   Waited : (deadline : Option ℕ) → HistoryEntry
   Happened : (happening : DeviceInput) → HistoryEntry
@@ -41,7 +39,6 @@ pub data HistoryEntry : Type 0 where
   Unsent : (octets : Octets) → HistoryEntry
   Broken : (left : Octets) → HistoryEntry
 
--- of what is given: its octets, its calls, and how it is recorded
 abbrev pub next_octets : Next → Octets
 next_octets (next.Octets octets) = octets.now
 next_octets (next.Call call) = []
@@ -60,19 +57,20 @@ next_entry (next.Call call) = Happened (Asked (call_of call))
 next_entry next.Ended = Ended
 next_entry next.Failed = Failed
 
--- these calls are handed out, where it is known which come
+-- These calls are the next of the known calls.
 abbrev pub Hands : Option (List Call) → Option (List Call) → List Call → Type 0
 Hands None after calls = Unit
 Hands (Some before) None calls = ⊥
 Hands (Some before) (Some after) calls = before ≡ calls ++ after
 
--- these entries stand behind those before, where they are known
-abbrev pub Records : List HistoryEntry → Option (List HistoryEntry) → Option (List HistoryEntry) → Type 0
+-- These entries follow the known ones.
+abbrev pub Records : List HistoryEntry → Option (List HistoryEntry) → Option (List HistoryEntry)
+    → Type 0
 Records entries None after = Unit
 Records entries (Some before) None = ⊥
 Records entries (Some before) (Some after) = after ≡ before ++ entries
 
--- of what happened: the octets, the calls, and what a host takes in
+-- The octets, the calls and the items of events.
 abbrev pub input_octets : DeviceInput → Octets
 input_octets (Came octets) = octets
 input_octets (Asked call) = []

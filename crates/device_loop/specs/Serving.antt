@@ -1,4 +1,4 @@
--- How a host is served by what happens.
+-- The effect of events on a host.
 use Rattle.std.specs.Prelude.{◌≡◌, ℕ, ◌<◌, ◌≤◌, length, IfErr, List, [], ◌∷◌, ◌++◌, Option, None, Result, Ok, Err}
 use Rattle.std.specs.Io.KnownBytes.{Consumes}
 use Rattle.gatt_host.specs.declared.host_fault.HostFault.{HostFault}
@@ -10,12 +10,12 @@ use Rattle.gatt_laws.specs.laws.Deadline.{deadline}
 use Rattle.gatt_laws.specs.machine.Input.{Run, Item, after_items, call_refusal, run}
 use Rattle.gatt_laws.specs.machine.Notice.{Received}
 use Rattle.gatt_laws.specs.machine.Start.{Start}
-use Rattle.octets.specs.Number.{Octets}
+use Rattle.octet_io.specs.Number.{Octets}
 use Rattle.device_loop.specs.declared.serving.End.{End}
 use Rattle.device_loop.specs.declared.serving.End.TheVariants as end
 use Rattle.device_loop.specs.Happenings.{DeviceInput, Came, Asked, HistoryEntry, Waited, Happened, Answered, Ended, Failed, Hands, Records, octets_that_came, calls_in, input_items_of, items_in}
 
--- what is known of the two sides: the octets and the calls that come from here on, and what has happened so far
+-- The known future octets and calls, and the known history.
 pub record Known : Type 0 where
   pub octets : Option Octets
   pub calls : Option (List Call)
@@ -24,22 +24,27 @@ pub record Known : Type 0 where
 abbrev pub known : Option Octets → Option (List Call) → Option (List HistoryEntry) → Known
 known octets calls history = record { octets = octets; calls = calls; history = history }
 
--- a call is answered as the state machine has it, wherever the host was
-abbrev pub RecordsTheAnswer : Call → HostModel → Option (List HistoryEntry) → Option (List HistoryEntry) → Type 0
-RecordsTheAnswer call old before after = (start : Start) (input : List Item) (sent : List Octets) → RefinesRun (run start input) sent old
+abbrev pub RecordsTheAnswer : Call → HostModel → Option (List HistoryEntry)
+    → Option (List HistoryEntry) → Type 0
+RecordsTheAnswer call old before after =
+    (start : Start) (input : List Item) (sent : List Octets) → RefinesRun (run start input) sent old
     → Records (Answered (call_refusal (run start input).intake call) ∷ []) before after
 
--- what is recorded of a turn: it is waited up to the deadline that stands, and a call is answered before anything else
+-- The entries of a turn: the wait until the deadline, the event, and the answer to a call.
 abbrev pub entries_recorded_of : Run → DeviceInput → List HistoryEntry
-entries_recorded_of run (Came octets) = Waited (deadline run.intake.state) ∷ Happened (Came octets) ∷ []
+entries_recorded_of run (Came octets) =
+    Waited (deadline run.intake.state) ∷ Happened (Came octets) ∷ []
 entries_recorded_of run (Asked call) =
-    Waited (deadline run.intake.state) ∷ Happened (Asked call) ∷ Answered (call_refusal run.intake call) ∷ []
+    Waited (deadline run.intake.state) ∷ Happened (Asked call)
+    ∷ Answered (call_refusal run.intake call) ∷ []
 
 abbrev pub entries_recorded : Run → List DeviceInput → List HistoryEntry
 entries_recorded run [] = []
-entries_recorded run (happening ∷ happened) = entries_recorded_of run happening ++ entries_recorded (after_items run (input_items_of happening)) happened
+entries_recorded run (happening ∷ happened) =
+    entries_recorded_of run happening
+    ++ entries_recorded (after_items run (input_items_of happening)) happened
 
--- and of the last one, where the stream of the controller ends or cannot be read
+-- The entries of the last turn, in which the stream ends or cannot be read.
 abbrev pub last_entries : Run → Result End HostFault → List HistoryEntry
 last_entries run (Ok end.Ended) = Waited (deadline run.intake.state) ∷ Ended ∷ []
 last_entries run (Ok end.Failed) = Waited (deadline run.intake.state) ∷ Failed ∷ []
@@ -47,22 +52,26 @@ last_entries run (Ok end.Turns) = []
 last_entries run (Err fault) = []
 
 abbrev pub all_entries : Run → List DeviceInput → Result End HostFault → List HistoryEntry
-all_entries run happened result = entries_recorded run happened ++ last_entries (after_items run (items_in happened)) result
+all_entries run happened result =
+    entries_recorded run happened ++ last_entries (after_items run (items_in happened)) result
 
-abbrev pub RecordsAll : List DeviceInput → Result End HostFault → HostModel → Option (List HistoryEntry) → Option (List HistoryEntry) → Type 0
-RecordsAll happened result old before after = (start : Start) (input : List Item) (sent : List Octets) → RefinesRun (run start input) sent old
+abbrev pub RecordsAll : List DeviceInput → Result End HostFault → HostModel
+    → Option (List HistoryEntry) → Option (List HistoryEntry) → Type 0
+RecordsAll happened result old before after =
+    (start : Start) (input : List Item) (sent : List Octets) → RefinesRun (run start input) sent old
     → Records (all_entries (run start input) happened result) before after
 
--- in so many turns something happened: in all that there may be; or in fewer, and then came the end; or in some, where the host
--- stopped
+-- The number of events is `turns`, or less if the stream ended, or at most `turns` if the host
+-- stopped.
 abbrev pub IsOver : Result End HostFault → ℕ → ℕ → Type 0
 IsOver (Ok end.Ended) turns count = count < turns
 IsOver (Ok end.Failed) turns count = count < turns
 IsOver (Ok end.Turns) turns count = count ≡ turns
 IsOver (Err fault) turns count = count ≤ turns
 
--- the host goes on up to the last that happened, and stops at that, or at what it owed before anything happened
-pub record StopsAtTheLast (happened : List DeviceInput) (old new : HostModel) (before after : Option Octets) : Type 0 where
+-- The host stops at the last event, or at its pending output before any event.
+pub record StopsAtTheLast (happened : List DeviceInput) (old new : HostModel)
+    (before after : Option Octets) : Type 0 where
   pub first : List DeviceInput
   pub last : List DeviceInput
   pub parts : happened ≡ first ++ last
@@ -73,9 +82,11 @@ pub record StopsAtTheLast (happened : List DeviceInput) (old new : HostModel) (b
   pub going : between.fault ≡ None
   pub stops : Feeds (items_in last) between new written after new.fault
 
--- this happened: its octets and its calls are those that came, each in their order. What is written is what the state machine
--- gives of it, and what is heard is what it tells. It is recorded with its answers, and it is over for this reason
-pub record ServesDevice (result : Result End HostFault) (turns : ℕ) (old new : HostModel) (come comes : Known) (before after : Option Octets) (heard hears : Option (List Received)) : Type 0 where
+-- The events have the octets and calls that arrived, in their order. The output and the notices are
+-- those of the state machine; the history has the events and answers.
+pub record ServesDevice (result : Result End HostFault) (turns : ℕ) (old new : HostModel)
+    (come comes : Known) (before after : Option Octets) (heard hears : Option (List Received)) :
+    Type 0 where
   pub happened : List DeviceInput
   pub octets : Consumes come.octets comes.octets (octets_that_came happened)
   pub calls : Hands come.calls comes.calls (calls_in happened)

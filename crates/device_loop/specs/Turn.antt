@@ -1,10 +1,11 @@
--- One turn of a device: nothing is sent before the state is saved from which it follows. This profile's own.
+-- One turn of a device: the state is saved before packets that depend on it are sent. This profile
+-- defines it.
 use Rattle.std.specs.Prelude.{◌≡◌, ℕ, IsSome, List, [], ◌∷◌, ◌++◌, Contains, Option, Some, None}
 use Rattle.gatt_host.specs.HostModel.{RefinesRun, HostModel}
 use Rattle.gatt_laws.specs.machine.Input.{Item, run}
 use Rattle.gatt_laws.specs.machine.Notice.{Received}
 use Rattle.gatt_laws.specs.machine.Start.{Start}
-use Rattle.octets.specs.Number.{Octets}
+use Rattle.octet_io.specs.Number.{Octets}
 use Rattle.device_loop.specs.declared.outside.Saving.{Saving}
 use Rattle.device_loop.specs.declared.outside.Sending.{Sending}
 use Rattle.device_loop.specs.declared.turn.Turn.{Turn}
@@ -13,57 +14,68 @@ use Rattle.device_loop.specs.Outside.{Sends, octets_to_send, saving_entry, waits
 use Rattle.device_loop.specs.Serving.{Known, ServesDevice, known}
 use Rattle.device_loop.specs.Withholding.{HasNoDataFor}
 
--- What has to be withheld is dropped, and all else that waits is sent.
-pub record SendsWhatWaits (saving : Saving) (sending : Sending) (before after : Option Octets) (recorded records : Option (List HistoryEntry)) : Type 0 where
+-- All waiting octets are sent, except the data to be withheld.
+pub record SendsWhatWaits (saving : Saving) (sending : Sending) (before after : Option Octets)
+    (recorded records : Option (List HistoryEntry)) : Type 0 where
   pub waiting : Octets
   pub waits : before ≡ Some waiting
   pub sends : Sends sending (octets_to_send saving waiting) recorded records
   pub left : after ≡ Some (waits_after sending (octets_to_send saving waiting))
 
--- The device saves the state, or it is recorded for which connections it is not saved. Only then is sent what waits.
-pub record SavesThenSends (turn : Turn) (state : SavedState) (before after : Option Octets) (recorded records : Option (List HistoryEntry)) : Type 0 where
+-- The device saves the state, or records the connections with unsaved changes, and only then sends.
+pub record SavesThenSends (turn : Turn) (state : SavedState) (before after : Option Octets)
+    (recorded records : Option (List HistoryEntry)) : Type 0 where
   pub saved : Option (List HistoryEntry)
   pub saves : Records (saving_entry turn.saving state ∷ []) recorded saved
   pub sends : SendsWhatWaits turn.saving turn.sending before after saved records
 
--- nothing happens, nothing is written, and nothing is heard
-pub record NothingHappens (come comes : Known) (before after : Option Octets) (heard hears : Option (List Received)) : Type 0 where
+pub record NothingHappens (come comes : Known) (before after : Option Octets)
+    (heard hears : Option (List Received)) : Type 0 where
   pub happens : comes ≡ come
   pub writes : after ≡ before
   pub hearing : hears ≡ heard
 
--- a host is served in one turn, or has stopped before. What it writes waits behind what waited already, until the state is
--- saved that the host has by then
-pub record TakesATurn (turn : Turn) (old new : HostModel) (come comes : Known) (before after : Option Octets) (heard hears : Option (List Received)) : Type 0 where
+-- A host that has not stopped is served one turn. Its output waits after earlier output until the
+-- new state is saved.
+pub record TakesATurn (turn : Turn) (old new : HostModel) (come comes : Known)
+    (before after : Option Octets) (heard hears : Option (List Received)) : Type 0 where
   pub written : Option Octets
   pub recorded : Option (List HistoryEntry)
-  pub serves : old.fault ≡ None → ServesDevice turn.served 1 old new come (known comes.octets comes.calls recorded) before written heard hears
-  pub stopped : IsSome old.fault → NothingHappens come (known comes.octets comes.calls recorded) before written heard hears
+  pub serves : old.fault ≡ None
+      → ServesDevice turn.served 1 old new come (known comes.octets comes.calls recorded) before
+      written heard hears
+  pub stopped : IsSome old.fault
+      → NothingHappens come (known comes.octets comes.calls recorded) before written heard hears
   pub settles : SavesThenSends turn (saved_state new.server) written after recorded comes.history
 
--- An entry allows these octets to be sent after it: the state was saved, or they have no data for any connection whose changes are not
--- saved.
+-- An entry allows these octets to be sent next: the state was saved, or they have no data for
+-- connections with unsaved changes.
 abbrev pub AllowsSending : HistoryEntry → Octets → Type 0
 AllowsSending (Saved state) octets = Unit
-AllowsSending (Unsaved state connections) octets = (handle : ℕ) → Contains connections handle → HasNoDataFor handle octets
+AllowsSending (Unsaved state connections) octets =
+    (handle : ℕ) → Contains connections handle → HasNoDataFor handle octets
 AllowsSending entry octets = ⊥
 
--- The last entry allows these octets to be sent.
 pub record EndsSaved (entries : List HistoryEntry) (octets : Octets) : Type 0 where
   pub earlier : List HistoryEntry
   pub last : HistoryEntry
   pub parts : entries ≡ earlier ++ last ∷ []
   pub allows : AllowsSending last octets
 
--- Each time octets were sent, the entry right before allows it.
+-- Each entry of sent octets directly follows an entry that allows it.
 abbrev pub SavedBeforeSent : List HistoryEntry → Type 0
-SavedBeforeSent entries = (first rest : List HistoryEntry) (octets : Octets) → entries ≡ first ++ Sent octets ∷ rest → EndsSaved first octets
+SavedBeforeSent entries =
+    (first rest : List HistoryEntry) (octets : Octets) → entries ≡ first ++ Sent octets ∷ rest
+    → EndsSaved first octets
 
--- where that is so, it stays so, wherever the host was: after any number of turns
+-- A turn preserves `SavedBeforeSent`.
 abbrev pub KeepsTheOrder : Option (List HistoryEntry) → Option (List HistoryEntry) → Type 0
 KeepsTheOrder None after = Unit
 KeepsTheOrder (Some before) None = ⊥
 KeepsTheOrder (Some before) (Some after) = SavedBeforeSent before → SavedBeforeSent after
 
-abbrev pub StaysInOrder : HostModel → Option (List HistoryEntry) → Option (List HistoryEntry) → Type 0
-StaysInOrder old before after = (start : Start) (input : List Item) (sent : List Octets) → RefinesRun (run start input) sent old → KeepsTheOrder before after
+abbrev pub StaysInOrder : HostModel → Option (List HistoryEntry) → Option (List HistoryEntry)
+    → Type 0
+StaysInOrder old before after =
+    (start : Start) (input : List Item) (sent : List Octets) → RefinesRun (run start input) sent old
+    → KeepsTheOrder before after

@@ -1,6 +1,6 @@
-//! A device that serves on: it accepts what its controller sends and what its application asks as it
-//! happens, saves what that changes, and then sends what that causes. It has no socket, no file and
-//! no clock: its caller brings them.
+//! A device that serves continuously: it processes events of the controller and the application,
+//! saves the changes, and then sends the packets that follow. The caller supplies sockets, files
+//! and the clock.
 #![tactic(auto)]
 
 mod happenings;

@@ -1,4 +1,4 @@
-//! A host is served by what happens.
+//! Serves a host its events.
 
 ghost use Rattle.std.specs.Prelude.{◌≡◌, ◌∷◌, [], true, None, Some, IsSome, IsOk, IfErr};
 ghost use Rattle.gatt_host.specs.Calls.{call_of};
@@ -7,33 +7,34 @@ ghost use Rattle.gatt_host.specs.Listening.{Listens};
 ghost use Rattle.gatt_host.specs.Promises.{KeepsConnectionsApart, KeepsThePolicy};
 ghost use Rattle.gatt_host.specs.HostModel.{all_out, fault_outcome};
 ghost use Rattle.gatt_laws.specs.machine.Input.{ACall};
-ghost use Rattle.octets.specs.Stream.{CountsIf};
+ghost use Rattle.octet_io.specs.Stream.{CountsIf};
 ghost use Rattle.device_loop.specs.Serving.{known, RecordsTheAnswer, ServesDevice};
 ghost use Rattle.device_loop.specs.Time.{KeepsTheTime};
 
 use crate::happenings::{Happenings, Next};
 use gatt_host::{App, Host, HostFault, Listener, deliver_notices, feed, feed_to};
-use octets::Sink;
+use octet_io::Sink;
 
-/// As much room as there is for octets that come at once, or for a value.
+/// Buffer size for octets that arrive together, or for a value.
 const ROOM: usize = 1024;
 
-/// Why a host is served no longer, although it has not stopped.
+/// The reason why serving ends although the host has not stopped.
 #[derive(Clone, Copy, PartialEq, Eq)]
 pub enum End {
-    /// The stream from its controller has ended.
+    /// The stream from the controller has ended.
     Ended,
-    /// The stream from its controller cannot be read.
+    /// The stream from the controller cannot be read.
     Failed,
-    /// As many turns are over as there may be.
+    /// The maximum number of turns was reached.
     Turns,
 }
 
-/// Serves a host by what happens: writes what is owed, and then waits in each turn for what happens
-/// next, takes it in, and writes what it brings, before the next is waited for. A call is answered
-/// as soon as it is taken in, then what it tells is heard, and then what it brings is written. A
-/// tick that goes back is answered `AppFault::TimeWentBack`, as other calls that are refused, and
-/// changes nothing. After a fault of the host it answers that, and waits for nothing more.
+/// Serves a host its events, one in each of at most `turns` turns. Writes pending packets first,
+/// and those of each event before it waits for the next. A call is answered first, then its notices
+/// are delivered, then its packets are written.
+///
+/// A refused call changes nothing, for example a tick that goes back (`AppFault::TimeWentBack`).
+/// After a fault of the host it returns that fault and waits for nothing.
 pub fn serve_happenings<H: Happenings, W: Sink, L: Listener>(
     host: &mut Host,
     happenings: &mut H,
@@ -57,7 +58,7 @@ pub fn serve_happenings<H: Happenings, W: Sink, L: Listener>(
     ensures happenings_stopped { IsSome host.old.fault → happenings.new ≡ happenings.old }
     ensures sink_stopped { IsSome host.old.fault → out.new ≡ out.old }
     ensures listener_stopped { IsSome host.old.fault → listener.new ≡ listener.old }
-    // And of all that is taken in, for every start and input:
+    // For every start and input:
     ensures policy { KeepsThePolicy }
     ensures apart { KeepsConnectionsApart }
     ensures time { KeepsTheTime }
@@ -65,8 +66,7 @@ pub fn serve_happenings<H: Happenings, W: Sink, L: Listener>(
     serve_turns(host, happenings, out, listener, turns)
 }
 
-/// Serves a host by what happens in so many turns, of which the public call says what holds of every
-/// run besides. It stands apart for its proof.
+/// Implements `serve_happenings`. Separate function: keeps the proof small.
 fn serve_turns<H: Happenings, W: Sink, L: Listener>(
     host: &mut Host,
     happenings: &mut H,
@@ -104,8 +104,7 @@ fn serve_turns<H: Happenings, W: Sink, L: Listener>(
     Ok(End::Turns)
 }
 
-/// Does what the application asks, or refuses it, and answers which; tells what it tells, and then
-/// writes what it brings.
+/// Executes a call, answers it, then delivers its notices and writes its packets.
 fn take_call<H: Happenings, W: Sink, L: Listener>(
     host: &mut Host,
     call: App<'_>,

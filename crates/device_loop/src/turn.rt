@@ -1,11 +1,10 @@
-//! One turn of a device: it accepts what happens, then saves what that changes, and only then sends
-//! what waits.
+//! One turn of a device: an event, then saving, and only then sending.
 
 ghost use Rattle.std.specs.Prelude.{◌≡◌, true, None, Some, IsSome, IsOk, IfErr, option_map};
 ghost use Rattle.gatt_host.specs.Feeding.{is_of_feeding, is_write_fault, WritesAllThatIsDue};
 ghost use Rattle.gatt_host.specs.HostModel.{all_out};
-ghost use Rattle.octets.specs.Number.{Octets};
-ghost use Rattle.octets.specs.Stream.{CountsIf};
+ghost use Rattle.octet_io.specs.Number.{Octets};
+ghost use Rattle.octet_io.specs.Stream.{CountsIf};
 ghost use Rattle.device_loop.specs.Outside.{octets_to_send, waits_after};
 ghost use Rattle.device_loop.specs.Serving.{known};
 ghost use Rattle.device_loop.specs.Turn.{StaysInOrder, TakesATurn};
@@ -14,23 +13,24 @@ use crate::outside::{Outgoing, Outside, Saving, Sending};
 use crate::serving::{End, serve_happenings};
 use gatt_host::{Host, HostFault, Listener};
 
-/// What a turn has come to.
+/// The outcome of a turn.
 #[derive(Drop)]
 pub struct Turn {
-    /// That the turn is over, or why the host is served no longer.
+    /// `End::Turns` if the turn is over, else the reason why serving ends.
     pub served: Result<End, HostFault>,
-    /// Whether all is saved that the host has changed.
+    /// The outcome of saving.
     pub saving: Saving,
-    /// How what waited was sent.
+    /// The outcome of sending.
     pub sending: Sending,
 }
 
-/// Serves a host by what happens in one turn, as `serve_happenings` does. Then saves its rows and
-/// values, and only then sends what waits. If saving fails, drops the ACL data for the connections
-/// whose changes are not saved, and sends all else. End those connections, since they lack that
-/// data. What was not sent, since nobody is there or sending fails, waits on. Once sending has failed,
-/// a front may have gone, and no more is to be sent there. After a fault of the host nothing more
-/// happens, but its state is saved, and what waits is sent.
+/// Serves a host one event, saves its changes, and only then sends what waits. If saving fails, it
+/// drops the ACL data for the connections with unsaved changes. The caller must end those
+/// connections, because they lack that data.
+///
+/// Packets wait on if nobody is there or sending fails. After a failure a prefix may have been
+/// sent, and the caller must send no more there. After a fault of the host no event is processed,
+/// but the state is saved and waiting packets are sent.
 pub fn serve_turn<O: Outside<L>, W: Outgoing, L: Listener>(
     host: &mut Host,
     outside: &mut O,
@@ -64,7 +64,6 @@ pub fn serve_turn<O: Outside<L>, W: Outgoing, L: Listener>(
     }
 }
 
-/// Drops the data for the connections whose changes are not saved.
 fn withhold_unsaved<W: Outgoing>(out: &mut W, saving: &Saving)
     ensures left { W.contents out.new
         ≡ option_map (octets_to_send saving.now) (W.contents out.old) }
@@ -76,7 +75,6 @@ fn withhold_unsaved<W: Outgoing>(out: &mut W, saving: &Saving)
     }
 }
 
-/// What was sent waits no more.
 fn drop_sent<W: Outgoing>(out: &mut W, sending: Sending)
     ensures left { (octets : Octets) → W.contents out.old ≡ Some octets
         → W.contents out.new ≡ Some (waits_after sending octets) }

@@ -1,4 +1,4 @@
-//! The connections whose changes are not saved.
+//! The connections with unsaved changes.
 
 ghost use Rattle.std.specs.Prelude.{◌≡◌, ◌<◌, ◌≤◌, [], length};
 ghost use Rattle.gatt_host.specs.Notices.{notice_of};
@@ -9,7 +9,7 @@ use arrayvec::ArrayVec;
 use gatt_host::{MAX_SLOTS, Notice};
 use std::marker::Model;
 
-/// The connections that have changed what a device saves since it last saved, by their handles.
+/// Handles of the connections that changed saved state since the last save.
 #[derive(Drop)]
 pub struct Unsaved {
     handles: ArrayVec<u16, MAX_SLOTS>,
@@ -24,7 +24,7 @@ impl Model for Unsaved {
 }
 
 impl Unsaved {
-    /// Returns the set of no connection.
+    /// Creates an empty set.
     pub fn new() -> Unsaved
         ensures none { result ≡ [] }
     {
@@ -33,9 +33,9 @@ impl Unsaved {
         }
     }
 
-    /// Adds the connection of a `Written`, `Configured` or `Confirmed`, and removes that of a
-    /// `Disconnected`. No notices of one host name more than `MAX_SLOTS` connections at once; if
-    /// notices do, the last is not added.
+    /// Updates the set by a notice. Adds the connection of a `Written`, `Configured` or
+    /// `Confirmed`, and removes that of a `Disconnected`. A connection beyond `MAX_SLOTS` is not
+    /// added, which the notices of one host never cause.
     pub fn hear(&mut self, notice: &Notice<'_>)
         ensures after { length (unsaved_after self.old (notice_of notice.now)) ≤ MAX_SLOTS
             → self.new ≡ unsaved_after self.old (notice_of notice.now) }
@@ -52,23 +52,23 @@ impl Unsaved {
         }
     }
 
-    /// Removes all connections: all is saved.
+    /// Removes all connections after everything was saved.
     pub fn clear(&mut self)
         ensures none { self.new ≡ [] }
     {
         self.handles.clear();
     }
 
-    /// Returns whether the connection with this handle is among them.
+    /// Returns true if the set contains the connection with this handle.
     pub fn has(&self, handle: u16) -> bool
         ensures has { result ≡ has_connection self.now handle }
-        // And of all notices:
+        // For all notices:
         ensures who { HoldsWhoHasChanged }
     {
         self.handles.as_slice().contains(&handle)
     }
 
-    /// Returns their handles, each once, in the order of their first changes.
+    /// Returns the handles, each once, in the order of their first changes.
     pub fn handles(&self) -> ArrayVec<u16, MAX_SLOTS>
         ensures all { result.items ≡ self.now }
     {
@@ -80,7 +80,6 @@ impl Unsaved {
     }
 }
 
-/// Adds a connection, if it is not there and there is room.
 fn add(handles: &mut ArrayVec<u16, MAX_SLOTS>, handle: u16)
     ensures after { length (with_connection handles.old.items handle) ≤ MAX_SLOTS
         → handles.new.items ≡ with_connection handles.old.items handle }
@@ -92,7 +91,6 @@ fn add(handles: &mut ArrayVec<u16, MAX_SLOTS>, handle: u16)
     }
 }
 
-/// Removes a connection.
 fn remove(handles: &mut ArrayVec<u16, MAX_SLOTS>, handle: u16)
     ensures after { handles.new.items ≡ without_connection handles.old.items handle }
     ensures few { length (without_connection handles.old.items handle) ≤ MAX_SLOTS }

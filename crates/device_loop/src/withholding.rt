@@ -1,23 +1,23 @@
-//! Octets that wait for a controller, without the data for some connections.
+//! Removes the data of some connections from waiting packets.
 
 ghost use Rattle.std.specs.Prelude.{◌≡◌, ◌≤◌, length, take};
-ghost use Rattle.octets.specs.Number.{Octets};
+ghost use Rattle.octet_io.specs.Number.{Octets};
 ghost use Rattle.device_loop.specs.Withholding.{first_size, IsCutIntoPackets, handle_of_data, is_data_for, packet_size, without_data_for};
 
 use le_h4::indicator;
 
-/// Removes the ACL data for these connections from octets that are whole H4 packets of a host. The
-/// other packets stay in their order, and so do octets at the end that are no whole packet.
+/// Removes the ACL data for these connections from the H4 packets of a host. Other packets keep
+/// their order, and octets at the end that are no whole packet stay.
 pub fn withhold(octets: &mut Vec<u8>, connections: &[u16])
     ensures left { octets.new.items ≡ without_data_for connections.now octets.old.items }
-    // And of all octets:
+    // For all octets:
     ensures packets { (octets : Octets) → IsCutIntoPackets octets }
 {
     let left = move_others(octets.as_mut_slice(), connections);
     octets.truncate(left);
 }
 
-/// Moves all that stays to the front, and returns how many octets it is.
+/// Moves what remains to the start, and returns its length.
 fn move_others(octets: &mut [u8], connections: &[u16]) -> usize
     ensures left { take result octets.new ≡ without_data_for connections.now octets.old }
     ensures length { length octets.new ≡ length octets.old }
@@ -36,7 +36,7 @@ fn move_others(octets: &mut [u8], connections: &[u16]) -> usize
     left + count
 }
 
-/// Returns how many octets the packet has that octets begin with, if it is whole.
+/// Returns the length of the first packet, if it is whole.
 fn first_size(octets: &[u8]) -> Option<usize>
     ensures { result ≡ first_size octets.now }
 {
@@ -48,7 +48,7 @@ fn first_size(octets: &[u8]) -> Option<usize>
     }
 }
 
-/// Returns how many octets a packet has, by its header, if the header is there.
+/// Returns the length of a packet by its header, if the header is whole.
 fn packet_size(octets: &[u8]) -> Option<usize>
     ensures { result ≡ packet_size octets.now }
 {
@@ -68,7 +68,6 @@ fn packet_size(octets: &[u8]) -> Option<usize>
     }
 }
 
-/// Whether a packet is data for one of these connections.
 fn is_data_for(packet: &[u8], connections: &[u16]) -> bool
     ensures { result ≡ is_data_for connections.now packet.now }
 {
@@ -78,7 +77,7 @@ fn is_data_for(packet: &[u8], connections: &[u16]) -> bool
     }
 }
 
-/// Returns the connection of a packet, if it is data.
+/// Returns the connection of an ACL packet.
 fn handle_of_data(packet: &[u8]) -> Option<u16>
     ensures { result ≡ handle_of_data packet.now }
 {

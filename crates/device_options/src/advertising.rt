@@ -1,22 +1,22 @@
-//! What a scanner sees: Core 5.0, Vol 3 Part C, 11, and the Supplement to the Core Specification,
-//! Part A.
+//! Advertising data (Core 5.0, Vol 3 Part C, 11, and the Supplement to the Core Specification, Part
+//! A).
 
 use arrayvec::ArrayVec;
 use le_hci::MAX_ADVERTISING_DATA;
 use uuid::Uuid;
 
-/// The data that are advertised.
+/// Advertising data.
 pub type Data = ArrayVec<u8, MAX_ADVERTISING_DATA>;
 
 /// Flags for general discovery, without BR/EDR.
 const FLAGS: [u8; 3] = [0x02, 0x01, 0x06];
 
-/// A UUID of 16 bits is this one, with them from bit 96 on. Core 5.0, Vol 3 Part B, 2.5.1.
+/// The Bluetooth Base UUID, to which a 16-bit UUID is added at bit 96 (Core 5.0, Vol 3 Part B,
+/// 2.5.1).
 const BASE_UUID: u128 = 0x0000_0000_0000_1000_8000_0080_5F9B_34FB;
 
 const BELOW_BIT_96: u128 = 0xFFFF_FFFF_FFFF_FFFF_FFFF_FFFF;
 
-/// The types of data.
 const SERVICES_OF_16_BITS: u8 = 0x03;
 
 const SERVICES_OF_128_BITS: u8 = 0x07;
@@ -25,8 +25,9 @@ const SHORTENED_NAME: u8 = 0x08;
 
 const COMPLETE_NAME: u8 = 0x09;
 
-/// The data: flags, the services of these UUIDs, and the name, which is shortened to what fits.
-/// None where the services do not fit, or where one of them is no UUID.
+/// Builds flags, service UUIDs, and the name, shortened to what fits.
+///
+/// Returns `None` if the services do not fit or one of them is no UUID.
 pub(crate) fn data(services: &[&str], name: &str) -> Option<Data> {
     let mut data = ArrayVec::new();
     data.try_extend_from_slice(&FLAGS).ok()?;
@@ -41,7 +42,6 @@ pub(crate) fn data(services: &[&str], name: &str) -> Option<Data> {
     Some(data)
 }
 
-/// Adds a UUID to those of its length, the least significant octet first.
 fn add_service(word: &str, short: &mut Data, long: &mut Data) -> Option<()> {
     let mut octets = [0; 2];
     if hex::decode_to_slice(word, &mut octets).is_ok() {
@@ -57,7 +57,6 @@ fn add_service(word: &str, short: &mut Data, long: &mut Data) -> Option<()> {
     }
 }
 
-/// Adds a part with its length and its type, unless it is empty.
 fn add_part(data: &mut Data, kind: u8, octets: &[u8]) -> Option<()> {
     if octets.is_empty() {
         return Some(());
@@ -67,7 +66,7 @@ fn add_part(data: &mut Data, kind: u8, octets: &[u8]) -> Option<()> {
     data.try_extend_from_slice(octets).ok()
 }
 
-/// Adds a name, or the front of it that fits, cut between two characters.
+/// Adds a name, or the prefix that fits, cut between two characters.
 fn add_name(data: &mut Data, name: &str) -> Option<()> {
     let room = data.remaining_capacity().saturating_sub(2);
     if name.len() <= room {

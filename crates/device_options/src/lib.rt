@@ -1,4 +1,4 @@
-//! The options of the command `host`: as texts, and what they mean.
+//! The options of the command `host`: as texts, and as values.
 #![tactic(auto)]
 
 mod advertising;

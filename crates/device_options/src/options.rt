@@ -1,60 +1,50 @@
-//! The options of the command `host`.
+//! The options of the command `host`, as values.
 
 use crate::advertising::{self, Data};
 use crate::texts::OptionTexts;
 use gatt_laws::MAX_SLOTS;
 use std::net::SocketAddr;
 
-/// As many phones may there be at once, unless the words say how many.
+/// The default number of phones connected at once.
 const SLOTS: usize = 4;
 
-/// How long a controller may take nothing, or may take to be initialised, in milliseconds, unless the
-/// words say how long.
+/// The default time limit for a controller, in milliseconds.
 const PATIENCE: u64 = 5_000;
 
-/// How many bytes a capture has at most, unless the words say how many: 100 MiB.
+/// The default limit of a capture: 100 MiB.
 const CAPTURE_SIZE: u64 = 104_857_600;
 
-/// The address of a controller, as the words give it.
+/// The address of a controller.
 #[derive(Clone, Copy)]
 pub enum ControllerAddress<'a> {
-    /// It connects to an address.
+    /// The controller connects to this address.
     Listen(SocketAddr),
-    /// It listens at an address.
+    /// The controller listens at this address.
     Connect(SocketAddr),
-    /// It is at the end of a serial line.
     Serial(&'a str),
 }
 
-/// Where an application connects.
+/// The place at which an application connects.
 #[derive(Clone, Copy)]
 pub enum ApplicationAddress<'a> {
-    /// Nowhere.
     None,
-    /// At a path.
     Path(&'a str),
-    /// At an address.
     Port(SocketAddr),
 }
 
-/// What survives a restart, and where it is saved.
+/// The data that survive a restart, and their path.
 #[derive(Clone, Copy)]
 pub enum Saved<'a> {
-    /// Nothing.
     Nothing,
-    /// The subscriptions, in the file at a path.
     Subscriptions(&'a str),
-    /// The state, in the folder at a path.
     State {
-        /// The path of the folder.
         folder: &'a str,
-        /// Whether it has all values, also those that no phone may write.
+        /// Set if values that no phone may write are saved too.
         all_values: bool,
     },
 }
 
 impl<'a> Saved<'a> {
-    /// Reads what is saved, or says what is wrong with the words.
     fn read(words: &OptionTexts<'a>) -> Result<Saved<'a>, &'static str> {
         match (words.state, words.rows) {
             (Some(_), Some(_)) => Err("--state and --rows: one of them is enough"),
@@ -74,33 +64,28 @@ impl<'a> Saved<'a> {
 /// The files that are read and written.
 #[derive(Clone, Copy)]
 pub struct FileOptions<'a> {
-    /// The path of the table file.
     pub table: &'a str,
-    /// The path of the key file.
     pub keys: &'a str,
-    /// What is saved.
     pub saved: Saved<'a>,
-    /// Whether subscriptions of peers without a key are dropped, in place of the file being refused.
+    /// Set to drop subscriptions of peers without a key. Otherwise the file is refused.
     pub drop_unknown: bool,
     /// The path of a capture.
     pub capture: Option<&'a str>,
-    /// How many bytes a capture has at most.
+    /// The largest size of a capture, in bytes.
     pub capture_size: u64,
 }
 
-/// What a host is opened with beside its files.
+/// The settings of a host, besides its files.
 #[derive(Drop)]
 pub struct HostSettings {
-    /// How many phones there may be at once.
+    /// The number of phones that may be connected at once.
     pub slots: usize,
-    /// The static random address, the least significant octet first, if there is one.
+    /// The static random address, least significant octet first.
     pub address: Option<[u8; 6]>,
-    /// The data that are advertised.
     pub advertising: Data,
 }
 
 impl HostSettings {
-    /// Reads the options, or says what is wrong with the words.
     fn read(words: &OptionTexts<'_>) -> Result<HostSettings, &'static str> {
         Ok(HostSettings {
             slots: read_slots(words.slots)?,
@@ -113,30 +98,26 @@ impl HostSettings {
 /// The options of the command `host`.
 #[derive(Drop)]
 pub struct HostOptions<'a> {
-    /// The files that are read and written.
     pub files: FileOptions<'a>,
-    /// The address of the controller.
     pub controller: ControllerAddress<'a>,
-    /// Where an application connects.
     pub application: ApplicationAddress<'a>,
-    /// Whether controllers are served only while an application is connected.
+    /// Set to serve controllers only while an application is connected.
     pub wait_for_application: bool,
-    /// How long a stranger may be silent, in milliseconds.
+    /// The longest silence of a phone without a key, in milliseconds.
     pub idle: Option<u64>,
-    /// How long a stranger may stay, in milliseconds.
+    /// The longest stay of a phone without a key, in milliseconds.
     pub stranger: Option<u64>,
-    /// How long a controller may take nothing, or may take to be initialised, in milliseconds.
+    /// Time limit for a controller to make progress, in milliseconds.
     pub patience: u64,
-    /// What a host is opened with beside its files.
     pub host: HostSettings,
-    /// Whether the log has the octets of values that phones write.
+    /// Set to log the values that phones write.
     pub log_values: bool,
-    /// Whether it ends once the first controller is gone.
+    /// Set to end after the first controller.
     pub once: bool,
 }
 
 impl<'a> HostOptions<'a> {
-    /// Reads the options, or says what is wrong with the words.
+    /// Reads the options. Errors: what is wrong with them.
     pub fn read(words: &OptionTexts<'a>) -> Result<HostOptions<'a>, &'static str> {
         let controller = read_controller(words.listen, words.connect, words.serial)?;
         let application = read_application(words.application, words.application_port)?;
@@ -163,7 +144,6 @@ impl<'a> HostOptions<'a> {
     }
 }
 
-/// Reads the options of files, or says what is wrong with the words.
 fn read_files<'a>(words: &OptionTexts<'a>) -> Result<FileOptions<'a>, &'static str> {
     Ok(FileOptions {
         table: words.table,
@@ -175,7 +155,6 @@ fn read_files<'a>(words: &OptionTexts<'a>) -> Result<FileOptions<'a>, &'static s
     })
 }
 
-/// Reads the address of the controller, or says what is wrong with the words.
 fn read_controller<'a>(
     listen: Option<&str>,
     connect: Option<&str>,
@@ -197,7 +176,6 @@ fn read_controller<'a>(
     }
 }
 
-/// Reads the address at which an application connects, or says what is wrong with the words.
 fn read_application<'a>(
     path: Option<&'a str>,
     port: Option<&str>,
@@ -214,7 +192,6 @@ fn read_application<'a>(
     }
 }
 
-/// The address of a socket, or what is wrong with the word.
 fn read_socket_address(word: &str, wrong: &'static str) -> Result<SocketAddr, &'static str> {
     match word.parse::<SocketAddr>() {
         Ok(address) => Ok(address),
@@ -222,7 +199,6 @@ fn read_socket_address(word: &str, wrong: &'static str) -> Result<SocketAddr, &'
     }
 }
 
-/// How many slots there are, or what is wrong with the word.
 fn read_slots(word: Option<&str>) -> Result<usize, &'static str> {
     let Some(word) = word else {
         return Ok(SLOTS);
@@ -233,7 +209,7 @@ fn read_slots(word: Option<&str>) -> Result<usize, &'static str> {
     }
 }
 
-/// Returns a time in milliseconds that is given in seconds, if it is given, or what is wrong with the word.
+/// Reads a number of seconds, and returns it in milliseconds.
 fn read_seconds(word: Option<&str>, wrong: &'static str) -> Result<Option<u64>, &'static str> {
     let Some(word) = word else {
         return Ok(None);
@@ -244,7 +220,6 @@ fn read_seconds(word: Option<&str>, wrong: &'static str) -> Result<Option<u64>, 
     }
 }
 
-/// Returns how many bytes a capture has at most, or what is wrong with the word.
 fn read_size(word: Option<&str>) -> Result<u64, &'static str> {
     let Some(word) = word else {
         return Ok(CAPTURE_SIZE);
@@ -255,7 +230,6 @@ fn read_size(word: Option<&str>) -> Result<u64, &'static str> {
     }
 }
 
-/// What is advertised, or what is wrong with the words.
 fn read_advertising(services: &[&str], name: &str) -> Result<Data, &'static str> {
     match advertising::data(services, name) {
         Some(data) => Ok(data),
@@ -265,7 +239,6 @@ fn read_advertising(services: &[&str], name: &str) -> Result<Data, &'static str>
     }
 }
 
-/// A static random address, as a key file writes one.
 fn read_address(word: Option<&str>) -> Result<Option<[u8; 6]>, &'static str> {
     let Some(word) = word else {
         return Ok(None);
@@ -276,8 +249,9 @@ fn read_address(word: Option<&str>) -> Result<Option<[u8; 6]>, &'static str> {
     }
 }
 
-/// Whether a random address is a static one: its two highest bits are set, and of the others some are
-/// and some are not. Core 5.0, Vol 6 Part B, 1.3.2.1.
+/// Returns true if a random address is static (Core 5.0, Vol 6 Part B, 1.3.2.1).
+///
+/// Its two highest bits are set, and the other bits are neither all 0 nor all 1.
 fn is_static(address: &[u8; 6]) -> bool {
     let [.., highest] = *address;
     highest >= 0xC0 && *address != [0xFF; 6] && *address != [0, 0, 0, 0, 0, 0xC0]

@@ -1,20 +1,19 @@
-//! When an application is accepted again after that has failed: for lack of descriptors, it fails at once
-//! and again and again.
+//! The delay before an application is accepted again after a failure.
+//!
+//! Without it, the device would retry at once and for ever, for example for lack of descriptors.
 
-/// How long it takes until an application is accepted again, in milliseconds.
+/// The delay, in milliseconds.
 const ACCEPT_TIME: u64 = 1_000;
 
-/// The state of a listener of applications.
+/// The state of the listener for applications.
 #[derive(Clone, Copy)]
 pub(crate) struct Acceptance {
-    /// When one is accepted again, in milliseconds, if the last one could not be.
     retry: Option<u64>,
-    /// Set if one has failed since one was accepted.
+    /// Set if accepting has failed since the last application.
     is_failing: bool,
 }
 
 impl Acceptance {
-    /// Returns that none has failed.
     pub(crate) fn new() -> Acceptance {
         Acceptance {
             retry: None,
@@ -22,13 +21,11 @@ impl Acceptance {
         }
     }
 
-    /// Returns when one is accepted again, in milliseconds, if one has failed.
     pub(crate) fn due(&self) -> Option<u64> {
         self.retry
     }
 
-    /// Returns whether one is accepted at this time, in milliseconds: one that connects, or one that
-    /// could not be accepted before.
+    /// Returns true if an application must be accepted now.
     pub(crate) fn is_due(&self, connects: bool, now: u64) -> bool {
         match self.retry {
             Some(retry) => retry <= now,
@@ -36,14 +33,13 @@ impl Acceptance {
         }
     }
 
-    /// Notes that it did not fail, and whether one was accepted.
+    /// Notes that accepting did not fail, and whether an application was there.
     pub(crate) fn succeed(&mut self, is_accepted: bool) {
         self.retry = None;
         self.is_failing = self.is_failing && !is_accepted;
     }
 
-    /// Notes that one has failed at this time, in milliseconds. Returns whether it is the first since one
-    /// was accepted.
+    /// Notes a failure. Returns true if it is the first since the last application.
     pub(crate) fn fail(&mut self, now: u64) -> bool {
         let is_first = !self.is_failing;
         self.is_failing = true;

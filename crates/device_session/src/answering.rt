@@ -1,10 +1,10 @@
-//! What a command of the application is answered.
+//! Answers to the commands of the application.
 
 use app_lines::{Reply, add_reply};
-use gatt_app::AppFault;
+use host_api::AppFault;
 use std::alloc::{AllocError, Global};
 
-/// Adds what a call of the host is answered.
+/// Adds the answer to a call of the host.
 pub fn add_outcome(
     alloc: Global,
     text: &mut Vec<u8>,
@@ -43,7 +43,6 @@ pub fn add_value(
     }
 }
 
-/// Adds that a line is refused, and why.
 fn add_refused(alloc: Global, text: &mut Vec<u8>, fault: AppFault) -> Result<(), AllocError> {
     match format!(in alloc; "{fault}") {
         Ok(words) => add_reply(

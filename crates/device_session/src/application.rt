@@ -1,4 +1,5 @@
-//! The application: one at a time, which says lines and hears lines. Who connects is a visitor first.
+//! The application, one at a time, and the visitor that may replace it. All times are in
+//! milliseconds.
 
 use crate::strangers::sooner;
 use crate::visitor::{Visit, Visitor};
@@ -8,64 +9,61 @@ use device_io::{Listener, Poller, Retry, Socket, retry_after};
 use std::alloc::Global;
 use std::io;
 
-/// As many octets may wait for an application. What one read of the controller causes is less: at most 360,000
-/// octets, if each of eight phones executes 32 prepared writes, and the rest are Write Commands.
+/// The most bytes that may wait for an application.
+///
+/// One read of the controller causes at most 360,000: eight phones each execute 32 prepared writes,
+/// and the rest are Write Commands.
 const LIMIT: usize = 1_048_576;
 
-/// While more octets than this wait for the application, neither it nor the controller is read.
+/// While more bytes wait for the application, neither it nor the controller is read.
 const MANY: usize = 65_536;
 
-/// For how long it may take none of them, in milliseconds.
+/// How long it may accept none of them.
 const SLOW_TIME: u64 = 5_000;
 
-/// As many octets are read at once.
+/// The size of a read, in bytes.
 const ROOM: usize = 512;
 
-/// So often one that is replaced is read at most, so that it does not keep the next one waiting.
+/// The most reads of an application that is being replaced.
 const LAST_READS: u32 = 128;
 
-/// For so many turns a visitor waits at most for an application that sends on and on.
+/// The most turns that a visitor waits for an application that keeps sending.
 const MOST_WAITS: u32 = 128;
 
-/// The application, if there is one, and what it says and hears.
+/// The application, if any, its input and its output.
 #[derive(Drop)]
 pub(crate) struct Application {
     listener: Option<Listener>,
     socket: Option<Socket>,
-    /// Whether there may be something to read.
     is_readable: bool,
-    /// Whether it has heard nothing yet.
+    /// Set until it is sent the current state.
     pub(crate) is_new: bool,
-    /// Whether it sends no more.
     is_ended: bool,
-    /// Whether it takes no more.
+    /// Set if it accepts no more.
     is_deaf: bool,
-    /// Whether it has closed its connection with nothing left to read.
+    /// Set if it closed its connection after reading everything.
     has_read_all: bool,
-    /// Whether it has closed its connection, or lost it, and nobody was told.
+    /// Set if it disconnected and the log does not say so yet.
     is_gone: bool,
-    /// The one that takes its place, once all is done that it has sent.
+    /// The visitor that replaces it once all its lines are processed.
     next: Option<Visitor>,
-    /// How often it is still read until then.
+    /// The number of reads left until then.
     last_reads: u32,
-    /// One that has not taken its place.
     visitor: Option<Visitor>,
-    /// Whether the visitor has sent the line that is answered next.
+    /// Set if the next line to be answered is the visitor's.
     is_visited: bool,
-    /// For how many turns the visitor has waited for an answer.
     visitor_waits: u32,
-    /// Whether nobody is heard any more.
+    /// Set if no more lines are read.
     is_held: bool,
-    /// Whether one more connects, which is not accepted before the visitor has left or come.
+    /// Set if a connection waits for the visitor's place.
     is_knocking: bool,
     inbox: Inbox,
     outbox: Outbox,
-    /// Since when it takes nothing, in milliseconds, while many octets wait for it.
+    /// Since when it has accepted nothing, while many bytes wait.
     stalled_since: Option<u64>,
 }
 
 impl Application {
-    /// Nobody connects.
     pub(crate) fn none(alloc: Global) -> Application {
         Application {
             listener: None,
@@ -89,13 +87,11 @@ impl Application {
         }
     }
 
-    /// Applications connect here from now on, or nowhere.
     pub(crate) fn listen(&mut self, listener: Option<Listener>) {
         self.listener = listener;
     }
 
-    /// Accepts the next visitor that connects, if one does and none is there. Returns whether one was
-    /// accepted.
+    /// Accepts the next visitor, if there is none. Returns true if it did.
     pub(crate) fn accept(&mut self, poller: &Poller, now: u64) -> io::Result<bool> {
         self.is_knocking = self.visitor.is_some();
         if self.is_held || self.is_knocking {
@@ -115,9 +111,10 @@ impl Application {
         }
     }
 
-    /// Reads what the visitor sends, lets it take the application's place, or closes its connection.
-    /// The answer is true if it takes the place. If there is an application before, it does so once all
-    /// is done that this has sent.
+    /// Reads from the visitor, closes it, or makes it the application. Returns true in the last
+    /// case.
+    ///
+    /// It replaces an earlier application only once that one's lines are processed.
     pub(crate) fn attend(&mut self, now: u64) -> bool {
         if self.is_held {
             return false;
@@ -134,7 +131,6 @@ impl Application {
         false
     }
 
-    /// The visitor takes the application's place.
     fn come(&mut self) -> bool {
         let Some(visitor) = self.visitor.take() else {
             return false;
@@ -149,7 +145,6 @@ impl Application {
         true
     }
 
-    /// Begins with an application, of which nothing is known but what it has sent as a visitor.
     fn begin(&mut self, visitor: Visitor) {
         let (socket, inbox) = visitor.into_parts();
         self.socket = Some(socket);
@@ -159,12 +154,11 @@ impl Application {
         self.is_readable = true;
     }
 
-    /// Nobody is heard from now on, and the visitor stays.
     pub(crate) fn hold(&mut self) {
         self.is_held = true;
     }
 
-    /// Returns when the visitor's visit is over, or the application is cut off, in milliseconds.
+    /// Returns when the visit ends or the application is cut off.
     pub(crate) fn due(&self) -> Option<u64> {
         let visit = match &self.visitor {
             Some(visitor) if !self.is_held => Some(visitor.due()),
@@ -177,15 +171,13 @@ impl Application {
         sooner(visit, end)
     }
 
-    /// Returns whether so many octets wait for it that nothing is read that could cause more. If the next
-    /// one is to take its place, this is not waited for.
+    /// Returns true if so many bytes wait that nothing may be read that causes more.
     pub(crate) fn is_full(&self) -> bool {
         let takes = self.socket.is_some() && !self.is_deaf && self.next.is_none();
         takes && self.outbox.waiting().len() > MANY
     }
 
-    /// Notes the time, in milliseconds. An application for which many octets wait, and that has taken none of
-    /// them for too long, is cut off: the answer is true then.
+    /// Cuts off an application that accepts nothing for too long. Returns true if it did.
     pub(crate) fn watch(&mut self, now: u64) -> bool {
         if !self.is_full() {
             self.stalled_since = None;
@@ -200,13 +192,11 @@ impl Application {
         true
     }
 
-    /// Whether it may have sent something that is not done, or the next one may.
     fn is_busy(&self) -> bool {
         let has_input = self.is_new || self.is_readable || self.inbox.has_line();
         self.next.is_some() || self.socket.is_some() && has_input
     }
 
-    /// Whether the visitor has sent a line that is to be answered.
     fn is_asked_by_visitor(&self, now: u64) -> bool {
         match &self.visitor {
             Some(visitor) => matches!(visitor.next(now), Visit::Asks),
@@ -214,12 +204,11 @@ impl Application {
         }
     }
 
-    /// Whether the visitor has sent the line that is answered next.
     pub(crate) fn is_visited(&self) -> bool {
         self.is_visited
     }
 
-    /// Answers the visitor, or closes its connection if there is no answer.
+    /// Answers the visitor, or closes its connection without an answer.
     pub(crate) fn answer_visitor(&mut self, text: Option<&[u8]>) {
         if let Some(visitor) = &mut self.visitor {
             match text {
@@ -229,12 +218,10 @@ impl Application {
         }
     }
 
-    /// Whether one is connected.
     pub(crate) fn is_there(&self) -> bool {
         self.socket.is_some()
     }
 
-    /// Ends the connection, and drops what waits on it.
     pub(crate) fn end(&mut self) {
         self.socket = None;
         self.is_readable = false;
@@ -246,25 +233,22 @@ impl Application {
         self.stalled_since = None;
     }
 
-    /// Its connection is closed from the other side.
     fn lose(&mut self) {
         self.end();
         self.is_gone = true;
     }
 
-    /// Whether it is gone, and nobody was told.
     pub(crate) fn is_gone(&self) -> bool {
         self.is_gone
     }
 
-    /// Whether it is gone, and nobody was told until now.
+    /// Returns true once after the application disconnected.
     pub(crate) fn is_just_gone(&mut self) -> bool {
         let is_gone = self.is_gone;
         self.is_gone = false;
         is_gone
     }
 
-    /// It may be read, or takes more.
     pub(crate) fn is_ready(&mut self) {
         self.is_readable = self.socket.is_some() && !self.is_ended;
         if let Some(visitor) = &mut self.visitor {
@@ -273,7 +257,7 @@ impl Application {
         self.flush();
     }
 
-    /// Whether something is to be done without waiting.
+    /// Returns true if there is something to do without waiting.
     pub(crate) fn has_something(&self) -> bool {
         if self.is_held {
             return self.is_new;
@@ -282,7 +266,6 @@ impl Application {
         has_input || self.is_new || self.next.is_some() || self.is_done() || self.has_visit()
     }
 
-    /// Whether a visitor has something to do, or one may be accepted.
     fn has_visit(&self) -> bool {
         match &self.visitor {
             Some(visitor) => visitor.has_something(),
@@ -290,18 +273,18 @@ impl Application {
         }
     }
 
-    /// Whether one more connects, which can be accepted later.
     pub(crate) fn is_knocking(&self) -> bool {
         self.is_knocking
     }
 
-    /// Whether it sends no more, and all is written that it was told or can be.
     fn is_done(&self) -> bool {
         self.is_ended && (self.is_deaf || self.outbox.waiting().is_empty())
     }
 
-    /// Reads once, if no whole line is there. Once all is done that it has sent, it is ended if it
-    /// sends no more, or the next one takes its place: the answer is true then.
+    /// Reads once, unless a whole line is there. Returns true if a visitor replaced the
+    /// application.
+    ///
+    /// After its last line, an application that sends no more is closed.
     pub(crate) fn fill(&mut self) -> bool {
         if self.is_held || self.is_full() || self.inbox.has_line() {
             return false;
@@ -321,13 +304,12 @@ impl Application {
         false
     }
 
-    /// Whether the next one takes its place now: all is done that it has sent.
+    /// Returns true if all lines are processed and a visitor waits.
     pub(crate) fn is_giving_place(&self) -> bool {
         let is_read = !self.is_readable || self.last_reads == 0;
         !self.is_held && self.next.is_some() && is_read && !self.inbox.has_line()
     }
 
-    /// The next one takes its place.
     fn give_place(&mut self) -> bool {
         self.flush();
         self.end();
@@ -338,7 +320,6 @@ impl Application {
         true
     }
 
-    /// Reads once.
     fn read(&mut self) {
         let Some(socket) = &mut self.socket else {
             return;
@@ -347,7 +328,7 @@ impl Application {
         match socket.read(&mut buffer) {
             Ok(0) => self.end_input(),
             Ok(count) => {
-                // There is room, since no whole line is there.
+                // It fits, because no whole line is there.
                 let _ = self.inbox.take(&buffer[..count]);
             }
             Err(error) => match retry_after(&error) {
@@ -361,22 +342,22 @@ impl Application {
         }
     }
 
-    /// It sends no more.
     fn end_input(&mut self) {
         self.is_ended = true;
         self.is_readable = false;
     }
 
-    /// It takes no more. It is read to its end, since it may have sent something before.
+    /// Stops writing. Its input is still read to the end, because it may have sent lines before.
     fn deafen(&mut self) {
         self.is_deaf = true;
         self.is_readable = !self.is_ended;
         self.outbox.clear();
     }
 
-    /// The next line that it has said, or that the visitor has. What the application has sent is done
-    /// first, up to a limit, so that a visitor sees what was sent before it asked. A new application
-    /// is told first what stands.
+    /// Returns the next line of the application or the visitor.
+    ///
+    /// The application's lines go first, up to a limit, so that a visitor sees their effects. A new
+    /// application receives the current state first.
     pub(crate) fn next_line(&mut self, line: &mut ArrayVec<u8, LONGEST>, now: u64) -> Found {
         if self.is_held {
             return Found::Nothing;
@@ -398,7 +379,7 @@ impl Application {
         }
     }
 
-    /// Tells it something. One for which too much waits is cut off: the answer is false then.
+    /// Queues a text. Returns false if too much waits: the application is then cut off.
     pub(crate) fn tell(&mut self, text: &[u8]) -> bool {
         if self.socket.is_none() || self.is_deaf {
             return true;
@@ -410,18 +391,16 @@ impl Application {
         false
     }
 
-    /// Whether it has heard what stands, and one more line may wait for it.
+    /// Returns true if it has the current state and one more line fits.
     pub(crate) fn has_room(&self) -> bool {
         let takes = self.socket.is_some() && !self.is_new && !self.is_deaf;
         takes && self.outbox.waiting().len() < MANY
     }
 
-    /// Whether the last one is gone and has read all that it was told, as far as its connection tells.
     pub(crate) fn has_read_all(&self) -> bool {
         self.has_read_all
     }
 
-    /// Writes as much as it takes.
     pub(crate) fn flush(&mut self) {
         for _write in 0..u64::MAX {
             if !self.write() {
@@ -430,7 +409,7 @@ impl Application {
         }
     }
 
-    /// Writes once: whether it may take more.
+    /// Writes once. Returns true if it may accept more.
     fn write(&mut self) -> bool {
         let Some(socket) = &mut self.socket else {
             return false;

@@ -1,27 +1,23 @@
-//! What a line of the application asks, and the call of the host that a command makes.
+//! The lines of the application, and the calls of the host that they make.
 
 use app_lines::{Command, Fault, Names, read_line, without_return, word_at};
 use arrayvec::ArrayVec;
-use gatt_app::{App, AppFault};
+use host_api::{App, AppFault};
 use scripts::Payload;
 use std::str;
 
-/// What the application has asked in a turn, which is still to be answered.
+/// A line of the application that waits for its answer.
 #[derive(Drop)]
 pub enum Asked<'a> {
-    /// Nothing.
     Nothing,
-    /// A command. If it calls the host, it has done so.
+    /// A command. A call of the host has already been made.
     Command(Command<'a>),
-    /// Nothing that can be understood, since a word is wrong.
     Wrong { word: &'a str, fault: Fault },
-    /// Nothing, since the line is no text.
+    /// A line that is not UTF-8.
     NoText,
-    /// More than a line may have.
     TooLong,
 }
 
-/// Returns what a line asks.
 pub(crate) fn read_asked(line: &[u8]) -> Asked<'_> {
     let Ok(text) = str::from_utf8(without_return(line)) else {
         return Asked::NoText;
@@ -35,7 +31,7 @@ pub(crate) fn read_asked(line: &[u8]) -> Asked<'_> {
     }
 }
 
-/// Returns whether a line calls the host, which only the application may.
+/// Returns true if a line calls the host, which only the application may do.
 pub(crate) fn is_call(line: &[u8]) -> bool {
     match read_asked(line) {
         Asked::Command(command) => matches!(
@@ -49,8 +45,9 @@ pub(crate) fn is_call(line: &[u8]) -> bool {
     }
 }
 
-/// Returns the call of the host that a command makes at this time, in milliseconds, if it makes one. A value
-/// is put into the front of a buffer. A name that no connection has is refused.
+/// Returns the call of the host that a command makes, if any. `time` is in milliseconds.
+///
+/// Puts a value into a prefix of `buffer`. Fails if no connection has the name.
 pub(crate) fn call_of<'b>(
     command: &Command<'_>,
     names: &Names,
@@ -68,12 +65,10 @@ pub(crate) fn call_of<'b>(
     }))
 }
 
-/// Returns the handle of the connection with this name.
 fn handle_of(names: &Names, name: u64) -> Result<u16, AppFault> {
     names.handle_of(name).ok_or(AppFault::NoSuchConnection)
 }
 
-/// Returns when an authorization ends that lasts so many milliseconds from a time on, or for good.
 fn end_of(time: u64, lasting: Option<u64>) -> u64 {
     match lasting {
         Some(lasting) => time.saturating_add(lasting),
@@ -81,7 +76,7 @@ fn end_of(time: u64, lasting: Option<u64>) -> u64 {
     }
 }
 
-/// Puts a value into the front of a buffer, as far as there is room, and returns that.
+/// Decodes a value into a buffer, as far as it fits, and returns the prefix used.
 fn decode_into<'b>(value: &Payload<'_>, buffer: &'b mut [u8]) -> &'b [u8] {
     let mut octets = ArrayVec::new();
     value.decode(&mut octets);

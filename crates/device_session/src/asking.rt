@@ -1,23 +1,20 @@
-//! What the application asks, line by line, until it is answered.
+//! The line of the application that waits for its answer.
 
 use crate::application::Application;
 use crate::asked::{Asked, call_of, read_asked};
 use app_lines::{Found, LONGEST, Names};
 use arrayvec::ArrayVec;
-use gatt_app::{App, AppFault};
+use host_api::{App, AppFault};
 
-/// What the application has asked, and what its last call was answered.
+/// The last line of the application, and the answer to its call.
 #[derive(Drop)]
 pub(crate) struct Asking {
-    /// The line that asked last.
     line: ArrayVec<u8, LONGEST>,
-    /// Whether there is a line that is still to be answered.
     found: Found,
     answer: Result<(), AppFault>,
 }
 
 impl Asking {
-    /// Nothing is asked yet.
     pub(crate) fn nothing() -> Asking {
         Asking {
             line: ArrayVec::new(),
@@ -26,8 +23,10 @@ impl Asking {
         }
     }
 
-    /// What the next line asks of a host at this time, in milliseconds, if it asks something. A value
-    /// lies in the front of a buffer. A connection that is gone is refused without the host.
+    /// Reads the next line and returns the call of the host that it makes, if any.
+    ///
+    /// `time` is in milliseconds. The value lies in a prefix of `buffer`. A line that names no
+    /// connection is refused without a call.
     pub(crate) fn next_call<'a>(
         &mut self,
         application: &mut Application,
@@ -49,17 +48,14 @@ impl Asking {
         }
     }
 
-    /// The last call is answered so.
     pub(crate) fn answered(&mut self, answer: Result<(), AppFault>) {
         self.answer = answer;
     }
 
-    /// What the last call was answered.
     pub(crate) fn answer(&self) -> Result<(), AppFault> {
         self.answer
     }
 
-    /// What the application has asked, which is still to be answered.
     pub(crate) fn asked(&self) -> Asked<'_> {
         match self.found {
             Found::Line => read_asked(self.line.as_slice()),
@@ -68,12 +64,10 @@ impl Asking {
         }
     }
 
-    /// Whether the application has begun a line that is too long, and was not told so.
     pub(crate) fn is_too_long(&self) -> bool {
         matches!(self.found, Found::TooLong)
     }
 
-    /// Nothing is to be answered any more.
     pub(crate) fn forget(&mut self) {
         self.found = Found::Nothing;
     }

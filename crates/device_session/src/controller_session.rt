@@ -1,5 +1,4 @@
-//! The session with the controller: its transport, the capture of what goes by there, and the strangers among
-//! its phones.
+//! The controller, the capture of its packets, and the phones without a key.
 
 use crate::strangers::{Limits, Strangers, sooner};
 use device_io::{Connector, Controller, Log, Poller, Recording};
@@ -7,7 +6,6 @@ use std::alloc::Global;
 use std::io;
 use std::time::Clock;
 
-/// The controller, and what is looked for in its stream.
 #[derive(Drop)]
 pub(crate) struct ControllerSession<'a> {
     pub(crate) controller: Controller<'a>,
@@ -16,8 +14,6 @@ pub(crate) struct ControllerSession<'a> {
 }
 
 impl<'a> ControllerSession<'a> {
-    /// Returns the session with a controller that is not reached yet. It is given up if it takes no octets for
-    /// `patience` milliseconds, or is not initialised in that time.
     pub(crate) fn new(
         alloc: Global,
         connector: Connector<'a>,
@@ -33,22 +29,23 @@ impl<'a> ControllerSession<'a> {
 }
 
 impl ControllerSession<'_> {
-    /// The controller is served no longer, and the next one may come.
     pub(crate) fn lose(&mut self, poller: &Poller) {
         self.strangers.forget();
         self.recording.next_stream();
         self.controller.lose(poller);
     }
 
-    /// Returns until when may be waited, in milliseconds, if there is an end to it: until a stranger is
-    /// silent for too long, until the controller is given up, or until one is tried again.
+    /// Returns when the next time limit ends, in milliseconds, if any.
+    ///
+    /// The limits are those of phones without a key, of the controller, and of trying again to
+    /// reach one.
     pub(crate) fn due(&self) -> Option<u64> {
         let controller = sooner(self.controller.due(), self.controller.retry());
         sooner(self.strangers.due(), controller)
     }
 
-    /// Reads octets at this time, in milliseconds. None where nothing is there as yet; no octets at the
-    /// end.
+    /// Reads octets and records them. Returns `None` if nothing can be read yet, and no octets at
+    /// the end.
     pub(crate) fn read<'b, R: Clock + Eprint>(
         &mut self,
         poller: &Poller,
@@ -66,7 +63,7 @@ impl ControllerSession<'_> {
         Ok(Some(octets))
     }
 
-    /// Sends these octets. Returns whether a controller is there.
+    /// Sends octets and records them. Returns false without a controller.
     pub(crate) fn write<R: Clock + Eprint>(
         &mut self,
         octets: &[u8],

@@ -1,32 +1,30 @@
-//! What is heard of the host while a turn is taken.
+//! The notices of the host in one turn.
 
 use crate::subscribed::Subscribed;
 use app_lines::{Names, Told, add_named_line, add_number, add_told, connection_of};
-use gatt_app::Notice;
+use host_api::Notice;
 use std::alloc::{AllocError, Global};
 
-/// The notices of a turn, as the application hears them and as they are logged, and the names of the
-/// connections.
+/// The notices of a turn, as lines, and the names of the connections.
 #[derive(Drop)]
 pub struct Heard {
-    /// Their lines.
+    /// The lines for the application.
     pub(crate) text: Vec<u8>,
-    /// Their lines for the log: of a value that was written only how many octets it has, unless
-    /// values are logged.
+    /// The lines for the log, without written values unless these are logged.
     pub(crate) log: Vec<u8>,
     logs_values: bool,
     pub(crate) names: Names,
     subscribed: Subscribed,
-    /// The handles of the connections whose links have a key since the turn.
+    /// The connections that got a key in the turn.
     secured: Vec<u16>,
-    /// The handles of the values that phones wrote in the turn.
+    /// The values that phones wrote in the turn.
     pub(crate) written: Vec<u16>,
-    /// Whether memory was refused for one of them.
+    /// Set if memory was refused.
     pub(crate) is_refused: bool,
 }
 
 impl Heard {
-    /// Nothing is heard yet, and nobody was connected.
+    /// Returns a record without notices and connections.
     pub fn new(alloc: Global, logs_values: bool) -> Heard {
         Heard {
             text: Vec::new(alloc),
@@ -40,19 +38,19 @@ impl Heard {
         }
     }
 
-    /// Another controller is served: nobody is connected to it yet, and nothing is heard of it.
+    /// Forgets all notices and connections, for a new controller.
     pub fn begin(&mut self) {
         self.clear();
         self.names.forget();
         self.subscribed.forget();
     }
 
-    /// Whether nothing was heard.
+    /// Returns true if there was no notice.
     pub fn is_nothing(&self) -> bool {
         self.log.is_empty() && !self.is_refused
     }
 
-    /// Drops what was heard.
+    /// Drops the notices of the turn.
     pub fn clear(&mut self) {
         self.text.clear();
         self.log.clear();
@@ -61,7 +59,7 @@ impl Heard {
         self.is_refused = false;
     }
 
-    /// Hears a notice.
+    /// Adds a notice.
     pub fn hear(&mut self, notice: Notice<'_>) {
         if let Notice::Written { attribute, .. } = notice
             && self.written.push(attribute).is_err()
@@ -80,7 +78,7 @@ impl Heard {
         if let Notice::Connected { .. } = notice {
             self.names.connect(handle);
         }
-        // Each connection has a name: a host has no more connections than may have one.
+        // A name is never missing: a host has no more connections than there are names.
         if let Some(name) = self.names.name_of(handle)
             && self.add(name, &notice).is_err()
         {
@@ -91,12 +89,12 @@ impl Heard {
         }
     }
 
-    /// The handles of the connections whose links have a key since the turn.
+    /// Returns the connections that got a key in the turn.
     pub fn secured(&self) -> &[u16] {
         self.secured.as_slice()
     }
 
-    /// Adds the lines of what a connection has subscribed to while its link had no key.
+    /// Adds a line for each configuration that a connection made without a key.
     pub fn add_own_subscriptions(
         &self,
         text: &mut Vec<u8>,
@@ -116,7 +114,6 @@ impl Heard {
         Ok(())
     }
 
-    /// Adds the lines of a notice of the connection with this name.
     fn add(&mut self, name: u64, notice: &Notice<'_>) -> Result<(), AllocError> {
         add_named_line(&mut self.text, name, notice)?;
         match notice {
@@ -131,17 +128,15 @@ impl Heard {
     }
 }
 
-/// Adds the line of a connection that has come, and behind it its handle.
 fn add_connected(log: &mut Vec<u8>, name: u64, notice: &Notice<'_>) -> Result<(), AllocError> {
     add_named_line(log, name, notice)?;
-    // What follows goes in front of the end of the line.
+    // Removes the line feed, because the handle belongs to the same line.
     log.pop();
     log.extend_from_slice(b" handle")?;
     add_number(log, u64::from(connection_of(notice)))?;
     log.extend_from_slice(b"\n")
 }
 
-/// Adds that a connection has written `count` octets to the attribute at a handle.
 fn add_written(
     log: &mut Vec<u8>,
     name: u64,
@@ -154,7 +149,6 @@ fn add_written(
     add_end(log, b" octets:", count)
 }
 
-/// Adds words and a number, and ends the line.
 fn add_end(log: &mut Vec<u8>, words: &[u8], number: usize) -> Result<(), AllocError> {
     log.extend_from_slice(words)?;
     add_number(log, number as u64)?;

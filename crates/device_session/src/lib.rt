@@ -1,5 +1,4 @@
-//! A device while it serves: its controller and its application, over sockets, and who of them has a
-//! turn. There is no host in it.
+//! A device while it serves, without its host: its controller, its application, and their turns.
 #![tactic(auto)]
 
 mod acceptance;
@@ -11,10 +10,10 @@ mod controller_session;
 mod heard;
 mod missed;
 mod opening;
+mod output;
 mod session;
 mod strangers;
 mod subscribed;
-mod telling;
 mod turns;
 mod visitor;
 

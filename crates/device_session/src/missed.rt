@@ -1,18 +1,17 @@
-//! The values that phones wrote and that no application may have heard of.
+//! The values that phones wrote without the application's knowledge.
 
 use std::alloc::{AllocError, Global};
 
-/// The handles of values that phones wrote, each once in a list.
+/// The handles of written values.
 #[derive(Drop)]
 pub(crate) struct Missed {
-    /// Written while no application heard of it.
+    /// No application was notified of these.
     handles: Vec<u16>,
-    /// Told to the application that is connected, which may not have read it.
+    /// The current application was notified of these, but may not have read it.
     told: Vec<u16>,
 }
 
 impl Missed {
-    /// Nothing was missed.
     pub(crate) fn new(alloc: Global) -> Missed {
         Missed {
             handles: Vec::new(alloc),
@@ -20,17 +19,15 @@ impl Missed {
         }
     }
 
-    /// Phones wrote these values, and no application heard of it.
     pub(crate) fn add(&mut self, handles: &[u16]) -> Result<(), AllocError> {
         add_each(&mut self.handles, handles)
     }
 
-    /// Phones wrote these values, and the application is told so.
     pub(crate) fn tell(&mut self, handles: &[u16]) -> Result<(), AllocError> {
         add_each(&mut self.told, handles)
     }
 
-    /// The application has read all that it was told, or may not have, and is gone.
+    /// Notes that the application has disconnected, and whether it had read everything.
     pub(crate) fn end(&mut self, has_read_all: bool) -> Result<(), AllocError> {
         if has_read_all {
             self.told.clear();
@@ -41,7 +38,7 @@ impl Missed {
         added
     }
 
-    /// The value that was missed first, which is told now.
+    /// Returns the value missed first, and marks it as notified.
     pub(crate) fn next(&mut self) -> Result<Option<u16>, AllocError> {
         let Some(handle) = self.handles.as_slice().first() else {
             return Ok(None);
@@ -53,7 +50,6 @@ impl Missed {
     }
 }
 
-/// Adds handles that are not there yet.
 fn add_each(handles: &mut Vec<u16>, more: &[u16]) -> Result<(), AllocError> {
     for handle in more {
         if !handles.as_slice().contains(handle) {

@@ -1,4 +1,4 @@
-//! The sockets of a device are opened, as its options ask for them.
+//! Opens the sockets that the options of a device name.
 
 use device_io::{Connector, Listener, Log, Poller, Recording, Source, bind_at_path};
 use device_options::{ApplicationAddress, ControllerAddress};
@@ -9,7 +9,6 @@ use std::net::{Net, SocketAddr, TcpListener, TcpStream};
 use std::os::unix::net::UnixListener;
 use std::time::Clock;
 
-/// Returns the connector to a controller. One that connects is listened for.
 pub(crate) fn connector_to<'a, R: Net<Listener = TcpListener, Stream = TcpStream> + Clock + Eprint>(
     alloc: Global,
     log: &Log<'_, R>,
@@ -27,7 +26,6 @@ pub(crate) fn connector_to<'a, R: Net<Listener = TcpListener, Stream = TcpStream
     }
 }
 
-/// Where an application connects, as the words say, if it may.
 pub(crate) fn listener_at<
     R: Net<Listener = TcpListener, Stream = TcpStream> + Files + Clock + Eprint,
 >(
@@ -50,8 +48,9 @@ pub(crate) fn listener_at<
     }
 }
 
-/// Listens for an application at a path. A socket that was left behind is replaced; another file is left
-/// alone, and then this fails. Nobody but the owner may connect.
+/// Listens at a path, to which only the owner may connect.
+///
+/// Replaces an unused socket of the same user. Fails if anything else is there.
 fn listen_at_path<R: Net + Files + Clock + Eprint>(
     alloc: Global,
     log: &Log<'_, R>,
@@ -64,7 +63,6 @@ fn listen_at_path<R: Net + Files + Clock + Eprint>(
     Ok(listener)
 }
 
-/// Listens at an address, and logs that behind words.
 fn listen<R: Net<Listener = TcpListener, Stream = TcpStream> + Clock + Eprint>(
     alloc: Global,
     log: &Log<'_, R>,
@@ -78,7 +76,6 @@ fn listen<R: Net<Listener = TcpListener, Stream = TcpStream> + Clock + Eprint>(
     Ok(listener)
 }
 
-/// Logs behind words at which address is listened.
 fn say_address<R: Clock + Eprint>(
     alloc: Global,
     log: &Log<'_, R>,
@@ -91,8 +88,7 @@ fn say_address<R: Clock + Eprint>(
     Ok(())
 }
 
-/// Begins a capture in a file at a path, of so many bytes at most, or tells why this cannot be created. If
-/// that cannot be written, nobody can be told.
+/// Begins a capture. Prints an error if the file cannot be created.
 pub(crate) fn record_to<R: Files<File = File> + Eprint>(
     rt: &R,
     alloc: Global,
@@ -106,7 +102,6 @@ pub(crate) fn record_to<R: Files<File = File> + Eprint>(
     begun
 }
 
-/// Tells that no file can be created at a path, and why.
 fn tell_not_created(rt: &impl Eprint, alloc: Global, path: &str, error: &io::Error) {
     if let Ok(line) = format!(in alloc; "capture: cannot be created: {path}: {error}") {
         let _ = rt.eprintln(line.as_str());

@@ -1,26 +1,25 @@
-//! Phones without a key, and when each of them is disconnected.
+//! Phones without a key, and when each is disconnected. All times are in milliseconds.
 
 ghost use Rattle.std.specs.Prelude.{◌≡◌, []};
 ghost use Rattle.std.specs.Option.{option_map};
 ghost use Rattle.device_session.specs.Strangers.{due_of, first_due, found_at, is_due, keyless_of, sooner_of, stranger_of, strangers_of, time_after};
 
 use arrayvec::ArrayVec;
-use gatt_app::Connection;
 use gatt_laws::MAX_SLOTS;
+use host_api::Connection;
 
 /// A connection whose link has no key.
 #[derive(Clone, Copy, Default)]
 pub struct Keyless {
-    /// Its number, which no other connection of the host has.
+    /// Its number, unique within the host.
     pub ordinal: u64,
-    /// Its handle in HCI.
     pub handle: u16,
-    /// The time at which data of it arrived last, in milliseconds.
+    /// When its last data arrived.
     pub heard: u64,
 }
 
 impl Keyless {
-    /// Returns a connection, if its link has no key and the host has not ended it.
+    /// Returns a connection if it has no key and the host has not ended it.
     pub fn of(connection: &Connection) -> Option<Keyless>
         ensures { result ≡ keyless_of connection.now }
     {
@@ -38,23 +37,20 @@ impl Keyless {
 /// A phone without a key.
 #[derive(Clone, Copy, Default)]
 pub struct Stranger {
-    /// Its connection.
     pub connection: Keyless,
-    /// The time at which it was found, in milliseconds.
     pub found: u64,
 }
 
-/// How long a phone without a key may stay, each in milliseconds. Without a limit it may stay for ever.
+/// Time limits for a phone without a key.
 #[derive(Clone, Copy)]
 pub struct Limits {
-    /// How long it may be silent.
+    /// The longest silence.
     pub silent: Option<u64>,
-    /// How long it may stay, silent or not.
+    /// The longest stay.
     pub staying: Option<u64>,
 }
 
 impl Limits {
-    /// Returns when a phone is to be disconnected, in milliseconds, if there is an end to it.
     fn due(&self, stranger: &Stranger) -> Option<u64>
         ensures { result ≡ due_of self.now stranger.now }
     {
@@ -64,7 +60,6 @@ impl Limits {
         )
     }
 
-    /// Returns whether a phone is to be disconnected at a time, in milliseconds.
     fn is_due(&self, stranger: &Stranger, now: u64) -> bool
         ensures { result ≡ is_due self.now now stranger.now }
     {
@@ -75,14 +70,13 @@ impl Limits {
     }
 }
 
-/// Returns the time so long after another, if there is a limit.
 fn time_after(time: u64, limit: Option<u64>) -> Option<u64>
     ensures { result ≡ time_after time limit }
 {
     Some(time.saturating_add(limit?))
 }
 
-/// Returns the sooner of two times, if one of them is there.
+/// Returns the sooner of two times.
 pub fn sooner(one: Option<u64>, other: Option<u64>) -> Option<u64>
     ensures { result ≡ sooner_of one other }
 {
@@ -93,7 +87,6 @@ pub fn sooner(one: Option<u64>, other: Option<u64>) -> Option<u64>
     }
 }
 
-/// The phones without a key.
 #[derive(Drop)]
 pub(crate) struct Strangers {
     limits: Limits,
@@ -101,7 +94,6 @@ pub(crate) struct Strangers {
 }
 
 impl Strangers {
-    /// Returns that none is known.
     pub(crate) fn new(limits: Limits) -> Strangers
         ensures limits { result.limits ≡ limits }
         ensures none { result.known.items ≡ [] }
@@ -112,7 +104,6 @@ impl Strangers {
         }
     }
 
-    /// Forgets all of them: another controller is served.
     pub(crate) fn forget(&mut self)
         ensures limits { self.new.limits ≡ self.old.limits }
         ensures none { self.new.known.items ≡ [] }
@@ -120,20 +111,20 @@ impl Strangers {
         self.known.clear();
     }
 
-    /// Returns whether any phone is disconnected for being silent or for staying.
     pub(crate) fn are_limited(&self) -> bool {
         self.limits.silent.is_some() || self.limits.staying.is_some()
     }
 
-    /// Takes the connections without a key, as they are at a time in milliseconds.
+    /// Updates the phones from the connections without a key.
     pub(crate) fn look(&mut self, keyless: &ArrayVec<Keyless, MAX_SLOTS>, now: u64)
         ensures limits { self.new.limits ≡ self.old.limits }
-        ensures known { self.new.known.items ≡ strangers_of self.old.known.items now keyless.now.items }
+        ensures known { self.new.known.items
+            ≡ strangers_of self.old.known.items now keyless.now.items }
     {
         self.known = strangers_of(keyless, self.known.as_slice(), now);
     }
 
-    /// Returns when the first of them is to be disconnected, in milliseconds.
+    /// Returns when the first of them is disconnected.
     pub(crate) fn due(&self) -> Option<u64> {
         let mut due = None;
         for stranger in self.known.as_slice() {
@@ -142,13 +133,11 @@ impl Strangers {
         due
     }
 
-    /// Returns whether one of them is to be disconnected at a time, in milliseconds.
     pub(crate) fn is_due(&self, now: u64) -> bool {
         first_due(self.known.as_slice(), &self.limits, now).is_some()
     }
 
-    /// Returns the handle of the first one that is to be disconnected at a time, in milliseconds, and forgets
-    /// that connection.
+    /// Removes the next phone to be disconnected and returns its handle.
     pub(crate) fn next_due(&mut self, now: u64) -> Option<u16>
         ensures { result ≡ option_map (λ stranger. stranger.connection.handle)
             (first_due self.old.limits now self.old.known.items) }
@@ -161,7 +150,6 @@ impl Strangers {
     }
 }
 
-/// Returns the first of some phones that is to be disconnected.
 fn first_due(known: &[Stranger], limits: &Limits, now: u64) -> Option<Stranger>
     ensures { result ≡ first_due limits.now now known.now }
 {
@@ -173,7 +161,6 @@ fn first_due(known: &[Stranger], limits: &Limits, now: u64) -> Option<Stranger>
     None
 }
 
-/// Returns the phones of connections without a key, of which some are known.
 fn strangers_of(
     keyless: &ArrayVec<Keyless, MAX_SLOTS>,
     known: &[Stranger],
@@ -188,7 +175,6 @@ fn strangers_of(
     strangers
 }
 
-/// Returns the phone of a connection without a key.
 fn stranger_of(connection: &Keyless, known: &[Stranger], now: u64) -> Stranger
     ensures { result ≡ stranger_of known.now now connection.now }
 {
@@ -198,7 +184,6 @@ fn stranger_of(connection: &Keyless, known: &[Stranger], now: u64) -> Stranger
     }
 }
 
-/// Returns when the phone with this ordinal was found, if it is known, or else that it is found now.
 fn found_at(known: &[Stranger], ordinal: u64, now: u64) -> u64
     ensures { result ≡ found_at known.now ordinal now }
 {

@@ -1,10 +1,9 @@
-//! What connections have subscribed to while their links have no key. No host saves that, so it is known
-//! from notices.
+//! Configurations that connections made without a key. No host saves them, so notices are the
+//! source.
 
-use gatt_app::Notice;
+use host_api::Notice;
 use std::alloc::{AllocError, Global};
 
-/// A configuration of a connection.
 #[derive(Clone, Copy)]
 struct Configuration {
     handle: u16,
@@ -12,16 +11,14 @@ struct Configuration {
     bits: u8,
 }
 
-/// The configurations of connections that these made without a key.
 #[derive(Drop)]
 pub(crate) struct Subscribed {
     configurations: Vec<Configuration>,
-    /// The handles of the connections whose links have a key.
+    /// The connections whose links have a key.
     keyed: Vec<u16>,
 }
 
 impl Subscribed {
-    /// Nobody is connected.
     pub(crate) fn new(alloc: Global) -> Subscribed {
         Subscribed {
             configurations: Vec::new(alloc),
@@ -29,13 +26,11 @@ impl Subscribed {
         }
     }
 
-    /// Nobody is connected any more.
     pub(crate) fn forget(&mut self) {
         self.configurations.clear();
         self.keyed.clear();
     }
 
-    /// Hears a notice.
     pub(crate) fn hear(&mut self, notice: &Notice<'_>) -> Result<(), AllocError> {
         match *notice {
             Notice::Connected { handle, .. } | Notice::Disconnected { handle } => {
@@ -65,7 +60,6 @@ impl Subscribed {
         }
     }
 
-    /// A connection without a key has configured something.
     fn configure(&mut self, new: Configuration) -> Result<(), AllocError> {
         for old in self.configurations.as_mut_slice() {
             if old.handle == new.handle && old.attribute == new.attribute {
@@ -77,20 +71,18 @@ impl Subscribed {
         Ok(())
     }
 
-    /// The configuration at a place, if it is one of the connection with this handle and not off: its
-    /// attribute and its bits.
+    /// Returns attribute and bits of the configuration at a place, if it is on and of this
+    /// connection.
     pub(crate) fn at(&self, place: usize, handle: u16) -> Option<(u16, u8)> {
         let it = self.configurations.as_slice().get(place)?;
         (it.handle == handle && it.bits != 0).then_some((it.attribute, it.bits))
     }
 
-    /// How many configurations there are.
     pub(crate) fn count(&self) -> usize {
         self.configurations.len()
     }
 }
 
-/// Removes a handle.
 fn remove(handles: &mut Vec<u16>, handle: u16) {
     handles.retain(|it| *it != handle);
 }

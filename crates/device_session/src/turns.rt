@@ -1,18 +1,15 @@
-//! Who has a turn: the clock, the controller or the application.
+//! Turns of the clock, the controller and the application.
 
-/// Who had the turn before, and when.
 #[derive(Clone, Copy)]
 pub(crate) struct Turns {
-    /// The time that the host was told last, in milliseconds.
+    /// The last time passed to the host, in milliseconds.
     time: u64,
-    /// Whether the time was told in the turn before.
+    /// Set if the last turn was the clock's.
     is_told: bool,
-    /// Whether the controller was read in the turn before.
     was_read: bool,
 }
 
 impl Turns {
-    /// Nobody had a turn yet.
     pub(crate) fn new() -> Turns {
         Turns {
             time: 0,
@@ -21,19 +18,18 @@ impl Turns {
         }
     }
 
-    /// The time that the host was told last, in milliseconds.
     pub(crate) fn time(&self) -> u64 {
         self.time
     }
 
-    /// Whether the time was told in the turn before, and not in this one any more.
+    /// Returns true if the last turn was the clock's, and resets that.
     pub(crate) fn was_told(&mut self) -> bool {
         let was_told = self.is_told;
         self.is_told = false;
         was_told
     }
 
-    /// Tells the time, where it has gone on.
+    /// Returns the time if it has advanced.
     pub(crate) fn tick(&mut self, now: u64) -> Option<u64> {
         if now <= self.time {
             return None;
@@ -43,7 +39,7 @@ impl Turns {
         Some(now)
     }
 
-    /// Whether the controller is read now: where both it and others have something, they take turns.
+    /// Returns true if the controller is read now. It takes turns with other input.
     pub(crate) fn is_read(&mut self, is_readable: bool, has_other: bool) -> bool {
         self.was_read = is_readable && !(self.was_read && has_other);
         self.was_read

@@ -1,49 +1,41 @@
-//! A connection at the application's socket that has not taken the application's place.
+//! A connection at the application's socket that is not the application. All times are in
+//! milliseconds.
 
 use crate::asked::is_call;
 use app_lines::{Found, Inbox, LONGEST};
 use arrayvec::ArrayVec;
 use device_io::{Retry, Socket, retry_after};
 
-/// As many octets are read at once.
 const ROOM: usize = 512;
 
-/// After how long one takes the application's place that has asked nothing, and after how long one is
-/// closed that has, in milliseconds.
+/// Time after which a visitor becomes the application if it asked nothing, or else is closed.
 const VISIT: u64 = 1_000;
 
-/// A connection that has sent no call as yet: it may only look, or become the application.
+/// A connection that has made no call yet: it may query, or become the application.
 #[derive(Drop)]
 pub(crate) struct Visitor {
     socket: Socket,
     inbox: Inbox,
-    /// When its visit is over, in milliseconds.
     due: u64,
-    /// Whether there may be something to read.
     is_readable: bool,
-    /// Whether it sends no more, or takes no more.
+    /// Set if it sends or accepts no more.
     is_over: bool,
-    /// Whether it has asked something.
     has_asked: bool,
 }
 
-/// What a visitor does next.
 #[derive(Clone, Copy)]
 pub(crate) enum Visit {
-    /// Nothing, as yet.
     Waits,
     /// It may have sent more.
     Reads,
-    /// It asks something, or what it says is not understood.
+    /// It queries, or sent a wrong line.
     Asks,
-    /// It takes the application's place.
+    /// It becomes the application.
     Comes,
-    /// It is closed.
     Leaves,
 }
 
 impl Visitor {
-    /// One that has connected now, in milliseconds.
     pub(crate) fn new(socket: Socket, now: u64) -> Visitor {
         Visitor {
             socket,
@@ -55,22 +47,18 @@ impl Visitor {
         }
     }
 
-    /// When its visit is over, in milliseconds.
     pub(crate) fn due(&self) -> u64 {
         self.due
     }
 
-    /// There may be something to read.
     pub(crate) fn is_ready(&mut self) {
         self.is_readable = !self.is_over;
     }
 
-    /// Whether it has something to do without waiting.
     pub(crate) fn has_something(&self) -> bool {
         self.is_readable || self.is_over || self.inbox.has_line()
     }
 
-    /// What it does next, at this time, in milliseconds.
     pub(crate) fn next(&self, now: u64) -> Visit {
         if self.inbox.has_line() {
             return self.next_by_line();
@@ -91,7 +79,6 @@ impl Visitor {
         }
     }
 
-    /// What it does by the first line that it has sent, or by one that is too long.
     fn next_by_line(&self) -> Visit {
         match self.inbox.first_line() {
             Some(line) if is_call(line) => Visit::Comes,
@@ -99,13 +86,12 @@ impl Visitor {
         }
     }
 
-    /// Reads once.
     pub(crate) fn read(&mut self) {
         let mut buffer = [0; ROOM];
         match self.socket.read(&mut buffer) {
             Ok(0) => self.end(),
             Ok(count) => {
-                // There is room, since no whole line is there.
+                // It fits, because no whole line is there.
                 let _ = self.inbox.take(&buffer[..count]);
             }
             Err(error) => match retry_after(&error) {
@@ -116,19 +102,17 @@ impl Visitor {
         }
     }
 
-    /// It sends no more, or takes no more.
     pub(crate) fn end(&mut self) {
         self.is_readable = false;
         self.is_over = true;
     }
 
-    /// The next line that it has sent.
     pub(crate) fn next_line(&mut self, line: &mut ArrayVec<u8, LONGEST>) -> Found {
         self.has_asked = true;
         self.inbox.next_line(line)
     }
 
-    /// Answers it. One that does not take the whole answer at once is closed, with what it has sent.
+    /// Answers it. Closes it if it does not accept the whole answer at once.
     pub(crate) fn answer(&mut self, text: &[u8]) {
         let is_taken = match self.socket.write(text) {
             Ok(count) => count == text.len(),
@@ -139,13 +123,11 @@ impl Visitor {
         }
     }
 
-    /// Drops what it has sent: it is closed.
     pub(crate) fn drop_all(&mut self) {
         self.inbox.clear();
         self.end();
     }
 
-    /// Its connection, and what it has sent.
     pub(crate) fn into_parts(self) -> (Socket, Inbox) {
         (self.socket, self.inbox)
     }

@@ -5,8 +5,8 @@ use Rattle.std.specs.List.{All, flat_map, join_with_byte}
 use Rattle.std.specs.Str.{bytes_eq}
 use Rattle.std.proofs.lemmas.List.{append-nil}
 use Rattle.std.proofs.lemmas.List.Elements.{All-head, All-tail}
-use Rattle.octets.specs.Number.{Octets}
-use Rattle.toml_tables.specs.Reading.{◌>>=◌, require}
+use Rattle.octet_io.specs.Number.{Octets}
+use Rattle.toml_schema.specs.Reading.{◌>>=◌, require}
 use Rattle.gatt_subs.specs.Rows.{Subscriptions, subscriptions_read}
 use Rattle.gatt_subs.specs.declared.rows_fault.RowsFault.{RowsFault}
 use Rattle.device_state.specs.Reading.{LinesRead, nothing_read, rows_or_fault, state_from}

@@ -17,8 +17,8 @@ use Rattle.hex.specs.Hex.{lower_digits}
 use Rattle.hex.proofs.HexLemmas.{length-encode_with}
 use Rattle.sha2.specs.Sha256.{sha256}
 use Rattle.sha2.proofs.Facts256.{length-sha256}
-use Rattle.octets.specs.Number.{Octets}
-use Rattle.toml_tables.specs.Reading.{◌>>=◌, unless}
+use Rattle.octet_io.specs.Number.{Octets}
+use Rattle.toml_schema.specs.Reading.{◌>>=◌, unless}
 use Rattle.le_hci.specs.declared.peer.Peer.{Peer}
 use Rattle.gatt_subs.specs.ReadBack.{IsConfigured, IsNamed, IsOfAFile, written_by}
 use Rattle.gatt_subs.specs.Rows.{Subscriptions, subscriptions_read, unfitted_rows}

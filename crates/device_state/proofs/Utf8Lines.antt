@@ -16,8 +16,8 @@ use Rattle.hex.specs.Hex.{encode_lower, lower_digits}
 use Rattle.hex.proofs.HexLemmas.{IsAscii-encode_with}
 use Rattle.uuid.specs.Text.{lower}
 use Rattle.uuid.proofs.TextLemmas.{hyphenated_ascii}
-use Rattle.octets.specs.Number.{Octets}
-use Rattle.octets.proofs.Parts.{only_part}
+use Rattle.octet_io.specs.Number.{Octets}
+use Rattle.octet_io.proofs.Parts.{only_part}
 use Rattle.le_hci.specs.declared.peer.Peer.{Peer}
 use Rattle.att_numbers.specs.AttributeType.{is_of_16_bits}
 use Rattle.app_lines.specs.NoticeText.{value_text}

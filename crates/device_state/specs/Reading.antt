@@ -1,8 +1,8 @@
--- The state that lines have: this profile's own.
+-- The state that lines contain (this profile's own).
 use Rattle.std.specs.Prelude.{ℕ, ◌+◌, ◌++◌, if◌then◌else◌, List, [], ◌∷◌, Result, Ok, Err}
 use Rattle.std.specs.Str.{bytes_eq}
-use Rattle.octets.specs.Number.{Octets}
-use Rattle.toml_tables.specs.Reading.{◌>>=◌, require}
+use Rattle.octet_io.specs.Number.{Octets}
+use Rattle.toml_schema.specs.Reading.{◌>>=◌, require}
 use Rattle.gatt_subs.specs.Rows.{Subscriptions, subscriptions_read}
 use Rattle.gatt_subs.specs.declared.rows_fault.RowsFault.{RowsFault}
 use Rattle.device_state.specs.SavedState.{SavedState}
@@ -14,8 +14,8 @@ use Rattle.device_state.specs.declared.reading.Next.TheVariants as next
 use Rattle.device_state.specs.declared.state_fault.StateFault.{StateFault}
 use Rattle.device_state.specs.declared.state_fault.StateFault.TheVariants.{OtherFormat, BadLine, Subscriptions as InSubscriptions, BadValue}
 
--- The kind of the next line, and the parts that were read: the text of the table, the text of the subscriptions, the number
--- of their heading, and the values.
+-- The kind of the next line, and the parts read so far; `heading` is the line of the subscriptions'
+-- heading.
 pub record LinesRead : Type 0 where
   pub next : Next
   pub table_text : Octets
@@ -24,23 +24,25 @@ pub record LinesRead : Type 0 where
   pub values : List Saved
 
 abbrev pub nothing_read : LinesRead
-nothing_read = record { next = next.First; table_text = []; rows_text = []; heading = 0; values = [] }
+nothing_read =
+    record { next = next.First; table_text = []; rows_text = []; heading = 0; values = [] }
 
--- A line of the table text adds its piece.
 abbrev pub with_piece : ℕ → LinesRead → Octets → Result LinesRead StateFault
 with_piece number read line = do
   piece ← require (piece_of line) (BadLine number)
   Ok (record read { next = next.Table; table_text = read.table_text ++ piece })
 
--- Each line adds to the lines before it, by its kind.
+-- Each line adds to the state by its kind.
 abbrev pub line_in : Next → ℕ → LinesRead → Octets → Result LinesRead StateFault
 line_in next.First number read line =
     if bytes_eq line first_line then Ok (record read { next = next.Heading }) else Err OtherFormat
 line_in next.Heading number read line =
-    if bytes_eq line table_heading then Ok (record read { next = next.Opening }) else Err (BadLine number)
+    if bytes_eq line table_heading then Ok (record read { next = next.Opening })
+    else Err (BadLine number)
 line_in next.Opening number read line = with_piece number read line
 line_in next.Table number read line =
-    if bytes_eq line subscriptions_heading then Ok (record read { next = next.Subscriptions; heading = number })
+    if bytes_eq line subscriptions_heading
+    then Ok (record read { next = next.Subscriptions; heading = number })
     else with_piece number (record read { table_text = read.table_text ++ 10 ∷ [] }) line
 line_in next.Subscriptions number read line =
     if bytes_eq line values_heading then Ok (record read { next = next.Values })
@@ -52,7 +54,6 @@ line_in next.Values number read line = do
 abbrev pub with_line : ℕ → LinesRead → Octets → Result LinesRead StateFault
 with_line number read line = line_in read.next number read line
 
--- The subscriptions after the heading of a number.
 abbrev pub rows_or_fault : ℕ → Result Subscriptions RowsFault → Result Subscriptions StateFault
 rows_or_fault heading (Ok rows) = Ok rows
 rows_or_fault heading (Err fault) = Err (InSubscriptions heading fault)
@@ -60,7 +61,7 @@ rows_or_fault heading (Err fault) = Err (InSubscriptions heading fault)
 abbrev pub rows_in : ℕ → Octets → Result Subscriptions StateFault
 rows_in heading text = rows_or_fault heading (subscriptions_read text)
 
--- The state is complete once its values are read.
+-- The state is complete once the heading of its values is read.
 abbrev pub finished_in : Next → ℕ → LinesRead → Result SavedState StateFault
 finished_in next.Values number read = do
   rows ← rows_in read.heading read.rows_text
@@ -70,11 +71,12 @@ finished_in _ number read = Err (BadLine number)
 abbrev pub finished : ℕ → LinesRead → Result SavedState StateFault
 finished number read = finished_in read.next number read
 
--- The state of lines that are counted from a number, after other lines.
+-- The state after lines that count from a number.
 abbrev pub state_from : ℕ → LinesRead → List Octets → Result SavedState StateFault
 state_from number read [] = finished number read
-state_from number read (line ∷ lines) = with_line number read line >>= (λ next. state_from (number + 1) next lines)
+state_from number read (line ∷ lines) =
+    with_line number read line >>= (λ next. state_from (number + 1) next lines)
 
--- The state of a text without the line feed at its end.
+-- The text has no line feed at its end.
 unfoldable pub state_of : Octets → Result SavedState StateFault
 state_of text = state_from 1 nothing_read (pieces_of text)

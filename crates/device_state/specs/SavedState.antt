@@ -1,6 +1,6 @@
--- The state that a device has saved: the text of the table that it served last, the subscriptions, and values.
+-- The saved state of a device: the text of its last table, subscriptions, and values.
 use Rattle.std.specs.Prelude.{List}
-use Rattle.octets.specs.Number.{Octets}
+use Rattle.octet_io.specs.Number.{Octets}
 use Rattle.gatt_subs.specs.Rows.{Subscriptions}
 use Rattle.saved_values.specs.SavedValue.{Saved}
 

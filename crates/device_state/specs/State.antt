@@ -1,9 +1,9 @@
--- The state that a text has: this profile's own.
+-- The state of a text (this profile's own).
 use Rattle.std.specs.Prelude.{◌+◌, ◌-◌, ◌==◌, ◌&&◌, Bool, nat_le, if◌then◌else◌, [], ◌∷◌, length, take, drop, codes, Result, Ok, Err}
 use Rattle.std.specs.List.{starts_with, ends_with}
 use Rattle.std.specs.Str.{bytes_eq, is_utf8}
-use Rattle.octets.specs.Number.{Octets}
-use Rattle.toml_tables.specs.Reading.{◌>>=◌, unless}
+use Rattle.octet_io.specs.Number.{Octets}
+use Rattle.toml_schema.specs.Reading.{◌>>=◌, unless}
 use Rattle.device_state.specs.Reading.{state_of}
 use Rattle.device_state.specs.SavedState.{SavedState}
 use Rattle.device_state.specs.StateText.{checksum}
@@ -20,14 +20,13 @@ is_end octets = starts_with ◌==◌ octets (10 ∷ codes "[end] ") && ends_with
 abbrev pub is_ended : Octets → Bool
 is_ended text = nat_le 72 (length text) && is_end (end_of text)
 
--- The octets before the last line, and the checksum in it.
 abbrev pub before_end : Octets → Octets
 before_end text = take (length text - 72 + 1) text
 
 abbrev pub checksum_in : Octets → Octets
 checksum_in text = take 64 (drop 7 (end_of text))
 
--- The lines before the last one, if it has their checksum, without the line feed at their end.
+-- The lines before the last one, without the final line feed, if their checksum matches.
 abbrev pub lines_checked : Octets → Result Octets StateFault
 lines_checked text = do
   _ ← unless (is_ended text) Unended

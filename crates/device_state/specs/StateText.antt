@@ -1,9 +1,9 @@
--- The text of a state: this profile's own.
+-- The text of a state (this profile's own).
 use Rattle.std.specs.Prelude.{ℕ, ◌==◌, ◌++◌, if◌then◌else◌, List, [], ◌∷◌, codes, Option, Some, None}
 use Rattle.std.specs.List.{flat_map}
 use Rattle.hex.specs.Hex.{encode_lower}
 use Rattle.sha2.specs.Sha256.{sha256}
-use Rattle.octets.specs.Number.{Octets}
+use Rattle.octet_io.specs.Number.{Octets}
 use Rattle.gatt_subs.specs.Rows.{Subscriptions}
 use Rattle.gatt_subs.specs.RowsText.{rows_text}
 use Rattle.saved_values.specs.SavedValue.{Saved}
@@ -22,14 +22,13 @@ subscriptions_heading = codes "[subscriptions]"
 abbrev pub values_heading : Octets
 values_heading = codes "[values]"
 
--- The line of a piece of the table text begins with a bar.
+-- A bar begins the line of a piece of the table text.
 abbrev pub bar : ℕ
 bar = 124
 
 unfoldable pub piece_line : Octets → Octets
 piece_line piece = bar ∷ piece ++ 10 ∷ []
 
--- The piece of a line, if it begins with a bar.
 abbrev pub piece_of : Octets → Option Octets
 piece_of [] = None
 piece_of (octet ∷ piece) = if octet == bar then Some piece else None
@@ -37,7 +36,7 @@ piece_of (octet ∷ piece) = if octet == bar then Some piece else None
 abbrev pub table_lines : Octets → Octets
 table_lines text = flat_map piece_line (pieces_of text)
 
--- All lines except the last one: the sections, each after its heading.
+-- All lines except the last one: the sections after their headings.
 unfoldable pub lines_of_state : Octets → Subscriptions → List Saved → Octets
 lines_of_state table_text rows values =
     line_of first_line ++ line_of table_heading ++ table_lines table_text

@@ -1,5 +1,5 @@
-//! The text in which a device saves its state over a restart: the text of the table that it served
-//! last, the subscriptions, and the values that differ from the table file's. No file is opened here.
+//! The text in which a device saves its state: the text of its last table, the subscriptions, and
+//! the values that differ from the table file. No file is opened here.
 #![tactic(auto)]
 
 mod reading;

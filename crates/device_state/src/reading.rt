@@ -1,8 +1,8 @@
-//! The lines of a state, as they are read one after the other.
+//! Reading a state line by line.
 
 ghost use Rattle.std.specs.Prelude.{◌≡◌, ◌++◌, ◌∷◌, [], OnOk};
 ghost use Rattle.std.specs.Option.{option_map};
-ghost use Rattle.octets.specs.Memory.{Gives, Leaves};
+ghost use Rattle.octet_io.specs.Memory.{Gives, Leaves};
 ghost use Rattle.device_state.specs.Reading.{finished, nothing_read, rows_in, with_line, with_piece};
 ghost use Rattle.device_state.specs.StateText.{piece_of};
 ghost use Rattle.device_state.specs.declared.state_fault.StateFault.TheVariants.{OutOfMemory};
@@ -17,7 +17,6 @@ use std::marker::Model;
 /// The kind of the next line.
 #[derive(Clone, Copy)]
 pub enum Next {
-    /// The first.
     First,
     /// The heading of the table text.
     Heading,
@@ -27,17 +26,16 @@ pub enum Next {
     Table,
     /// A subscription, or the heading of the values.
     Subscriptions,
-    /// A value.
     Values,
 }
 
-/// The parts of a state, as far as they were read.
+/// The parts of a state that are read so far.
 #[derive(Drop)]
 pub struct Reading {
     next: Next,
     table_text: String,
     rows_text: String,
-    /// The number of the line that is the heading of the subscriptions.
+    /// The line of the subscriptions' heading.
     heading: u64,
     values: Vec<SavedValue>,
 }
@@ -58,7 +56,7 @@ impl Model for Reading {
 }
 
 impl Reading {
-    /// Begins before the first line.
+    /// Returns a reader before the first line.
     pub fn new(alloc: Global) -> Reading
         ensures { result ≡ nothing_read }
     {
@@ -71,7 +69,7 @@ impl Reading {
         }
     }
 
-    /// Reads the line of a number.
+    /// Reads the line of this number.
     pub fn take_line(&mut self, number: u64, line: &str) -> Result<(), StateFault>
         ensures { Leaves OutOfMemory (with_line number self.old line.now) result self.new }
     {
@@ -102,7 +100,6 @@ impl Reading {
         Ok(())
     }
 
-    /// Reads a line of the table text.
     fn take_piece(&mut self, number: u64, line: &str) -> Result<(), StateFault>
         ensures { Leaves OutOfMemory (with_piece number self.old line.now) result self.new }
     {
@@ -112,7 +109,7 @@ impl Reading {
         Ok(())
     }
 
-    /// Returns the state that was read, if it is complete before the line of a number.
+    /// Returns the state if it is complete before this line number.
     pub fn finish(self, alloc: Global, number: u64) -> Result<State, StateFault>
         ensures { Gives OutOfMemory (finished number self) result }
     {
@@ -124,14 +121,12 @@ impl Reading {
     }
 }
 
-/// Returns the piece of the table text that follows the bar of a line.
 fn piece_of(line: &str) -> Option<&str>
     ensures { option_map (λ piece. piece.now) result ≡ piece_of line.now }
 {
     line.strip_prefix('|')
 }
 
-/// Adds a value. It is a function of its own for its proof.
 fn push_value(values: &mut Vec<SavedValue>, value: SavedValue) -> Result<(), AllocError>
     ensures ok { OnOk result (values.new.items ≡ values.old.items ++ value ∷ []) }
 {
@@ -139,7 +134,6 @@ fn push_value(values: &mut Vec<SavedValue>, value: SavedValue) -> Result<(), All
     Ok(())
 }
 
-/// Reads the subscriptions, which follow the line of a number.
 fn read_rows(alloc: Global, heading: u64, text: &str) -> Result<Rows, StateFault>
     ensures { Gives OutOfMemory (rows_in heading text.now) result }
 {

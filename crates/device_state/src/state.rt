@@ -1,8 +1,8 @@
-//! The state that a text has.
+//! The state of a text.
 
 ghost use Rattle.std.specs.Prelude.{◌≡◌, string_bytes};
 ghost use Rattle.std.specs.Result.{result_map_both};
-ghost use Rattle.octets.specs.Memory.{Gives};
+ghost use Rattle.octet_io.specs.Memory.{Gives};
 ghost use Rattle.device_state.specs.Reading.{state_of};
 ghost use Rattle.device_state.specs.State.{is_end, lines_checked, state_of_lines, state_read};
 ghost use Rattle.device_state.specs.declared.state_fault.StateFault.TheVariants.{OutOfMemory};
@@ -16,13 +16,13 @@ use std::alloc::Global;
 use std::marker::Model;
 use std::str;
 
-/// The octets between the lines of a state and its checksum.
+/// The bytes between the lines of a state and its checksum.
 const BEFORE_CHECKSUM: &[u8] = b"\n[end] ";
 
-/// The number of octets after the lines: those before the checksum, its 64 digits, and a line feed.
+/// The bytes after the lines: `BEFORE_CHECKSUM`, 64 digits and a line feed.
 const END: usize = 72;
 
-/// The state that a device has saved.
+/// The saved state of a device.
 #[derive(Drop)]
 pub struct State {
     table_text: String,
@@ -44,7 +44,6 @@ impl Model for State {
 }
 
 impl State {
-    /// Makes a state of its parts.
     pub(crate) fn new(table_text: String, rows: Rows, values: Vec<SavedValue>) -> State
         ensures { result ≡ record {
           table_text = string_bytes table_text;
@@ -59,8 +58,9 @@ impl State {
         }
     }
 
-    /// Reads the text of a state, and returns the state or the first fault of the text. The checksum is
-    /// checked before anything else is read. Memory may be refused at any point.
+    /// Reads the text of a state, or returns its first fault.
+    ///
+    /// The checksum is checked first. Memory may be refused at any point.
     pub fn read(alloc: Global, text: &[u8]) -> Result<State, StateFault>
         ensures { Gives OutOfMemory (state_read text.now) result }
     {
@@ -68,7 +68,6 @@ impl State {
         State::read_octets(alloc, lines)
     }
 
-    /// Reads the lines of a state except the last one, if they are UTF-8.
     fn read_octets(alloc: Global, lines: &[u8]) -> Result<State, StateFault>
         ensures { Gives OutOfMemory (state_of_lines lines.now) result }
     {
@@ -78,7 +77,6 @@ impl State {
         }
     }
 
-    /// Reads the lines of a state except the last one. The text has no line feed at its end.
     #[tactic(auto, unfolding(crate::specs::Reading::state_of))]
     fn read_lines(alloc: Global, text: &str) -> Result<State, StateFault>
         ensures { Gives OutOfMemory (state_of text.now) result }
@@ -102,21 +100,21 @@ impl State {
         self.table_text.as_str()
     }
 
-    /// Returns the subscriptions. They are not fitted to a table yet.
+    /// Returns the subscriptions, which are not yet fitted to a table.
     pub fn rows(&self) -> &Rows
         ensures { result.now ≡ self.now.rows }
     {
         &self.rows
     }
 
-    /// Returns the values that were saved, in the order of their lines.
+    /// Returns the saved values, in the order of their lines.
     pub fn values(&self) -> &[SavedValue]
         ensures { result.now ≡ self.now.values }
     {
         &self.values
     }
 
-    /// Returns the text of the table, the subscriptions and the values.
+    /// Returns the table text, the subscriptions and the values.
     pub fn into_parts(self) -> (String, Rows, Vec<SavedValue>)
         ensures table_text { string_bytes result.0 ≡ self.table_text }
         ensures rows { result.1 ≡ self.rows }
@@ -126,10 +124,10 @@ impl State {
     }
 }
 
-/// Returns the lines of a text except the last one, without the line feed at their end, if the last
-/// line has their checksum.
+/// Returns all lines except the last one, if that has their checksum.
 fn checked_lines(text: &[u8]) -> Result<&[u8], StateFault>
-    ensures { result_map_both (λ lines. lines.now) (λ fault. fault) result ≡ lines_checked text.now }
+    ensures { result_map_both (λ lines. lines.now) (λ fault. fault) result
+        ≡ lines_checked text.now }
 {
     let count = text.len().checked_sub(END).ok_or(StateFault::Unended)?;
     let (lines, end) = text.split_at(count);
@@ -142,7 +140,7 @@ fn checked_lines(text: &[u8]) -> Result<&[u8], StateFault>
     Ok(lines)
 }
 
-/// Returns whether octets are the end of a state, with any checksum.
+/// Returns true if these bytes end a state, with any checksum.
 fn is_end(octets: &[u8]) -> bool
     ensures { result ≡ is_end octets.now }
 {

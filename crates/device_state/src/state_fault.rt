@@ -1,4 +1,4 @@
-//! The reasons why the text of a state is refused.
+//! The faults of the text of a state.
 
 ghost use Rattle.std.specs.Prelude.{◌≡◌};
 ghost use Rattle.device_state.specs.StateFault.{line_after, line_of_fault};
@@ -9,10 +9,10 @@ use std::alloc::AllocError;
 use std::error::Error;
 use std::fmt;
 
-/// The reason why the text of a state is refused. Lines count from 1.
+/// The reason why a state is refused. Lines count from 1.
 #[derive(Clone, Copy, Debug, PartialEq, Eq)]
 pub enum StateFault {
-    /// The text does not end with the line `[end]` that has a checksum.
+    /// The text does not end with a line `[end]` and a checksum.
     Unended,
     /// The checksum is not that of the lines before it.
     OtherChecksum,
@@ -20,19 +20,19 @@ pub enum StateFault {
     NotText,
     /// The first line is not that of this format.
     OtherFormat,
-    /// The line of this number is not allowed at its place.
+    /// The line of this number is not allowed in its place.
     BadLine(u64),
-    /// The line of this number is the heading of the subscriptions. The lines after it have this fault,
-    /// and are counted from 1.
+    /// The subscriptions after the heading at this line have this fault.
+    ///
+    /// The fault counts lines from the first one after the heading.
     Subscriptions(u64, RowsFault),
     /// The line of this number is not a handle, a type and octets.
     BadValue(u64),
-    /// Memory was refused.
     OutOfMemory,
 }
 
 impl StateFault {
-    /// Returns the number of the line that has the fault, if it is the fault of one line.
+    /// Returns the number of the line that has the fault, if it is a single one.
     pub fn line(self) -> Option<u64>
         ensures { result ≡ line_of_fault self }
     {
@@ -49,7 +49,7 @@ impl StateFault {
         }
     }
 
-    /// Returns the fault in words, without the number of its line.
+    /// Returns the fault in words, without the line number.
     pub fn words(self) -> &'static str {
         match self {
             StateFault::Unended => {
@@ -78,8 +78,6 @@ impl StateFault {
     }
 }
 
-/// Returns the number of a line after the heading of the subscriptions, or 0 if no single line has
-/// the fault.
 fn line_after(fault: RowsFault) -> u64
     ensures { result ≡ line_after fault }
 {

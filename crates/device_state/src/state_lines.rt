@@ -8,13 +8,14 @@ ghost use Rattle.device_state.specs.StateText.{checksum, end_line, lines_of_stat
 
 use att_table::Table;
 use gatt_subs::Rows;
-use octets::{Failed, Sink};
+use octet_io::{Failed, Sink};
 use saved_values::{Saves, add_values, first_piece};
 use sha2::{Digest, Sha256};
 use std::alloc::{AllocError, Global};
 
-/// Returns the text of a state: the text of the table that is served, the subscriptions, and the values
-/// of the table that differ from those of `initial`, the table as its file has it. Fails if memory is
+/// Returns the text of a state: the table text, subscriptions and changed values.
+///
+/// The values are those that differ from `initial`, the table of the file. Fails if memory is
 /// refused.
 #[tactic(auto, using(crate::proofs::StateBack::reads_back))]
 pub fn state_text(
@@ -27,7 +28,7 @@ pub fn state_text(
 ) -> Result<Vec<u8>, AllocError>
     ensures text { IfOk result (λ text. text.items
         ≡ state_text table_text.now rows.now (saved_values saves table.now initial.now)) }
-    // It is read as these parts again.
+    // The text is read back as these parts.
     ensures read_back { ReadsBack table_text.now rows.now
         (saved_values saves table.now initial.now) }
 {
@@ -36,7 +37,6 @@ pub fn state_text(
     Ok(text)
 }
 
-/// Returns all lines except the last one.
 #[tactic(auto, unfolding(crate::specs::StateText::lines_of_state))]
 fn lines_of_state(
     alloc: Global,
@@ -61,7 +61,7 @@ fn lines_of_state(
     Ok(lines.octets)
 }
 
-/// The lines so far. As a sink it fails if memory is refused.
+/// The lines so far; as a sink it fails if memory is refused.
 #[derive(Drop)]
 struct Lines {
     octets: Vec<u8>,
@@ -81,7 +81,6 @@ impl Sink for Lines {
 }
 
 impl Lines {
-    /// Adds octets.
     fn add(&mut self, octets: &[u8]) -> Result<(), AllocError>
         ensures ok { OnOk result
             (self.new.octets.items ≡ self.old.octets.items ++ octets.now) }
@@ -89,7 +88,6 @@ impl Lines {
         self.octets.extend_from_slice(octets)
     }
 
-    /// Adds the lines of subscriptions.
     fn add_rows(&mut self, rows: &Rows) -> Result<(), AllocError>
         ensures ok { OnOk result
             (self.new.octets.items ≡ self.old.octets.items ++ rows_text rows.now) }
@@ -101,7 +99,6 @@ impl Lines {
     }
 }
 
-/// Adds the lines of a table text.
 fn add_table(text: &mut Vec<u8>, table_text: &str) -> Result<(), AllocError>
     ensures ok { OnOk result (text.new.items ≡ text.old.items ++ table_lines table_text.now) }
 {
@@ -113,7 +110,6 @@ fn add_table(text: &mut Vec<u8>, table_text: &str) -> Result<(), AllocError>
     add_piece(text, rest)
 }
 
-/// Adds a piece of a table text, in a line.
 #[tactic(auto, unfolding(crate::specs::StateText::piece_line))]
 fn add_piece(text: &mut Vec<u8>, piece: &str) -> Result<(), AllocError>
     ensures ok { OnOk result (text.new.items ≡ text.old.items ++ piece_line piece.now) }
@@ -123,7 +119,7 @@ fn add_piece(text: &mut Vec<u8>, piece: &str) -> Result<(), AllocError>
     text.extend_from_slice(b"\n")
 }
 
-/// Adds the last line, with the checksum of a text.
+/// Adds the last line with its checksum.
 #[tactic(auto, unfolding(crate::specs::StateText::end_line))]
 fn add_end(text: &mut Vec<u8>) -> Result<(), AllocError>
     ensures ok { OnOk result (text.new.items ≡ text.old.items ++ end_line text.old.items) }

@@ -1,4 +1,4 @@
-//! The tables that cases name, and what a test says of a case that fails.
+//! The tables of test cases, and the report of a failed case.
 
 use att_table::examples::{BELL, DOOR, PORCH, PORCH_NEXT};
 use std::process::Abort;
@@ -9,7 +9,7 @@ pub enum Example {
     Door,
     Bell,
     Porch,
-    /// The one in place of the porch.
+    /// The table that replaces the porch.
     PorchNext,
 }
 
@@ -22,12 +22,12 @@ pub fn text_of(example: Example) -> &'static str {
     }
 }
 
-/// Ends the test with the name of the case, unless the case holds.
+/// Ends the test with the name of the case if it fails.
 pub fn assert_case(rt: &impl Abort, holds: bool, name: &str) {
     assert!(rt; holds, "{name}");
 }
 
-/// Ends the test with the number of the case, as its place or a handle, unless the case holds.
+/// Ends the test with the place or handle of the case if it fails.
 pub fn assert_at(rt: &impl Abort, holds: bool, number: usize) {
     assert!(rt; holds, "{number}");
 }

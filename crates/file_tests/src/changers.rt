@@ -1,4 +1,4 @@
-//! The value of a table by which clients are told that it was replaced.
+//! The Service Changed value of a table.
 
 use super::cases::{Example, assert_case, text_of};
 use att_table::Table;
@@ -9,7 +9,7 @@ const SERVICE: &str = "uuid = \"1801\"";
 
 const NEXT_SERVICE: &str = "[[service]]\nuuid = \"fff0\"";
 
-/// Tables, a change of each, and the handle of the changer.
+/// Tables with a change, and the handle of the Service Changed value.
 const CHANGERS: &[(Example, &str, &str, Option<u16>)] = &[
     (Example::Door, "", "", None),
     (Example::Bell, "", "", None),

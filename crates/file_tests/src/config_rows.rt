@@ -1,12 +1,11 @@
-//! What one client has configured, and what of it stays when its table is replaced.
+//! A client's configurations, and those that stay when its table is replaced.
 
 use super::cases::{Example, assert_at, text_of};
 use att_table::{ConfigRow, Table};
 use std::alloc::Global;
 use std::process::Abort;
 
-/// A table, the text of the one in its place with a change of it, and entries by handle and bits,
-/// each with whether it stays.
+/// A table, its replacement with a change, and configurations: handle, bits, true if it stays.
 struct Replacement {
     old: Example,
     new: Example,
@@ -77,7 +76,7 @@ const REPLACEMENTS: &[Replacement] = &[
     },
 ];
 
-/// Handles, with the bits that a full row has there, and whether they can be set.
+/// Handles, their bits in full configurations, and true if they can be set.
 const FULL_ROW: &[(u16, u8, bool)] = &[(1, 1, true), (9, 1, true), (64, 1, true), (65, 0, false)];
 
 #[test]
@@ -91,7 +90,6 @@ fn keeps_what_was_written_last(rt: HostRuntime) {
     }
 }
 
-/// The bits at a handle of a row that is full, and whether they can be set.
 fn full_row_at(handle: u16) -> (u8, bool) {
     let mut row = ConfigRow::new();
     row.set(9, 2);

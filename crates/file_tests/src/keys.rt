@@ -1,4 +1,4 @@
-//! Key files, and what keys answer.
+//! Key files, and the answers to key requests.
 
 use super::cases::assert_case;
 use att_policy::KeyFacts;
@@ -28,7 +28,6 @@ const WATCH: Peer = Peer {
     address: [0x02, 0x00, 0x00, 0x00, 0x00, 0xc0],
 };
 
-/// Texts of addresses.
 const ADDRESSES: &[(&[u8], Option<[u8; 6]>)] = &[
     (b"00:11:22:33:44:5F", Some(*b"\x5f\x44\x33\x22\x11\x00")),
     (b"c0:00:00:00:00:0a", Some(*b"\x0a\x00\x00\x00\x00\xc0")),
@@ -39,7 +38,7 @@ const ADDRESSES: &[(&[u8], Option<[u8; 6]>)] = &[
     (b"g0:00:00:00:00:01", None),
 ];
 
-/// Whole files: how many keys each has, or the number of its fault.
+/// Files with the number of their keys or of their fault.
 const FILES: &[(&str, Result<usize, u8>)] = &[
     (KEYS, Ok(3)),
     ("", Ok(0)),
@@ -51,7 +50,7 @@ const FILES: &[(&str, Result<usize, u8>)] = &[
     ("key = [1]", Err(9)),
 ];
 
-/// The lines of the first of the keys.
+/// The lines of the first key.
 const LINES: &[&str] = &[
     "[[key]]\n",
     "address = \"c0:00:00:00:00:01\"\n",
@@ -63,7 +62,7 @@ const LINES: &[&str] = &[
     "authenticated = false\n",
 ];
 
-/// Files of one key, one of whose lines is another.
+/// Files of that key with one other line.
 const LINE_CHANGES: &[(usize, &str, Result<usize, u8>)] = &[
     (1, "", Err(2)),
     (1, "address = \"c0:00:00:00:01\"\n", Err(3)),
@@ -92,7 +91,7 @@ const LINE_CHANGES: &[(usize, &str, Result<usize, u8>)] = &[
     (7, "authenticated = true\nsecure = true\n", Err(10)),
 ];
 
-/// That key behind those of the door, which have it already.
+/// The first key again after the door's keys, which already contain it.
 const REPEATED: &[(usize, &str, Result<usize, u8>)] = &[
     (0, "[[key]]\n", Err(6)),
     (4, "ediv = 65536\n", Err(9)),
@@ -101,7 +100,6 @@ const REPEATED: &[(usize, &str, Result<usize, u8>)] = &[
     (6, "size = 16\nsecure = true\n", Err(10)),
 ];
 
-/// Changes of the secure key.
 const SECURE_CHANGES: &[(&str, &str, Result<usize, u8>)] = &[
     ("", "", Ok(1)),
     ("ediv = 0", "ediv = 1", Err(10)),
@@ -115,7 +113,6 @@ fn addresses(rt: HostRuntime) {
     }
 }
 
-/// How many keys a text has, or the number of its fault.
 fn read(alloc: Global, text: &str) -> Result<usize, u8> {
     match Keys::read(alloc, text) {
         Ok(keys) => Ok(keys.count()),
@@ -159,7 +156,7 @@ fn check_lines(
     }
 }
 
-/// A text, and behind it the lines of the first key, but for one of them.
+/// Appends the lines of the first key with one replaced.
 fn with_line(alloc: Global, before: &str, place: usize, line: &str) -> Result<String, AllocError> {
     let mut text = String::from_str(alloc, before)?;
     push_lines(&mut text, place, line)?;
@@ -191,7 +188,6 @@ fn read_many(alloc: Global, more: &str) -> Result<usize, u8> {
     read_made(alloc, many_keys(alloc, more))
 }
 
-/// A file of 64 keys, and what stands behind them.
 fn many_keys(alloc: Global, more: &str) -> Result<String, AllocError> {
     let mut text = String::new(alloc);
     push_keys(alloc, &mut text)?;
@@ -206,16 +202,15 @@ fn push_keys(alloc: Global, text: &mut String) -> Result<(), AllocError> {
     Ok(())
 }
 
-/// Puts a key of this diversifier behind a text.
 fn push_key(alloc: Global, text: &mut String, diversifier: u16) -> Result<(), AllocError> {
     let line = format!(in alloc; "ediv = {diversifier}\n")?;
     push_lines(text, 4, &line)
 }
 
-/// A request for a key: the peer, its random number, and its diversifier.
+/// A peer, a random number and a diversifier.
 type Request = (Peer, [u8; 8], u16);
 
-/// The answers of the keys of the door, with the secure key behind them.
+/// Requests and answers for the door's keys and the secure key.
 const ANSWERS: &[(Request, Option<Key>)] = &[
     (
         (PHONE, [0x01; 8], 257),
@@ -263,7 +258,6 @@ fn answers(rt: HostRuntime) {
     drop(keys);
 }
 
-/// The keys of the door, with the secure key behind them.
 fn read_all_keys(rt: &impl Abort, alloc: Global) -> Keys {
     let text = KEYS.replacen(alloc, "", SECURE_KEY, 1).expect(rt, "memory");
     let keys = Keys::read(alloc, &text).expect(rt, "the keys");
@@ -295,7 +289,6 @@ fn has_peers(keys: &Keys) -> bool {
     keys.count() == 3 && are_peers(keys, &[PHONE, TABLET, TABLET]) && keys.peer(3).is_none()
 }
 
-/// Whether these are the peers of the first keys.
 fn are_peers(keys: &Keys, peers: &[Peer]) -> bool {
     for (place, peer) in peers.iter().enumerate() {
         if keys.peer(place) != Some(peer) {

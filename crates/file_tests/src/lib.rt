@@ -1,4 +1,4 @@
-//! Tests of the crates that keep tables and keys and read their files.
+//! Tests of the crates that store tables and keys and read their files.
 #![tactic(auto)]
 
 #[cfg(test)]

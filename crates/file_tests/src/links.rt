@@ -1,4 +1,4 @@
-//! What events of encryption make of a link's key.
+//! The effect of encryption events on a link's key.
 
 use att_policy::KeyFacts;
 use le_security::{Key, Link, LinkChange};
@@ -22,7 +22,6 @@ const WEAKER: Key = Key {
     facts: WEAKER_FACTS,
 };
 
-/// What happens to a link.
 #[derive(Clone, Copy)]
 enum Event {
     Request(Option<&'static Key>),
@@ -30,7 +29,7 @@ enum Event {
     Refresh(u8),
 }
 
-/// An event, the change that it makes, and the link's key afterwards.
+/// An event, its change, and the link's key after it.
 type Step = (Event, Option<LinkChange>, Option<KeyFacts>);
 
 const NO_KEY: &[Step] = &[

@@ -4,7 +4,7 @@ use super::cases::assert_case;
 use std::alloc::Global;
 use std::process::Abort;
 use toml::Table;
-use toml_tables::{Key, Shape};
+use toml_schema::{Key, Shape};
 
 const DOCUMENT: &str =
     "name = \"ada\"\nold = true\nage = 36\nsizes = [1, 2]\n[home]\nstreet = \"a\"\n";
@@ -24,35 +24,35 @@ fn check_look_ups(rt: &impl Abort, document: &Table) {
 }
 
 fn has_values(document: &Table) -> bool {
-    toml_tables::text(document, "name") == Some("ada")
-        && toml_tables::boolean(document, "old") == Some(true)
-        && toml_tables::integer(document, "age") == Some(36)
-        && toml_tables::flag(document, "old")
+    toml_schema::text(document, "name") == Some("ada")
+        && toml_schema::boolean(document, "old") == Some(true)
+        && toml_schema::integer(document, "age") == Some(36)
+        && toml_schema::flag(document, "old")
 }
 
 fn has_lists(document: &Table) -> bool {
-    toml_tables::items(document, "sizes").len() == 2
+    toml_schema::items(document, "sizes").len() == 2
         && has_two_sizes(document)
         && street_of(document) == Some("a")
 }
 
 fn has_two_sizes(document: &Table) -> bool {
-    match toml_tables::array(document, "sizes") {
+    match toml_schema::array(document, "sizes") {
         Some(sizes) => sizes.len() == 2,
         None => false,
     }
 }
 
 fn lacks_others(document: &Table) -> bool {
-    toml_tables::text(document, "age").is_none()
-        && toml_tables::boolean(document, "young").is_none()
-        && !toml_tables::flag(document, "young")
-        && toml_tables::items(document, "name").is_empty()
-        && toml_tables::table(document, "sizes").is_none()
+    toml_schema::text(document, "age").is_none()
+        && toml_schema::boolean(document, "young").is_none()
+        && !toml_schema::flag(document, "young")
+        && toml_schema::items(document, "name").is_empty()
+        && toml_schema::table(document, "sizes").is_none()
 }
 
 fn street_of(document: &Table) -> Option<&str> {
-    toml_tables::text(toml_tables::table(document, "home")?, "street")
+    toml_schema::text(toml_schema::table(document, "home")?, "street")
 }
 
 const KEYS: &[Key] = &[
@@ -86,7 +86,7 @@ const KEYS: &[Key] = &[
     },
 ];
 
-/// Documents, and whether they have those keys alone, with values of their types.
+/// Documents, and true if they have only those keys with those types.
 const SHAPES: &[(&str, bool)] = &[
     ("", true),
     (
@@ -119,5 +119,5 @@ fn keys_and_types(rt: HostRuntime) {
 
 fn is_shaped(alloc: Global, document: &str) -> Option<bool> {
     let table = toml::table_from_str(alloc, document).ok()?;
-    Some(toml_tables::is_shaped(&table, KEYS))
+    Some(toml_schema::is_shaped(&table, KEYS))
 }

@@ -1,4 +1,4 @@
-//! Rows files, and rows that are fitted to keys and a table.
+//! Subscriptions files, fitted to keys and a table.
 
 use super::cases::{Example, assert_case, text_of};
 use att_table::Table;
@@ -7,7 +7,7 @@ use gatt_subs::{Rows, RowsFault};
 use le_hci::{PUBLIC_ADDRESS, Peer, RANDOM_ADDRESS};
 use le_security::Keys;
 use le_security::examples::KEYS;
-use octets::ArraySink;
+use octet_io::ArraySink;
 use std::alloc::{AllocError, Global};
 use std::process::Abort;
 
@@ -30,7 +30,7 @@ const BATTERY: &str = "1 c0:00:00:00:00:01 7 1\n";
 
 const CHANGES: &str = "1 c0:00:00:00:00:01 4 2\n! 1 c0:00:00:00:00:01\n";
 
-/// Texts, and what is written of what is read.
+/// Texts, and the text written after reading.
 const READ: &[(&str, &str)] = &[
     ("", ""),
     (BATTERY, BATTERY),
@@ -46,7 +46,6 @@ const READ: &[(&str, &str)] = &[
     ),
 ];
 
-/// Texts that are refused, each with its fault.
 const FAULTS: &[(&str, RowsFault)] = &[
     (
         "1 c0:00:00:00:00:01 7 1\n1 c0:00:00:00:00:01 7 1\n",
@@ -81,7 +80,7 @@ const FAULTS: &[(&str, RowsFault)] = &[
     (" \n", RowsFault::BadLine(1)),
 ];
 
-/// Texts, tables, and what is written once the rows are fitted to the keys of the door and the table.
+/// Texts, tables, and the text written after fitting to the table and the door's keys.
 const FITTED: &[(&str, Example, &str)] = &[
     (BATTERY, Example::Door, BATTERY),
     ("1 c0:00:00:00:00:01 8 1\n", Example::Door, ""),
@@ -105,7 +104,6 @@ const FITTED: &[(&str, Example, &str)] = &[
     (CHANGES, Example::Door, ""),
 ];
 
-/// What is written of rows, as far as 512 octets go.
 fn is_written(rows: &Rows, text: &str) -> bool {
     let mut sink = ArraySink::<512>::new();
     rows.text(&mut sink).is_ok() && sink.octets() == text.as_bytes()
@@ -143,7 +141,6 @@ fn fitted(rt: HostRuntime) {
     }
 }
 
-/// Whether rows of a text, fitted to the keys of the door and a table, are written so.
 fn fits_as(alloc: Global, text: &str, table: &str, written: &str) -> bool {
     match Rows::read(alloc, text) {
         Ok(mut rows) => is_fitted(alloc, &mut rows, table) && is_written(&rows, written),
@@ -151,7 +148,6 @@ fn fits_as(alloc: Global, text: &str, table: &str, written: &str) -> bool {
     }
 }
 
-/// Fits rows to the keys of the door and a table.
 fn is_fitted(alloc: Global, rows: &mut Rows, table: &str) -> bool {
     match Table::read(alloc, table) {
         Ok(table) => is_fitted_to(alloc, rows, &table),
@@ -166,14 +162,14 @@ fn is_fitted_to(alloc: Global, rows: &mut Rows, table: &Table) -> bool {
     }
 }
 
-/// Before rows are fitted nothing is set, and afterwards only for a peer that has a key.
+/// Nothing can be set before fitting, and then only for a peer with a key.
 #[test]
 fn set(rt: HostRuntime) {
     assert!(&rt; is_set(rt.alloc(), false, CHANGES));
     assert!(&rt; is_set(rt.alloc(), true, "1 c0:00:00:00:00:01 8 1\n"));
 }
 
-/// Whether the rows of the changes, fitted or not, have this text once they are set.
+/// Compares the text after setting all of `CHANGES`, fitted or not.
 fn is_set(alloc: Global, fitted: bool, after: &str) -> bool {
     match Rows::read(alloc, CHANGES) {
         Ok(mut rows) => {
@@ -193,7 +189,6 @@ fn is_set_in(rows: &mut Rows, after: &str) -> bool {
     rows.of(&STRANGER).is_none() && is_written(rows, after)
 }
 
-/// Whether the rows are read as those of the changes.
 fn are_changes(rows: &Rows) -> bool {
     rows.get(&PHONE, 4) == 2
         && rows.get(&PHONE, 8) == 0
@@ -203,7 +198,6 @@ fn are_changes(rows: &Rows) -> bool {
         && !rows.owed(&TABLET)
 }
 
-/// Sets what can be set.
 fn set_all(rows: &mut Rows) {
     if let Some(row) = rows.of(&PHONE) {
         if row.can_set(4) {
@@ -222,7 +216,7 @@ fn too_many(rt: HostRuntime) {
     }
 }
 
-/// How many configurations and peers that are owed there are, and the fault of that.
+/// Numbers of configurations and of peers awaiting Service Changed, and the fault.
 const MANY: &[(u16, u16, Option<RowsFault>)] = &[
     (4096, 64, None),
     (4097, 64, Some(RowsFault::TooMany)),
@@ -236,7 +230,6 @@ fn is_refused(alloc: Global, handles: u16, peers: u16, answer: Option<RowsFault>
     }
 }
 
-/// A file of one peer with so many configurations, and of so many peers that are owed.
 fn many(alloc: Global, handles: u16, peers: u16) -> Result<String, AllocError> {
     let mut text = String::new(alloc);
     push_many(&mut text, handles, peers)?;
@@ -270,7 +263,7 @@ fn push_peer(text: &mut String, peer: u16) -> Result<(), AllocError> {
     write!(text, "! 0 00:00:00:00:00:{peer:02x}\n")
 }
 
-/// A sink that is full takes the front of the text.
+/// A full sink has a prefix of the text.
 #[test]
 fn full_sinks(rt: HostRuntime) {
     assert!(rt; fills_sinks(rt.alloc()));
@@ -295,7 +288,6 @@ fn fills_each(rows: &Rows) -> bool {
         && is_front(one_less.octets(), 45)
 }
 
-/// Whether octets are so much of the front of the text.
 fn is_front(octets: &[u8], count: usize) -> bool {
     octets.len() == count && CHANGES.as_bytes().starts_with(octets)
 }

@@ -1,4 +1,4 @@
-//! Scripts: what is done by each line.
+//! The acts of script lines.
 
 use super::cases::assert_case;
 use arrayvec::ArrayVec;
@@ -8,7 +8,7 @@ use scripts::{Act, Payload, Script, ScriptedAct};
 use std::alloc::Global;
 use std::process::Abort;
 
-/// What an act is to be, its phone first.
+/// An expected act, its phone first.
 enum Wanted<'a> {
     Connect(u8, Peer),
     Drop(u8),
@@ -33,7 +33,7 @@ const TABLET: Peer = Peer {
     address: [0x55, 0x44, 0x33, 0x22, 0x11, 0x00],
 };
 
-/// Lines of phones and of their controller, and what is done by each.
+/// Lines of phones and their controller.
 const LINES: &[(&str, &[Wanted<'static>])] = &[
     (
         "connect Q 0 00:11:22:33:44:55",
@@ -69,7 +69,7 @@ const LINES: &[(&str, &[Wanted<'static>])] = &[
     ),
 ];
 
-/// Lines of the application, and what they say.
+/// Lines of the application.
 const APPLICATION_LINES: &[(&str, &[Wanted<'static>])] = &[
     ("update 0 -", &[Wanted::Update(0, b"")]),
     ("update 65535 0001", &[Wanted::Update(65535, b"\x00\x01")]),
@@ -86,7 +86,7 @@ const APPLICATION_LINES: &[(&str, &[Wanted<'static>])] = &[
     ("replace", &[Wanted::Replace]),
 ];
 
-/// Texts of several lines or of none, and names, with what is done by them.
+/// Texts of several lines or none, and names.
 const TEXTS: &[(&str, &[Wanted<'static>])] = &[
     ("", &[]),
     ("\n\n", &[]),

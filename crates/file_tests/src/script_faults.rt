@@ -1,13 +1,12 @@
-//! Scripts: each fault, who is named, and how long a line may be.
+//! Script faults, names, and the longest line.
 
 use super::cases::assert_case;
 use scripts::{Name, Script, ScriptFault};
 use std::alloc::{AllocError, Global};
 
-/// Texts, and the numbers of their first lines with faults.
+/// Texts, and the numbers of their first bad lines.
 const FAULTS: &[(&str, u64)] = &[("\n# here\nU < 0a0300\nbad\nbad", 4), ("drop U\n\r\n", 2)];
 
-/// Texts with a fault in their first line.
 const BAD_LINES: &[&str] = &[
     "bad",
     " ",
@@ -97,7 +96,6 @@ const BAD_LINES: &[&str] = &[
     "Replace",
 ];
 
-/// Texts with nine names, and with eight.
 const NINE: &str =
     "drop A\nhold B\nC < 1e\nclear D\nallow E\ndeny F\ndone G 0\nconnect H 0 00:11:22:33:44:55\n# I\ndrop A\nhold I\n";
 
@@ -114,12 +112,11 @@ fn faults(rt: HostRuntime) {
     }
 }
 
-/// Whether a script is refused for this line.
 fn is_bad_at(alloc: Global, text: &str, has_next: bool, line: u64) -> bool {
     Script::read(alloc, text, has_next).err() == Some(ScriptFault::BadLine(line))
 }
 
-/// Without a table to replace by, the first line with a fault is that of the replacement.
+/// Without a next table, a replacement is a bad line.
 #[test]
 fn no_next(rt: HostRuntime) {
     let text = "tick 1\nreplace\nbad";
@@ -150,19 +147,18 @@ fn are_names(names: &[Name<'_>], wanted: &str) -> bool {
     names.len() == wanted.len()
 }
 
-/// A line writes at most 517 octets.
+/// A line has at most 517 octets of payload.
 #[test]
 fn long_payloads(rt: HostRuntime) {
     assert!(&rt; has_room_for_517(rt.alloc(), "U < "));
     assert!(&rt; has_room_for_517(rt.alloc(), "update 1 "));
 }
 
-/// Whether a line is read with 517 octets, and with one more not.
 fn has_room_for_517(alloc: Global, front: &str) -> bool {
     is_read(alloc, front, 517) == Some(true) && is_read(alloc, front, 518) == Some(false)
 }
 
-/// Whether a line with so many octets is read, where there is memory for it.
+/// Returns `None` if memory is refused.
 fn is_read(alloc: Global, front: &str, octets: usize) -> Option<bool> {
     let text = long_line(alloc, front, octets).ok()?;
     Some(Script::read(alloc, &text, false).is_ok())

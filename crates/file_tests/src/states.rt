@@ -1,4 +1,4 @@
-//! The text of a state, the states that texts say, and values that are restored.
+//! Texts of states, and restored values.
 
 use super::cases::assert_case;
 use att_numbers::attribute_type::{
@@ -7,11 +7,11 @@ use att_numbers::attribute_type::{
 use att_table::Table;
 use device_state::{SavedValue, Saves, State, StateFault, restore, state_text};
 use gatt_subs::{Rows, RowsFault};
-use octets::ArraySink;
+use octet_io::ArraySink;
 use std::alloc::{AllocError, Global};
 
-/// Its values have the handles 3, 5, 8 and, a descriptor, 9. The first is written by a request, the
-/// second by a command, and the others by nobody. The third keeps its length.
+/// Value 3 is written by request, 5 by command, and 8 and the descriptor 9 by nobody. Value 8 has a
+/// fixed length.
 const TABLE: &str = r#"# A door
 [[service]]
 uuid = "fff0"
@@ -47,7 +47,7 @@ const FFF3: u128 = 0x0000_FFF3_0000_1000_8000_0080_5F9B_34FB;
 
 const USER_DESCRIPTION: u128 = 0x0000_2901_0000_1000_8000_0080_5F9B_34FB;
 
-/// Values that are set in turn: handles, types and octets.
+/// Values set in turn: handle, type and octets.
 type Changes = &'static [(u16, u128, &'static [u8])];
 
 const CHANGED: Changes = &[
@@ -160,7 +160,7 @@ const WHOLE_STATE: &str = r#"gihandop state 1
 [end] fcbb0f94c0eaede2016b87cfa294c837df50ea9fea8dd196e33dc694983ed231
 "#;
 
-/// What is set, which values are saved, and the text of the state.
+/// Changes, saved values, and the text of the state.
 const WRITTEN: &[(Changes, Saves, &str)] = &[
     (&[], Saves::All, UNCHANGED_STATE),
     (SET_BACK, Saves::All, UNCHANGED_STATE),
@@ -168,7 +168,7 @@ const WRITTEN: &[(Changes, Saves, &str)] = &[
     (CHANGED, Saves::All, WHOLE_STATE),
 ];
 
-/// Table texts, subscriptions, and the text of a state that has them and no value.
+/// Table texts, subscriptions, and the state of these without values.
 const TEXTS: &[(&str, &str, &str)] = &[
     (
         "",
@@ -182,7 +182,6 @@ const TEXTS: &[(&str, &str, &str)] = &[
     ),
 ];
 
-/// Texts that are refused, each with its fault and the line that has it.
 const FAULTS: &[(&str, StateFault, Option<u64>)] = &[
     ("", StateFault::Unended, None),
     ("gihandop state 1\n", StateFault::Unended, None),
@@ -353,7 +352,6 @@ const FAULTS: &[(&str, StateFault, Option<u64>)] = &[
     ),
 ];
 
-/// Values that are not restored: handles, types and octets.
 const REFUSED: Changes = &[
     (0, FFF1, &[1]),
     (10, FFF1, &[1]),
@@ -375,7 +373,7 @@ fn written(rt: HostRuntime) {
     }
 }
 
-/// Whether a state with these changes has this text, and the text says them.
+/// Compares a state's text after changes, and its parts when read back.
 fn is_written(alloc: Global, changes: Changes, saves: Saves, text: &str) -> bool {
     match Table::read(alloc, TABLE) {
         Ok(mut table) => {
@@ -396,7 +394,7 @@ fn restores_all(table: &mut Table, changes: Changes) -> bool {
     true
 }
 
-/// Whether a state of these parts has this text, where the table file is that of the tests.
+/// Compares a state's text, for the tests' table file.
 fn has_text(
     alloc: Global,
     table_text: &str,
@@ -433,7 +431,7 @@ fn is_same(written: Result<Vec<u8>, AllocError>, text: &str) -> bool {
     }
 }
 
-/// Whether a text says this table text, these subscriptions, and values of a table.
+/// Returns true if a text contains these parts and values of the table.
 fn says(alloc: Global, text: &str, table_text: &str, rows: &str, table: &Table) -> bool {
     match State::read(alloc, text.as_bytes()) {
         Ok(state) => has_parts(&state, table_text, rows, table),
@@ -447,7 +445,6 @@ fn has_parts(state: &State, table_text: &str, rows: &str, table: &Table) -> bool
         && state.values().iter().all(|value| is_value_of(table, value))
 }
 
-/// What is written of rows, as far as 512 octets go.
 fn is_text_of(rows: &Rows, text: &str) -> bool {
     let mut sink = ArraySink::<512>::new();
     rows.text(&mut sink).is_ok() && sink.octets() == text.as_bytes()
@@ -467,7 +464,7 @@ fn table_texts(rt: HostRuntime) {
     }
 }
 
-/// Whether a state without values has this text, and the text says its parts.
+/// Compares the text of a state without values, and its parts when read back.
 fn is_kept(alloc: Global, table_text: &str, rows: &str, text: &str) -> bool {
     match Table::read(alloc, TABLE) {
         Ok(table) => {
@@ -491,7 +488,6 @@ fn faults(rt: HostRuntime) {
     assert_case(&rt, not_text, "not UTF-8");
 }
 
-/// Whether a text is refused for a fault, which a line has.
 fn is_fault(alloc: Global, text: &[u8], fault: StateFault, line: Option<u64>) -> bool {
     match State::read(alloc, text) {
         Ok(_) => false,
@@ -499,7 +495,6 @@ fn is_fault(alloc: Global, text: &[u8], fault: StateFault, line: Option<u64>) ->
     }
 }
 
-/// Faults, and how they are reported.
 const WORDS: &[(StateFault, &str)] = &[
     (
         StateFault::OtherChecksum,
@@ -529,7 +524,7 @@ fn has_words(alloc: Global, fault: StateFault, words: &str) -> bool {
     }
 }
 
-/// The octet ff in the table text, with the checksum of sha256sum.
+/// Has the octet ff in the table text, with the checksum of sha256sum.
 const NOT_TEXT: &[u8] =
     b"gihandop state 1\n[table]\n|\xff\n[subscriptions]\n[values]\n[end] 138477e211a5e78e02f6863c5edd0ff65ba6073cc9e9e940809f681600f152d8\n";
 
@@ -540,7 +535,7 @@ fn refused(rt: HostRuntime) {
     }
 }
 
-/// Whether a value is not restored, and the table stays as its file has it.
+/// Returns true if a value is not restored and nothing changes.
 fn is_refused(alloc: Global, handle: u16, kind: u128, octets: &[u8]) -> bool {
     match Table::read(alloc, TABLE) {
         Ok(mut table) => {

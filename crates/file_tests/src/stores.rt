@@ -1,14 +1,14 @@
-//! The two stores of values do the same.
+//! Both stores of values behave alike.
 
 use super::cases::assert_at;
 use att_values::{Change, FlatStore, PlainStore, ValueStore, run};
 use std::alloc::AllocError;
 use std::process::Abort;
 
-/// The rooms of three values, and the values.
+/// Three values with their largest lengths.
 const VALUES: &[(u16, &[u8])] = &[(3, b"one"), (6, b"two"), (512, b"three")];
 
-/// Patches of the second of them, and the value after each.
+/// Patches of the second value, and the value after each.
 const PATCHES: &[(usize, &[u8], bool, &[u8])] = &[
     (0, b"abcd", false, b"abcd"),
     (1, b"X", true, b"aXcd"),
@@ -78,7 +78,6 @@ fn is_patched<S: ValueStore>(store: &mut S, by: (usize, &[u8], bool), wanted: &[
     patch(store, offset, part, keep) && has_values(store, wanted)
 }
 
-/// Patches the second value, if the part fits.
 fn patch<S: ValueStore>(store: &mut S, offset: usize, part: &[u8], keep: bool) -> bool {
     if !store.contains(2) || store.room(2) != 6 {
         return false;
@@ -90,7 +89,6 @@ fn patch<S: ValueStore>(store: &mut S, offset: usize, part: &[u8], keep: bool) -
     true
 }
 
-/// Whether the second value is this one, and the others are as they were.
 fn has_values<S: ValueStore>(store: &S, second: &[u8]) -> bool {
     is_value(store, 1, b"one") && is_value(store, 2, second) && is_value(store, 3, b"three")
 }
@@ -99,7 +97,6 @@ fn is_value<S: ValueStore>(store: &S, handle: u16, wanted: &[u8]) -> bool {
     store.contains(handle) && store.value(handle) == wanted
 }
 
-/// Runs two changes of the second value, if it has room for them.
 #[tactic(auto, using(att_values::proofs::Contents::changes))]
 fn run_two<S: ValueStore>(store: &mut S) -> bool {
     if !store.contains(2) || store.room(2) != 6 {

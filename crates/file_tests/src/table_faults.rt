@@ -1,4 +1,4 @@
-//! Table files, and how many attributes each gives or the number of its fault.
+//! Table files with the number of their attributes or of their fault.
 
 use super::cases::{assert_at, assert_case};
 use att_table::Table;
@@ -6,7 +6,6 @@ use att_table::examples::DOOR;
 use std::alloc::{AllocError, Global};
 use std::process::Abort;
 
-/// Whole files.
 const FILES: &[(&str, Result<usize, u8>)] = &[
     ("service = []", Ok(0)),
     ("", Err(2)),
@@ -21,10 +20,8 @@ const FILES: &[(&str, Result<usize, u8>)] = &[
     ("[[service]]\nuuid = \"1800\"\ninclude = [-1]", Err(9)),
 ];
 
-/// The name of the door, as its file has it.
 const NAME: &str = "value = \"4c6f636b\"\nproperties = [\"read\"]\n";
 
-/// Changes of the door's file.
 const CHANGES: &[(&str, &str, Result<usize, u8>)] = &[
     ("", "", Ok(21)),
     ("\"1800\"", "1", Err(11)),
@@ -109,8 +106,7 @@ const CHANGES: &[(&str, &str, Result<usize, u8>)] = &[
     ),
 ];
 
-/// What the name of the door is, where its lines are these: its largest length, its properties and
-/// the key size that reading it needs.
+/// Lines for the door's name, its largest length, its properties, and the key size for reading.
 const NAMES: &[(&str, (u16, u8, Option<u8>))] = &[
     ("properties = [\"read\"]", (4, 0x02, None)),
     ("properties = [\"command\"]", (4, 0x04, None)),
@@ -140,8 +136,7 @@ const NAMES: &[(&str, (u16, u8, Option<u8>))] = &[
     ),
 ];
 
-/// A text, a part that is repeated behind it, how often, the text behind all of them, and how many
-/// attributes that gives, or the number of its fault.
+/// A text, a repeated part, the count, a final text, and the number of attributes or of the fault.
 type Repeated = (
     &'static str,
     &'static str,
@@ -150,7 +145,6 @@ type Repeated = (
     Result<usize, u8>,
 );
 
-/// Parts of a file that are repeated, how often, and what the whole gives.
 const REPEATED: &[Repeated] = &[
     ("", "[[service]]\nuuid = \"1800\"\n", 1024, "", Ok(1024)),
     ("", "[[service]]\nuuid = \"1800\"\n", 1025, "", Err(8)),
@@ -174,7 +168,6 @@ const LARGE: &str =
 const LONG: &str =
     "[[service]]\nuuid = \"180f\"\n[[service.characteristic]]\nuuid = \"2a19\"\nproperties = []\nvalue = \"";
 
-/// How many attributes a text gives, or the number of its fault.
 fn read(alloc: Global, text: &str) -> Result<usize, u8> {
     match Table::read(alloc, text) {
         Ok(table) => Ok(table.len()),
@@ -182,7 +175,6 @@ fn read(alloc: Global, text: &str) -> Result<usize, u8> {
     }
 }
 
-/// How many attributes a text gives for which memory may be refused, or the number of its fault.
 fn read_made(alloc: Global, text: Result<String, AllocError>) -> Result<usize, u8> {
     match text {
         Ok(text) => read(alloc, &text),

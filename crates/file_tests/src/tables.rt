@@ -1,4 +1,4 @@
-//! The tables of the example files, and tables of shapes that those have not.
+//! Tables of the example files, and of other shapes.
 
 use super::cases::assert_at;
 use att_numbers::attribute_type;
@@ -10,17 +10,15 @@ use att_table::{Counted, Role, Table};
 use std::alloc::Global;
 use std::process::Abort;
 
-/// What a table is to be.
 struct Wanted {
     attributes: usize,
     octets: usize,
-    /// Values by their handles.
+    /// Values by handle.
     values: &'static [(u16, &'static [u8])],
-    /// The last handles of the groups that attributes begin.
+    /// The first attribute and the last handle of groups.
     group_ends: &'static [(u16, u16)],
-    /// The handles of client characteristic configurations.
     configurations: &'static [u16],
-    /// The handles of a type of 16 bits from a first to a last one.
+    /// Handles of a 16-bit type in a range.
     of_types: &'static [(u16, u16, u16, &'static [u16])],
 }
 
@@ -71,8 +69,9 @@ const WANTED_BELL: Wanted = Wanted {
     ],
 };
 
-/// A service of two characteristics, one of none, and one of an include and a characteristic. The
-/// digits of a value are of both cases.
+/// Services of two characteristics, of none, and of an include and a characteristic.
+///
+/// A value has digits of both cases.
 const GROUPS: &str = r#"
 [[service]]
 uuid = "fff0"
@@ -199,7 +198,7 @@ fn check_of_type(rt: &impl Abort, table: &Table, kind: u128, range: (u16, u16), 
     assert!(rt; steps.count <= 22);
 }
 
-/// Ends the test with a type and a range, unless the handles of the type in it are as they were to be.
+/// Ends the test unless a range has these handles of a type.
 fn assert_handles(rt: &impl Abort, holds: bool, kind: u128, range: (u16, u16)) {
     let (first, last) = range;
     assert!(rt; holds, "{kind:x} from {first} to {last}");
@@ -248,7 +247,6 @@ fn comparisons_of_a_full_table(rt: HostRuntime) {
     drop(table);
 }
 
-/// A table of so many services.
 fn read_services(rt: &impl Abort, alloc: Global, count: usize) -> Table {
     let text = "[[service]]\nuuid = \"1800\"\n"
         .repeat(alloc, count)
@@ -266,7 +264,6 @@ fn check_services(rt: &impl Abort, table: &Table) {
     check_others(rt, table);
 }
 
-/// There is nothing but services.
 fn check_others(rt: &impl Abort, table: &Table) {
     for kind in [CHARACTERISTIC, INCLUDE, CLIENT_CHARACTERISTIC_CONFIGURATION] {
         check_of_type(rt, table, kind, (1, 0xFFFF), &[]);

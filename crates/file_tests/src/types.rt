@@ -11,7 +11,7 @@ const CUSTOM: u128 = 0x1234_5678_9ABC_DEF0_0123_4567_89AB_CDEF;
 const CUSTOM_OCTETS: [u8; 16] =
     *b"\xef\xcd\xab\x89\x67\x45\x23\x01\xf0\xde\xbc\x9a\x78\x56\x34\x12";
 
-/// The octets of the types that texts name, none where they name none.
+/// Texts, and the octets of their type, if any.
 const TEXTS: &[(&str, Option<&[u8]>)] = &[
     ("180f", Some(b"\x0f\x18")),
     ("180F", Some(b"\x0f\x18")),
@@ -33,8 +33,7 @@ fn texts(rt: HostRuntime) {
     }
 }
 
-/// Ends the test unless a service of this type has these octets as its value, or is refused where there
-/// are none.
+/// Checks the value of a service of this type, which without octets is refused.
 fn check_service(rt: &impl Abort, alloc: Global, uuid: &str, octets: Option<&[u8]>) {
     let text = format!(in alloc; "[[service]]\nuuid = \"{uuid}\"\n").expect(rt, "memory");
     assert_case(rt, is_first_value(alloc, &text, octets), uuid);
@@ -56,7 +55,6 @@ fn octets(rt: HostRuntime) {
     assert!(&rt; is_type(CUSTOM, false, &CUSTOM_OCTETS));
 }
 
-/// Whether a type is one of 16 bits or is not, and has these octets.
 fn is_type(kind: u128, is_short: bool, octets: &[u8]) -> bool {
     is_of_16_bits(kind) == is_short && type_octets(kind).as_slice() == octets
 }

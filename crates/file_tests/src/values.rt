@@ -1,4 +1,4 @@
-//! Values by the types of their service and their characteristic, and by their handles.
+//! Values by the types of service and characteristic, and by handle.
 
 use super::cases::assert_at;
 use att_numbers::attribute_type::from_16_bits;
@@ -7,19 +7,16 @@ use att_table::examples::{BELL, DOOR};
 use std::alloc::Global;
 use std::process::Abort;
 
-/// What is asked of a table, and what it is to answer.
+/// Questions to a table, with answers.
 struct Wanted {
-    /// Types of 16 bits of a service and of a characteristic, the number of the value among those of
-    /// these types, and its handle.
+    /// 16-bit types of service and characteristic, the position of the value, and its handle.
     of_16_bits: &'static [(u16, u16, u16, Option<u16>)],
-    /// The same with types of any length.
+    /// The same for types of any length.
     of_types: &'static [(u128, u128, u16, Option<u16>)],
-    /// Values by their handles.
     values: &'static [(u16, Option<&'static [u8]>)],
 }
 
-/// A service of type fff0 has a descriptor with the type of its later characteristic, and two
-/// values of that type. A second service of its type, and one of a long type, have others.
+/// Two services fff0 and one of a long type, with values and a descriptor of equal types.
 const ALIKE: &str = r#"
 [[service]]
 uuid = "fff0"
@@ -70,9 +67,9 @@ const WANTED_DOOR: Wanted = Wanted {
         // Only in another service.
         (0x1800, 0x2A19, 1, None),
         (0xFFF0, 0x2A00, 1, None),
-        // In none.
+        // In no service.
         (0x180F, 0xFFF7, 1, None),
-        // A declaration and a configuration are no values of a characteristic.
+        // A declaration or a configuration is not a characteristic value.
         (0x180F, 0x2803, 1, None),
         (0x180F, 0x2902, 1, None),
         // No service has the type.

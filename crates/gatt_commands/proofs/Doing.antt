@@ -5,17 +5,17 @@ use Rattle.std.specs.Option.{option_map}
 use Rattle.att_table.specs.Table.{Contents}
 use Rattle.gatt_host.proofs.model.Refusals.{fault_of_its_refusal}
 use Rattle.gatt_host.specs.Asked.{refusal_in_result, replacing_refusal_of}
-use Rattle.gatt_app.specs.declared.app.AppFault.{AppFault}
-use Rattle.gatt_app.specs.declared.app.AppFault.TheVariants.{Stopped}
-use Rattle.gatt_app.specs.Refusals.{number_of_refusal}
+use Rattle.host_api.specs.declared.app.AppFault.{AppFault}
+use Rattle.host_api.specs.declared.app.AppFault.TheVariants.{Stopped}
+use Rattle.host_api.specs.Refusals.{number_of_refusal}
 use Rattle.gatt_host.specs.Telling.{silent}
 use Rattle.gatt_host.specs.HostModel.{RefinesRun, Takes, HostModel}
 use Rattle.gatt_laws.specs.machine.Calls.{Call}
 use Rattle.gatt_laws.specs.machine.Input.{Item, ACall, ATable, call_refusal, run, replacement_refusal}
 use Rattle.gatt_laws.specs.machine.Start.{Start}
-use Rattle.octets.specs.Number.{Octets}
-use Rattle.script_lines.specs.declared.refused.Refused.{Refused}
-use Rattle.script_lines.specs.declared.refused.Refused.TheVariants as refused
+use Rattle.octet_io.specs.Number.{Octets}
+use Rattle.gatt_commands.specs.declared.refused.Refused.{Refused}
+use Rattle.gatt_commands.specs.declared.refused.Refused.TheVariants as refused
 use Rattle.gatt_commands.specs.Doing.{Calls, ReplacesBy, refused_call}
 
 -- what is told of an answer of the host

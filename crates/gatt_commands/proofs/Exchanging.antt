@@ -14,9 +14,9 @@ use Rattle.le_h4.specs.declared.deframer.H4Fault.TheVariants as stream
 use Rattle.le_h4.specs.Deframer.{Deframing, deframing_at_start, marks, still}
 use Rattle.le_h4.specs.Division.{Division, before, division, lost}
 use Rattle.le_h4.specs.Packet.{Packet}
-use Rattle.octets.specs.Number.{Octets}
-use Rattle.gatt_files.specs.declared.fault.ShellFault.{ShellFault}
-use Rattle.gatt_files.specs.declared.fault.ShellFault.TheVariants as shell
+use Rattle.octet_io.specs.Number.{Octets}
+use Rattle.shell_files.specs.declared.fault.ShellFault.{ShellFault}
+use Rattle.shell_files.specs.declared.fault.ShellFault.TheVariants as shell
 use Rattle.gatt_commands.specs.Exchange.{ControllerAnswers, ExchangesTooMany, ExchangesUntil, Exchanges, HandsNext, HandsOver, HostGives, HostHears, HostStops, IsQuiet, NotesFirst, NotesTaken, Pair, StopsAtFirst, TakesFirst}
 use Rattle.gatt_commands.specs.declared.notes.Notes.{Notes}
 use Rattle.gatt_commands.specs.Notices.{NotesWhatIsTold}

@@ -2,15 +2,15 @@
 use Rattle.std.proofs.Common.{◌≡◌, ℕ, zero, suc, ◌<◌, ◌≤◌, Bool, true, false, List, [], ◌∷◌, ◌++◌, take, drop, slice_index_or, slice_set, refl, sym, ap, ◌∙◌, append_assoc, append-nil, arith}
 use Rattle.std.specs.Prelude.{◌==◌, nat_lt, if◌then◌else◌}
 use Rattle.std.proofs.lemmas.Bool.{eqb-true, eqb-false, le-ltb, lt-ltb, ltb-false, ltb-true}
-use Rattle.octets.specs.Number.{Octets}
+use Rattle.octet_io.specs.Number.{Octets}
 use Rattle.sim_controller.specs.Acts as by_phone
 use Rattle.sim_controller.specs.Calls.{SimulatedCall, Hears, Tells, after_calls, given_by_call, given_in_calls}
 use Rattle.sim_controller.specs.declared.told.Told.{Told}
 use Rattle.sim_controller.specs.Hearing.{frames_heard_by, frames_heard_in}
 use Rattle.sim_controller.specs.Phone.{Phone, absent_phone, phone_after_hearing, after_telling}
 use Rattle.sim_controller.specs.Simulated.{Simulated, phone_at, with_phone}
-use Rattle.script_lines.proofs.Telling.{heard_then, phone_set, phone_still, phone_told, set_twice}
-use Rattle.script_lines.specs.Lines.{told_phone, with_told_phone, with_told_phones}
+use Rattle.gatt_commands.proofs.Telling.{heard_then, phone_set, phone_still, phone_told, set_twice}
+use Rattle.gatt_commands.specs.Lines.{told_phone, with_told_phone, with_told_phones}
 use Rattle.gatt_commands.specs.Loop.{acts_by, acts_in, nothing_heard, packets_taken, printed_of, taken_by}
 use Rattle.gatt_commands.specs.Runs.{simulated}
 

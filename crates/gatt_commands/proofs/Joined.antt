@@ -14,7 +14,7 @@ use Rattle.gatt_laws.specs.machine.Input.{ACall, APacket, ATable, Item, run}
 use Rattle.gatt_laws.specs.machine.Start.{Start}
 use Rattle.le_h4.specs.Division.{End, Lost, Unfinished, division}
 use Rattle.le_h4.specs.Packet.{Packet}
-use Rattle.octets.specs.Number.{Octets}
+use Rattle.octet_io.specs.Number.{Octets}
 use Rattle.scripts.specs.declared.act.Act.{Act}
 use Rattle.scripts.specs.declared.act.Act.TheVariants as line
 use Rattle.sim_controller.proofs.HeardFrames.{hears_its_frames}
@@ -30,10 +30,10 @@ use Rattle.sim_controller.specs.Phones.{handle_of_phone}
 use Rattle.sim_controller.specs.Simulated.{Simulated, phone_at}
 use Rattle.sim_controller.specs.Told.{sent_octets, sent_of}
 use Rattle.gatt_commands.proofs.Hearing.{Adds, adds_none, adds_one, tells_all}
-use Rattle.script_lines.specs.declared.refused.Refused.{Refused}
+use Rattle.gatt_commands.specs.declared.refused.Refused.{Refused}
 use Rattle.gatt_commands.specs.Doing.{ByCall, DoesLine, ReplacesBy, Stage, refused_call, sim_act}
 use Rattle.gatt_commands.specs.Exchange.{ControllerGives, ControllerTakes, Exchanges, HandsOver, HostTakes, Pair, TakesFirst}
-use Rattle.script_lines.specs.Lines.{with_told_phones}
+use Rattle.gatt_commands.specs.Lines.{with_told_phones}
 use Rattle.gatt_commands.specs.Loop.{IsJoined, SoFar, acts_in, after_line_done, after_printing, asked_unless, nothing_heard, other_in, others_in, packets_of_item, packets_of_items, packets_taken, printed_of, read_of, replacement_of, taken_by}
 use Rattle.gatt_commands.specs.Runs.{simulated}
 

@@ -1,3 +1,6 @@
+pub mod Echoing
+pub mod Fronts
+pub mod Telling
 pub mod Doing
 pub mod Exchanging
 pub mod Hearing

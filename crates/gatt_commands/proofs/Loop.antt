@@ -10,15 +10,15 @@ use Rattle.gatt_laws.specs.machine.Input.{run}
 use Rattle.gatt_laws.specs.machine.Start.{Start}
 use Rattle.gatt_subs.specs.Rows.{Subscriptions}
 use Rattle.le_security.specs.declared.entry.Entry.{Entry}
-use Rattle.octets.specs.Number.{Octets}
+use Rattle.octet_io.specs.Number.{Octets}
 use Rattle.scripts.specs.declared.act.Act.{Act}
 use Rattle.sim_controller.specs.Simulated.{simulated_at_start}
 use Rattle.gatt_commands.proofs.Joined.{Joins, joins, is-joined, exchanges, does-act, tells}
 use Rattle.gatt_commands.proofs.Running.{keeps_all}
-use Rattle.gatt_files.specs.declared.fault.ShellFault.{ShellFault}
+use Rattle.shell_files.specs.declared.fault.ShellFault.{ShellFault}
 use Rattle.gatt_commands.specs.declared.notes.Notes.{Notes}
 use Rattle.gatt_commands.specs.Doing.{Stage}
-use Rattle.script_lines.specs.Echo.{Shown, shown_after, shown_behind}
+use Rattle.gatt_commands.specs.Echo.{Shown, shown_after, shown_behind}
 use Rattle.gatt_commands.specs.Exchange.{ExchangesAll, pair_of}
 use Rattle.gatt_commands.specs.Loop.{ClosesTheLoop, IsJoinedUpTo, SoFar, after_line_done, after_line, after_lines, nothing_yet, packets_taken}
 use Rattle.gatt_commands.specs.Opening.{IsOpened, command_configuration}

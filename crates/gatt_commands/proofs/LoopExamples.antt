@@ -1,6 +1,6 @@
 -- What a controller took, and what its phones hear of it, by computing.
 use Rattle.std.proofs.Common.{◌≡◌, List, [], ◌∷◌, refl}
-use Rattle.octets.specs.Number.{Octets}
+use Rattle.octet_io.specs.Number.{Octets}
 use Rattle.sim_controller.specs.Calls.{SimulatedCall, Takes}
 use Rattle.sim_controller.specs.FromHost.{asked_by_command}
 use Rattle.sim_controller.specs.Hearing.{frames_for}

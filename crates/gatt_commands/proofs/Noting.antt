@@ -3,10 +3,10 @@ use Rattle.std.proofs.Common.{◌≡◌, false, List, [], ◌∷◌, ◌++◌, m
 use Rattle.std.specs.List.{flat_map}
 use Rattle.std.proofs.lemmas.List.{append-nil}
 use Rattle.att_table.specs.Table.{Contents}
-use Rattle.gatt_app.specs.declared.notice.Notice.{Notice}
+use Rattle.host_api.specs.declared.notice.Notice.{Notice}
 use Rattle.gatt_host.specs.Notices.{HasTheValue, notice_of}
 use Rattle.gatt_laws.specs.machine.Notice as law
-use Rattle.octets.specs.Number.{Octets}
+use Rattle.octet_io.specs.Number.{Octets}
 use Rattle.gatt_commands.specs.declared.notes.Notes.{Notes}
 use Rattle.app_lines.specs.NoticeText.{notice_line}
 use Rattle.gatt_commands.specs.Notices.{HaveTheirValues, NotesOne}

@@ -5,15 +5,15 @@ use Rattle.att_table.specs.Table.{Contents}
 use Rattle.gatt_host.specs.HostModel.{HostModel}
 use Rattle.gatt_subs.specs.Rows.{Subscriptions}
 use Rattle.gatt_subs.specs.RowsText.{rows_text}
-use Rattle.octets.specs.Number.{Octets}
+use Rattle.octet_io.specs.Number.{Octets}
 use Rattle.scripts.specs.Script.{Acts}
 use Rattle.sim_controller.specs.Simulated.{Simulated, simulated_at_start}
-use Rattle.gatt_files.specs.declared.fault.ShellFault.{ShellFault}
-use Rattle.gatt_files.specs.declared.fault.ShellFault.TheVariants.{Unwritten}
+use Rattle.shell_files.specs.declared.fault.ShellFault.{ShellFault}
+use Rattle.shell_files.specs.declared.fault.ShellFault.TheVariants.{Unwritten}
 use Rattle.gatt_commands.specs.Doing.{stage_of}
-use Rattle.script_lines.specs.Echo.{Shown}
+use Rattle.gatt_commands.specs.Echo.{Shown}
 use Rattle.gatt_commands.specs.Runs.{simulated, EndsEarly, HostRuns, RunsAll}
-use Rattle.gatt_files.specs.Saving.{Save, Saves, SavesAfter}
+use Rattle.shell_files.specs.Saving.{Save, Saves, SavesAfter}
 
 module _ (shown : Shown) (script : Acts) (old new : HostModel) (next next_then : Option Contents) (last : Simulated) (held holds : Option Octets) (saves saves_then : Option (List Save)) where
   abbrev Runs-all : Type 0

@@ -1,10 +1,10 @@
 -- What may end a part of a run may end the command.
 use Rattle.std.proofs.Common.{◌≡◌, Bool, List, ℕ, sym, subst}
 use Rattle.std.specs.Prelude.{Result, Ok, Err, IfErr, IsErrAnd}
-use Rattle.gatt_files.specs.declared.fault.ShellFault.{ShellFault}
-use Rattle.gatt_files.specs.declared.fault.ShellFault.TheVariants.{Table, Keys, Rows, Next, Script, Host, Controller, TooLong, NotHex, Unreadable, Unwritten, Listen, Memory}
+use Rattle.shell_files.specs.declared.fault.ShellFault.{ShellFault}
+use Rattle.shell_files.specs.declared.fault.ShellFault.TheVariants.{Table, Keys, Rows, Next, Script, Host, Controller, TooLong, NotHex, Unreadable, Unwritten, Listen, Memory}
 use Rattle.gatt_commands.specs.Faults.{IsRunCommandFault, IsRunFault, IsScriptRunFault}
-use Rattle.gatt_files.specs.ScriptFile.{IsScriptRefusal}
+use Rattle.shell_files.specs.ScriptFile.{IsScriptRefusal}
 
 ran : (fault : ShellFault) → IsRunFault fault → IsScriptRunFault fault
 ran (Host number) is = is

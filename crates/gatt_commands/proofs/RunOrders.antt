@@ -7,13 +7,13 @@ use Rattle.le_security.specs.declared.entry.Entry.{Entry}
 use Rattle.scripts.specs.declared.script_fault.ScriptFault.{ScriptFault}
 use Rattle.scripts.specs.declared.script_fault.ScriptFault.TheVariants.{BadLine}
 use Rattle.scripts.specs.Script.{Acts}
-use Rattle.gatt_files.specs.declared.fault.ShellFault.{ShellFault}
-use Rattle.gatt_files.specs.declared.fault.ShellFault.TheVariants.{Table, Keys, Rows, Next, Script, Host, Controller, TooLong, NotHex, Unreadable, Unwritten, Listen, Memory}
-use Rattle.script_lines.specs.declared.script_text.Shows.{Shows}
+use Rattle.shell_files.specs.declared.fault.ShellFault.{ShellFault}
+use Rattle.shell_files.specs.declared.fault.ShellFault.TheVariants.{Table, Keys, Rows, Next, Script, Host, Controller, TooLong, NotHex, Unreadable, Unwritten, Listen, Memory}
+use Rattle.gatt_commands.specs.declared.script_text.Shows.{Shows}
 use Rattle.gatt_commands.specs.Runs.{RunsFile}
-use Rattle.gatt_files.specs.Saving.{Save}
-use Rattle.gatt_files.specs.ScriptFile.{script_in, IsScriptRefusal}
-use Rattle.gatt_files.specs.Turns.{IsPast, OfScript, turn_place, place_of_fault}
+use Rattle.shell_files.specs.Saving.{Save}
+use Rattle.shell_files.specs.ScriptFile.{script_in, IsScriptRefusal}
+use Rattle.shell_files.specs.Turns.{IsPast, OfScript, turn_place, place_of_fault}
 
 -- what is judged is all of the input
 pub judged_all : (known : Option (List ℕ)) (items text : List ℕ) (judged given : Bool) (wanted : Result Acts ScriptFault)

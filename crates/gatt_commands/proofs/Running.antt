@@ -3,20 +3,20 @@ use Rattle.std.proofs.Common.{◌≡◌, ℕ, ◌+◌, ◌<◌, Bool, false, Lis
 use Rattle.std.specs.Prelude.{IfErr, IsErrAnd, OnErr, OnOk}
 use Rattle.std.specs.Io.KnownBytes.{Appends, Keeps}
 use Rattle.std.proofs.lemmas.List.{drop_more}
-use Rattle.octets.specs.Number.{Octets}
-use Rattle.octets.specs.Stream.{WritesFront}
+use Rattle.octet_io.specs.Number.{Octets}
+use Rattle.octet_io.specs.Stream.{WritesFront}
 use Rattle.scripts.specs.declared.act.Act.{Act}
 use Rattle.scripts.specs.Script.{Acts}
 use Rattle.sim_controller.specs.Simulated.{Simulated}
-use Rattle.script_lines.specs.declared.refused.Refused.{Refused}
-use Rattle.gatt_files.specs.declared.fault.ShellFault.{ShellFault}
-use Rattle.gatt_files.specs.declared.fault.ShellFault.TheVariants.{Table, Keys, Rows, Next, Script, Host, Controller, TooLong, NotHex, Unreadable, Unwritten, Listen, Memory}
+use Rattle.gatt_commands.specs.declared.refused.Refused.{Refused}
+use Rattle.shell_files.specs.declared.fault.ShellFault.{ShellFault}
+use Rattle.shell_files.specs.declared.fault.ShellFault.TheVariants.{Table, Keys, Rows, Next, Script, Host, Controller, TooLong, NotHex, Unreadable, Unwritten, Listen, Memory}
 use Rattle.gatt_commands.specs.declared.notes.Notes.{Notes}
 use Rattle.gatt_commands.specs.Doing.{Stage}
-use Rattle.script_lines.specs.Echo.{Shown, lines_behind, shown_of}
+use Rattle.gatt_commands.specs.Echo.{Shown, lines_behind, shown_of}
 use Rattle.gatt_commands.specs.Exchange.{ExchangesAll, pair_of}
 use Rattle.gatt_commands.specs.Faults.{IsExchangeFault}
-use Rattle.script_lines.specs.Lines.{with_told_phones}
+use Rattle.gatt_commands.specs.Lines.{with_told_phones}
 use Rattle.gatt_commands.specs.Runs.{EndsAmong, EndsAtLine, EndsAtNext, EndsEarly, Fails, FailsToExchange, FailsToNote, LineIsDone, Runs, RunsAll, RunsLine, RunsNext, line_text}
 
 pub keeps_all : (held : Option Octets) → Keeps held held

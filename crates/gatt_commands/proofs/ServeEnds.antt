@@ -5,10 +5,10 @@ use Rattle.gatt_host.specs.declared.host_fault.HostFault.{HostFault}
 use Rattle.gatt_host.specs.Numbers.{number_of_fault}
 use Rattle.gatt_subs.specs.Rows.{Subscriptions}
 use Rattle.gatt_subs.specs.RowsText.{rows_text}
-use Rattle.octets.specs.Number.{Octets}
-use Rattle.gatt_files.specs.declared.fault.ShellFault.{ShellFault}
-use Rattle.gatt_files.specs.declared.fault.ShellFault.TheVariants.{Host, Unwritten}
-use Rattle.gatt_files.specs.Saving.{Save, Saves, SavesAfter}
+use Rattle.octet_io.specs.Number.{Octets}
+use Rattle.shell_files.specs.declared.fault.ShellFault.{ShellFault}
+use Rattle.shell_files.specs.declared.fault.ShellFault.TheVariants.{Host, Unwritten}
+use Rattle.shell_files.specs.Saving.{Save, Saves, SavesAfter}
 use Rattle.gatt_commands.specs.Serving.{fault_told_of, IsOutcomeOf, SavesBy}
 
 module _ (text : Octets) (saves saves_then : Option (List Save)) where

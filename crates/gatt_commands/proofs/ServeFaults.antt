@@ -1,8 +1,8 @@
 -- What may end the serving before the host is open, or once it is, may end it.
 use Rattle.std.proofs.Common.{◌≡◌, sym, subst}
 use Rattle.std.specs.Prelude.{Result, Ok, Err, IfErr, IsErrAnd}
-use Rattle.gatt_files.specs.declared.fault.ShellFault.{ShellFault}
-use Rattle.gatt_files.specs.declared.fault.ShellFault.TheVariants.{Table, Keys, Rows, Next, Script, Host, Controller, TooLong, NotHex, Unreadable, Unwritten, Listen, Memory}
+use Rattle.shell_files.specs.declared.fault.ShellFault.{ShellFault}
+use Rattle.shell_files.specs.declared.fault.ShellFault.TheVariants.{Table, Keys, Rows, Next, Script, Host, Controller, TooLong, NotHex, Unreadable, Unwritten, Listen, Memory}
 use Rattle.gatt_commands.specs.Serving.{IsOpeningFault, IsServeFault, IsServedFault}
 
 served : (fault : ShellFault) → IsServedFault fault → IsServeFault fault

@@ -6,14 +6,14 @@ use Rattle.le_h4.specs.Division.{division}
 use Rattle.le_h4.specs.Packet.{Packet}
 use Rattle.scripts.specs.declared.act.Act.{Act}
 use Rattle.scripts.specs.declared.act.Act.TheVariants as line
-use Rattle.script_lines.specs.declared.refused.Refused.{Refused}
+use Rattle.gatt_commands.specs.declared.refused.Refused.{Refused}
 use Rattle.gatt_commands.specs.declared.notes.Notes.{Notes}
 use Rattle.gatt_commands.specs.Doing.{NotesAct, NotesReplacing, NotesUnless}
 use Rattle.gatt_commands.specs.Exchange.{Exchanges, ExchangesAll, HandsOver, NotesFirst, Pair, pair_of}
-use Rattle.script_lines.specs.Lines.{outcome_text}
+use Rattle.gatt_commands.specs.Lines.{outcome_text}
 use Rattle.gatt_commands.specs.Notices.{NotesNothingYet}
 use Rattle.gatt_commands.specs.Runs.{ShowsNothingUnasked}
-use Rattle.octets.specs.Number.{Octets}
+use Rattle.octet_io.specs.Number.{Octets}
 use Rattle.std.specs.Io.KnownBytes.{Appends}
 
 unless-unshown : (told : Option Refused) (host : HostModel) (old new : Notes) → NotesUnless told host old new → old.shows ≡ false → new ≡ old

@@ -6,7 +6,7 @@ use Rattle.gatt_host.specs.declared.host_fault.HostFault.{HostFault}
 use Rattle.gatt_host.specs.declared.serving.End.{End}
 use Rattle.gatt_host.specs.Feeding.{Serves}
 use Rattle.gatt_host.specs.HostModel.{HostModel}
-use Rattle.octets.specs.Number.{Octets}
+use Rattle.octet_io.specs.Number.{Octets}
 use Rattle.gatt_commands.specs.declared.serve.TheConstants.{TURNS}
 use Rattle.gatt_commands.specs.Serving.{ServesBy}
 

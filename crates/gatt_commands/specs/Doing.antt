@@ -1,4 +1,4 @@
--- What a line of a script has phones and the application do: this profile's own.
+-- The acts of a script's line (this profile's own).
 use Rattle.std.specs.Prelude.{◌≡◌, ℕ, if◌then◌else◌, is_some, List, Option, Some, None, IsSome}
 use Rattle.std.specs.Option.{option_map}
 use Rattle.att_table.specs.Table.{Contents}
@@ -9,7 +9,7 @@ use Rattle.gatt_host.specs.Calls.{number_of_refused}
 use Rattle.gatt_laws.specs.machine.Calls as why
 use Rattle.gatt_laws.specs.machine.Input.{Item, ACall, ATable, call_refusal, run, replacement_refusal}
 use Rattle.gatt_laws.specs.machine.Start.{Start}
-use Rattle.octets.specs.Number.{Octets}
+use Rattle.octet_io.specs.Number.{Octets}
 use Rattle.scripts.specs.declared.act.Act.{Act}
 use Rattle.scripts.specs.declared.act.Act.TheVariants as line
 use Rattle.scripts.specs.declared.act.ScriptedAct.{ScriptedAct}
@@ -21,12 +21,12 @@ use Rattle.sim_controller.specs.declared.fault.SimFault.{SimFault}
 use Rattle.sim_controller.specs.Phones.{handle_of_phone}
 use Rattle.sim_controller.specs.SimFault.{sim_fault_number}
 use Rattle.sim_controller.specs.Simulated.{Simulated}
-use Rattle.script_lines.specs.declared.refused.Refused.{Refused}
-use Rattle.script_lines.specs.declared.refused.Refused.TheVariants as refused
+use Rattle.gatt_commands.specs.declared.refused.Refused.{Refused}
+use Rattle.gatt_commands.specs.declared.refused.Refused.TheVariants as refused
 use Rattle.gatt_commands.specs.declared.notes.Notes.{Notes}
 use Rattle.gatt_commands.specs.Notices.{NotesWhatIsTold}
 
--- what stands between two lines: a host, its controller, and the table by which the next replacement replaces
+-- The state between two lines; `next` is the table of the next replacement.
 pub record Stage : Type 0 where
   pub host : HostModel
   pub sim : Simulated
@@ -35,7 +35,6 @@ pub record Stage : Type 0 where
 abbrev pub stage_of : HostModel → Simulated → Option Contents → Stage
 stage_of host sim next = record { host = host; sim = sim; next = next }
 
--- what the phone of a number does to the controller
 abbrev pub sim_act : ℕ → ScriptedAct → sim.SimulatedAct
 sim_act phone (does.Connect peer) = sim.Connect phone peer
 sim_act phone does.Drop = sim.Drop phone
@@ -45,54 +44,58 @@ sim_act phone (does.Send channel payload) = sim.Send phone channel payload
 sim_act phone does.Hold = sim.Hold phone
 sim_act phone (does.Done packets) = sim.Done phone packets
 
--- an act that is refused is told with its phone and the number of the fault, and changes nothing
+-- A refused act changes nothing.
 abbrev pub refused_act : ℕ → SimFault → Refused
 refused_act phone fault = refused.Act phone (sim_fault_number fault)
 
-pub record PhoneActs (act : sim.SimulatedAct) (told : Option Refused) (old new : Simulated) : Type 0 where
-  pub refused : told ≡ option_map (refused_act (phone_in act)) (act_fault old act)
-  pub after : new ≡ after_call old (Acts act)
+pub record PhoneActs (act : sim.SimulatedAct) (told : Option Refused) (old new : Simulated) : Type 0
+  where
+    pub refused : told ≡ option_map (refused_act (phone_in act)) (act_fault old act)
+    pub after : new ≡ after_call old (Acts act)
 
--- a refused call is told by its number
 abbrev pub refused_call : why.Refused → Refused
 refused_call reason = refused.Call (number_of_refused reason)
 
--- wherever the host was, what is told is why the call is refused
+-- For any run that the host may have had, the report is the reason of the refusal, if any.
 abbrev pub TellsWhy : Call → Option Refused → HostModel → Type 0
-TellsWhy call told old = (start : Start) (input : List Item) (sent : List Octets) → RefinesRun (run start input) sent old
+TellsWhy call told old =
+    (start : Start) (input : List Item) (sent : List Octets) → RefinesRun (run start input) sent old
     → told ≡ option_map refused_call (call_refusal (run start input).intake call)
 
--- the host takes in a call of the application, or refuses it, and then only what was told last is forgotten
+-- The host accepts the call, or refuses it and forgets its last notices.
 pub record Calls (call : Call) (told : Option Refused) (old new : HostModel) : Type 0 where
   pub takes : old.fault ≡ None → Takes (ACall call) old new
   pub refused : old.fault ≡ None → TellsWhy call told old
   pub stopped : IsSome old.fault → told ≡ Some (refused_call why.Stopped)
   pub unchanged : IsSome told → new ≡ silent old
 
--- the same of a table that replaces the one that stands
 abbrev pub TellsWhyNot : Contents → Option Refused → HostModel → Type 0
-TellsWhyNot table told old = (start : Start) (input : List Item) (sent : List Octets) → RefinesRun (run start input) sent old
+TellsWhyNot table told old =
+    (start : Start) (input : List Item) (sent : List Octets) → RefinesRun (run start input) sent old
     → told ≡ option_map refused_call (replacement_refusal (run start input).intake table)
 
--- the two tables change places, unless the replacement is refused
-pub record Replaces (table : Contents) (told : Option Refused) (old new : HostModel) (next : Option Contents) : Type 0 where
+-- The two tables are exchanged unless the host refuses.
+pub record Replaces (table : Contents) (told : Option Refused) (old new : HostModel)
+    (next : Option Contents) : Type 0 where
   pub takes : old.fault ≡ None → Takes (ATable table) old new
   pub refused : old.fault ≡ None → TellsWhyNot table told old
   pub stopped : IsSome old.fault → told ≡ Some (refused_call why.Stopped)
   pub unchanged : IsSome told → new ≡ silent old
   pub next_then : next ≡ Some (if is_some told then table else old.server.table)
 
--- without another table nothing is done
-pub record ReplacesNone (told : Option Refused) (old new : HostModel) (next : Option Contents) : Type 0 where
+-- Without another table nothing changes.
+pub record ReplacesNone (told : Option Refused) (old new : HostModel) (next : Option Contents) :
+    Type 0 where
   pub not_told : told ≡ None
   pub same : new ≡ old
   pub still_none : next ≡ None
 
-abbrev pub ReplacesBy : Option Contents → Option Refused → HostModel → HostModel → Option Contents → Type 0
+abbrev pub ReplacesBy : Option Contents → Option Refused → HostModel → HostModel → Option Contents
+    → Type 0
 ReplacesBy None told old new next = ReplacesNone told old new next
 ReplacesBy (Some table) told old new next = Replaces table told old new next
 
--- what one line does, and what is told of it where it is refused
+-- The effect of a line, and its refusal if any.
 pub record ByPhone (act : sim.SimulatedAct) (told : Option Refused) (old new : Stage) : Type 0 where
   pub acts : PhoneActs act told old.sim new.sim
   pub host : new.host ≡ old.host
@@ -109,12 +112,13 @@ pub record ByReplacing (told : Option Refused) (old new : Stage) : Type 0 where
 
 abbrev pub DoesLine : Act → Option Refused → Stage → Stage → Type 0
 DoesLine (line.Phone phone act) told old new = ByPhone (sim_act phone act) told old new
-DoesLine (line.Authorize phone until) told old new = ByCall (AuthorizeCall (handle_of_phone phone) until) told old new
+DoesLine (line.Authorize phone until) told old new =
+    ByCall (AuthorizeCall (handle_of_phone phone) until) told old new
 DoesLine (line.Update handle value) told old new = ByCall (UpdateCall handle value) told old new
 DoesLine (line.Tick time) told old new = ByCall (TickCall time) told old new
 DoesLine line.Replace told old new = ByReplacing told old new
 
--- what the host tells of a call that is not refused is noted
+-- The notices are recorded unless the call is refused.
 abbrev pub NotesUnless : Option Refused → HostModel → Notes → Notes → Type 0
 NotesUnless None host old new = NotesWhatIsTold host old new
 NotesUnless (Some refused) host old new = new ≡ old
@@ -123,7 +127,7 @@ abbrev pub NotesReplacing : Option Contents → Option Refused → HostModel →
 NotesReplacing None told host old new = new ≡ old
 NotesReplacing (Some table) told host old new = NotesUnless told host old new
 
--- of what a line does, which the host takes in at once or not at all
+-- The notices of a line, which the host processes at once or not at all.
 abbrev pub NotesAct : Act → Option Contents → Option Refused → HostModel → Notes → Notes → Type 0
 NotesAct (line.Phone phone act) next told host old new = new ≡ old
 NotesAct line.Replace next told host old new = NotesReplacing next told host old new

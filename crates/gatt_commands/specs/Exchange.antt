@@ -1,4 +1,4 @@
--- Host and controller hand each other packets: this profile's own.
+-- The exchange of packets of host and controller (this profile's own).
 use Rattle.std.specs.Prelude.{◌≡◌, ◌⊎◌, ℕ, zero, suc, ◌<◌, ◌≤◌, Bool, true, false, List, [], ◌∷◌, drop, slice_get, Some, None, Result, Ok, Err, IsSome}
 use Rattle.std.specs.Option.{option_map}
 use Rattle.gatt_host.specs.declared.host_fault.HostFault.{HostFault}
@@ -8,19 +8,19 @@ use Rattle.gatt_host.specs.HostModel.{Refines, Takes, HostModel, all_out}
 use Rattle.gatt_laws.specs.machine.Input.{APacket}
 use Rattle.le_h4.specs.Division.{End, Unfinished, Lost, division}
 use Rattle.le_h4.specs.Packet.{Packet}
-use Rattle.octets.specs.Number.{Octets}
+use Rattle.octet_io.specs.Number.{Octets}
 use Rattle.sim_controller.specs.Answers.{after_host, host_fault}
 use Rattle.sim_controller.specs.FromHost.{host_packet_of}
 use Rattle.sim_controller.specs.SimFault.{sim_fault_number}
 use Rattle.sim_controller.specs.Simulated.{Simulated}
 use Rattle.sim_controller.specs.Told.{sent_octets, sent_of}
-use Rattle.gatt_files.specs.declared.fault.ShellFault.{ShellFault}
+use Rattle.shell_files.specs.declared.fault.ShellFault.{ShellFault}
 use Rattle.gatt_commands.specs.declared.exchange.TheConstants.{MAX_EXCHANGED}
 use Rattle.gatt_commands.specs.declared.notes.Notes.{Notes}
 use Rattle.gatt_commands.specs.Notices.{NotesWhatIsTold}
-use Rattle.gatt_files.specs.declared.fault.ShellFault.TheVariants.{Host, Controller, TooLong}
+use Rattle.shell_files.specs.declared.fault.ShellFault.TheVariants.{Host, Controller, TooLong}
 
--- a host and its controller, and what is noted of what the host tells
+-- A host, its controller, and recorded notices.
 pub record Pair : Type 0 where
   pub host : HostModel
   pub sim : Simulated
@@ -29,18 +29,17 @@ pub record Pair : Type 0 where
 abbrev pub pair_of : HostModel → Simulated → Notes → Pair
 pair_of host sim notes = record { host = host; sim = sim; notes = notes }
 
--- neither has a packet to give
+-- Neither has a packet to send.
 pub record IsQuiet (host : HostModel) (sim : Simulated) : Type 0 where
   pub out : all_out host ≡ true
   pub taken : sim.waiting ≡ []
 
--- the host gives its next packet
 pub record HostGives (packet : Octets) (old new : HostModel) : Type 0 where
   pub due : all_out old ≡ false
   pub goes : Refines [] (packet ∷ []) old new
   pub going : new.fault ≡ None
 
--- the controller takes it, or refuses it for a fault of this number, and then does not change
+-- The controller accepts the packet, or refuses it without a change.
 pub record ControllerTakes (packet : Octets) (old new : Simulated) : Type 0 where
   pub accepted : host_fault old (host_packet_of packet) ≡ None
   pub after : new ≡ after_host old (host_packet_of packet)
@@ -49,12 +48,13 @@ pub record ControllerRefuses (number : ℕ) (packet : Octets) (old new : Simulat
   pub refused : option_map sim_fault_number (host_fault old (host_packet_of packet)) ≡ Some number
   pub unchanged : new ≡ old
 
--- the controller gives the first packet that waits
+-- The first waiting packet is sent.
 pub record ControllerGives (packet : Octets) (old new : Simulated) : Type 0 where
-  pub first : option_map (λ told. sent_octets (sent_of told)) (slice_get old.waiting 0) ≡ Some packet
+  pub first : option_map (λ told. sent_octets (sent_of told)) (slice_get old.waiting 0)
+      ≡ Some packet
   pub after : new ≡ record old { waiting = drop 1 old.waiting }
 
--- the host takes in the first packet of a division, and goes on
+-- The host processes a division's first packet without a fault.
 pub record TakesAndGoesOn (packet : Packet) (old new : HostModel) : Type 0 where
   pub takes : Takes (APacket packet) old new
   pub going : new.fault ≡ None
@@ -64,12 +64,11 @@ TakesFirst (packet ∷ packets) end old new = TakesAndGoesOn packet old new
 TakesFirst [] Unfinished old new = new ≡ old
 TakesFirst [] (Lost indicator) old new = ⊥
 
--- what it tells of that packet is noted
 abbrev pub NotesFirst : List Packet → HostModel → Notes → Notes → Type 0
 NotesFirst (packet ∷ packets) host old new = NotesWhatIsTold host old new
 NotesFirst [] host old new = new ≡ old
 
--- or it stops there for a fault, or had stopped before, or an octet begins no packet
+-- The host stops at the packet, had stopped before, or loses the stream.
 pub record Stops (fault : HostFault) (packet : Packet) (old new : HostModel) : Type 0 where
   pub takes : old.fault ≡ None → Takes (APacket packet) old new
   pub stopped : IsSome old.fault → new ≡ old
@@ -84,7 +83,7 @@ StopsAtFirst fault (packet ∷ packets) end old new = Stops fault packet old new
 StopsAtFirst fault [] Unfinished old new = ⊥
 StopsAtFirst fault [] (Lost indicator) old new = LosesTheStream fault indicator old new
 
--- octets are to the host what they divide into
+-- The host processes the first packet of octets.
 abbrev pub HostTakes : Octets → HostModel → HostModel → Type 0
 HostTakes octets old new = TakesFirst (division octets).packets (division octets).end old new
 
@@ -92,20 +91,20 @@ abbrev pub NotesTaken : Octets → HostModel → Notes → Notes → Type 0
 NotesTaken octets host old new = NotesFirst (division octets).packets host old new
 
 abbrev pub HostStops : HostFault → Octets → HostModel → HostModel → Type 0
-HostStops fault octets old new = StopsAtFirst fault (division octets).packets (division octets).end old new
+HostStops fault octets old new =
+    StopsAtFirst fault (division octets).packets (division octets).end old new
 
 abbrev pub HostHears : Octets → Result (Unit {0}) HostFault → HostModel → HostModel → Type 0
 HostHears octets (Ok done) old new = HostTakes octets old new
 HostHears octets (Err fault) old new = HostStops fault octets old new
 
--- a fault is told by its number
 pub record StopsForNumber (number : ℕ) (packet : Octets) (old new : HostModel) : Type 0 where
   pub fault : HostFault
   pub numbered : number ≡ number_of_fault fault
   pub stops : HostStops fault packet old new
 
--- what the controller and the host answer to a packet
-abbrev pub ControllerAnswers : Octets → Result (Unit {0}) ShellFault → Simulated → Simulated → Type 0
+abbrev pub ControllerAnswers : Octets → Result (Unit {0}) ShellFault → Simulated → Simulated
+    → Type 0
 ControllerAnswers packet (Ok done) old new = ControllerTakes packet old new
 ControllerAnswers packet (Err (Controller number)) old new = ControllerRefuses number packet old new
 ControllerAnswers packet (Err fault) old new = ⊥
@@ -115,7 +114,7 @@ HostAnswers packet (Ok done) old new = HostTakes packet old new
 HostAnswers packet (Err (Host number)) old new = StopsForNumber number packet old new
 HostAnswers packet (Err fault) old new = ⊥
 
--- one packet is handed over: one of the host while there is one, and else one of the controller
+-- A packet of the host is handed over, or else one of the controller.
 pub record GoesOut (before after : Pair) : Type 0 where
   pub packet : Octets
   pub gives : HostGives packet before.host after.host
@@ -132,7 +131,7 @@ pub record GoesIn (before after : Pair) : Type 0 where
 abbrev pub HandsOver : Pair → Pair → Type 0
 HandsOver before after = GoesOut before after ⊎ GoesIn before after
 
--- or refused for a fault of this number
+-- The packet is refused, or the host stops at it.
 pub record IsRefused (number : ℕ) (before after : Pair) : Type 0 where
   pub packet : Octets
   pub gives : HostGives packet before.host after.host
@@ -144,26 +143,26 @@ pub record IsStopped (number : ℕ) (before after : Pair) : Type 0 where
   pub gives : ControllerGives packet before.sim after.sim
   pub stops : StopsForNumber number packet before.host after.host
 
--- so many packets are handed over
 abbrev pub Exchanges : ℕ → Pair → Pair → Type 0
 Exchanges zero before after = after ≡ before
-Exchanges (suc count) before after = (middle : Pair) × HandsOver before middle × Exchanges count middle after
+Exchanges (suc count) before after =
+    (middle : Pair) × HandsOver before middle × Exchanges count middle after
 
--- all of them, until neither has another one
+-- Packets are handed over until neither side has another one.
 pub record ExchangesAll (before after : Pair) : Type 0 where
   pub count : ℕ
   pub most : count ≤ MAX_EXCHANGED
   pub exchanges : Exchanges count before after
   pub quiet : IsQuiet after.host after.sim
 
--- as many as there may be, with another one to give
+-- The largest number is handed over, and another packet exists.
 pub record ExchangesTooMany (before : Pair) (host : HostModel) : Type 0 where
   pub last : Pair
   pub exchanges : Exchanges MAX_EXCHANGED before last
   pub more : IsQuiet last.host last.sim → ⊥
   pub host_then : host ≡ last.host
 
--- fewer, and then one that ends it
+-- A packet ends the exchange early.
 pub record EndsBy (Ends : Pair → Pair → Type 0) (before after : Pair) : Type 0 where
   pub count : ℕ
   pub fewer : count < MAX_EXCHANGED
@@ -171,7 +170,7 @@ pub record EndsBy (Ends : Pair → Pair → Type 0) (before after : Pair) : Type
   pub exchanges : Exchanges count before last
   pub ends : Ends last after
 
--- what became of the next packet: it is handed over, there is none, or it is refused
+-- The next packet is handed over, missing or refused.
 abbrev pub HandsNext : Result Bool ShellFault → Pair → Pair → Type 0
 HandsNext (Ok true) before after = HandsOver before after
 HandsNext (Ok false) before after = IsQuiet before.host before.sim × (after ≡ before)
@@ -179,7 +178,6 @@ HandsNext (Err (Host number)) before after = IsStopped number before after
 HandsNext (Err (Controller number)) before after = IsRefused number before after
 HandsNext (Err fault) before after = ⊥
 
--- and of an exchange
 abbrev pub ExchangesUntil : Result (Unit {0}) ShellFault → Pair → Pair → Type 0
 ExchangesUntil (Ok done) before after = ExchangesAll before after
 ExchangesUntil (Err (Host number)) before after = EndsBy (IsStopped number) before after

@@ -1,3 +1,5 @@
+pub mod Echo
+pub mod Lines
 pub mod Doing
 pub mod Exchange
 pub mod Faults

@@ -1,4 +1,4 @@
--- The host that the commands open: this profile's own.
+-- The host of the commands (this profile's own).
 use Rattle.std.specs.Prelude.{◌≡◌, ℕ, List, [], ◌∷◌, Option, None, Ok, IfSome}
 use Rattle.arrayvec.specs.ArrayVec.{ArrayVec}
 use Rattle.att_table.specs.Table.{Contents}
@@ -8,27 +8,31 @@ use Rattle.gatt_host.specs.HostModel.{RefinesRun, HostModel}
 use Rattle.gatt_laws.specs.machine.Input.{run}
 use Rattle.gatt_subs.specs.Rows.{Subscriptions}
 use Rattle.le_security.specs.declared.entry.Entry.{Entry}
-use Rattle.octets.specs.Number.{Octets}
-use Rattle.gatt_commands.specs.declared.opening.TheConstants.{RX_MTU, SLOTS}
-use Rattle.gatt_files.specs.KeyFile.{keys_in}
-use Rattle.gatt_files.specs.RowsFile.{rows_in}
-use Rattle.gatt_files.specs.TableFile.{table_in}
+use Rattle.octet_io.specs.Number.{Octets}
+use Rattle.gatt_commands.specs.declared.opening.TheConstants.{SLOTS}
+use Rattle.gatt_conn.specs.declared.conn.TheConstants.{RX_MTU}
+use Rattle.shell_files.specs.KeyFile.{keys_in}
+use Rattle.shell_files.specs.RowsFile.{rows_in}
+use Rattle.shell_files.specs.TableFile.{table_in}
 
--- everybody may find it, and it has no BR/EDR: Core Specification Supplement 7, Part A, 1.3
+-- General discovery, without BR/EDR (Core Specification Supplement 7, Part A, 1.3).
 abbrev pub flags : ArrayVec ℕ
 flags = record { items = 0x02 ∷ 0x01 ∷ 0x06 ∷ [] }
 
--- so many connections at most, and PDUs of so many octets, and it has the public address of its controller
+-- The host has the public address of its controller.
 abbrev pub command_configuration : Config
-command_configuration = record { slots = SLOTS; rx_mtu = RX_MTU; address = None; advertising = flags }
+command_configuration =
+    record { slots = SLOTS; rx_mtu = RX_MTU; address = None; advertising = flags }
 
--- a host is open: it goes on, nothing has come in, and nothing has gone out
-pub record IsOpened (table : Contents) (keys : List Entry) (rows : Subscriptions) (host : HostModel) : Type 0 where
+-- An open host has no fault and exchanged no packet.
+pub record IsOpened (table : Contents) (keys : List Entry) (rows : Subscriptions)
+    (host : HostModel) : Type 0 where
   pub refines : RefinesRun (run (start_of table keys rows command_configuration) []) [] host
   pub going : host.fault ≡ None
 
--- it is opened with what files say, as far as their octets are known
-pub record IsOpenedWithFiles (table_file key_file rows_file : Option Octets) (host : HostModel) : Type 0 where
+-- The host is opened with these files, if known.
+pub record IsOpenedWithFiles (table_file key_file rows_file : Option Octets)
+    (host : HostModel) : Type 0 where
   pub table : Contents
   pub keys : List Entry
   pub rows : Subscriptions

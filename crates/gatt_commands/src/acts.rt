@@ -1,4 +1,4 @@
-//! What a line of a script has phones and the application do.
+//! The acts of a line of a script.
 
 ghost use Rattle.std.specs.Prelude.{◌≡◌, ◌<◌, ℕ, true, IfSome, IsSome};
 ghost use Rattle.gatt_host.specs.Calls.{call_of};
@@ -6,22 +6,23 @@ ghost use Rattle.gatt_host.specs.HostModel.{all_out};
 ghost use Rattle.scripts.specs.Phones.{IsOfPhoneBelow};
 ghost use Rattle.sim_controller.specs.Acts.{DoesAct};
 ghost use Rattle.gatt_commands.specs.Doing.{Calls, DoesLine, NotesAct, NotesReplacing, NotesUnless, PhoneActs, ReplacesBy, sim_act, stage_of};
-ghost use Rattle.script_lines.specs.Lines.{IsOfPhone};
+ghost use Rattle.gatt_commands.specs.Lines.{IsOfPhone};
 ghost use Rattle.scripts.specs.declared.script.TheConstants.{MAX_PHONES};
 
 use crate::notes::Notes;
+use crate::refused::Refused;
 use arrayvec::ArrayVec;
 use att_table::Table;
 use gatt_host::{App, Host};
-use script_lines::Refused;
 use scripts::{Act, ScriptedAct};
 use sim_controller::{PhoneAct, Sim, SimFault};
 
-/// The handle of the first phone's connection. Those of the others follow it.
+/// The connection handle of the first phone; those of the others follow it.
 pub(crate) const FIRST_HANDLE: u16 = 0x40;
 
-/// Does what a line says, unless it is refused. A table that is replaced stands in the other's place.
-/// What the host tells of it is noted.
+/// Does what a line says, and records the host's notices, unless it is refused.
+///
+/// A replacement exchanges the table and `next`.
 pub(crate) fn do_act(
     host: &mut Host,
     sim: &mut Sim,
@@ -36,7 +37,6 @@ pub(crate) fn do_act(
     ensures noted { NotesAct act.now next.old result host.new notes.old notes.new }
     ensures named { (count : ℕ) → IsOfPhoneBelow count act.now
         → IfSome result (IsOfPhone count) }
-    // What is refused leaves the controller and the table as they are.
     ensures sim { IsSome result → sim.new ≡ sim.old }
     ensures next { IsSome result → next.new ≡ next.old }
 {
@@ -56,7 +56,6 @@ pub(crate) fn do_act(
     }
 }
 
-/// A call of the application.
 fn call(host: &mut Host, call: App<'_>, notes: &mut Notes) -> Option<Refused>
     requires { all_out host.old ≡ true }
     ensures calls { Calls (call_of call.entry) result host.old host.new }
@@ -72,7 +71,6 @@ fn call(host: &mut Host, call: App<'_>, notes: &mut Notes) -> Option<Refused>
     }
 }
 
-/// The tables change places, where there is another one.
 fn replace(host: &mut Host, next: &mut Option<Table>, notes: &mut Notes) -> Option<Refused>
     requires { all_out host.old ≡ true }
     ensures replaces { ReplacesBy next.old result host.old host.new next.new }
@@ -94,7 +92,6 @@ fn replace(host: &mut Host, next: &mut Option<Table>, notes: &mut Notes) -> Opti
     }
 }
 
-/// What a phone does, unless the controller refuses it.
 fn phone_act(sim: &mut Sim, phone: u8, act: &ScriptedAct<'_>) -> Option<Refused>
     requires { phone < MAX_PHONES }
     ensures acts { PhoneActs (sim_act phone act.now) result sim.old sim.new }
@@ -110,7 +107,6 @@ fn phone_act(sim: &mut Sim, phone: u8, act: &ScriptedAct<'_>) -> Option<Refused>
     }
 }
 
-/// What a phone does to the controller.
 fn do_phone_act(sim: &mut Sim, phone: u8, act: &ScriptedAct<'_>) -> Result<(), SimFault>
     requires { phone < MAX_PHONES }
     ensures { DoesAct (sim_act phone act.now) sim.old sim.new result }

@@ -11,16 +11,18 @@ ghost use Rattle.gatt_commands.specs.Faults.{IsExchangeFault};
 
 use crate::notes::Notes;
 use arrayvec::ArrayVec;
-use gatt_files::ShellFault;
 use gatt_host::{Host, HostFault, lost_fault};
 use le_h4::{Deframer, PacketRef};
+use shell_files::ShellFault;
 use sim_controller::Sim;
 
-/// How many packets host and controller may hand each other before a line and the next.
+/// The largest number of packets that are exchanged before a line.
 pub(crate) const MAX_EXCHANGED: u64 = 100_000;
 
-/// Host and controller hand each other packets until neither has anything to give: what the host gives
-/// goes first, so all is out before a packet of the controller goes in. What the host tells is noted.
+/// Exchanges packets until host and controller have none, and records notices.
+///
+/// Hands over a packet of the controller only if the host has none. Returns `TooLong` if another
+/// packet is left after `MAX_EXCHANGED`.
 pub(crate) fn exchange(host: &mut Host, sim: &mut Sim, notes: &mut Notes) -> Result<(), ShellFault>
     ensures exchanges { ExchangesUntil result (pair_of host.old sim.old notes.old)
         (pair_of host.new sim.new notes.new) }
@@ -39,7 +41,7 @@ pub(crate) fn exchange(host: &mut Host, sim: &mut Sim, notes: &mut Notes) -> Res
     Ok(())
 }
 
-/// Hands over the next packet, and answers whether there was one.
+/// Hands over the next packet. Returns false if there is none.
 fn hand_over(host: &mut Host, sim: &mut Sim, notes: &mut Notes) -> Result<bool, ShellFault>
     ensures hands { HandsNext result (pair_of host.old sim.old notes.old)
         (pair_of host.new sim.new notes.new) }
@@ -59,7 +61,7 @@ fn hand_over(host: &mut Host, sim: &mut Sim, notes: &mut Notes) -> Result<bool, 
     Ok(false)
 }
 
-/// Whether another packet would be handed over.
+/// Returns true if another packet would be handed over.
 fn has_packet(host: &Host, sim: &mut Sim) -> bool
     ensures quiet { OnFalse result (IsQuiet host.now sim.old) }
     ensures unchanged { OnFalse result (sim.new ≡ sim.old) }
@@ -70,7 +72,6 @@ fn has_packet(host: &Host, sim: &mut Sim) -> bool
     !host.drained() || sim.next_to_host(&mut ArrayVec::new())
 }
 
-/// The controller takes a packet of the host.
 fn give_controller(sim: &mut Sim, packet: &[u8]) -> Result<(), ShellFault>
     ensures answers { ControllerAnswers packet.now result sim.old sim.new }
     ensures faults { IfErr result IsExchangeFault }
@@ -81,7 +82,6 @@ fn give_controller(sim: &mut Sim, packet: &[u8]) -> Result<(), ShellFault>
     }
 }
 
-/// The host takes a packet of the controller, all of which is out.
 fn give_host(host: &mut Host, packet: &[u8], notes: &mut Notes) -> Result<(), ShellFault>
     requires { all_out host.old ≡ true }
     ensures answers { HostAnswers packet.now result host.old host.new }
@@ -94,7 +94,7 @@ fn give_host(host: &mut Host, packet: &[u8], notes: &mut Notes) -> Result<(), Sh
     }
 }
 
-/// The host takes in the first packet that octets have, and what it tells of it is noted.
+/// Processes the first packet of some octets, and records the notices.
 fn hear(host: &mut Host, octets: &[u8], notes: &mut Notes) -> Result<(), HostFault>
     requires { all_out host.old ≡ true }
     ensures hears { HostHears octets.now result host.old host.new }
@@ -108,7 +108,6 @@ fn hear(host: &mut Host, octets: &[u8], notes: &mut Notes) -> Result<(), HostFau
     }
 }
 
-/// The host takes in a packet, and what it tells of it is noted.
 fn take(host: &mut Host, packet: PacketRef<'_>, notes: &mut Notes) -> Result<(), HostFault>
     requires { all_out host.old ≡ true }
     ensures outcome { result ≡ fault_outcome host.new.fault }

@@ -1,11 +1,11 @@
-//! The lines of a script, one after the other.
+//! Running the lines of a script.
 
 ghost use Rattle.std.specs.Prelude.{◌≡◌, ◌≤◌, true, length, IfErr, IfOk, IsOk, OnOk};
 ghost use Rattle.std.specs.List.{All};
 ghost use Rattle.gatt_host.specs.HostModel.{all_out};
 ghost use Rattle.scripts.specs.Phones.{HasNamedPhones, IsOfPhoneBelow};
 ghost use Rattle.gatt_commands.specs.Doing.{stage_of};
-ghost use Rattle.script_lines.specs.Echo.{lines_behind, lines_left, shown_of};
+ghost use Rattle.gatt_commands.specs.Echo.{lines_behind, lines_left, shown_of};
 ghost use Rattle.gatt_commands.specs.Faults.{IsRunFault};
 ghost use Rattle.gatt_commands.specs.Runs.{EndsAmong, EndsAtLine, EndsAtNext, EndsEarly, Runs, RunsAll, RunsLine, RunsNext};
 ghost use Rattle.scripts.specs.declared.script.TheConstants.{MAX_PHONES};
@@ -13,18 +13,17 @@ ghost use Rattle.scripts.specs.declared.script.TheConstants.{MAX_PHONES};
 use crate::acts::do_act;
 use crate::exchange::exchange;
 use crate::notes::Notes;
+use crate::script_text::echo;
 use crate::told::print_line;
 use att_table::Table;
-use gatt_files::ShellFault;
 use gatt_host::Host;
-use script_lines::echo;
 use scripts::{Act, Name, Script};
+use shell_files::ShellFault;
 use sim_controller::Sim;
 use std::alloc::Global;
 use std::io::Write;
 
-/// Runs the lines of a script. Before the first of them, host and controller hand each other all that
-/// they have.
+/// Runs the lines of a script after all packets of host and controller.
 pub(crate) fn run_lines<W: Write>(
     alloc: Global,
     host: &mut Host,
@@ -62,7 +61,6 @@ pub(crate) fn run_lines<W: Write>(
     )
 }
 
-/// Runs lines one after the other.
 fn run_acts<W: Write>(
     alloc: Global,
     host: &mut Host,
@@ -95,7 +93,7 @@ fn run_acts<W: Write>(
     Ok(())
 }
 
-/// Runs a line, and prints it before, where lines are shown. Gives the lines that are left to show.
+/// Prints a line if lines are shown, then runs it. Returns the lines left to show.
 fn run_next<'a, W: Write>(
     alloc: Global,
     host: &mut Host,
@@ -127,8 +125,7 @@ fn run_next<'a, W: Write>(
     Ok(left)
 }
 
-/// Runs a line: does what it says, has host and controller hand each other all that they have, and
-/// prints what that has brought, and the notices, where they are shown.
+/// Runs a line, exchanges all packets, and prints the outcome and shown notices.
 fn run_line<W: Write>(
     alloc: Global,
     host: &mut Host,

@@ -1,4 +1,4 @@
-//! What is noted of what the host tells while a line is done.
+//! The notices of the host while a line is done.
 
 ghost use Rattle.std.specs.Prelude.{◌≡◌, true};
 ghost use Rattle.gatt_commands.specs.Notices.{NotesWhatIsTold, NotesNothingYet, NotesOne};
@@ -7,19 +7,16 @@ use app_lines::add_line;
 use gatt_host::{Host, Notice};
 use std::alloc::Global;
 
-/// The lines of the notices of a line of a script, where they are shown.
+/// The printed notices of a line of a script, if they are shown.
 #[derive(Drop)]
 pub(crate) struct Notes {
-    /// Whether notices are shown.
     pub(crate) shows: bool,
-    /// Their lines.
     pub(crate) text: Vec<u8>,
-    /// Whether memory was refused for one of them.
+    /// True if memory was refused for a notice.
     pub(crate) is_refused: bool,
 }
 
 impl Notes {
-    /// Nothing is noted yet.
     pub(crate) fn new(alloc: Global, shows: bool) -> Notes
         ensures begun { NotesNothingYet shows result }
     {
@@ -30,7 +27,7 @@ impl Notes {
         }
     }
 
-    /// Notes what a host tells of what it took in last.
+    /// Records the host's last notices, if they are shown.
     pub(crate) fn hear(&mut self, host: &Host)
         ensures hears { NotesWhatIsTold host.now self.old self.new }
     {
@@ -39,7 +36,6 @@ impl Notes {
         }
     }
 
-    /// Notes each notice of a host, where notices are shown.
     fn note_all(&mut self, host: &Host)
         ensures hears { self.old.shows ≡ true → NotesWhatIsTold host.now self.old self.new }
     {
@@ -48,7 +44,6 @@ impl Notes {
         }
     }
 
-    /// Notes one notice more.
     fn note(&mut self, notice: &Notice<'_>)
         ensures notes { NotesOne notice.now self.old self.new }
     {

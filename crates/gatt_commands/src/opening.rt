@@ -5,22 +5,19 @@ ghost use Rattle.gatt_commands.specs.Opening.{command_configuration, IsOpened};
 
 use arrayvec::ArrayVec;
 use att_table::Table;
-use gatt_files::ShellFault;
-use gatt_host::{Config, Host};
+use gatt_host::{Config, Host, RX_MTU};
 use gatt_subs::Rows;
 use le_security::Keys;
+use shell_files::ShellFault;
 use std::alloc::Global;
 
-/// As many connections as the host may have at once.
+/// The largest number of connections at once.
 pub(crate) const SLOTS: usize = 4;
-
-/// The largest PDU of the Attribute Protocol that the host receives, in octets.
-pub(crate) const RX_MTU: u16 = 247;
 
 /// The advertising data: flags for general discovery, without BR/EDR.
 const ADVERTISING: [u8; 3] = [0x02, 0x01, 0x06];
 
-/// A host with these files, at the public address of its controller.
+/// Opens a host with these files, at the public address of its controller.
 pub(crate) fn open_host(
     alloc: Global,
     table: Table,
@@ -36,7 +33,6 @@ pub(crate) fn open_host(
     }
 }
 
-/// What the host is opened with, beside its files.
 fn configured() -> Config
     ensures { result ≡ command_configuration }
 {

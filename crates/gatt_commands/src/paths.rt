@@ -1,18 +1,18 @@
-//! The command `run`, over the paths of its files.
+//! The command `run`, by the paths of its files.
 
 ghost use Rattle.std.specs.Prelude.{◌≡◌, is_some, IfErr};
 ghost use Rattle.gatt_commands.specs.Faults.{IsRunCommandFault};
 
 use crate::run::run_script;
-use gatt_files::{
+use crate::script_text::Shows;
+use shell_files::{
     KeysPath, LazyFile, RowsOut, RowsPath, RowsReader, RowsWriter, ShellFault, TablePath,
 };
-use script_lines::Shows;
 use std::alloc::Global;
 use std::fs::Files;
 use std::io::Write;
 
-/// The path of a table file that replaces another, where there is one.
+/// The path of a table file that replaces another, if any.
 #[derive(Clone, Copy)]
 pub struct NextPath<'a>(pub Option<&'a str>);
 
@@ -23,21 +23,19 @@ pub struct ScriptPath<'a>(pub &'a str);
 /// The paths of the files of a run.
 #[derive(Clone, Copy)]
 pub struct RunPaths<'a> {
-    /// The table file.
     pub table: TablePath<'a>,
-    /// The table file that replaces it.
+    /// The table file that replaces `table`.
     pub next: NextPath<'a>,
-    /// The key file.
     pub keys: KeysPath<'a>,
-    /// The rows file.
     pub rows: RowsPath<'a>,
-    /// The script.
     pub script: ScriptPath<'a>,
-    /// What is printed beside what the phones hear.
+    /// The output besides the frames of phones.
     pub shows: Shows,
 }
 
-/// Runs a script by the files at these paths. None is opened before its turn.
+/// Runs the script of the files at these paths.
+///
+/// Opens each file only before its check.
 pub fn run_paths<F: Files, W: Write>(
     alloc: Global,
     files: &F,
@@ -65,7 +63,6 @@ pub fn run_paths<F: Files, W: Write>(
     )
 }
 
-/// The table file that replaces another, where there is one.
 fn next_file<'a, F: Files>(files: &'a F, path: NextPath<'a>) -> Option<LazyFile<'a, F>>
     ensures { is_some result ≡ is_some path.entry.0 }
 {

@@ -1,33 +1,33 @@
-//! The command `run`, over what it reads.
+//! The command `run`, by its inputs.
 
 ghost use Rattle.std.specs.Prelude.{◌≡◌, ◌≢◌, ◌⊎◌, ℕ, is_some, Err, IfErr, IfSome, IsOk};
 ghost use Rattle.std.specs.Option.{option_map};
 ghost use Rattle.scripts.specs.declared.script_fault.ScriptFault.TheVariants.{BadLine};
-ghost use Rattle.gatt_files.specs.KeyFile.{keys_in, KeysAreRefusedAs};
+ghost use Rattle.shell_files.specs.KeyFile.{keys_in, KeysAreRefusedAs};
 ghost use Rattle.gatt_commands.specs.Faults.{IsRunCommandFault, IsScriptRunFault};
 ghost use Rattle.gatt_commands.specs.Loop.{ClosesTheLoop};
-ghost use Rattle.gatt_files.specs.RowsFile.{rows_in, RowsAreRefusedAs};
+ghost use Rattle.shell_files.specs.RowsFile.{rows_in, RowsAreRefusedAs};
 ghost use Rattle.gatt_commands.specs.Runs.{RunsFile, RunsFiles, ShowsNothingUnasked, files_of};
-ghost use Rattle.gatt_files.specs.ScriptFile.{script_in};
-ghost use Rattle.gatt_files.specs.TableFile.{table_in, TableIsRefusedAs};
-ghost use Rattle.gatt_files.specs.Turns.{IsPast, OfTable, OfNext, OfKeys, OfRows, OfScript};
+ghost use Rattle.shell_files.specs.ScriptFile.{script_in};
+ghost use Rattle.shell_files.specs.TableFile.{table_in, TableIsRefusedAs};
+ghost use Rattle.shell_files.specs.Turns.{IsPast, OfTable, OfNext, OfKeys, OfRows, OfScript};
 
 use crate::opening::open_host;
+use crate::script_text::{Shows, shown_text};
 use crate::simulation::run_opened;
 use att_table::Table;
-use gatt_files::{
-    RowsStore, ShellFault, judged_script, read_all, read_keys, read_next, read_rows, read_table,
-};
 use gatt_subs::Rows;
 use le_security::Keys;
-use script_lines::{Shows, shown_text};
+use shell_files::{
+    RowsStore, ShellFault, judged_script, read_all, read_keys, read_next, read_rows, read_table,
+};
 use std::alloc::Global;
 use std::io::{Read, Write};
 
-/// Reads a table, a table to replace it by, keys, rows and a script, and runs the script with a host
-/// over a simulated controller. At the end the rows that then stand are saved. Each file is read
-/// only once those in front of it have been accepted. What is printed beside what the phones hear is
-/// what `shows` asks for.
+/// Runs a script with a host over a simulated controller, and saves subscriptions.
+///
+/// Reads table, replacing table, keys, subscriptions and script in this order, each only if those
+/// before it are accepted. `shows` selects the output besides the frames of phones.
 pub fn run_script<T: Read, N: Read, K: Read, R: Read, S: Read, V: RowsStore, W: Write>(
     alloc: Global,
     table: &mut T,
@@ -39,7 +39,8 @@ pub fn run_script<T: Read, N: Read, K: Read, R: Read, S: Read, V: RowsStore, W: 
     shows: Shows,
     writer: &mut W,
 ) -> Result<(), ShellFault>
-    // A file is refused for its first fault, or for want of memory.
+    // A table, key or subscriptions file is refused by the number of its first fault; 10, 8 and 4
+    // are those of refused memory.
     ensures table { (number : ℕ) → result ≡ Err (ShellFault.Table number) → number ≢ 10
         → IfSome (T.remaining table.old) (λ octets. TableIsRefusedAs number (table_in octets)) }
     ensures next { (number : ℕ) → result ≡ Err (ShellFault.Next number) → number ≢ 10
@@ -52,8 +53,7 @@ pub fn run_script<T: Read, N: Read, K: Read, R: Read, S: Read, V: RowsStore, W: 
     ensures script { (line : ℕ) → result ≡ Err (ShellFault.Script line)
         → IfSome (S.remaining script.old)
         (λ octets. script_in (is_some next.old) octets ≡ Err (BadLine line)) }
-    // And only where those in front of it are accepted: table, next, keys, rows, script. Then the run
-    // begins.
+    // The files are accepted in the order table, next, keys, rows, script, before the run begins.
     ensures table_first { IsPast OfTable result
         → IfSome (T.remaining table.old) (λ octets. IsOk (table_in octets)) }
     ensures next_second { IsPast OfNext result
@@ -66,13 +66,13 @@ pub fn run_script<T: Read, N: Read, K: Read, R: Read, S: Read, V: RowsStore, W: 
     ensures script_last { IsPast OfScript result
         → IfSome (S.remaining script.old)
         (λ octets. IsOk (script_in (is_some next.old) octets)) }
-    // Then all that the files say is run, up to the fault that ends the run, and the rows are saved.
+    // The script is then run up to its end or a fault, and the store is asked to save.
     ensures runs { IsPast OfScript result → RunsFiles result shows
         (files_of (T.remaining table.old) (option_map N.remaining next.old)
         (K.remaining keys.old) (R.remaining rows.old) (S.remaining script.old))
         (W.contents writer.old) (W.contents writer.new)
         (V.saves store.old) (V.saves store.new) }
-    // Before that nothing is saved or printed; where memory is refused, it may be before or then.
+    // Before the run nothing is saved or printed; memory may be refused before or in it.
     ensures unbegun { ((store.new ≡ store.old) × (writer.new ≡ writer.old))
         ⊎ RunsFiles result shows
         (files_of (T.remaining table.old) (option_map N.remaining next.old)
@@ -80,9 +80,7 @@ pub fn run_script<T: Read, N: Read, K: Read, R: Read, S: Read, V: RowsStore, W: 
         (W.contents writer.old) (W.contents writer.new)
         (V.saves store.old) (V.saves store.new) }
     ensures faults { IfErr result IsRunCommandFault }
-    // And of each line, whatever is done:
     ensures unasked { ShowsNothingUnasked }
-    // And of what the phones hear, line by line and in the whole run:
     ensures closed { ClosesTheLoop }
 {
     let table = read_table(alloc, table)?;
@@ -92,7 +90,6 @@ pub fn run_script<T: Read, N: Read, K: Read, R: Read, S: Read, V: RowsStore, W: 
     run_files(alloc, table, next, keys, rows, script, store, shows, writer)
 }
 
-/// Reads a script, and runs it with a host that has these files.
 fn run_files<S: Read, V: RowsStore, W: Write>(
     alloc: Global,
     table: Table,
@@ -123,7 +120,6 @@ fn run_files<S: Read, V: RowsStore, W: Write>(
     run_text(alloc, table, next, keys, rows, text, store, shows, writer)
 }
 
-/// Runs the script of which this is the text, with a host that has these files.
 fn run_text<V: RowsStore, W: Write>(
     alloc: Global,
     table: Table,
@@ -159,7 +155,6 @@ fn run_text<V: RowsStore, W: Write>(
         shown_text(text, shows.lines),
         writer,
     );
-    // Each is dropped as a whole, for the proof.
     drop(host);
     drop(next);
     ran

@@ -2,43 +2,41 @@
 
 ghost use Rattle.std.specs.Prelude.{◌≡◌, ◌≢◌, ℕ, None, Err, IfErr, IfOk, IfSome};
 ghost use Rattle.gatt_subs.specs.RowsText.{rows_text};
-ghost use Rattle.gatt_files.specs.KeyFile.{keys_in, KeysAreRefusedAs};
+ghost use Rattle.shell_files.specs.KeyFile.{keys_in, KeysAreRefusedAs};
 ghost use Rattle.gatt_commands.specs.Opening.{IsOpenedWithFiles};
-ghost use Rattle.gatt_files.specs.RowsFile.{rows_in, RowsAreRefusedAs};
+ghost use Rattle.shell_files.specs.RowsFile.{rows_in, RowsAreRefusedAs};
 ghost use Rattle.gatt_commands.specs.Serving.{fault_told_of, IsOpeningFault, IsOutcomeOf, IsServeFault, IsServedFault, SavesBy, ServesBy, ServesStream};
-ghost use Rattle.gatt_files.specs.TableFile.{table_in, TableIsRefusedAs};
+ghost use Rattle.shell_files.specs.TableFile.{table_in, TableIsRefusedAs};
 
 use crate::opening::open_host;
-use gatt_files::{
+use gatt_host::{Host, serve};
+use octet_io::{Reader, Writer};
+use shell_files::{
     KeysPath, LazyFile, RowsOut, RowsPath, RowsReader, RowsStore, RowsWriter, ShellFault,
     TablePath, read_keys, read_rows, read_table, save_after,
 };
-use gatt_host::{Host, serve};
-use octets::{Reader, Writer};
 use std::alloc::Global;
 use std::fs::Files;
 use std::io::{Read, Write};
 use std::net::{Net, SocketAddr, TcpListener, TcpStream};
 
-/// How many reads may be made of a connection, that of its end among them.
+/// The largest number of reads of a connection, including the one at its end.
 pub const TURNS: u64 = 1_000_000_000;
 
-/// Serves the controller at the other end of the first connection that is accepted, and then saves the
-/// rows that stand.
+/// Serves the controller of the first connection, then saves the subscriptions.
 pub fn serve_on<V: RowsStore>(
     listener: &TcpListener,
     host: &mut Host,
     store: &mut V,
 ) -> Result<(), ShellFault>
-    // Where no connection was accepted, nothing was served or saved.
+    // Without a connection nothing is served or saved.
     ensures listen { result ≡ Err ShellFault.Listen → host.new ≡ host.old }
     ensures unsaved { result ≡ Err ShellFault.Listen → store.new ≡ store.old }
-    // Once one was, the host was served to the end of the stream, or to the fault that stands then.
     ensures served { result ≢ Err ShellFault.Listen → host.old.fault ≡ None
         → ServesStream host.old host.new None None None None }
-    // A fault of the host is reported by its number; without one only the saving may fail.
+    // The number of a host fault is reported; without one only saving may fail.
     ensures outcome { result ≢ Err ShellFault.Listen → IsOutcomeOf host.new.fault result }
-    // Then the rows that stood at its end were saved.
+    // The store was asked to save the subscriptions at the end.
     ensures saved { result ≢ Err ShellFault.Listen
         → SavesBy result (rows_text host.new.server.rows) (V.saves store.old)
         (V.saves store.new) }
@@ -47,13 +45,12 @@ pub fn serve_on<V: RowsStore>(
     let Ok((stream, _)) = listener.accept() else {
         return Err(ShellFault::Listen);
     };
-    // Where packets can't be sent without delay, they are sent with it.
+    // If this fails, packets are sent with delay.
     let _ = stream.set_nodelay(true);
     let served = serve_stream(host, &mut &stream, &mut &stream);
     save_after(served, host.rows(), store)
 }
 
-/// Serves a controller over a reader and a writer.
 fn serve_stream<R: Read, W: Write>(
     host: &mut Host,
     reader: &mut R,
@@ -72,11 +69,10 @@ fn serve_stream<R: Read, W: Write>(
     }
 }
 
-/// Where `serve` listens, as a text.
+/// The address at which `serve` listens, as a text.
 #[derive(Clone, Copy)]
 pub struct Address<'a>(pub &'a str);
 
-/// Listens at an address.
 fn listen<N: Net>(net: &N, address: Address<'_>) -> Result<N::Listener, ShellFault>
     ensures { IfErr result (λ fault. fault ≡ ShellFault.Listen) }
 {
@@ -92,16 +88,14 @@ fn listen<N: Net>(net: &N, address: Address<'_>) -> Result<N::Listener, ShellFau
 /// The paths of the files that are served.
 #[derive(Clone, Copy)]
 pub struct ServePaths<'a> {
-    /// The table file.
     pub table: TablePath<'a>,
-    /// The key file.
     pub keys: KeysPath<'a>,
-    /// The rows file.
     pub rows: RowsPath<'a>,
 }
 
-/// Reads the table, the keys and the rows, opens a host, listens at an address, and serves the first
-/// connection. None of the files is opened before its turn.
+/// Opens a host with these files, and serves the first connection to an address.
+///
+/// Opens each file only before its check.
 pub fn serve_paths<F: Files + Net<Listener = TcpListener, Stream = TcpStream>>(
     alloc: Global,
     system: &F,
@@ -112,12 +106,10 @@ pub fn serve_paths<F: Files + Net<Listener = TcpListener, Stream = TcpStream>>(
 {
     let mut host = open_paths(alloc, system, paths)?;
     let served = serve_at(system, &mut host, paths.rows, address);
-    // It is dropped as a whole, for the proof.
     drop(host);
     served
 }
 
-/// Listens at an address, and serves the first connection with a host that is open.
 fn serve_at<F: Files + Net<Listener = TcpListener, Stream = TcpStream>>(
     system: &F,
     host: &mut Host,
@@ -134,7 +126,6 @@ fn serve_at<F: Files + Net<Listener = TcpListener, Stream = TcpStream>>(
     )
 }
 
-/// A host with the files at these paths. None of them is opened before its turn.
 fn open_paths<F: Files>(alloc: Global, files: &F, paths: ServePaths<'_>) -> Result<Host, ShellFault>
     ensures opened { IfOk result (IsOpenedWithFiles None None None) }
     ensures faults { IfErr result IsOpeningFault }
@@ -147,7 +138,7 @@ fn open_paths<F: Files>(alloc: Global, files: &F, paths: ServePaths<'_>) -> Resu
     )
 }
 
-/// A host with these files. Each is read only once those in front of it have been accepted.
+/// Opens a host with files, each read only if those before it are accepted.
 fn open_files<T: Read, K: Read, R: Read>(
     alloc: Global,
     table: &mut T,
@@ -156,7 +147,8 @@ fn open_files<T: Read, K: Read, R: Read>(
 ) -> Result<Host, ShellFault>
     ensures opened { IfOk result
         (IsOpenedWithFiles (T.remaining table.old) (K.remaining keys.old) (R.remaining rows.old)) }
-    // A file is refused for its first fault, or for want of memory.
+    // A table, key or subscriptions file is refused by the number of its first fault; 10, 8 and 4
+    // are those of refused memory.
     ensures table { (number : ℕ) → result ≡ Err (ShellFault.Table number) → number ≢ 10
         → IfSome (T.remaining table.old) (λ octets. TableIsRefusedAs number (table_in octets)) }
     ensures keys { (number : ℕ) → result ≡ Err (ShellFault.Keys number) → number ≢ 8

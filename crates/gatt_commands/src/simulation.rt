@@ -3,25 +3,25 @@
 ghost use Rattle.std.specs.Prelude.{◌≡◌, ◌⊎◌, IfErr, IfOk};
 ghost use Rattle.scripts.specs.Phones.{HasNamedPhones};
 ghost use Rattle.sim_controller.specs.Simulated.{simulated_at_start};
-ghost use Rattle.script_lines.specs.Echo.{lines_left, shown_of};
+ghost use Rattle.gatt_commands.specs.Echo.{lines_left, shown_of};
 ghost use Rattle.gatt_commands.specs.Faults.{IsRunFault};
 ghost use Rattle.gatt_commands.specs.Runs.{HostRuns, simulated};
-ghost use Rattle.gatt_files.specs.Turns.{IsPast, OfScript};
+ghost use Rattle.shell_files.specs.Turns.{IsPast, OfScript};
 
 use crate::lines::run_lines;
 use att_table::Table;
-use gatt_files::{RowsStore, ShellFault, save_after};
 use gatt_host::Host;
 use le_acl::MIN_ACL_LEN;
 use scripts::Script;
+use shell_files::{RowsStore, ShellFault, save_after};
 use sim_controller::{Sim, SimConfig};
 use std::alloc::Global;
 use std::io::Write;
 
-/// How many ACL packets the simulated controller has room for: this profile's own.
+/// The ACL packets that the simulated controller buffers (this profile's own).
 const SIMULATED_PACKETS: u8 = 8;
 
-/// What the simulated controller tells of itself, and how it cuts what it gives.
+/// The configuration that the simulated controller reports, and its fragmentation.
 const SIMULATED: SimConfig = SimConfig {
     acl_len: MIN_ACL_LEN,
     packets: SIMULATED_PACKETS,
@@ -29,8 +29,7 @@ const SIMULATED: SimConfig = SimConfig {
     cut: MIN_ACL_LEN,
 };
 
-/// Runs a script with a host that is open, over a simulated controller to which nothing has happened
-/// yet.
+/// Runs a script with an open host over a new simulated controller.
 pub(crate) fn run_opened<V: RowsStore, W: Write>(
     alloc: Global,
     host: &mut Host,
@@ -59,8 +58,7 @@ pub(crate) fn run_opened<V: RowsStore, W: Write>(
     )
 }
 
-/// Runs a script with a host over a new simulated controller, and then saves the rows that stand. A
-/// fault of the run stands before one of the store.
+/// Runs a script, then saves the subscriptions. A fault of the run precedes one of the store.
 fn run_host<V: RowsStore, W: Write>(
     alloc: Global,
     host: &mut Host,
@@ -84,7 +82,6 @@ fn run_host<V: RowsStore, W: Write>(
     save_after(ran, host.rows(), store)
 }
 
-/// A simulated controller, to which nothing has happened yet. It stands apart for its proof.
 fn open_sim(alloc: Global) -> Result<Sim, ShellFault>
     ensures start { IfOk result (λ sim. sim ≡ simulated_at_start simulated) }
     ensures faults { IfErr result (λ fault. fault ≡ ShellFault.Memory) }

@@ -1,19 +1,20 @@
-//! What is printed of a line of a script.
+//! The output for a line of a script.
 
 ghost use Rattle.std.specs.Prelude.{◌≡◌, ◌≤◌, length, IfErr, IfSome, OnErr, OnOk};
 ghost use Rattle.std.specs.Io.KnownBytes.{Appends};
-ghost use Rattle.octets.specs.Stream.{WritesFront};
-ghost use Rattle.script_lines.specs.Lines.{IsOfPhone, with_told_phones};
+ghost use Rattle.octet_io.specs.Stream.{WritesFront};
+ghost use Rattle.gatt_commands.specs.Lines.{IsOfPhone, with_told_phones};
 ghost use Rattle.gatt_commands.specs.Runs.{line_text};
 
 use crate::notes::Notes;
-use gatt_files::{ShellFault, print};
-use script_lines::{Refused, print_outcome};
+use crate::outcome::print_outcome;
+use crate::refused::Refused;
 use scripts::{MAX_PHONES, Name};
+use shell_files::{ShellFault, print};
 use sim_controller::Sim;
 use std::io::Write;
 
-/// Prints what a line has brought, and then what was noted.
+/// Prints the outcome of a line, then its notices.
 pub(crate) fn print_line<W: Write>(
     sim: &mut Sim,
     names: &[Name<'_>],

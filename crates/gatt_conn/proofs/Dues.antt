@@ -11,7 +11,7 @@ use Rattle.att_table.specs.Table.{Contents}
 use Rattle.gatt_conn.specs.Answer.{Question, answer_to}
 use Rattle.gatt_conn.specs.Connection.{Bearer}
 use Rattle.gatt_conn.specs.Served.{with_answer_put}
-use Rattle.octets.specs.Number.{Octets}
+use Rattle.octet_io.specs.Number.{Octets}
 
 pub answered_where_due : (table : Contents) (row : Row) (conn : Bearer) (asked : Question) → is_some (answer_to table row conn asked) ≡ is_due asked
 answered_where_due table row conn (Ok (ExchangeMtuRequest client_rx_mtu)) = refl

@@ -1,4 +1,4 @@
--- What one Attribute PDU of one connection leads to: the answer, what is written, and the connection afterwards, each by itself.
+-- The response to a PDU, its writes, and the connection afterwards.
 use Rattle.std.specs.Prelude.{ℕ, Bool, false, ◌==◌, List, [], ◌∷◌, Option, Some, None, Result, Ok, Err}
 use Rattle.att_numbers.specs.Types.{Handle, Opcode, Code, Row, Values}
 use Rattle.att_numbers.specs.declared.error_code.TheConstants.{INVALID_PDU, REQUEST_NOT_SUPPORTED}
@@ -20,93 +20,108 @@ use Rattle.att_writes.specs.Applied.{Stored, stored_in, applied_to, written_to}
 use Rattle.att_writes.specs.Entry.{Entry, whole_value}
 use Rattle.att_writes.specs.Queue.{prepare_fault, queue_after, touched_by}
 use Rattle.gatt_conn.specs.Connection.{Bearer, after_exchange}
-use Rattle.octets.specs.Number.{Octets}
+use Rattle.octet_io.specs.Number.{Octets}
 
--- what a PDU asks for at a connection's ATT_MTU, or what is wrong with it
+-- The request of a PDU at a connection's ATT_MTU, or its fault.
 abbrev pub Question : Type 0
 Question = Result Asked PduFault
 
--- the answer to what writes is this one, or the refusal of the first entry that is refused
+-- The response to writes, or the error of the first rejected entry.
 abbrev pub written_response : Opcode → Response → Result Stored Refusal → Response
 written_response request granted (Ok stored) = granted
 written_response request granted (Err refusal) = ErrorResponse request refusal.handle refusal.code
 
--- a Write Request: Core 5.0, Vol 3 Part F, 3.4.5.1
+-- A Write Request (Core 5.0, Vol 3 Part F, 3.4.5.1).
 abbrev pub write_response : Contents → Row → Standing → Handle → Octets → Response
 write_response table row standing handle value =
-    written_response WRITE_REQUEST WriteResponse (applied_to Write table row standing (whole_value handle value ∷ []))
+    written_response WRITE_REQUEST WriteResponse
+    (applied_to Write table row standing (whole_value handle value ∷ []))
 
--- a Prepare Write Request is repeated in the answer, or refused: 3.4.6.1
+-- A Prepare Write Response repeats the request (3.4.6.1).
 abbrev pub prepare_response : Entry → Option Code → Response
 prepare_response entry (Some code) = ErrorResponse PREPARE_WRITE_REQUEST entry.handle code
 prepare_response entry None = PrepareWriteResponse entry.handle entry.offset entry.part
 
--- an Execute Write Request drops all that is prepared, or writes all of it or nothing: 3.4.6.3
+-- An Execute Write Request cancels the queue, or writes all of it or nothing (3.4.6.3).
 abbrev pub execute_response : Contents → Row → Standing → List Entry → ExecuteFlags → Response
 execute_response table row standing queue flags.Cancel = ExecuteWriteResponse
 execute_response table row standing queue flags.Write =
-    written_response EXECUTE_WRITE_REQUEST ExecuteWriteResponse (applied_to Write table row standing queue)
+    written_response EXECUTE_WRITE_REQUEST ExecuteWriteResponse
+    (applied_to Write table row standing queue)
 
--- a prepared write
 abbrev pub entry_at : Handle → ℕ → Octets → Entry
 entry_at handle offset part = record { handle = handle; offset = offset; part = part }
 
--- the answer to what is asked, where one is due: what asks for none of these reads, or is a confirmation or a command, which are not answered
+-- The response to a request; a confirmation or command has none.
 abbrev pub response_to : Contents → Row → Bearer → Asked → Option Response
-response_to table row conn (ExchangeMtuRequest client_rx_mtu) = Some (ExchangeMtuResponse conn.rx_mtu)
-response_to table row conn (WriteRequest handle value) = Some (write_response table row conn.standing handle value)
+response_to table row conn (ExchangeMtuRequest client_rx_mtu) =
+    Some (ExchangeMtuResponse conn.rx_mtu)
+response_to table row conn (WriteRequest handle value) =
+    Some (write_response table row conn.standing handle value)
 response_to table row conn (PrepareWriteRequest handle offset part) =
     let entry = entry_at handle offset part in
     Some (prepare_response entry (prepare_fault table.attributes conn.standing conn.queue entry))
-response_to table row conn (ExecuteWriteRequest flags) = Some (execute_response table row conn.standing conn.queue flags)
+response_to table row conn (ExecuteWriteRequest flags) =
+    Some (execute_response table row conn.standing conn.queue flags)
 response_to table row conn asked = read_answer table row conn.standing conn.mtu asked
 
--- the answer to a PDU, if one is due
+-- The response to a PDU, if there is one.
 abbrev pub answer_to : Contents → Row → Bearer → Question → Option Response
 answer_to table row conn (Ok asked) = response_to table row conn asked
 answer_to table row conn (Err Ignored) = None
 answer_to table row conn (Err (Invalid opcode)) = Some (ErrorResponse opcode 0 INVALID_PDU)
-answer_to table row conn (Err (Unsupported opcode)) = Some (ErrorResponse opcode 0 REQUEST_NOT_SUPPORTED)
+answer_to table row conn (Err (Unsupported opcode)) =
+    Some (ErrorResponse opcode 0 REQUEST_NOT_SUPPORTED)
 
--- what a PDU asks to write: entries, in their order, and how
 pub record Writing : Type 0 where
   pub access : Access
   pub entries : List Entry
 
--- an execution asks to write what is prepared
+-- An execution writes the queue.
 abbrev pub writing_asked : List Entry → Question → Option Writing
-writing_asked queue (Ok (WriteRequest handle value)) = Some (record { access = Write; entries = whole_value handle value ∷ [] })
-writing_asked queue (Ok (ExecuteWriteRequest flags.Write)) = Some (record { access = Write; entries = queue })
-writing_asked queue (Ok (WriteCommandPdu handle value)) = Some (record { access = Command; entries = whole_value handle value ∷ [] })
+writing_asked queue (Ok (WriteRequest handle value)) =
+    Some (record { access = Write; entries = whole_value handle value ∷ [] })
+writing_asked queue (Ok (ExecuteWriteRequest flags.Write)) =
+    Some (record { access = Write; entries = queue })
+writing_asked queue (Ok (WriteCommandPdu handle value)) =
+    Some (record { access = Command; entries = whole_value handle value ∷ [] })
 writing_asked queue _ = None
 
--- the values of the table and the client's row afterwards
+-- The table's values and the client's row afterwards.
 abbrev pub stored_after_writing : Contents → Row → Standing → Option Writing → Stored
 stored_after_writing table row standing None = stored_in table row
-stored_after_writing table row standing (Some writing) = written_to writing.access table row standing writing.entries
+stored_after_writing table row standing (Some writing) =
+    written_to writing.access table row standing writing.entries
 
 abbrev pub stored_by : Contents → Row → Bearer → Question → Stored
-stored_by table row conn asked = stored_after_writing table row conn.standing (writing_asked conn.queue asked)
+stored_by table row conn asked =
+    stored_after_writing table row conn.standing (writing_asked conn.queue asked)
 
--- the handles that are written, each once, in the order of their first entries
+-- The written handles, each once, in the order of first entries.
 abbrev pub handles_after : Contents → Row → Standing → Option Writing → List Handle
 handles_after table row standing None = []
 handles_after table row standing (Some writing) =
     touched_by writing.entries (applied_to writing.access table row standing writing.entries)
 
 abbrev pub handles_by : Contents → Row → Bearer → Question → List Handle
-handles_by table row conn asked = handles_after table row conn.standing (writing_asked conn.queue asked)
+handles_by table row conn asked =
+    handles_after table row conn.standing (writing_asked conn.queue asked)
 
--- the connection afterwards, which no value and no row decides: an exchange sets its ATT_MTU, and a part that is accepted joins its prepared writes, of which an execution leaves none
+-- The connection afterwards, independent of values and rows: an exchange sets the ATT_MTU, an
+-- accepted part joins the queue, and an execution empties it.
 abbrev pub conn_after : List Attr → Bearer → Question → Bearer
-conn_after attributes conn (Ok (ExchangeMtuRequest client_rx_mtu)) = after_exchange conn client_rx_mtu
+conn_after attributes conn (Ok (ExchangeMtuRequest client_rx_mtu)) =
+    after_exchange conn client_rx_mtu
 conn_after attributes conn (Ok (PrepareWriteRequest handle offset part)) =
     let entry = entry_at handle offset part in
-    record conn { queue = queue_after conn.queue entry (prepare_fault attributes conn.standing conn.queue entry) }
+    record conn {
+      queue = queue_after conn.queue entry
+          (prepare_fault attributes conn.standing conn.queue entry);
+    }
 conn_after attributes conn (Ok (ExecuteWriteRequest flags)) = record conn { queue = [] }
 conn_after attributes conn _ = conn
 
--- the PDU that confirms an indication: Core 5.0, Vol 3 Part F, 3.4.7.3
+-- The PDU is a confirmation (Core 5.0, Vol 3 Part F, 3.4.7.3).
 abbrev pub is_confirmation : Octets → Bool
 is_confirmation (opcode ∷ []) = opcode == HANDLE_VALUE_CONFIRMATION
 is_confirmation _ = false

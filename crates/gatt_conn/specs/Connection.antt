@@ -1,11 +1,11 @@
--- What a contract sees of a connection.
+-- The contracts' view of a connection.
 use Rattle.std.specs.Prelude.{min, max, Bool, true, false, if◌then◌else◌, List, [], Option, None}
 use Rattle.att_numbers.specs.Types.{Mtu}
 use Rattle.att_policy.specs.declared.standing.Standing.{Standing}
 use Rattle.att_writes.specs.Entry.{Entry}
 use Rattle.att_pdu.specs.declared.pdu_buf.TheConstants.{MIN_MTU}
 
--- what the policy sees of it; its ATT_MTU; the largest PDU that the server receives; whether a client has exchanged its own for it; and its prepared writes, in their order
+-- A connection: `rx_mtu` is the server's MTU, `exchanged` is set after an exchange.
 pub record Bearer : Type 0 where
   pub standing : Standing
   pub mtu : Mtu
@@ -13,7 +13,8 @@ pub record Bearer : Type 0 where
   pub exchanged : Bool
   pub queue : List Entry
 
--- a new one to a server that receives PDUs of this many octets: the peer is unknown, the link is not encrypted, nobody is authorized, the ATT_MTU is the least (Core 5.0, Vol 3 Part G, 5.2.1), and nothing is prepared
+-- A new connection: unknown peer, no encryption, no authorization, least ATT_MTU (Core 5.0, Vol 3
+-- Part G, 5.2.1), empty queue.
 abbrev pub new_connection : Mtu → Bearer
 new_connection rx_mtu = record {
   standing = record { key = None; key_known = false; until = 0; now = 0 };
@@ -23,11 +24,12 @@ new_connection rx_mtu = record {
   queue = [];
 }
 
--- the ATT_MTU is what both sides can receive, and never below the least: Core 5.0, Vol 3 Part F, 3.4.2.2
+-- The ATT_MTU is the lesser MTU of both sides, but no less than `MIN_MTU` (Core 5.0, Vol 3 Part F,
+-- 3.4.2.2).
 abbrev pub mtu_between : Mtu → Mtu → Mtu
 mtu_between client_rx_mtu server_rx_mtu = max MIN_MTU (min client_rx_mtu server_rx_mtu)
 
--- the first exchange sets it. Later ones change nothing, by this profile's own rule
+-- Only the first exchange sets the ATT_MTU (this profile's own).
 abbrev pub after_exchange : Bearer → Mtu → Bearer
 after_exchange conn client_rx_mtu =
     if conn.exchanged then conn

@@ -1,4 +1,4 @@
--- How a PDU was answered.
+-- The result of serving a PDU.
 use Rattle.std.specs.Prelude.{◌≡◌, false, is_some, Bool, List, Option, Some, None}
 use Rattle.att_numbers.specs.Types.{Handle, Row}
 use Rattle.att_pdu.specs.declared.pdu_buf.PduBuf.{PduBuf}
@@ -10,32 +10,32 @@ use Rattle.att_writes.specs.Leaves.{LeavesStored}
 use Rattle.gatt_conn.specs.declared.answered.Served.{Served}
 use Rattle.gatt_conn.specs.Answer.{stored_by, handles_by, conn_after, is_confirmation}
 use Rattle.gatt_conn.specs.Connection.{Bearer}
-use Rattle.octets.specs.Number.{Octets}
+use Rattle.octet_io.specs.Number.{Octets}
 
--- octets in whose place an answer stands, if there is one
+-- The buffer after the response, unchanged without one.
 abbrev pub with_answer_put : Option Response → Octets → Octets
 with_answer_put None octets = octets
 with_answer_put (Some answer) octets = sent answer
 
--- this is the answer, if one is due, in the same buffer, which else keeps what it holds; of the code alone
-pub record ServesPdu (answer : Option Response) (before after : PduBuf) (result : Served) : Type 0 where
-  pub content : contents after ≡ with_answer_put answer (contents before)
-  pub due : result.due ≡ is_some answer
-  pub same_buffer : IsSameBuffer before after
+-- `out` has the response, if any, in the same buffer.
+pub record ServesPdu (answer : Option Response) (before after : PduBuf) (result : Served) : Type 0
+  where
+    pub content : contents after ≡ with_answer_put answer (contents before)
+    pub due : result.due ≡ is_some answer
+    pub same_buffer : IsSameBuffer before after
 
--- and the PDU is a request, which confirms nothing; of the code alone too
-pub record ServesRequest (answer : Option Response) (before after : PduBuf) (result : Served) : Type 0 where
+-- The PDU is a request, which confirms nothing.
+pub record ServesRequest (answer : Option Response) (before after : PduBuf) (result : Served) : Type
+    0 where
   pub served : ServesPdu answer before after result
   pub confirmed : result.confirmed ≡ false
 
--- what a PDU led to, beside the answer itself: from the old table, row and connection to the new ones, with these handles written
-pub record IsAnswered (pdu : Octets) (old_table new_table : Contents) (old_row new_row : Row) (old_conn new_conn : Bearer)
+-- The effects of a PDU on the table, the row and the connection.
+pub record IsAnswered (pdu : Octets) (old_table new_table : Contents) (old_row new_row : Row)
+    (old_conn new_conn : Bearer)
     (written : List Handle) (confirms : Bool) : Type 0 where
-  -- the values and the row are what it stored, and the attributes stay
-  pub left : LeavesStored (stored_by old_table old_row old_conn (request_of pdu old_conn.mtu)) old_table new_table new_row
-  -- what became of the connection
+  pub left : LeavesStored (stored_by old_table old_row old_conn (request_of pdu old_conn.mtu))
+      old_table new_table new_row
   pub conn : new_conn ≡ conn_after old_table.attributes old_conn (request_of pdu old_conn.mtu)
-  -- the handles that were written, each once, in the order of their first writes
   pub touched : written ≡ handles_by old_table old_row old_conn (request_of pdu old_conn.mtu)
-  -- it confirms an indication
   pub confirmed : confirms ≡ is_confirmation pdu

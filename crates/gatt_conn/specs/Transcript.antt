@@ -1,4 +1,4 @@
--- What a connection has asked and was answered, newest first: it alone decides the ATT_MTU and what is prepared.
+-- The transcript of a connection, newest first, which alone decides its ATT_MTU and queue.
 use Rattle.std.specs.Prelude.{◌≡◌, Bool, true, false, if◌then◌else◌, is_some, List, [], ◌∷◌, ◌++◌, Option, Some, None, Ok}
 use Rattle.std.specs.Option.{option_or, option_map_or}
 use Rattle.att_numbers.specs.Types.{Mtu, Row}
@@ -10,15 +10,15 @@ use Rattle.att_table.specs.Table.{Contents}
 use Rattle.att_writes.specs.Entry.{Entry}
 use Rattle.gatt_conn.specs.Answer.{Question, entry_at, answer_to, conn_after}
 use Rattle.gatt_conn.specs.Connection.{Bearer, new_connection, mtu_between}
-use Rattle.octets.specs.Number.{Octets}
+use Rattle.octet_io.specs.Number.{Octets}
 use Rattle.att_pdu.specs.declared.pdu_buf.TheConstants.{MIN_MTU}
 
--- a PDU asked for this and had this answer, if one was due; or the server dropped what was prepared
+-- A PDU with its response, or the server's clearing of the queue.
 pub data Said : Type 0 where
   Answered : (asked : Question) (answer : Option Response) → Said
   Dropped : Said
 
--- an exchange was answered, and a part accepted
+-- The response to an exchange, and below, to an accepted part.
 abbrev pub is_exchange : Option Response → Bool
 is_exchange (Some (ExchangeMtuResponse server_rx_mtu)) = true
 is_exchange _ = false
@@ -27,7 +27,7 @@ abbrev pub is_acceptance : Option Response → Bool
 is_acceptance (Some (PrepareWriteResponse handle offset part)) = true
 is_acceptance _ = false
 
--- the largest PDU that a client receives, where it asks to exchange it
+-- The client's MTU of an Exchange MTU Request.
 abbrev pub exchange_asked : Question → Option Mtu
 exchange_asked (Ok (ExchangeMtuRequest client_rx_mtu)) = Some client_rx_mtu
 exchange_asked _ = None
@@ -36,16 +36,17 @@ abbrev pub exchanged_by : Said → Option Mtu
 exchanged_by (Answered asked answer) = if is_exchange answer then exchange_asked asked else None
 exchanged_by Dropped = None
 
--- the first one that was exchanged
+-- The client's MTU of the first exchange.
 abbrev pub first_exchange : List Said → Option Mtu
 first_exchange [] = None
 first_exchange (said ∷ earlier) = option_or (first_exchange earlier) (exchanged_by said)
 
--- the ATT_MTU of a connection to a server that receives PDUs of this many octets
+-- The ATT_MTU of a connection to a server with this MTU.
 abbrev pub mtu_in : Mtu → List Said → Mtu
-mtu_in rx_mtu all = option_map_or (λ client_rx_mtu. mtu_between client_rx_mtu rx_mtu) (first_exchange all) MIN_MTU
+mtu_in rx_mtu all =
+    option_map_or (λ client_rx_mtu. mtu_between client_rx_mtu rx_mtu) (first_exchange all) MIN_MTU
 
--- the part that a client asks to prepare
+-- The part of a Prepare Write Request.
 abbrev pub part_asked : Question → List Entry
 part_asked (Ok (PrepareWriteRequest handle offset part)) = entry_at handle offset part ∷ []
 part_asked _ = []
@@ -54,7 +55,7 @@ abbrev pub part_by : Said → List Entry
 part_by (Answered asked answer) = if is_acceptance answer then part_asked asked else []
 part_by Dropped = []
 
--- nothing is left prepared: an Execute Write Request was served, whether all was written or refused. One that is malformed asks for nothing
+-- A well-formed Execute Write Request ends the queue, whether it writes or is rejected.
 abbrev pub asks_execution : Question → Bool
 asks_execution (Ok (ExecuteWriteRequest flags)) = true
 asks_execution _ = false
@@ -63,18 +64,18 @@ abbrev pub is_end : Said → Bool
 is_end (Answered asked answer) = asks_execution asked
 is_end Dropped = true
 
--- the parts that were accepted since the last end
+-- The accepted parts since the last end.
 abbrev pub prepared_in : List Said → List Entry
 prepared_in [] = []
 prepared_in (said ∷ earlier) = if is_end said then [] else prepared_in earlier ++ part_by said
 
--- a connection is what its transcript says
+-- The connection matches its transcript.
 pub record Follows (conn : Bearer) (all : List Said) : Type 0 where
   pub mtu : conn.mtu ≡ mtu_in conn.rx_mtu all
   pub exchanged : conn.exchanged ≡ is_some (first_exchange all)
   pub queue : conn.queue ≡ prepared_in all
 
--- what happens to a connection: it sends a PDU, to whatever the table and its row then are; what the policy sees of it changes; or its prepared writes are dropped
+-- A PDU with the table and row of that moment, a new security state, or a cleared queue.
 pub data BearerAct : Type 0 where
   Sends : (table : Contents) (row : Row) (pdu : Octets) → BearerAct
   Stands : (standing : Standing) → BearerAct
@@ -91,7 +92,7 @@ said_by conn (Sends table row pdu) =
 said_by conn (Stands standing) = []
 said_by conn Cancels = Dropped ∷ []
 
--- the same of any acts, the newest first
+-- The connection after a list of events, newest first.
 abbrev pub after_acts : Bearer → List BearerAct → Bearer
 after_acts conn [] = conn
 after_acts conn (act ∷ earlier) = after_act (after_acts conn earlier) act
@@ -100,7 +101,7 @@ abbrev pub said_in : Bearer → List BearerAct → List Said
 said_in conn [] = []
 said_in conn (act ∷ earlier) = said_by (after_acts conn earlier) act ++ said_in conn earlier
 
--- whatever happens to a new connection, and whatever others do to the table meanwhile: its own transcript tells its ATT_MTU and what it has prepared
+-- Whatever happens to a connection and the table, the connection matches its transcript.
 abbrev pub TranscriptTells : Type 0
 TranscriptTells = (rx_mtu : Mtu) (acts : List BearerAct) →
     Follows (after_acts (new_connection rx_mtu) acts) (said_in (new_connection rx_mtu) acts)

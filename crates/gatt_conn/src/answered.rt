@@ -6,48 +6,45 @@ ghost use Rattle.att_pdu.specs.Response.{sent, sent_if_any};
 ghost use Rattle.att_table.specs.ConfigRow.{IsRowOf};
 ghost use Rattle.gatt_conn.specs.Answer.{answer_to};
 ghost use Rattle.gatt_conn.specs.Served.{IsAnswered};
-ghost use Rattle.octets.specs.declared.pdu.TheConstants.{MAX_PDU};
+ghost use Rattle.octet_io.specs.declared.pdu.TheConstants.{MAX_PDU};
 
 use crate::conn::Conn;
 use crate::serving::{forget_and_serve, serve_apart};
 use att_pdu::PduBuf;
 use att_table::{ConfigRow, Table};
 use att_writes::Touched;
-use octets::PduOctets;
+use octet_io::PduOctets;
 
-/// What an Attribute PDU led to, beside the answer itself.
+/// The result of a PDU, apart from the response.
 #[derive(Debug, Drop)]
 pub struct Answered {
-    /// There is an answer.
+    /// There is a response.
     pub due: bool,
     /// The PDU confirms an indication.
     pub confirmed: bool,
-    /// The handles that were written, each once, in the order of their first writes.
+    /// The written handles, each once, in the order of their first writes.
     pub touched: Touched,
 }
 
-/// What became of a PDU, where the handles that were written go into a list of the caller's.
+/// The result of a PDU for `answer_into`.
 #[derive(Clone, Copy, Drop)]
 pub struct Served {
-    /// There is an answer.
     pub due: bool,
-    /// The PDU confirms an indication.
     pub confirmed: bool,
 }
 
-/// What became of a PDU whose answer, where there is one, stands at the front of octets that keep their
-/// number.
+/// The result of a PDU for `answer_over`.
 #[derive(Clone, Copy)]
 pub struct Placed {
-    /// How many octets the answer has, if there is one.
+    /// The response's length, if there is one.
     pub len: Option<usize>,
-    /// The PDU confirms an indication.
     pub confirmed: bool,
 }
 
-/// Serves one Attribute PDU of one connection: puts the answer in place of what `out` holds, which is
-/// empty where none is due, and makes the change that it asks for, where the policy permits it. `out`
-/// keeps within the connection's ATT_MTU, and `row` is what its client has configured, of this table.
+/// Serves one PDU: writes the response to `out` and makes permitted changes.
+///
+/// `out` is empty without a response and must have the connection's ATT_MTU. `row` has the client's
+/// configurations of this table.
 #[tactic(auto, using(crate::proofs::Dues::answered_where_due, crate::proofs::Dues::put_where_there, crate::proofs::Dues::nothing_where_none), unfolding(att_pdu::specs::Form::form_of))]
 pub fn answer(
     table: &mut Table,
@@ -66,11 +63,10 @@ pub fn answer(
         result.touched.items result.confirmed }
     ensures same_buffer { IsSameBuffer out.old out.new }
 
-    // An answer is due exactly where there is one.
     ensures where_due { is_some (answer_to table.old row.old conn.old
         (request_of pdu.now conn.old.mtu)) ≡ is_due (request_of pdu.now conn.old.mtu) }
 {
-    // It is made before its list is filled, so that no list is moved.
+    // Created before its list is filled, so that no list is moved.
     let mut answered = Answered {
         due: false,
         confirmed: false,
@@ -85,9 +81,10 @@ pub fn answer(
     answered
 }
 
-/// Serves one Attribute PDU, with the answer in place of what `octets` holds, where one is due, and the
-/// handles that were written in place of what `touched` holds: each once, in the order of their first
-/// writes. Where no answer is due `octets` hold no answer, but perhaps what they held before.
+/// Serves one PDU and replaces the contents of `octets` and `touched`.
+///
+/// `touched` lists each written handle once, in the order of first writes. Without a response,
+/// `octets` may still hold its former contents.
 #[inline(always)]
 #[tactic(auto, using(crate::proofs::Dues::answered_where_due, crate::proofs::Dues::sent_where_due, att_pdu::proofs::Ends::whole))]
 pub fn answer_into(
@@ -108,14 +105,13 @@ pub fn answer_into(
     ensures answered { IsAnswered pdu.now table.old table.new row.old row.new conn.old conn.new
         touched.new.items result.confirmed }
 {
-    // Each answer replaces what is there.
     let mut out = PduBuf::of(octets, conn.mtu());
     forget_and_serve(table, row, conn, pdu, &mut out, touched)
 }
 
-/// Serves one Attribute PDU, with the answer at the front of `octets`, where one is due, and the handles
-/// that were written in place of what `touched` holds: each once, in the order of their first writes.
-/// `octets` have their full length, and keep it.
+/// Serves one PDU like `answer_into`, with the response at the start of `octets`.
+///
+/// `octets` must have full length, and keeps it.
 #[inline(always)]
 #[tactic(auto, using(crate::proofs::Dues::answered_where_due, crate::proofs::Dues::placed_where_due))]
 pub fn answer_over(

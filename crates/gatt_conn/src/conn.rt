@@ -16,10 +16,10 @@ use att_writes::{Outcome, Queue, Touched};
 use std::alloc::{AllocError, Global};
 use std::marker::Model;
 
-/// The largest PDU that a server receives unless it is limited, in octets: this profile's own.
+/// The default of the server's MTU, the largest PDU that it receives, in octets (this profile's
+/// own).
 pub const RX_MTU: u16 = 247;
 
-/// What the policy sees of an unknown peer over a link that is not encrypted.
 const UNKNOWN: Standing = Standing {
     key: None,
     key_known: false,
@@ -27,16 +27,15 @@ const UNKNOWN: Standing = Standing {
     now: 0,
 };
 
-/// What the server keeps of one connection.
+/// The server's state of one connection.
 #[derive(Drop)]
 pub struct Conn {
     standing: Standing,
     mtu: u16,
-    /// The largest PDU that the server receives.
+    /// The server's MTU.
     rx_mtu: u16,
-    /// A client has exchanged its own for it.
+    /// The client's MTU was exchanged.
     exchanged: bool,
-    /// The prepared writes.
     queue: Queue,
 }
 
@@ -61,13 +60,13 @@ impl Model for Conn {
 }
 
 impl Conn {
-    /// A connection of an unknown peer over a link that is not encrypted, before any ATT_MTU is
-    /// exchanged. All the room that it will need is made here, with `alloc`.
+    /// Creates a connection of an unknown peer on an unencrypted link.
+    ///
+    /// The ATT_MTU is `MIN_MTU`. Allocates all memory that the connection will need.
     #[tactic(auto, using(crate::proofs::Transcripts::transcript_tells))]
     pub fn new(alloc: Global) -> Result<Conn, AllocError>
         ensures conn { IfOk result (λ conn. conn ≡ new_connection RX_MTU) }
-        // Whatever happens to a new connection and to the table, its own transcript tells its
-        // ATT_MTU and its prepared writes.
+        // Whatever happens, the connection's own transcript decides its ATT_MTU and queue.
         ensures transcript { TranscriptTells }
     {
         Ok(Conn {
@@ -79,8 +78,7 @@ impl Conn {
         })
     }
 
-    /// Sets the largest PDU that the server receives on this connection, in octets, before any
-    /// ATT_MTU is exchanged.
+    /// Sets the server's MTU in octets; only before an exchange.
     pub fn limit(&mut self, rx_mtu: u16)
         requires least { MIN_MTU ≤ rx_mtu }
         requires most { rx_mtu ≤ MAX_MTU }
@@ -90,21 +88,21 @@ impl Conn {
         self.rx_mtu = rx_mtu;
     }
 
-    /// Sets what the policy sees of the connection.
+    /// Sets the security state for the policy.
     pub fn stand(&mut self, standing: Standing)
         ensures { self.new ≡ record self.old { standing = standing } }
     {
         self.standing = standing;
     }
 
-    /// Drops the prepared writes of the connection.
+    /// Clears the queue of prepared writes.
     pub fn cancel(&mut self)
         ensures { self.new ≡ record self.old { queue = [] } }
     {
         att_writes::cancel(&mut self.queue);
     }
 
-    /// The ATT_MTU, in octets.
+    /// Returns the ATT_MTU in octets.
     pub fn mtu(&self) -> u16
         ensures mtu { result ≡ self.now.mtu }
         ensures least { MIN_MTU ≤ result }
@@ -113,14 +111,13 @@ impl Conn {
         self.mtu
     }
 
-    /// The largest PDU that the server receives, in octets.
     pub(crate) fn rx_mtu(&self) -> u16
         ensures { result ≡ self.now.rx_mtu }
     {
         self.rx_mtu
     }
 
-    /// Takes in the largest PDU that the client receives, in octets.
+    /// Processes the client's MTU in octets; only the first counts.
     pub(crate) fn exchange(&mut self, client_rx_mtu: u16)
         ensures { self.new ≡ after_exchange self.old client_rx_mtu }
     {
@@ -130,8 +127,7 @@ impl Conn {
         }
     }
 
-    /// Makes the connection as a new one, to a server that receives PDUs of as many octets. It takes
-    /// no memory.
+    /// Resets the connection except the server's MTU; allocates nothing.
     pub fn renew(&mut self)
         ensures { self.new ≡ new_connection self.old.rx_mtu }
     {
@@ -141,14 +137,12 @@ impl Conn {
         self.cancel();
     }
 
-    /// What the policy sees of the connection.
     pub(crate) fn standing(&self) -> &Standing
         ensures { result.now ≡ self.now.standing }
     {
         &self.standing
     }
 
-    /// Adds a part to the prepared writes, or refuses it.
     pub(crate) fn prepare(
         &mut self,
         table: &Table,
@@ -168,7 +162,7 @@ impl Conn {
         att_writes::prepare(table, &self.standing, &mut self.queue, handle, offset, part)
     }
 
-    /// Makes all prepared writes, or refuses them. In both cases none is left.
+    /// Executes all prepared writes or rejects them; empties the queue.
     pub(crate) fn execute(
         &mut self,
         table: &mut Table,

@@ -1,4 +1,4 @@
-//! An ATT and GATT server: what one connection is answered, and what it changes.
+//! An ATT and GATT server: serves the PDUs of one connection.
 #![tactic(auto)]
 
 mod answered;

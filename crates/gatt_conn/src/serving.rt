@@ -1,4 +1,4 @@
-//! One Attribute PDU served: by its opcode, and then by its form.
+//! Serves one PDU, by its opcode and then its format.
 
 ghost use Rattle.std.specs.Prelude.{◌≡◌, true, false, [], ◌∷◌, drop, Some};
 ghost use Rattle.att_pdu.specs.Grammar.{request_of};
@@ -18,7 +18,7 @@ use att_reads::answer_read;
 use att_table::{ConfigRow, Table};
 use att_writes::Touched;
 
-/// Answers a PDU as `serve` does. It is not inlined, so that its caller saves no registers for it.
+/// Calls `serve` out of line, to save registers.
 #[inline(never)]
 pub(crate) fn serve_apart(
     table: &mut Table,
@@ -41,8 +41,7 @@ pub(crate) fn serve_apart(
     serve(table, row, conn, pdu, out, touched)
 }
 
-/// Drops the handles that an earlier PDU wrote, mostly one, if any, which takes no loop, and answers a
-/// PDU as `serve` does.
+/// Clears `touched`, usually at most one handle, and serves a PDU.
 #[inline(never)]
 pub(crate) fn forget_and_serve(
     table: &mut Table,
@@ -71,8 +70,7 @@ pub(crate) fn forget_and_serve(
     serve(table, row, conn, pdu, out, touched)
 }
 
-/// Drops the handles where an earlier PDU wrote more than one, and answers a PDU. It is not inlined,
-/// so that no registers are saved for it where that is not so.
+/// Clears two or more handles; out of line, to save registers.
 #[inline(never)]
 fn clear_and_serve(
     table: &mut Table,
@@ -95,8 +93,7 @@ fn clear_and_serve(
     serve(table, row, conn, pdu, out, touched)
 }
 
-/// Answers a PDU in place of what `out` holds, which stays where no answer is due, where `touched`
-/// holds nothing yet.
+/// Serves a PDU; `touched` is empty, and `out` stays unchanged without a response.
 #[inline(always)]
 #[tactic(auto, unfolding(att_pdu::specs::Form::form_of))]
 fn serve(
@@ -170,8 +167,7 @@ fn serve(
     }
 }
 
-/// Answers a PDU of one opcode: a copy of the code for each, in which the others are never asked for,
-/// and which saves no more registers than it needs.
+/// Serves one opcode, in a separate copy that tests for no other.
 #[inline(never)]
 fn serve_opcode<const OPCODE: u8>(
     table: &mut Table,
@@ -195,7 +191,6 @@ fn serve_opcode<const OPCODE: u8>(
     serve_form(table, row, conn, OPCODE, &pdu[1..], out, touched)
 }
 
-/// Answers the PDU of an opcode and these parameters, where `touched` holds nothing yet.
 #[inline(always)]
 #[tactic(auto, unfolding(att_pdu::specs::Form::form_of))]
 fn serve_form(
@@ -262,7 +257,6 @@ fn serve_form(
     }
 }
 
-/// Answers nothing.
 pub(crate) fn without_answer(confirmed: bool) -> Served
     ensures due { result.due ≡ false }
     ensures confirmed { result.confirmed ≡ confirmed }
@@ -273,7 +267,6 @@ pub(crate) fn without_answer(confirmed: bool) -> Served
     }
 }
 
-/// An answer was given.
 pub(crate) fn with_answer() -> Served
     ensures due { result.due ≡ true }
     ensures confirmed { result.confirmed ≡ false }
@@ -284,20 +277,19 @@ pub(crate) fn with_answer() -> Served
     }
 }
 
-/// Serves an Exchange MTU Request: Core 5.0, Vol 3 Part F, 3.4.2.
+/// Serves an Exchange MTU Request (Core 5.0, Vol 3 Part F, 3.4.2).
 fn exchange_mtu(conn: &mut Conn, client_rx_mtu: u16, out: &mut PduBuf<'_>) -> Served
     ensures served { ServesRequest (Some (ExchangeMtuResponse conn.old.rx_mtu)) out.old out.new
         result }
     ensures conn { conn.new ≡ after_exchange conn.old client_rx_mtu }
 {
     let rx_mtu = conn.rx_mtu();
-    // The answer comes last, so that no registers are saved for what is behind it.
+    // The response is last, so that no registers are saved across it.
     conn.exchange(client_rx_mtu);
     out.exchange_mtu(rx_mtu);
     with_answer()
 }
 
-/// Answers a request by an error.
 #[inline(never)]
 pub(crate) fn refuse(request_opcode: u8, handle: u16, code: u8, out: &mut PduBuf<'_>) -> Served
     ensures { ServesRequest (Some (ErrorResponse request_opcode handle code)) out.old out.new

@@ -1,4 +1,4 @@
-//! The requests and the command that write: Core 5.0, Vol 3 Part F, 3.4.5 and 3.4.6.
+//! Write requests and commands (Core 5.0, Vol 3 Part F, 3.4.5 and 3.4.6).
 
 ghost use Rattle.std.specs.Prelude.{◌≡◌, ◌+◌, ◌≤◌, false, [], length, Some, Ok};
 ghost use Rattle.att_pdu.specs.PduBuf.{mtu_of};
@@ -18,7 +18,7 @@ use att_pdu::{ExecuteFlags, PduBuf};
 use att_table::{ConfigRow, Table};
 use att_writes::{Outcome, Touched};
 
-/// Serves a Write Request: Core 5.0, Vol 3 Part F, 3.4.5.1.
+/// Serves a Write Request (Core 5.0, Vol 3 Part F, 3.4.5.1).
 pub(crate) fn write(
     table: &mut Table,
     row: &mut ConfigRow,
@@ -47,7 +47,7 @@ pub(crate) fn write(
     }
 }
 
-/// Serves a Write Command: Core 5.0, Vol 3 Part F, 3.4.5.3.
+/// Serves a Write Command (Core 5.0, Vol 3 Part F, 3.4.5.3).
 pub(crate) fn command(
     table: &mut Table,
     row: &mut ConfigRow,
@@ -74,7 +74,7 @@ pub(crate) fn command(
     }
 }
 
-/// Serves a Prepare Write Request, which fits the ATT_MTU: Core 5.0, Vol 3 Part F, 3.4.6.1.
+/// Serves a Prepare Write Request (Core 5.0, Vol 3 Part F, 3.4.6.1).
 pub(crate) fn prepare(
     table: &Table,
     conn: &mut Conn,
@@ -113,7 +113,7 @@ pub(crate) fn prepare(
     }
 }
 
-/// Serves an Execute Write Request that drops what is prepared: Core 5.0, Vol 3 Part F, 3.4.6.3.
+/// Serves an Execute Write Request that cancels (Core 5.0, Vol 3 Part F, 3.4.6.3).
 #[inline(always)]
 pub(crate) fn cancel(conn: &mut Conn, out: &mut PduBuf<'_>) -> Served
     ensures served { ServesRequest (Some ExecuteWriteResponse) out.old out.new result }
@@ -124,7 +124,7 @@ pub(crate) fn cancel(conn: &mut Conn, out: &mut PduBuf<'_>) -> Served
     with_answer()
 }
 
-/// Serves an Execute Write Request that writes what is prepared: Core 5.0, Vol 3 Part F, 3.4.6.3.
+/// Serves an Execute Write Request that writes (Core 5.0, Vol 3 Part F, 3.4.6.3).
 #[inline(always)]
 pub(crate) fn execute(
     table: &mut Table,

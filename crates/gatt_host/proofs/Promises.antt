@@ -8,8 +8,8 @@ use Rattle.gatt_laws.specs.machine.Input.{run}
 use Rattle.gatt_laws.specs.machine.Start.{Start}
 use Rattle.gatt_laws.proofs.Telling as laws
 use Rattle.gatt_laws.specs.laws.Telling.{TellsTheApplication}
-use Rattle.gatt_promise.proofs.Promise as promise
-use Rattle.gatt_promise.specs.Promise.{KeepsConnectionsApart, KeepsThePolicy, Promise}
+use Rattle.gatt_theorems.proofs.Promise as promise
+use Rattle.gatt_theorems.specs.Promise.{KeepsConnectionsApart, KeepsThePolicy, Promise}
 
 pub keeps_the_policy : KeepsThePolicy
 keeps_the_policy = promise.keeps_the_policy

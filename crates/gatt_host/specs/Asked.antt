@@ -1,22 +1,20 @@
--- What a call of the application means to a host, by what it holds.
+-- The meaning of a call of the application to a host.
 use Rattle.std.specs.Prelude.{Option, Some, None, Result, Ok, Err}
 use Rattle.att_table.specs.Table.{Contents}
 use Rattle.gatt_host.specs.Calls.{refused_of}
-use Rattle.gatt_app.specs.declared.app.AppFault.{AppFault}
+use Rattle.host_api.specs.declared.app.AppFault.{AppFault}
 use Rattle.gatt_host.specs.ServerState.{ServerState}
 use Rattle.gatt_host.specs.Meaning.{context_in}
 use Rattle.gatt_laws.specs.machine.Calls.{Call, Refused, call_meaning, replacement_meaning}
 use Rattle.gatt_laws.specs.machine.Event.{Happening}
-use Rattle.gatt_slots.specs.Slots.{Place}
+use Rattle.host_connections.specs.Slots.{Place}
 
--- what happens, or why the call is refused; and so of a table
 abbrev pub call_happening : ServerState → Call → Result (Happening Place) Refused
 call_happening server call = call_meaning (context_in server) call
 
 abbrev pub replacement_happening : ServerState → Contents → Result (Happening Place) Refused
 replacement_happening server table = replacement_meaning (context_in server) table
 
--- why a call was refused, or a table, if it was
 abbrev pub refusal_in_result : Result Unit AppFault → Option Refused
 refusal_in_result (Ok done) = None
 refusal_in_result (Err refused) = Some (refused_of refused)

@@ -1,15 +1,15 @@
--- What an application asks of a host, and why that is refused, as the state machine has them.
+-- Calls and refusals in the terms of the state machine.
 use Rattle.std.specs.Prelude.{ℕ}
-use Rattle.gatt_app.specs.declared.app.App.{App}
-use Rattle.gatt_app.specs.declared.app.App.TheVariants as app
-use Rattle.gatt_app.specs.declared.app.AppFault.{AppFault}
-use Rattle.gatt_app.specs.declared.app.AppFault.TheVariants as fault
-use Rattle.gatt_app.specs.Refusals.{number_of_refusal}
+use Rattle.host_api.specs.declared.app.App.{App}
+use Rattle.host_api.specs.declared.app.App.TheVariants as app
+use Rattle.host_api.specs.declared.app.AppFault.{AppFault}
+use Rattle.host_api.specs.declared.app.AppFault.TheVariants as fault
+use Rattle.host_api.specs.Refusals.{number_of_refusal}
 use Rattle.gatt_laws.specs.machine.Calls.{Call, UpdateCall, AuthorizeCall, DisconnectCall, TickCall}
 use Rattle.gatt_laws.specs.machine.Calls.{Refused, NoSuchHandle, NotAValue, BadLength}
 use Rattle.gatt_laws.specs.machine.Calls.{NoSuchConnection, TimeWentBack, Stopped, NoServiceChanged}
 
--- a call, and a fault, without where their octets lie
+-- A call and a refusal without the memory of their octets.
 abbrev pub call_of : App → Call
 call_of (app.Update handle value) = UpdateCall handle value.now
 call_of (app.Authorize handle until) = AuthorizeCall handle until
@@ -25,7 +25,6 @@ refused_of fault.TimeWentBack = TimeWentBack
 refused_of fault.Stopped = Stopped
 refused_of fault.NoServiceChanged = NoServiceChanged
 
--- the fault by which a host says why it refuses a call, and its number
 abbrev pub fault_of_refused : Refused → AppFault
 fault_of_refused NoSuchHandle = fault.NoSuchHandle
 fault_of_refused NotAValue = fault.NotAValue

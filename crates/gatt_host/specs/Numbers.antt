@@ -1,9 +1,8 @@
--- The numbers of the faults of a host: this profile's own.
+-- The numbers of a host's faults, which this profile defines.
 use Rattle.std.specs.Prelude.{ℕ}
 use Rattle.gatt_host.specs.declared.host_fault.HostFault.{HostFault}
 use Rattle.gatt_host.specs.declared.host_fault.HostFault.TheVariants.{Desync, BadEvent, Init, Hardware, Read, Write, Turns}
 
--- of why a host stops, or could not go on serving
 abbrev pub number_of_fault : HostFault → ℕ
 number_of_fault (Desync indicator) = 1
 number_of_fault (BadEvent code) = 2

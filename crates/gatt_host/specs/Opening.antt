@@ -1,4 +1,4 @@
--- How a host is opened: this profile's own.
+-- The opening of a host, which this profile defines.
 use Rattle.std.specs.Prelude.{Bool, ◌&&◌, if◌then◌else◌, List, []}
 use Rattle.att_table.specs.Changer.{changer_of}
 use Rattle.att_table.specs.Table.{Contents}
@@ -7,24 +7,23 @@ use Rattle.gatt_host.specs.declared.last_event.LastEvent.TheVariants as last
 use Rattle.gatt_host.specs.ServerState.{ServerState}
 use Rattle.gatt_laws.specs.machine.SharedState.{Bonds, ServiceChangedPending}
 use Rattle.gatt_laws.specs.machine.Start.{Start, may_be_opened, new_controller}
-use Rattle.gatt_slots.specs.Slots.{SlotStates}
+use Rattle.host_connections.specs.Slots.{SlotStates}
 use Rattle.gatt_subs.specs.Fit.{fitted_bond}
 use Rattle.gatt_subs.specs.Rows.{Subscriptions}
 use Rattle.le_security.specs.declared.entry.Entry.{Entry}
 use Rattle.le_security.specs.Keys.{is_known}
 
--- a configuration is judged
 abbrev pub is_configured : Config → Bool
 is_configured config = may_be_opened config.slots config.rx_mtu config.address
 
--- of the rows stays what fits the keys and the table
+-- The rows that fit the keys and the table are retained.
 abbrev pub bonds_fitted : Contents → List Entry → Subscriptions → Bonds
-bonds_fitted table keys rows peer = if is_known keys peer then (fitted_bond table rows peer).row else []
+bonds_fitted table keys rows peer = if is_known keys peer then (fitted_bond table rows peer).row
+    else []
 
 abbrev pub owed_fitted : Contents → List Entry → Subscriptions → ServiceChangedPending
 owed_fitted table keys rows peer = is_known keys peer && (fitted_bond table rows peer).owed
 
--- what a host is opened with
 abbrev pub start_of : Contents → List Entry → Subscriptions → Config → Start
 start_of table keys rows config = record {
   table = table;
@@ -37,7 +36,7 @@ start_of table keys rows config = record {
   advertising = config.advertising;
 }
 
--- what is held at first, over rows that fit the keys and the table
+-- The first state, with rows that fit the keys and the table.
 abbrev pub held_at_first : Contents → List Entry → Subscriptions → SlotStates → Config → ServerState
 held_at_first table keys rows slots config = record {
   table = table;

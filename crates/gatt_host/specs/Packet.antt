@@ -1,5 +1,4 @@
--- What a host makes of a packet, by what it holds: whom an ACL packet is from, and what an event
--- means.
+-- The meaning of a packet to a host, by its state.
 use Rattle.std.specs.Prelude.{◌≡◌, ℕ, if◌then◌else◌, List, [], ◌∷◌, set, get_or, Option, Some, None, Result, Ok, Err, IsOkAnd}
 use Rattle.gatt_host.specs.Answers.{stop_of}
 use Rattle.gatt_host.specs.declared.host_fault.HostFault.{HostFault}
@@ -9,9 +8,9 @@ use Rattle.gatt_host.specs.Meaning.{once_heard, with_fragment}
 use Rattle.gatt_laws.specs.machine.Event.{Happening}
 use Rattle.gatt_laws.specs.machine.Packets.{Fault, data_event, event_or_bad}
 use Rattle.gatt_laws.specs.machine.Packets.{connection_event_if_ready, packet_meaning}
-use Rattle.gatt_slots.specs.Arrivals.{with_heard}
-use Rattle.gatt_slots.specs.declared.arrivals.Arrivals.{Arrivals}
-use Rattle.gatt_slots.specs.Slots.{Place, place_serving}
+use Rattle.host_connections.specs.Arrivals.{with_heard}
+use Rattle.host_connections.specs.declared.arrivals.Arrivals.{Arrivals}
+use Rattle.host_connections.specs.Slots.{Place, place_serving}
 use Rattle.le_acl.specs.declared.reassembler.Piece.{Piece}
 use Rattle.le_acl.specs.declared.reassembler.Piece.TheVariants as piece
 use Rattle.le_acl.specs.Fragment.{Fragment, fragment_of}
@@ -21,26 +20,24 @@ use Rattle.le_h4.specs.Division.{is_long}
 use Rattle.le_h4.specs.Packet.{Packet, AclPacket, EventPacket, ScoPacket}
 use Rattle.le_hci.specs.declared.event.BadEvent.{BadEvent}
 use Rattle.le_hci.specs.Event.{Reported, event_of}
-use Rattle.octets.specs.Number.{Octets}
+use Rattle.octet_io.specs.Number.{Octets}
 
--- what a packet means, or why the host stops
+-- The event of a packet, or the fault for which the host stops.
 abbrev pub packet_happening : ServerState → Frames → Packet → Result (Happening Place) Fault
 packet_happening server frames packet =
     packet_meaning (context_in server) (recombinations_in frames) packet
 
--- a fragment of the connection at a place joins those before it, and a frame that it makes whole is
--- heard and dropped
+-- A frame that a fragment completes is handled and dropped.
 abbrev pub fragment_left : Option Fragment → Assembly → Assembly
 fragment_left None earlier = earlier
 fragment_left (Some fragment) earlier = once_heard (with_fragment earlier fragment)
 
--- the same by the place of a connection, if it serves
 abbrev pub assembled_with : Option Place → Option Fragment → Assemblies → Assemblies
 assembled_with None fragment assembled = assembled
 assembled_with (Some place) fragment assembled =
     set assembled place (fragment_left fragment (get_or assembled place no_assembly))
 
--- A connection that serves is heard at a time, whatever its packet has.
+-- A packet of a serving connection sets its last time, whatever it contains.
 abbrev pub arrivals_with : ℕ → Option Place → Arrivals → Arrivals
 arrivals_with time None arrivals = arrivals
 arrivals_with time (Some place) arrivals = with_heard place time arrivals
@@ -58,12 +55,11 @@ acl_happening server handle boundary broadcast octets frames =
     data_event (recombinations_in frames) (place_serving server.slots handle)
     (fragment_of boundary broadcast octets)
 
--- a frame, where the newest fragment made one whole
 abbrev pub frame_given : Piece → Assembly → Option Octets
 frame_given piece.Nothing assembly = None
 frame_given piece.Frame assembly = assembly.frame
 
--- an event is taken in, or the host stops for good
+-- The host handles an event, or stops for good.
 abbrev pub TakesEvent : Result Reported BadEvent → ServerState → ServerState → Type 0
 TakesEvent read old new =
     IsOkAnd (event_or_bad (context_in old) read) (λ happening. IsAfter happening old new)
@@ -71,7 +67,7 @@ TakesEvent read old new =
 abbrev pub event_stop : Result Reported BadEvent → ServerState → Option HostFault
 event_stop read server = stop_of (event_or_bad (context_in server) read)
 
--- Of the events only one by which a connection comes changes what is held of what comes.
+-- Only an event that makes a connection changes the incoming frames.
 abbrev pub frames_after_event : ServerState → Result Reported BadEvent → Frames → Frames
 frames_after_event server (Ok reported) frames =
     frames_after server.time (connection_event_if_ready (context_in server) reported) frames
@@ -84,12 +80,12 @@ frames_after_packet server (EventPacket octets) frames =
     frames_after_event server (event_of octets) frames
 frames_after_packet server ScoPacket frames = frames
 
--- The same of a packet of any length: one that is too long is ignored.
+-- A packet that is too long is ignored.
 abbrev pub frames_after_any : ServerState → Packet → Frames → Frames
 frames_after_any server packet frames =
     if is_long packet then frames else frames_after_packet server packet frames
 
--- The same of octets behind those of a stream, of which at most one packet ends in them.
+-- The incoming frames after octets in which at most one packet ends.
 abbrev pub frames_after_first : ServerState → List Packet → Frames → Frames
 frames_after_first server [] frames = frames
 frames_after_first server (packet ∷ packets) frames = frames_after_packet server packet frames
@@ -98,7 +94,6 @@ abbrev pub frames_after_octets : ServerState → Deframing → Octets → Frames
 frames_after_octets server stream octets frames =
     frames_after_first server (still stream octets).packets frames
 
--- a packet is taken in, and what is held and put together then; or the host stops for good
 pub record TakesPacket (packet : Packet) (old : ServerState) (frames : Frames) (new : ServerState)
     (after : Frames) : Type 0 where
   pub server : IsOkAnd (packet_happening old frames packet) (λ happening. IsAfter happening old new)

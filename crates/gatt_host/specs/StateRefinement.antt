@@ -1,4 +1,4 @@
--- Where a host is: what it holds is what a state of the whole machine says, but for what is still to go out.
+-- The correspondence of a host to a state of the machine, except for pending output.
 use Rattle.std.specs.Prelude.{◌≡◌, ℕ, suc, true, false, is_some, if◌then◌else◌, unwrap_or, List, [], ◌∷◌, length, replicate, slice_get, Option, Some, None}
 use Rattle.std.specs.Option.{option_map_or}
 use Rattle.att_table.specs.Changer.{changer_of}
@@ -16,7 +16,7 @@ use Rattle.gatt_laws.specs.laws.Queued.{HasBoundedQueues}
 use Rattle.gatt_laws.specs.laws.Settled.{is_slot_of, IsSettled}
 use Rattle.gatt_laws.specs.machine.Start.{Start, new_controller, state_at, first_out}
 use Rattle.gatt_laws.specs.machine.State.{State, step, out}
-use Rattle.gatt_slots.specs.Slots.{Place}
+use Rattle.host_connections.specs.Slots.{Place}
 use Rattle.gatt_subs.specs.declared.bond.Bond.{Bond}
 use Rattle.gatt_subs.specs.Fit.{IsListed, rows_listed}
 use Rattle.gatt_subs.specs.Rows.{Subscriptions, bond_of, row_of}
@@ -27,33 +27,34 @@ use Rattle.le_hci.specs.InitTold.{told_in}
 use Rattle.le_security.specs.declared.entry.Entry.{Entry}
 use Rattle.le_security.specs.Keys.{is_known}
 use Rattle.le_security.specs.Link.{last_asked}
-use Rattle.octets.specs.Number.{Octets}
+use Rattle.octet_io.specs.Number.{Octets}
 
--- the rows have a bond of each peer that has a key, and no other is owed or has configured anything that lasts
+-- Only a peer with a key has a bond, saved configurations or a pending Service Changed.
 abbrev pub bond_in : Bonds → ServiceChangedPending → Peer → Bond
 bond_in bonds owed peer = record { row = bonds peer; owed = owed peer }
 
-pub record HoldsBonds (keys : List Entry) (rows : Subscriptions) (bonds : Bonds) (owed : ServiceChangedPending) : Type 0 where
-  pub known : (peer : Peer) → bond_of rows peer ≡ (if is_known keys peer then Some (bond_in bonds owed peer) else None)
+pub record HoldsBonds (keys : List Entry) (rows : Subscriptions) (bonds : Bonds)
+    (owed : ServiceChangedPending) : Type 0 where
+  pub known : (peer : Peer)
+      → bond_of rows peer ≡ (if is_known keys peer then Some (bond_in bonds owed peer) else None)
   pub row : (peer : Peer) → is_known keys peer ≡ false → bonds peer ≡ []
   pub owing : (peer : Peer) → is_known keys peer ≡ false → owed peer ≡ false
   pub listed : IsListed keys rows
 
--- so they are this list
 abbrev pub rows_of : State → Subscriptions
 rows_of state = rows_listed state.shared.keys (bond_in state.bonds state.owed)
 
--- a link has a key, or was answered with one, only where its peer is known
+-- A link has a key, or was answered with one, only if its peer is known.
 pub record HasKeysOfItsPeer (keys : List Entry) (connection : ConnectionState) : Type 0 where
   pub asked : is_some (last_asked connection.steps) ≡ true → is_known keys connection.peer ≡ true
   pub key : is_some (key_of connection) ≡ true → is_known keys connection.peer ≡ true
 
--- how many slots connections may have, once the buffers are told
+-- The number of slots after the buffers are known.
 abbrev pub slots_with_buffers : ℕ → Option Buffers → ℕ
 slots_with_buffers slots None = slots
 slots_with_buffers slots (Some buffers) = usable slots buffers.packets
 
--- before the controller is initialised no slot has a connection
+-- The host holds what the state says; before initialisation no slot has a connection.
 pub record RefinesState (state : State) (owed : List Octets) (server : ServerState) : Type 0 where
   pub table : server.table ≡ state.shared.table
   pub changer : server.changer ≡ state.shared.changer
@@ -64,42 +65,43 @@ pub record RefinesState (state : State) (owed : List Octets) (server : ServerSta
   pub rows : HoldsBonds state.shared.keys server.rows state.bonds state.owed
   pub keyed : (ordinal : Ordinal) → HasKeysOfItsPeer state.shared.keys (state.connections ordinal)
   pub free : is_ready state.controller ≡ false → server.slots ≡ replicate state.shared.slots None
-  pub ready : is_ready state.controller ≡ true → length server.slots ≡ slots_with_buffers state.shared.slots state.shared.buffers
+  pub ready : is_ready state.controller ≡ true
+      → length server.slots ≡ slots_with_buffers state.shared.slots state.shared.buffers
   pub owing : IsOwing state owed server.controller (open_slots server)
 
--- what is so of every state, whatever led to it
+-- The laws of every state of a run.
 pub record IsSound (state : State) : Type 0 where
   pub settled : IsSettled state
   pub queued : HasBoundedQueues state
   pub placed : IsPlaced state
 
--- an event leads a host from where it is to where it is next, and what the application is told of it is what the state
--- machine has
+-- An event leads the host to the next state of the machine, with the same notices.
 pub record RefinesStep (state : State) (event : Event) (new : ServerState) : Type 0 where
   pub refines : RefinesState (step state event) (out state event) new
   pub told : last_notices new ≡ noticed state event
 
--- the connection of a slot, which serves
 pub record IsServing (state : State) (place : ℕ) (ordinal : Ordinal) : Type 0 where
   pub there : slice_get state.slots place ≡ Some (Some ordinal)
   pub live : is_live (state.connections ordinal).mark ≡ true
 
--- a connection is named by the place of its slot, and the one that comes next by that of the slot that it takes
+-- The name of a connection is the place of its slot; that of the next one is the place that it
+-- takes.
 abbrev pub place_among : Slots → Ordinal → Place
 place_among [] ordinal = 0
-place_among (slot ∷ slots) ordinal = if is_slot_of ordinal slot then 0 else suc (place_among slots ordinal)
+place_among (slot ∷ slots) ordinal =
+    if is_slot_of ordinal slot then 0 else suc (place_among slots ordinal)
 
 abbrev pub place_of_connection : State → Ordinal → Place
 place_of_connection state ordinal = place_among (with_taken state.next state.slots) ordinal
 
--- what each peer has configured, and whether it is owed, by the bonds of the rows
+-- The configurations and the pending Service Changed of each peer, by its bond.
 abbrev pub bonds_of : Subscriptions → Bonds
 bonds_of rows peer = unwrap_or (row_of rows peer) []
 
 abbrev pub owed_of : Subscriptions → ServiceChangedPending
 owed_of rows peer = option_map_or (λ (bond : Bond). bond.owed) (bond_of rows peer) false
 
--- a host that has just been opened, with rows that are fitted to its keys and its table
+-- A host after opening, with rows that fit its keys and its table.
 pub record IsOpenedAs (start : Start) (server : ServerState) : Type 0 where
   pub table : server.table ≡ start.table
   pub changer : server.changer ≡ changer_of start.table
@@ -114,8 +116,8 @@ pub record IsOpenedAs (start : Start) (server : ServerState) : Type 0 where
   pub listed : IsListed start.keys server.rows
 
 abbrev pub StartIsRefined : Type 0
-StartIsRefined = (start : Start) (server : ServerState) → IsOpenedAs start server → RefinesState (state_at start) (first_out start) server
+StartIsRefined = (start : Start) (server : ServerState) → IsOpenedAs start server
+    → RefinesState (state_at start) (first_out start) server
 
--- every state that a run leads to is sound
 abbrev pub IsAlwaysSound : Type 0
 IsAlwaysSound = (start : Start) (input : List Item) → IsSound (run start input).intake.state

@@ -1,4 +1,4 @@
-//! A call of the application goes in, and what goes back to the controller comes out.
+//! One call of the application, and the packets that it causes.
 
 ghost use Rattle.std.specs.Prelude.{◌≡◌, ◌∷◌, [], None, IsSome, IsOk, IfErr, IfOk, true};
 ghost use Rattle.std.specs.Result.{result_err};
@@ -9,20 +9,21 @@ ghost use Rattle.gatt_host.specs.Listening.{Listens};
 ghost use Rattle.gatt_host.specs.Promises.{KeepsConnectionsApart, KeepsThePolicy};
 ghost use Rattle.gatt_host.specs.HostModel.{all_out};
 ghost use Rattle.gatt_laws.specs.machine.Input.{ACall};
-ghost use Rattle.octets.specs.Stream.{CountsIf};
+ghost use Rattle.octet_io.specs.Stream.{CountsIf};
 
 use crate::fault::Fault;
 use crate::feeding::{feed, write_out};
 use crate::host::Host;
 use crate::host_fault::HostFault;
 use crate::listener::{Listener, Nobody, deliver_notices};
-use gatt_app::{App, AppFault};
-use octets::Sink;
+use host_api::{App, AppFault};
+use octet_io::Sink;
 
-/// Does what the application asks, and writes what goes back to the controller: first what was owed,
-/// and then what the call brings, so that another may follow at once. Answers `Fault::Call` where the
-/// call is refused, which changes nothing, and `Fault::Host` where the writer fails, or had the host
-/// stopped before.
+/// Executes a call of the application and writes the packets that it causes. Pending packets go
+/// first.
+///
+/// Returns `Fault::Call` if the host refuses the call, which then changes nothing. Returns
+/// `Fault::Host` if the writer fails or the host had stopped before.
 pub fn call<W: Sink>(host: &mut Host, call: App<'_>, out: &mut W) -> Result<(), Fault>
     ensures feeds { host.old.fault ≡ None
         → Feeds (ACall (call_of call.entry) ∷ []) host.old host.new (W.contents out.old)
@@ -36,18 +37,15 @@ pub fn call<W: Sink>(host: &mut Host, call: App<'_>, out: &mut W) -> Result<(), 
         → CountsIf (is_write_fault host.new.fault) (W.failures out.old) (W.failures out.new) }
     ensures stopped { IsSome host.old.fault → host.new ≡ host.old }
     ensures sink_stopped { IsSome host.old.fault → out.new ≡ out.old }
-    // And of all that is taken in, for every start and input:
+    // For every start and input:
     ensures policy { KeepsThePolicy }
     ensures apart { KeepsConnectionsApart }
 {
     call_to(host, call, out, &mut Nobody)
 }
 
-/// Does what the application asks, and writes what goes back to the controller: first what was owed,
-/// and then what the call brings, so that another may follow at once. Answers `Fault::Call` where the
-/// call is refused, which changes nothing, and `Fault::Host` where the writer fails, or had the host
-/// stopped before. The listener receives the notices of the call, also if the writer fails at what it
-/// brings.
+/// Does the same as `call` and delivers the notices to a listener. It receives those of the call
+/// even if the writer fails.
 pub fn call_to<W: Sink, L: Listener>(
     host: &mut Host,
     call: App<'_>,
@@ -70,7 +68,6 @@ pub fn call_to<W: Sink, L: Listener>(
     ensures stopped { IsSome host.old.fault → host.new ≡ host.old }
     ensures sink_stopped { IsSome host.old.fault → out.new ≡ out.old }
     ensures listener_stopped { IsSome host.old.fault → listener.new ≡ listener.old }
-    // And of all that is taken in, for every start and input:
     ensures policy { KeepsThePolicy }
     ensures apart { KeepsConnectionsApart }
 {
@@ -78,8 +75,7 @@ pub fn call_to<W: Sink, L: Listener>(
     do_call(host, call, out, listener)?.map_err(Fault::Call)
 }
 
-/// Does what the application asks, where all is out and the host goes on. What the host answers to the
-/// call is apart from a fault of its own.
+/// Executes a call after all output was sent. The inner error is the host's refusal.
 pub(crate) fn do_call<W: Sink, L: Listener>(
     host: &mut Host,
     call: App<'_>,

@@ -1,4 +1,4 @@
-//! What an application asks, as what happens to a host.
+//! Calls of the application as events of the host state.
 
 ghost use Rattle.std.specs.Prelude.{◌≡◌, if◌then◌else◌, true, Err, IsOk, IsOkAnd, IfOk, IfErr, OnErr};
 ghost use Rattle.att_table.specs.Changer.{changer_of};
@@ -10,10 +10,10 @@ ghost use Rattle.gatt_host.specs.Meaning.{IsAfter, IsOfItsTable};
 
 use crate::host_state::HostState;
 use att_table::{Attr, Role, Table};
-use gatt_app::{App, AppFault};
+use host_api::{App, AppFault};
 
 impl HostState {
-    /// Does what the application asks; or refuses it, and changes nothing but that nothing is told.
+    /// Executes a call. A refused call only clears the notices.
     pub(crate) fn app(&mut self, call: App<'_>) -> Result<(), AppFault>
         requires of_table { IsOfItsTable self.old }
         ensures after { IsOk result
@@ -28,7 +28,6 @@ impl HostState {
         done
     }
 
-    /// Drops what would be told of the last event, if what the application asks is refused.
     fn forget_if(&mut self, refused: bool)
         ensures { self.new ≡ (if refused then without_notices self.old else self.old) }
     {
@@ -37,7 +36,6 @@ impl HostState {
         }
     }
 
-    /// Does what the application asks for, or refuses it and changes nothing.
     fn call(&mut self, call: App<'_>) -> Result<(), AppFault>
         requires of_table { IsOfItsTable self.old }
         ensures after { IsOk result
@@ -55,7 +53,6 @@ impl HostState {
         }
     }
 
-    /// Gives the value at a handle new octets, or refuses them.
     #[tactic(auto, using(crate::proofs::packets::Lengths::fits_there, crate::proofs::packets::Lengths::exact_there, crate::proofs::packets::Lengths::none_past))]
     fn update_value(&mut self, handle: u16, value: &[u8]) -> Result<(), AppFault>
         requires of_table { IsOfItsTable self.old }
@@ -82,7 +79,6 @@ impl HostState {
         Ok(())
     }
 
-    /// Authorizes the connection with this handle until a time, in milliseconds, or refuses.
     fn authorize_connection(&mut self, handle: u16, until: u64) -> Result<(), AppFault>
         ensures after { IsOk result
             → IsOkAnd (call_happening self.old (AuthorizeCall handle until))
@@ -98,7 +94,6 @@ impl HostState {
         Ok(())
     }
 
-    /// Ends the connection with this handle, or refuses.
     fn end_connection(&mut self, handle: u16) -> Result<(), AppFault>
         ensures after { IsOk result
             → IsOkAnd (call_happening self.old (DisconnectCall handle))
@@ -116,7 +111,6 @@ impl HostState {
         }
     }
 
-    /// Takes in the time, in milliseconds, unless it went back.
     fn tick_on(&mut self, time: u64) -> Result<(), AppFault>
         ensures after { IsOk result
             → IsOkAnd (call_happening self.old (TickCall time))
@@ -132,8 +126,8 @@ impl HostState {
         Ok(())
     }
 
-    /// Replaces the table by another, and gives the old one back; or refuses the new one, gives that
-    /// back, and changes nothing but that nothing is told.
+    /// Replaces the table and returns the old one. A refusal returns the new one and only clears
+    /// the notices.
     pub(crate) fn replace_table(&mut self, table: Table) -> Result<Table, (AppFault, Table)>
         ensures after { IfOk result
             (λ old. (old ≡ self.old.table) × (self.new ≡ after_replacing table self.old)) }
@@ -152,7 +146,6 @@ impl HostState {
     }
 }
 
-/// Whether a value of an attribute may have this length.
 fn has_length(attr: &Attr, count: usize) -> bool
     ensures { result ≡ has_length attr.now count }
 {
@@ -164,7 +157,7 @@ fn has_length(attr: &Attr, count: usize) -> bool
     }
 }
 
-/// Whether there are two changers, at the same handle.
+/// Returns true if both tables have Service Changed, at the same handle.
 fn same_changer(old: Option<u16>, new: Option<u16>) -> bool
     ensures { result ≡ same_changer old new }
 {

@@ -1,31 +1,30 @@
-//! What a host is opened with, beside its files.
+//! The configuration of a host.
 
 use arrayvec::ArrayVec;
 use le_hci::MAX_ADVERTISING_DATA;
 use std::error::Error;
 use std::fmt;
 
-/// How many connections a host may have, what it receives, and how it advertises.
+/// Number of connections, receive MTU, address and advertising data of a host.
 #[derive(Clone, Debug, PartialEq, Eq, Drop)]
 pub struct Config {
-    /// As many connections as there may be at once: 1 to `MAX_SLOTS`.
+    /// Maximum number of connections at a time: 1 to `MAX_SLOTS`.
     pub slots: usize,
-    /// The largest PDU of the Attribute Protocol that is received, in octets: 23 to 517.
+    /// Largest ATT PDU that the host receives, in octets: 23 to 517.
     pub rx_mtu: u16,
-    /// A static random address as octets on the wire, the least significant first, whose two most
-    /// significant bits are set (Core 5.0, Vol 6 Part B, 1.3.2.1); or none, for the public address of
-    /// the controller.
+    /// Static random address, least significant octet first, with the two most significant bits set
+    /// (Core 5.0, Vol 6 Part B, 1.3.2.1). `None` selects the controller's public address.
     pub address: Option<[u8; 6]>,
-    /// Advertising data: Core 5.0, Vol 3 Part C, 11.
+    /// Advertising data (Core 5.0, Vol 3 Part C, 11).
     pub advertising: ArrayVec<u8, MAX_ADVERTISING_DATA>,
 }
 
-/// Why a host is not opened.
+/// The reason why a host cannot be opened.
 #[derive(Clone, Copy, Debug, PartialEq, Eq)]
 pub enum OpenFault {
-    /// The configuration is out of its limits.
+    /// A value of the configuration is out of range.
     BadConfig,
-    /// Memory was refused.
+    /// Memory allocation failed.
     OutOfMemory,
 }
 

@@ -1,5 +1,4 @@
-//! The controller comes to be ready, and connections come: how many slots there are, and what a
-//! connection that takes one may have.
+//! Initialisation of the controller, and new connections.
 
 ghost use Rattle.std.specs.Prelude.{◌≡◌, ◌<◌, ◌^◌, length, Some, IsSome, IsOk, IsOkAnd, IfErr, OnErr};
 ghost use Rattle.gatt_host.specs.Answers.{following_if, stop_of};
@@ -16,7 +15,6 @@ use le_acl::MAX_ACL_LEN;
 use le_hci::Peer;
 
 impl HostState {
-    /// A connection comes, and takes a slot.
     pub(crate) fn connect(&mut self, place: usize, handle: u16, peer: Peer)
         requires place { place < length self.old.slots }
         requires handle { handle < 2 ^ 12 }
@@ -34,7 +32,6 @@ impl HostState {
         self.end_event(LastEvent::Connected { handle, peer });
     }
 
-    /// A command is complete.
     #[tactic(auto, using(crate::proofs::places::Crediting::credited))]
     pub(crate) fn command_complete(
         &mut self,
@@ -55,7 +52,6 @@ impl HostState {
         Ok(())
     }
 
-    /// A command is under way, or refused.
     #[tactic(auto, using(crate::proofs::places::Crediting::credited))]
     pub(crate) fn command_status(
         &mut self,
@@ -75,7 +71,7 @@ impl HostState {
         Ok(())
     }
 
-    /// Where the controller is now initialised, as many slots are opened as it takes packets.
+    /// Limits the slots to the controller's packets when it becomes initialised.
     fn open_slots(&mut self, followed: bool)
         ensures { self.new ≡ record self.old {
           slots = opened (following_if followed self.old.controller) self.old.slots;
@@ -91,7 +87,7 @@ impl HostState {
     }
 }
 
-/// How many packets of one connection may be outstanding.
+/// Returns how many packets of one connection may be outstanding.
 fn quota(slots: usize, packets: u16) -> u16
     requires slots { 0 < slots }
     requires packets { 0 < packets }
@@ -101,7 +97,6 @@ fn quota(slots: usize, packets: u16) -> u16
     (usize::from(packets) / slots.min(usize::from(packets))) as u16
 }
 
-/// The most octets of data in a packet.
 fn acl_len(told: u16) -> u16
     ensures { result ≡ acl_len told }
 {

@@ -1,27 +1,26 @@
-//! The connections of a host, one after another.
+//! Iteration over the connections of a host.
 
 ghost use Rattle.std.specs.Prelude.{length};
 ghost use Rattle.std.specs.Iterator.{at_most};
 ghost use Rattle.gatt_host.specs.Connections.{HandsOutTheFirst};
 
-use gatt_app::Connection;
-use gatt_slots::{Arrivals, Slots};
+use host_api::Connection;
+use host_connections::{Arrivals, Slots};
 use std::iter::FusedIterator;
 use std::marker::Model;
 
-/// An iterator over the connections of a host, in the order of their slots.
+/// Iterator over the connections of a host, in slot order.
 #[derive(Drop)]
 pub struct Connections<'a> {
     pub(crate) slots: &'a Slots,
     pub(crate) arrivals: &'a Arrivals,
-    /// The place of the next slot.
     pub(crate) place: usize,
 }
 
 impl<'a> Model for Connections<'a> {
     ghost use Rattle.std.specs.Prelude.{List};
-    ghost use Rattle.gatt_slots.specs.Connections.{connections_left};
-    ghost use Rattle.gatt_app.specs.declared.connection.Connection.{Connection};
+    ghost use Rattle.host_connections.specs.Connections.{connections_left};
+    ghost use Rattle.host_api.specs.declared.connection.Connection.{Connection};
 
     ghost Value = { List Connection };
 

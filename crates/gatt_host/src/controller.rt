@@ -5,7 +5,7 @@ ghost use Rattle.gatt_laws.specs.machine.Packets.{completed_event, status_event,
 ghost use Rattle.gatt_laws.specs.machine.State.{advertising_after, is_refusal};
 ghost use Rattle.gatt_host.specs.Answers.{answered_by, following_if, following_stop, stop_of, told_fault};
 ghost use Rattle.gatt_host.specs.Owing.{OwesTheFirstCommand};
-ghost use Rattle.gatt_slots.specs.Slots.{Place};
+ghost use Rattle.host_connections.specs.Slots.{Place};
 ghost use Rattle.le_hci.specs.Init.{command_awaited, first_state, init_outcome};
 ghost use Rattle.le_hci.specs.InitTold.{AreUsable, told_in};
 ghost use Rattle.le_hci.specs.declared.peer.Peer.{Peer};
@@ -18,17 +18,17 @@ use le_hci::{Buffers, Init, InitFault, MAX_ADVERTISING_DATA, opcode};
 use std::marker::Model;
 use std::mem;
 
-/// What a host knows of its controller.
+/// The host's knowledge of its controller.
 #[derive(Drop)]
 pub struct Controller {
-    /// How many commands it takes now.
+    /// Number of commands that the controller accepts now.
     pub(crate) credit: u8,
     pub(crate) init: Init,
-    /// The command that initialisation awaits was sent.
+    /// True if the command that initialisation awaits was sent.
     pub(crate) awaiting: bool,
-    /// It advertises, as far as the host knows.
+    /// True if the controller advertises, as far as the host knows.
     pub(crate) advertising: bool,
-    /// It refused to advertise since a connection last ended.
+    /// True if it refused to advertise since the last disconnection.
     pub(crate) refused: bool,
 }
 
@@ -47,13 +47,13 @@ impl Model for Controller {
       refused = c.refused;
     } };
 
-    // Buffers that it has told are enough for a peripheral.
+    // The buffers that it reported are enough for a peripheral.
     ghost invariant = { λ c. KnowsUsable c.init };
 }
 
 impl Controller {
-    /// A controller that is not initialised, and takes one command before it answers any: Core 5.0,
-    /// Vol 2 Part E, 4.4.
+    /// Creates a controller that is not initialised. It accepts one command before it answers any
+    /// (Core 5.0, Vol 2 Part E, 4.4).
     #[tactic(auto, using(crate::proofs::places::Entering::owes_the_first_command))]
     pub fn new(
         address: Option<[u8; 6]>,
@@ -67,7 +67,7 @@ impl Controller {
               advertising = false;
               refused = false;
             } }
-        // Its first command is owed then.
+        // The first command is then pending.
         ensures owing { OwesTheFirstCommand }
     {
         Controller {
@@ -79,7 +79,7 @@ impl Controller {
         }
     }
 
-    /// Whether the controller is initialised.
+    /// Returns true if the controller is initialised.
     #[inline(always)]
     pub fn is_ready(&self) -> bool
         ensures { result ≡ laws.is_ready self.now }
@@ -87,7 +87,7 @@ impl Controller {
         self.init.command().is_none()
     }
 
-    /// A connection has come, and the controller stops advertising.
+    /// Records a new connection, which ends advertising.
     pub fn note_connected(&mut self)
         ensures { (handle : ℕ) (peer : Peer) → self.new
             ≡ advertising_after (Connected handle peer) self.old }
@@ -95,14 +95,13 @@ impl Controller {
         self.advertising = false;
     }
 
-    /// A connection has gone, and advertising may be enabled again.
+    /// Records the end of a connection: advertising may be enabled again.
     pub fn note_disconnected(&mut self)
         ensures { self.new ≡ advertising_after Disconnected self.old }
     {
         self.refused = false;
     }
 
-    /// Whether the command with this opcode is awaited.
     pub(crate) fn awaits(&self, opcode: u16) -> bool
         ensures { result ≡ is_awaited self.now opcode }
     {
@@ -115,7 +114,7 @@ impl Controller {
         opcode == command.opcode()
     }
 
-    /// The buffers that it has told, which are enough for a peripheral.
+    /// Returns the buffers that it reported, which are enough for a peripheral.
     pub fn buffers(&self) -> Option<Buffers>
         ensures buffers { result ≡ told_in self.now.init }
         ensures usable { IfSome result AreUsable }
@@ -123,8 +122,8 @@ impl Controller {
         buffers_in(&self.init)
     }
 
-    /// Takes in a Command Complete: how many commands the controller takes now, the opcode, and what
-    /// the command returned. Says whether another state of initialisation follows.
+    /// Handles Command Complete. `allowed` is the number of commands that the controller accepts
+    /// now. Returns true if initialisation enters another state.
     pub fn command_complete(
         &mut self,
         allowed: u8,
@@ -149,9 +148,9 @@ impl Controller {
         Ok(false)
     }
 
-    /// Takes in a Command Status: the status, how many commands the controller takes now, and the
-    /// opcode. No state of initialisation follows: a status of 0 only tells that the command is being
-    /// carried out.
+    /// Handles Command Status. `allowed` is the number of commands that the controller accepts now.
+    /// A status of 0 only means that the command is being executed. Returns an error if the
+    /// controller refuses the awaited command.
     #[tactic(auto, using(crate::proofs::places::Refusing::stops_where_refused))]
     pub fn command_status(&mut self, status: u8, allowed: u8, opcode: u16) -> Result<(), HostFault>
         ensures event { IsOk result
@@ -170,7 +169,6 @@ impl Controller {
         Ok(())
     }
 
-    /// Goes on after the command that initialisation awaits.
     fn advance(&mut self, allowed: u8, returned: &[u8]) -> Result<(), HostFault>
         requires { IsSome (command_awaited self.old.init) }
         ensures follows { IsOk result
@@ -197,7 +195,7 @@ impl Controller {
         }
     }
 
-    /// Takes in how many commands the controller takes now, where no state of initialisation follows.
+    /// Stores the number of accepted commands, and a refusal to advertise.
     fn credited(&mut self, allowed: u8, opcode: u16, status: Option<u8>)
         ensures { self.new ≡ answered_by self.old allowed opcode status None }
     {
@@ -209,13 +207,12 @@ impl Controller {
     }
 }
 
-/// Stands for a moment where a state of initialisation is taken out.
+/// Placeholder while the state of initialisation is moved out.
 const NO_STATE: Init = Init::Ready {
     length: MIN_ACL_LEN,
     packets: 1,
 };
 
-/// The buffers that the controller has told of in a state, if it has.
 fn buffers_in(init: &Init) -> Option<Buffers>
     ensures { result ≡ told_in init.now }
 {
@@ -232,14 +229,13 @@ fn buffers_in(init: &Init) -> Option<Buffers>
     }
 }
 
-/// Whether enabling is refused by a status: by any but 0.
 fn is_refusal(opcode: u16, status: Option<u8>) -> bool
     ensures { result ≡ is_refusal opcode status }
 {
     opcode == opcode::LE_SET_ADVERTISE_ENABLE && status.is_some_and(|status| status != 0)
 }
 
-/// The fault of a host whose initialisation failed: a completion that is too short is a bad event.
+/// Maps a fault of initialisation: a completion that is too short is a bad event.
 fn host_fault(fault: InitFault) -> HostFault
     ensures { result ≡ told_fault (init_fault fault) }
 {

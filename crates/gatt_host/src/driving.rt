@@ -1,88 +1,74 @@
-//! A list of octets and calls goes in, and what goes back to the controller comes out.
+//! Processes a list of bytes and calls, and writes the packets that follow.
 
 ghost use Rattle.std.specs.Prelude.{◌≡◌, None, IsSome, IsOk, IfErr, IfOk, Some, true, if◌then◌else◌};
 ghost use Rattle.std.specs.Result.{result_err};
-ghost use Rattle.gatt_host.specs.Feeding.{is_of_feeding, input_items, is_write_fault, items_of, CountsRefused, Feeds, WritesAllThatIsDue};
+ghost use Rattle.gatt_host.specs.Feeding.{is_of_feeding, input_items, is_write_fault, items_of, CountsRefused, Feeds, Processes, WritesAllThatIsDue};
 ghost use Rattle.gatt_host.specs.Listening.{Listens};
 ghost use Rattle.gatt_host.specs.Promises.{KeepsConnectionsApart, KeepsThePolicy};
 ghost use Rattle.gatt_host.specs.HostModel.{all_out};
-ghost use Rattle.octets.specs.Stream.{CountsIf};
+ghost use Rattle.octet_io.specs.Stream.{CountsIf};
 
 use crate::calling::do_call;
 use crate::feeding::{feed_to, write_out};
 use crate::host::Host;
 use crate::host_fault::HostFault;
 use crate::listener::{Listener, Nobody};
-use gatt_app::App;
-use octets::Sink;
+use host_api::App;
+use octet_io::Sink;
 
-/// What a host is handed: octets of the stream from its controller, or a call of the application.
+/// An input of a host.
 #[derive(Clone, Copy, Debug, PartialEq, Eq)]
 pub enum Input<'a> {
-    /// Octets, which may begin and end anywhere in the packets of the stream.
+    /// Bytes of the controller's stream. They may begin and end anywhere in a packet.
     Bytes(&'a [u8]),
-    /// A call.
+    /// A call of the application.
     Call(App<'a>),
 }
 
-/// Takes in octets and calls in their order, and writes what goes back: first what was owed, and then
-/// what each packet and each call brings, before the next. Says how many of the calls were refused.
-/// After a fault it answers that, and changes nothing.
+/// Processes bytes and calls in order and writes the packets that follow. Pending packets go first,
+/// then those of each packet and call before the next.
+///
+/// Returns the number of refused calls. After a fault it returns that fault and changes nothing.
 pub fn drive<W: Sink>(
     host: &mut Host,
     inputs: &[Input<'_>],
     out: &mut W,
 ) -> Result<usize, HostFault>
-    ensures feeds { host.old.fault ≡ None
-        → Feeds (items_of inputs.now) host.old host.new (W.contents out.old) (W.contents out.new)
-        host.new.fault }
+    ensures processes { host.old.fault ≡ None
+        → Processes (items_of inputs.now) host.old host.new result (W.contents out.old)
+        (W.contents out.new) (W.failures out.old) (W.failures out.new) }
     ensures outcome { IfErr result (λ fault. host.new.fault ≡ Some fault) }
-    ensures feeding { host.old.fault ≡ None
-        → IfErr result (λ fault. is_of_feeding fault ≡ true) }
     ensures going_on { IsOk result → host.new.fault ≡ None }
     ensures refused { IfOk result (λ count. CountsRefused count (items_of inputs.now) host.old) }
-    ensures out { IsOk result → all_out host.new ≡ true }
-    ensures due { host.old.fault ≡ None → WritesAllThatIsDue host.new.fault host.new }
-    ensures failures { host.old.fault ≡ None
-        → CountsIf (is_write_fault host.new.fault) (W.failures out.old) (W.failures out.new) }
     ensures stopped { IsSome host.old.fault → host.new ≡ host.old }
     ensures sink_stopped { IsSome host.old.fault → out.new ≡ out.old }
-    // And of all that is taken in, for every start and input:
+    // For every start and input:
     ensures policy { KeepsThePolicy }
     ensures apart { KeepsConnectionsApart }
 {
     drive_to(host, inputs, out, &mut Nobody)
 }
 
-/// Takes in octets and calls in their order, and writes what goes back: first what was owed, and then
-/// what each packet and each call brings, before the next. Says how many of the calls were refused.
-/// After a fault it answers that, and changes nothing. The listener receives the notices of each packet
-/// and call that was taken in, also if the writer fails at what it brings.
+/// Does the same as `drive` and delivers the notices to a listener. It receives those of each
+/// packet and call that was processed, also of one whose output could not be written.
 pub fn drive_to<W: Sink, L: Listener>(
     host: &mut Host,
     inputs: &[Input<'_>],
     out: &mut W,
     listener: &mut L,
 ) -> Result<usize, HostFault>
-    ensures feeds { host.old.fault ≡ None
-        → Feeds (items_of inputs.now) host.old host.new (W.contents out.old) (W.contents out.new)
-        host.new.fault }
+    ensures processes { host.old.fault ≡ None
+        → Processes (items_of inputs.now) host.old host.new result (W.contents out.old)
+        (W.contents out.new) (W.failures out.old) (W.failures out.new) }
     ensures heard { host.old.fault ≡ None
         → Listens (items_of inputs.now) host.old host.new host.new.fault (L.heard listener.old)
         (L.heard listener.new) }
     ensures outcome { IfErr result (λ fault. host.new.fault ≡ Some fault) }
-    ensures feeding { host.old.fault ≡ None
-        → IfErr result (λ fault. is_of_feeding fault ≡ true) }
     ensures going_on { IsOk result → host.new.fault ≡ None }
     ensures refused { IfOk result (λ count. CountsRefused count (items_of inputs.now) host.old) }
-    ensures out { IsOk result → all_out host.new ≡ true }
-    ensures due { host.old.fault ≡ None → WritesAllThatIsDue host.new.fault host.new }
-    ensures failures { host.old.fault ≡ None
-        → CountsIf (is_write_fault host.new.fault) (W.failures out.old) (W.failures out.new) }
     ensures stopped { IsSome host.old.fault → host.new ≡ host.old }
     ensures sink_stopped { IsSome host.old.fault → out.new ≡ out.old }
     ensures listener_stopped { IsSome host.old.fault → listener.new ≡ listener.old }
-    // And of all that is taken in, for every start and input:
     ensures policy { KeepsThePolicy }
     ensures apart { KeepsConnectionsApart }
 {
@@ -92,7 +78,6 @@ pub fn drive_to<W: Sink, L: Listener>(
     }
 }
 
-/// Takes in octets and calls in their order, where the host has not stopped.
 #[inline(always)]
 fn drive_all<W: Sink, L: Listener>(
     host: &mut Host,
@@ -101,18 +86,13 @@ fn drive_all<W: Sink, L: Listener>(
     listener: &mut L,
 ) -> Result<usize, HostFault>
     requires none { host.old.fault ≡ None }
-    ensures feeds { Feeds (items_of inputs.now) host.old host.new (W.contents out.old)
-        (W.contents out.new) host.new.fault }
+    ensures processes { Processes (items_of inputs.now) host.old host.new result
+        (W.contents out.old) (W.contents out.new) (W.failures out.old) (W.failures out.new) }
     ensures heard { Listens (items_of inputs.now) host.old host.new host.new.fault
         (L.heard listener.old) (L.heard listener.new) }
     ensures outcome { IfErr result (λ fault. host.new.fault ≡ Some fault) }
-    ensures feeding { IfErr result (λ fault. is_of_feeding fault ≡ true) }
     ensures going_on { IsOk result → host.new.fault ≡ None }
     ensures refused { IfOk result (λ count. CountsRefused count (items_of inputs.now) host.old) }
-    ensures out { IsOk result → all_out host.new ≡ true }
-    ensures due { WritesAllThatIsDue host.new.fault host.new }
-    ensures failures { CountsIf (is_write_fault host.new.fault) (W.failures out.old)
-        (W.failures out.new) }
 {
     write_out(host, out)?;
     let mut refused = 0;
@@ -124,7 +104,7 @@ fn drive_all<W: Sink, L: Listener>(
     Ok(refused)
 }
 
-/// Takes in one of them, and writes what goes back. Says whether it is a call that is refused.
+/// Processes one input. Returns true for a refused call.
 fn take_input<W: Sink, L: Listener>(
     host: &mut Host,
     input: &Input<'_>,

@@ -1,4 +1,4 @@
-//! Whatever may go wrong, as one fault and in words.
+//! All faults as one type, with a text for each.
 
 ghost use Rattle.std.specs.Prelude.{◌≡◌};
 ghost use Rattle.gatt_host.specs.declared.fault.Fault.TheVariants.{Table, Keys, Rows, Open, Host, Call};
@@ -6,25 +6,24 @@ ghost use Rattle.gatt_host.specs.declared.fault.Fault.TheVariants.{Table, Keys, 
 use crate::config::OpenFault;
 use crate::host_fault::HostFault;
 use att_table::TableFault;
-use gatt_app::AppFault;
 use gatt_subs::RowsFault;
+use host_api::AppFault;
 use le_security::KeyFault;
 use std::error::Error;
 use std::fmt;
 
-/// Why a file is refused, a host is not opened, stops or could not go on, or a call is refused. It says
-/// so in words.
+/// A fault of a file, of opening, of a running host, or of a call. `Display` prints it in words.
 #[derive(Clone, Copy, Debug, PartialEq, Eq)]
 pub enum Fault {
-    /// A table file is refused.
+    /// A table file is rejected.
     Table(TableFault),
-    /// A key file is refused.
+    /// A key file is rejected.
     Keys(KeyFault),
-    /// A rows file is refused.
+    /// A subscriptions file (rows) is rejected.
     Rows(RowsFault),
-    /// A host is not opened.
+    /// A host cannot be opened.
     Open(OpenFault),
-    /// A host stops, or could not go on serving.
+    /// A host has stopped, for good.
     Host(HostFault),
     /// A call of the application is refused.
     Call(AppFault),

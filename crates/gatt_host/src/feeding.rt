@@ -1,8 +1,8 @@
-//! Octets of the stream from a controller go in, and those of what goes back to it come out.
+//! Processes the controller's stream and writes the packets that follow.
 
 ghost use Rattle.std.specs.Prelude.{◌≡◌, [], true, None, Some, IsSome, IsOk, IfErr, Err};
 ghost use Rattle.std.specs.Result.{result_err};
-ghost use Rattle.gatt_host.specs.Feeding.{is_of_feeding, octet_items, is_write_fault, Feeds, WritesAllThatIsDue};
+ghost use Rattle.gatt_host.specs.Feeding.{is_of_feeding, octet_items, is_write_fault, Feeds, Processes, WritesAllThatIsDue};
 ghost use Rattle.gatt_host.specs.GoingOut.{is_drained};
 ghost use Rattle.gatt_host.specs.ServerState.{OwesPacketsAlone, open_slots};
 ghost use Rattle.gatt_host.specs.Meaning.{Frames};
@@ -10,68 +10,51 @@ ghost use Rattle.gatt_host.specs.Listening.{Listens};
 ghost use Rattle.gatt_host.specs.Promises.{KeepsConnectionsApart, KeepsThePolicy};
 ghost use Rattle.gatt_host.specs.HostModel.{all_out, going, is_own_fault, fault_outcome, write_outcome, IsStateOfOne};
 ghost use Rattle.le_h4.specs.Deframer.{Deframing};
-ghost use Rattle.octets.specs.Stream.{CountsIf};
+ghost use Rattle.octet_io.specs.Stream.{CountsIf};
 
 use crate::host::Host;
 use crate::host_fault::HostFault;
 use crate::host_state::HostState;
 use crate::listener::{Listener, Nobody, deliver_notices};
-use crate::taking::take;
+use crate::stream_packets::take;
 use le_h4::PacketBuf;
-use octets::{Sink, write_all};
+use octet_io::{Sink, write_all};
 
-/// Takes in octets of the stream from the controller, which may begin and end anywhere in its packets,
-/// and writes what goes back: first what was owed, and then what each packet brings, before the next is
-/// taken in. After a fault it answers that, and changes nothing.
+/// Processes bytes of the controller's stream and writes the packets that follow. The bytes may
+/// begin and end anywhere in a packet. Pending packets go first, then those of each packet before
+/// the next is processed. After a fault it returns that fault and changes nothing.
 pub fn feed<W: Sink>(host: &mut Host, octets: &[u8], out: &mut W) -> Result<(), HostFault>
-    ensures feeds { host.old.fault ≡ None
-        → Feeds (octet_items octets.now) host.old host.new (W.contents out.old)
-        (W.contents out.new) host.new.fault }
+    ensures processes { host.old.fault ≡ None
+        → Processes (octet_items octets.now) host.old host.new result (W.contents out.old)
+        (W.contents out.new) (W.failures out.old) (W.failures out.new) }
     ensures outcome { result ≡ fault_outcome host.new.fault }
-    ensures out { IsOk result → all_out host.new ≡ true }
-    // Whatever stops it but the writer, all that was due before is written.
-    ensures due { host.old.fault ≡ None → WritesAllThatIsDue host.new.fault host.new }
-    ensures feeding { host.old.fault ≡ None
-        → IfErr result (λ fault. is_of_feeding fault ≡ true) }
-    ensures failures { host.old.fault ≡ None
-        → CountsIf (is_write_fault host.new.fault) (W.failures out.old) (W.failures out.new) }
     ensures stopped { IsSome host.old.fault → host.new ≡ host.old }
     ensures sink_stopped { IsSome host.old.fault → out.new ≡ out.old }
-    // And of all that is taken in, for every start and input:
+    // For every start and input:
     ensures policy { KeepsThePolicy }
     ensures apart { KeepsConnectionsApart }
 {
     feed_to(host, octets, out, &mut Nobody)
 }
 
-/// Takes in octets of the stream from the controller, which may begin and end anywhere in its packets,
-/// and writes what goes back: first what was owed, and then what each packet brings, before the next is
-/// taken in. After a fault it answers that, and changes nothing. The listener receives the notices of
-/// each packet that was taken in, also if the writer fails at what it brings.
+/// Does the same as `feed` and delivers the notices to a listener. It receives those of each packet
+/// that was processed, also of one whose output could not be written.
 pub fn feed_to<W: Sink, L: Listener>(
     host: &mut Host,
     octets: &[u8],
     out: &mut W,
     listener: &mut L,
 ) -> Result<(), HostFault>
-    ensures feeds { host.old.fault ≡ None
-        → Feeds (octet_items octets.now) host.old host.new (W.contents out.old)
-        (W.contents out.new) host.new.fault }
+    ensures processes { host.old.fault ≡ None
+        → Processes (octet_items octets.now) host.old host.new result (W.contents out.old)
+        (W.contents out.new) (W.failures out.old) (W.failures out.new) }
     ensures heard { host.old.fault ≡ None
         → Listens (octet_items octets.now) host.old host.new host.new.fault (L.heard listener.old)
         (L.heard listener.new) }
     ensures outcome { result ≡ fault_outcome host.new.fault }
-    ensures out { IsOk result → all_out host.new ≡ true }
-    // Whatever stops it but the writer, all that was due before is written.
-    ensures due { host.old.fault ≡ None → WritesAllThatIsDue host.new.fault host.new }
-    ensures feeding { host.old.fault ≡ None
-        → IfErr result (λ fault. is_of_feeding fault ≡ true) }
-    ensures failures { host.old.fault ≡ None
-        → CountsIf (is_write_fault host.new.fault) (W.failures out.old) (W.failures out.new) }
     ensures stopped { IsSome host.old.fault → host.new ≡ host.old }
     ensures sink_stopped { IsSome host.old.fault → out.new ≡ out.old }
     ensures listener_stopped { IsSome host.old.fault → listener.new ≡ listener.old }
-    // And of all that is taken in, for every start and input:
     ensures policy { KeepsThePolicy }
     ensures apart { KeepsConnectionsApart }
 {
@@ -81,7 +64,6 @@ pub fn feed_to<W: Sink, L: Listener>(
     feed_all(host, octets, out, listener)
 }
 
-/// Writes what was owed, and then takes in the octets, where the host has not stopped.
 fn feed_all<W: Sink, L: Listener>(
     host: &mut Host,
     octets: &[u8],
@@ -89,16 +71,11 @@ fn feed_all<W: Sink, L: Listener>(
     listener: &mut L,
 ) -> Result<(), HostFault>
     requires none { host.old.fault ≡ None }
-    ensures feeds { Feeds (octet_items octets.now) host.old host.new (W.contents out.old)
-        (W.contents out.new) host.new.fault }
+    ensures processes { Processes (octet_items octets.now) host.old host.new result
+        (W.contents out.old) (W.contents out.new) (W.failures out.old) (W.failures out.new) }
     ensures heard { Listens (octet_items octets.now) host.old host.new host.new.fault
         (L.heard listener.old) (L.heard listener.new) }
     ensures outcome { result ≡ fault_outcome host.new.fault }
-    ensures out { IsOk result → all_out host.new ≡ true }
-    ensures due { WritesAllThatIsDue host.new.fault host.new }
-    ensures feeding { IfErr result (λ fault. is_of_feeding fault ≡ true) }
-    ensures failures { CountsIf (is_write_fault host.new.fault) (W.failures out.old)
-        (W.failures out.new) }
 {
     write_out(host, out)?;
     let mut rest = octets;
@@ -114,7 +91,6 @@ fn feed_all<W: Sink, L: Listener>(
     Ok(())
 }
 
-/// What the host has stopped for, if it has.
 #[cold]
 #[inline(never)]
 fn outcome(host: &Host) -> Result<(), HostFault>
@@ -126,7 +102,6 @@ fn outcome(host: &Host) -> Result<(), HostFault>
     }
 }
 
-/// Writes all that is to go to the controller.
 #[inline(always)]
 pub(crate) fn write_out<W: Sink>(host: &mut Host, out: &mut W) -> Result<(), HostFault>
     requires { host.old.fault ≡ None }
@@ -146,7 +121,6 @@ pub(crate) fn write_out<W: Sink>(host: &mut Host, out: &mut W) -> Result<(), Hos
     written
 }
 
-/// Writes all that is to go to the controller, by the parts of a host: each packet by way of `packet`.
 #[inline(always)]
 fn write_owed<W: Sink>(
     state: &mut HostState,
@@ -170,8 +144,7 @@ fn write_owed<W: Sink>(
     }
 }
 
-/// Writes all that is to go to the controller, where a command may be among it. Says whether the sink
-/// took all.
+/// Writes all pending packets, commands included. Returns false if the sink fails.
 #[cold]
 #[inline(never)]
 fn write_in_order<W: Sink>(state: &mut HostState, packet: &mut PacketBuf, out: &mut W) -> bool
@@ -193,8 +166,8 @@ fn write_in_order<W: Sink>(state: &mut HostState, packet: &mut PacketBuf, out: &
     true
 }
 
-/// Writes all packets that connections may give, where no command is due: none comes of a packet.
-/// Says whether the sink took all.
+/// Writes all packets of connections if no command is pending: sending a packet creates none.
+/// Returns false if the sink fails.
 #[inline(always)]
 fn write_packets<W: Sink>(state: &mut HostState, packet: &mut PacketBuf, out: &mut W) -> bool
     requires one { IsStateOfOne state.old }
@@ -216,7 +189,7 @@ fn write_packets<W: Sink>(state: &mut HostState, packet: &mut PacketBuf, out: &m
     true
 }
 
-/// What is answered where all is written, and where it is not.
+/// Maps the result of writing to `HostFault::Write`.
 #[inline(always)]
 fn write_outcome(written: bool) -> Result<(), HostFault>
     ensures { result ≡ write_outcome written }
@@ -228,7 +201,7 @@ fn write_outcome(written: bool) -> Result<(), HostFault>
     }
 }
 
-/// Stops for good: its reader or its writer fails, or its turns are over.
+/// Stops the host for a fault of its reader, writer or turns.
 pub(crate) fn stop<T>(host: &mut Host, fault: HostFault) -> Result<T, HostFault>
     requires none { host.old.fault ≡ None }
     requires own { is_own_fault fault ≡ true }

@@ -1,27 +1,26 @@
-//! What goes out next: a command that is due, while the controller takes any, and else a packet of the
-//! first slot that may give one.
+//! Selects the next output: a pending command if the controller accepts one, else a packet of the
+//! first slot that may send one.
 
 ghost use Rattle.std.specs.Prelude.{◌≡◌, ◌≢◌, ◌<◌, ◌≤◌, length, take, IfSome, List, ◌&&◌, not, nat_lt, is_some, true, None, Some, ◌∷◌, []};
 ghost use Rattle.std.specs.Bool.{OnTrue, OnFalse};
 ghost use Rattle.std.specs.Option.{option_map};
 ghost use Rattle.gatt_laws.specs.machine.Controller.{controller_after};
 ghost use Rattle.gatt_laws.specs.machine.State.{State, command_octets};
-ghost use Rattle.gatt_slots.specs.Commands.{command_due, gives, has_command, slot_without_command, slot_without_packet};
-ghost use Rattle.gatt_slots.specs.Slots.{slot_state_at, slots_at};
+ghost use Rattle.host_connections.specs.Commands.{command_due, gives, has_command, slot_without_command, slot_without_packet};
+ghost use Rattle.host_connections.specs.Slots.{slot_state_at, slots_at};
 ghost use Rattle.gatt_host.specs.GoingOut.{first_slot_command, command_next, controller_then, init_command, is_drained, next_out, first_slot_packet, slots_commanded, slots_then, with_first};
 ghost use Rattle.gatt_host.specs.Owing.{IsAllSent, IsOwing, OwesTheRest, OwesWhatAnEventBrings};
-ghost use Rattle.octets.specs.Number.{Octets};
+ghost use Rattle.octet_io.specs.Number.{Octets};
 ghost use Rattle.le_hci.specs.Command.{Commanded, LeSetAdvertiseEnable, command_of, opcode_of};
 ghost use Rattle.le_h4.specs.declared.packet_buf.TheConstants.{MAX_PACKET_OUT};
 
 use crate::controller::Controller;
 use arrayvec::ArrayVec;
-use gatt_slots::Slots;
+use host_connections::Slots;
 use le_h4::PacketBuf;
 use le_hci::{Command, opcode};
 
 impl Controller {
-    /// Whether it takes a command now.
     #[inline(always)]
     fn takes(&self) -> bool
         ensures { result ≡ nat_lt 0 self.now.credit }
@@ -29,7 +28,7 @@ impl Controller {
         self.credit > 0
     }
 
-    /// Takes in that the command with this opcode is sent.
+    /// Marks the command with this opcode as sent.
     fn sent(&mut self, opcode: u16)
         requires { nat_lt 0 self.old.credit ≡ true }
         ensures { (command : Commanded) → opcode ≡ opcode_of command
@@ -44,8 +43,8 @@ impl Controller {
         self.credit -= 1;
     }
 
-    /// Writes the command of initialisation and takes in that it is sent: `false`, with nothing changed,
-    /// where its turn has not come.
+    /// Writes the pending command of initialisation and marks it as sent. Returns false if there is
+    /// none.
     #[inline(always)]
     fn init_command_out(&mut self, out: &mut PacketBuf) -> bool
         requires { nat_lt 0 self.old.credit ≡ true }
@@ -64,7 +63,6 @@ impl Controller {
         true
     }
 
-    /// Writes the command of initialisation, whose turn has come.
     #[cold]
     #[inline(never)]
     fn write_init_command(&mut self, out: &mut PacketBuf)
@@ -82,7 +80,6 @@ impl Controller {
         self.sent(opcode);
     }
 
-    /// Whether the command of initialisation is due.
     #[inline(always)]
     fn has_init_command(&self) -> bool
         ensures { result ≡ is_some (init_command self.now) }
@@ -90,14 +87,12 @@ impl Controller {
         !self.awaiting && !self.is_ready()
     }
 
-    /// Whether it is to be told to advertise: a slot is free, it does not, and it has not refused to.
     fn is_to_advertise(&self, free: bool) -> bool
         ensures { result ≡ (free && not self.now.advertising && not self.now.refused) }
     {
         free && !self.advertising && !self.refused
     }
 
-    /// Writes the command to advertise, and takes in that it is sent.
     #[cold]
     #[inline(never)]
     fn write_enabling(&mut self, out: &mut PacketBuf)
@@ -110,7 +105,7 @@ impl Controller {
     }
 }
 
-/// Writes a command with its indicator in place of what `out` holds.
+/// Replaces the contents of `out` with a command.
 fn write_command(command: &Command<'_>, out: &mut PacketBuf)
     ensures { out.new ≡ command_octets (command_of command.now) }
 {
@@ -119,7 +114,7 @@ fn write_command(command: &Command<'_>, out: &mut PacketBuf)
     out.command(packet.as_slice());
 }
 
-/// Writes the packet of the first slot that may give one: `false`, with nothing changed, where none may.
+/// Writes a packet of the first slot that may send one. Returns false if none may.
 #[inline(always)]
 pub(crate) fn packet_out(slots: &mut Slots, out: &mut PacketBuf) -> bool
     ensures some { result ≡ is_some (first_slot_packet slots.old) }
@@ -134,7 +129,7 @@ pub(crate) fn packet_out(slots: &mut Slots, out: &mut PacketBuf) -> bool
     slots.next_packet(place, out)
 }
 
-/// Writes the first command that is due for a slot, and takes in that it is sent. Says its opcode.
+/// Writes the first pending command of a slot and returns its opcode.
 #[cold]
 #[inline(never)]
 fn slot_command_out(slots: &mut Slots, out: &mut PacketBuf) -> Option<u16>
@@ -152,8 +147,6 @@ fn slot_command_out(slots: &mut Slots, out: &mut PacketBuf) -> Option<u16>
     }
 }
 
-/// Writes the command that is due for the connection of a slot, and takes in that it is sent. Says its
-/// opcode.
 #[cold]
 #[inline(never)]
 fn command_at_out(slots: &mut Slots, place: usize, out: &mut PacketBuf) -> u16
@@ -174,8 +167,8 @@ fn command_at_out(slots: &mut Slots, place: usize, out: &mut PacketBuf) -> u16
     command.opcode()
 }
 
-/// Writes the next command that is due and takes in that it is sent: `false`, with nothing changed, where
-/// none is due or the controller takes none.
+/// Writes the next pending command and marks it as sent. Returns false if none is pending or the
+/// controller accepts none.
 #[inline(always)]
 fn command_out(controller: &mut Controller, slots: &mut Slots, out: &mut PacketBuf) -> bool
     ensures some { result ≡ is_some (command_next controller.old slots.old) }
@@ -187,7 +180,6 @@ fn command_out(controller: &mut Controller, slots: &mut Slots, out: &mut PacketB
     ensures unchanged { OnFalse result (slots.new ≡ slots.old) }
     ensures out_unchanged { OnFalse result (out.new ≡ out.old) }
 {
-    // Most often none may be due.
     if !may_have_command(controller, slots) {
         return false;
     }
@@ -201,7 +193,7 @@ fn command_out(controller: &mut Controller, slots: &mut Slots, out: &mut PacketB
         controller.sent(opcode);
         return true;
     }
-    // Most hosts either have no room, or advertise.
+    // Usually these cheap checks decide.
     if !slots.may_have_room() || controller.advertising || controller.refused {
         return false;
     }
@@ -212,9 +204,9 @@ fn command_out(controller: &mut Controller, slots: &mut Slots, out: &mut PacketB
     true
 }
 
-/// Writes what goes out next in place of what `out` holds: a command that is due, while the controller
-/// takes any, and else a packet of the first slot that may give one. `false`, with nothing changed, once
-/// all is out.
+/// Replaces the contents of `out` with the next output. This is a pending command if the controller
+/// accepts one, else a packet of the first slot that may send one. Returns false, with nothing
+/// changed, if there is no output.
 #[inline(always)]
 #[tactic(auto, using(crate::proofs::places::Entering::owes_what_an_event_brings))]
 pub fn next_out(controller: &mut Controller, slots: &mut Slots, out: &mut PacketBuf) -> bool
@@ -222,7 +214,7 @@ pub fn next_out(controller: &mut Controller, slots: &mut Slots, out: &mut Packet
     ensures octets { OnTrue result (next_out controller.old slots.old ≡ Some out.new) }
     ensures controller { controller.new ≡ controller_then controller.old slots.old }
     ensures slots { slots.new ≡ slots_then controller.old slots.old }
-    // It is the first of what is owed; and where there is nothing, nothing is owed.
+    // True: this was the first pending output. False: none is pending.
     ensures first { (final : State) (owed : List Octets)
         → IsOwing final owed controller.old slots.old
         → OnTrue result (OwesTheRest final owed out.new controller.new slots.new) }
@@ -232,14 +224,12 @@ pub fn next_out(controller: &mut Controller, slots: &mut Slots, out: &mut Packet
     ensures controller_unchanged { OnFalse result (controller.new ≡ controller.old) }
     ensures slots_unchanged { OnFalse result (slots.new ≡ slots.old) }
     ensures out_unchanged { OnFalse result (out.new ≡ out.old) }
-    // What an event brings out is owed once all but its end is done.
+    // The output of an event is pending until its commands are sent.
     ensures events { OwesWhatAnEventBrings }
 {
     either_out(controller, slots, out)
 }
 
-/// Writes the next command, or else the next packet: `false`, with nothing changed, where there is
-/// neither. It stands apart for its proof.
 #[inline(always)]
 fn either_out(controller: &mut Controller, slots: &mut Slots, out: &mut PacketBuf) -> bool
     ensures some { result ≡ is_some (next_out controller.old slots.old) }
@@ -256,8 +246,7 @@ fn either_out(controller: &mut Controller, slots: &mut Slots, out: &mut PacketBu
     packet_out(slots, out)
 }
 
-/// Writes the packet of the first slot that may give one at the front of `out`. Says how many octets it
-/// has.
+/// Writes a packet of the first slot that may send one to the start of `out`. Returns its length.
 #[inline(always)]
 fn packet_into(slots: &mut Slots, out: &mut [u8]) -> Option<usize>
     requires room { MAX_PACKET_OUT ≤ length out.old }
@@ -275,8 +264,8 @@ fn packet_into(slots: &mut Slots, out: &mut [u8]) -> Option<usize>
     slots.next_into(place, out)
 }
 
-/// Writes what goes out next at the front of `out`, a command by way of `packet`, and says how many
-/// octets it has. Nothing changes once all is out.
+/// Writes the next output to the start of `out` and returns its length; a command goes through
+/// `packet`. Returns `None` if there is no output.
 #[inline(always)]
 pub(crate) fn next_into(
     controller: &mut Controller,
@@ -301,7 +290,6 @@ pub(crate) fn next_into(
     packet_into(slots, out)
 }
 
-/// Copies octets to the front of `out`, and says how many they are.
 #[inline(always)]
 pub(crate) fn copy(octets: &[u8], out: &mut [u8]) -> usize
     requires { length octets.now ≤ length out.old }
@@ -312,7 +300,6 @@ pub(crate) fn copy(octets: &[u8], out: &mut [u8]) -> usize
     octets.len()
 }
 
-/// Whether a command is due, and the controller takes one.
 fn has_command(controller: &Controller, slots: &Slots) -> bool
     ensures { result ≡ is_some (command_next controller.now slots.now) }
 {
@@ -328,10 +315,10 @@ fn has_command(controller: &Controller, slots: &Slots) -> bool
     controller.is_to_advertise(slots.has_free())
 }
 
-/// Whether nothing is to go out.
+/// Returns true if there is no output now.
 pub fn is_drained(controller: &Controller, slots: &Slots) -> bool
     ensures drained { result ≡ is_drained controller.now slots.now }
-    // Then nothing is owed, and else something is.
+    // True: no output is pending. False: some is.
     ensures done { (final : State) (owed : List Octets)
         → IsOwing final owed controller.now slots.now
         → OnTrue result (IsAllSent final owed controller.now slots.now) }
@@ -341,8 +328,7 @@ pub fn is_drained(controller: &Controller, slots: &Slots) -> bool
     none_waits(controller, slots)
 }
 
-/// Whether no command is due that the controller takes, and no slot may give a packet. It stands apart
-/// for its proof.
+/// Implements `is_drained`. Separate function: keeps the proof small.
 fn none_waits(controller: &Controller, slots: &Slots) -> bool
     ensures { result ≡ is_drained controller.now slots.now }
 {
@@ -352,7 +338,7 @@ fn none_waits(controller: &Controller, slots: &Slots) -> bool
     !slots.gives()
 }
 
-/// Whether a command may be due: where it is not so, none is. It looks at no slot.
+/// Cheap check without the slots: false means that no command is pending.
 #[inline(always)]
 pub(crate) fn may_have_command(controller: &Controller, slots: &Slots) -> bool
     ensures { OnFalse result (command_next controller.now slots.now ≡ None) }
@@ -363,7 +349,7 @@ pub(crate) fn may_have_command(controller: &Controller, slots: &Slots) -> bool
     controller.is_to_advertise(slots.may_have_room())
 }
 
-/// Whether something may be to go out: where it is not so, nothing is. It looks at no slot.
+/// Cheap check without the slots: false means that there is no output.
 #[inline(always)]
 pub(crate) fn may_owe(controller: &Controller, slots: &Slots) -> bool
     ensures { OnFalse result (is_drained controller.now slots.now ≡ true) }
@@ -374,9 +360,7 @@ pub(crate) fn may_owe(controller: &Controller, slots: &Slots) -> bool
     slots.may_give()
 }
 
-/// Writes what goes out before the controller is initialised, where no slot has a connection: the
-/// command of initialisation. `false`, with nothing changed, where none is due or the controller takes
-/// none.
+/// Does the same as `next_out` before the controller is initialised: no slot has a connection.
 pub(crate) fn init_out(controller: &mut Controller, out: &mut PacketBuf) -> bool
     ensures some { result ≡ is_some (next_out controller.old []) }
     ensures octets { OnTrue result (next_out controller.old [] ≡ Some out.new) }
@@ -390,7 +374,6 @@ pub(crate) fn init_out(controller: &mut Controller, out: &mut PacketBuf) -> bool
     controller.init_command_out(out)
 }
 
-/// Whether nothing is to go out before the controller is initialised.
 pub(crate) fn is_init_drained(controller: &Controller) -> bool
     ensures { result ≡ is_drained controller.now [] }
 {

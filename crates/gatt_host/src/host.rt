@@ -1,5 +1,4 @@
-//! The host as its caller has it: what it holds, the stream from the controller, and the fault that
-//! stands, if one does.
+//! The host as its caller sees it.
 
 ghost use Rattle.std.specs.Prelude.{◌≡◌, ◌<◌, ◌≤◌, ◌∷◌, [], length, not, false, true, is_some, slice_get, ◌||◌, List, Some, None, Ok, Err, IsSome, IfOk, IfErr, IfSome, OnErr, take};
 ghost use Rattle.std.specs.Bool.{OnTrue, OnFalse};
@@ -24,36 +23,35 @@ ghost use Rattle.gatt_host.specs.StateRefinement.{rows_of};
 ghost use Rattle.gatt_host.specs.Promises.{KeepsConnectionsApart, KeepsThePolicy};
 ghost use Rattle.gatt_host.specs.HostModel.{all_out, is_own_fault, fault_outcome, Refines, RefinesRun, Takes};
 ghost use Rattle.gatt_host.specs.Telling.{notices_told, silent, TellsOf, TellsOfAll};
-ghost use Rattle.gatt_slots.specs.Slots.{slots_deadline};
+ghost use Rattle.host_connections.specs.Slots.{slots_deadline};
 ghost use Rattle.le_h4.specs.Division.{is_long};
 ghost use Rattle.le_h4.specs.Packet.{packet_of_ref};
-ghost use Rattle.octets.specs.Number.{Octets};
+ghost use Rattle.octet_io.specs.Number.{Octets};
 ghost use Rattle.le_h4.specs.declared.packet_buf.TheConstants.{MAX_PACKET_OUT};
 
 use crate::connections::Connections;
 use crate::frames::Frames;
 use crate::host_fault::HostFault;
 use crate::host_state::HostState;
-use crate::iter::Notices;
-use crate::{packet, taking};
+use crate::notice_iterator::Notices;
+use crate::{packet, stream_packets};
 use att_table::Table;
-use gatt_app::{App, AppFault, Connection, Notice};
 use gatt_subs::Rows;
+use host_api::{App, AppFault, Connection, Notice};
 use le_h4::{Deframer, MAX_ACL_DATA, PacketBuf, PacketOctets, PacketRef};
 use le_security::Keys;
-use octets::overwrite;
+use octet_io::overwrite;
 use std::marker::Model;
 
-/// The host half of a Bluetooth Low Energy peripheral: an ATT and GATT server over the octets of a
-/// controller. After it is opened it takes no memory.
+/// The host half of a Bluetooth Low Energy peripheral: an ATT and GATT server. It exchanges the
+/// packets of a controller as bytes. After `open` it allocates no memory.
 #[derive(Drop)]
 pub struct Host {
     pub(crate) state: HostState,
-    /// What is held of what comes on the connections of slots.
     pub(crate) frames: Frames,
     pub(crate) deframer: Deframer,
     pub(crate) fault: Option<HostFault>,
-    /// Room for a packet on its way out: what it holds between two calls means nothing.
+    /// Buffer for an outgoing packet. Its contents mean nothing between two calls.
     pub(crate) packet: PacketBuf,
 }
 
@@ -69,16 +67,17 @@ impl Model for Host {
       fault = h.fault;
     } };
 
-    // It is where some start and some input lead.
+    // Some start and some input lead to this host.
     ghost invariant = { λ h. IsReached
         (record { server = h.state; frames = h.frames; stream = h.deframer; fault = h.fault }) };
 }
 
 impl Host {
-    /// Whether all is out: nothing is to go to the controller now, or a fault stands.
+    /// Returns true if no packet may be sent to the controller now, or the host has stopped.
+    /// Packets beyond its quotas, and commands that it does not accept yet, may still be queued.
     pub fn drained(&self) -> bool
         ensures out { result ≡ all_out self.now }
-        // Then all that its input brings has gone out.
+        // Then all output of its input has been sent.
         ensures all { (start : Start) (input : List Item) (sent : List Octets)
             → RefinesRun (run start input) sent self.now → self.now.fault ≡ None
             → OnTrue result ((run start input).sent ≡ sent) }
@@ -86,8 +85,7 @@ impl Host {
         is_out(&self.state, self.fault)
     }
 
-    /// Whether something may be to go to the controller now: where it is not so, all is out. This looks
-    /// at no connection, and so may say so where nothing is.
+    /// Cheap check: false means that no packet is pending; true may be a false alarm.
     #[inline(always)]
     pub fn may_owe(&self) -> bool
         ensures { OnFalse result (all_out self.now ≡ true) }
@@ -95,15 +93,15 @@ impl Host {
         self.state.may_owe()
     }
 
-    /// Puts the next packet that is to go to the controller in place of what `out` holds, and takes in
-    /// that it is out; or answers false where all is out.
+    /// Replaces the contents of `out` with the next packet for the controller. The packet then
+    /// counts as sent. Returns false if `drained`.
     pub fn next_out(&mut self, out: &mut PacketOctets) -> bool
         ensures some { result ≡ not (all_out self.old) }
         ensures refines { OnTrue result (Refines [] (out.new.items ∷ []) self.old self.new) }
-        // Calls without anything else between them come to an end.
+        // A loop of these calls ends.
         ensures fewer { OnTrue result (most_out self.new.server < most_out self.old.server) }
         ensures no_fault { OnTrue result (self.new.fault ≡ None) }
-        // The notices of what was taken in last stay until the next is taken in.
+        // The notices stay until the next input.
         ensures notices { notices_told self.new ≡ notices_told self.old }
         ensures table { self.new.server.table ≡ self.old.server.table }
         ensures frames { self.new.frames ≡ self.old.frames }
@@ -116,8 +114,8 @@ impl Host {
         copy_next(&mut self.state, &mut self.packet, out)
     }
 
-    /// Puts the next packet that is to go to the controller at the front of `out`, and takes in that it is
-    /// out: says how many octets it has. None where all is out.
+    /// Writes the next packet for the controller to the start of `out`. The packet then counts as
+    /// sent. Returns its length, or `None` if `drained`. `out` has at least `MAX_PACKET_OUT` bytes.
     #[inline(always)]
     pub fn next_into(&mut self, out: &mut [u8]) -> Option<usize>
         requires room { MAX_PACKET_OUT ≤ length out.old }
@@ -125,10 +123,8 @@ impl Host {
         ensures refines { IfSome result
             (λ count. Refines [] (take count out.new ∷ []) self.old self.new) }
         ensures within { IfSome result (λ count. count ≤ length out.old) }
-        // Calls without anything else between them come to an end.
         ensures fewer { IsSome result → most_out self.new.server < most_out self.old.server }
         ensures no_fault { IsSome result → self.new.fault ≡ None }
-        // The notices of what was taken in last stay until the next is taken in.
         ensures notices { notices_told self.new ≡ notices_told self.old }
         ensures table { self.new.server.table ≡ self.old.server.table }
         ensures frames { self.new.frames ≡ self.old.frames }
@@ -141,22 +137,21 @@ impl Host {
         next_into(&mut self.state, &mut self.packet, out)
     }
 
-    /// Takes in one whole packet from the controller, once all is out. An ACL packet with more than
-    /// 1,024 octets of data is ignored. After a fault it answers that, and changes nothing.
+    /// Processes one whole packet from the controller. The host must be `drained`. An ACL packet
+    /// with more than 1,024 octets of data only clears the notices. After a fault it returns that
+    /// fault and changes nothing.
     pub fn packet(&mut self, packet: PacketRef<'_>) -> Result<(), HostFault>
         requires drained { all_out self.old ≡ true }
         ensures takes { self.old.fault ≡ None
             → Takes (APacket (packet_of_ref packet.entry)) self.old self.new }
         ensures told { TellsOf (APacket (packet_of_ref packet.entry)) self.old self.new }
-        // Which connections it counts as accepted and as heard, and when.
         ensures frames { self.old.fault ≡ None → self.new.frames
             ≡ frames_after_any self.old.server (packet_of_ref packet.entry) self.old.frames }
         ensures outcome { result ≡ fault_outcome self.new.fault }
-        // No reader and no writer has a part in it.
         ensures not_own { self.old.fault ≡ None
             → IfErr result (λ fault. is_own_fault fault ≡ false) }
         ensures stopped { IsSome self.old.fault → self.new ≡ self.old }
-        // And of all that is taken in, for every start and input:
+        // For every start and input:
         ensures policy { KeepsThePolicy }
         ensures apart { KeepsConnectionsApart }
     {
@@ -172,39 +167,36 @@ impl Host {
         taken
     }
 
-    /// Takes in octets of the stream from the controller, once all is out: up to the end of the next
-    /// packet, which is taken in with them, or all of them, where none ends in them. Says how many.
-    /// After a fault it answers that, and changes nothing.
+    /// Processes bytes of the controller's stream up to the end of the next packet. It processes
+    /// all of them if no packet ends in them. The host must be `drained`. Returns the number of
+    /// bytes used. After a fault it returns that fault and changes nothing.
     pub fn take(&mut self, octets: &[u8]) -> Result<usize, HostFault>
         requires drained { all_out self.old ≡ true }
         ensures takes { self.old.fault ≡ None
             → Refines (items_taken octets.now result) [] self.old self.new }
         ensures told { TellsOfAll (items_taken octets.now result) self.old self.new }
         ensures up_to { IfOk result (λ used. TakesUpToAPacket octets.now used self.old) }
-        // Which connections it counts as accepted and as heard, and when.
         ensures frames { IfOk result (λ used. self.new.frames
             ≡ frames_after_octets self.old.server self.old.stream (take used octets.now)
             self.old.frames) }
         ensures within { IfOk result (λ used. used ≤ length octets.now) }
         ensures some { IfOk result (λ used. 0 < length octets.now → 0 < used) }
         ensures outcome { result_err result ≡ self.new.fault }
-        // No reader and no writer has a part in it.
         ensures not_own { self.old.fault ≡ None
             → IfErr result (λ fault. is_own_fault fault ≡ false) }
         ensures server { OnErr result (self.new.server ≡ self.old.server) }
         ensures stopped { IsSome self.old.fault → self.new ≡ self.old }
-        // And of all that is taken in, for every start and input:
         ensures policy { KeepsThePolicy }
         ensures apart { KeepsConnectionsApart }
     {
         if let Some(fault) = self.fault {
             return Err(fault);
         }
-        taking::take(self, octets)
+        stream_packets::take(self, octets)
     }
 
-    /// Does what the application asks, once all is out; or refuses it, and changes nothing but that no
-    /// notice is there any more.
+    /// Executes a call of the application. The host must be `drained`. A refused call only clears
+    /// the notices.
     pub fn app(&mut self, call: App<'_>) -> Result<(), AppFault>
         requires drained { all_out self.old ≡ true }
         ensures takes { self.old.fault ≡ None
@@ -218,7 +210,6 @@ impl Host {
         ensures frames { self.new.frames ≡ self.old.frames }
         ensures fault { self.new.fault ≡ self.old.fault }
         ensures unchanged { OnErr result (self.new ≡ silent self.old) }
-        // And of all that is taken in, for every start and input:
         ensures policy { KeepsThePolicy }
         ensures apart { KeepsConnectionsApart }
     {
@@ -228,8 +219,8 @@ impl Host {
         self.state.app(call)
     }
 
-    /// Replaces the table, once all is out, and gives the old one back with its values as they are; or
-    /// gives the new one back with the fault, and changes nothing but that no notice is there any more.
+    /// Replaces the table and returns the old one with its values. The host must be `drained`. A
+    /// refusal returns the new table and the reason, and only clears the notices.
     pub fn replace(&mut self, table: Table) -> Result<Table, (AppFault, Table)>
         requires drained { all_out self.old ≡ true }
         ensures takes { self.old.fault ≡ None → Takes (ATable table) self.old self.new }
@@ -243,7 +234,6 @@ impl Host {
         ensures frames { self.new.frames ≡ self.old.frames }
         ensures fault { self.new.fault ≡ self.old.fault }
         ensures unchanged { OnErr result (self.new ≡ silent self.old) }
-        // And of all that is taken in, for every start and input:
         ensures policy { KeepsThePolicy }
         ensures apart { KeepsConnectionsApart }
     {
@@ -253,13 +243,13 @@ impl Host {
         self.state.replace_table(table)
     }
 
-    /// What the application is told of what was taken in last: a packet, a call, a table, or octets up
-    /// to the end of a packet. Nothing where a fault stands.
+    /// Returns the notices of the last input. An input is a packet, a call, a table, or bytes up to
+    /// the end of a packet. After a fault there are none.
     #[tactic(auto, using(crate::proofs::Promises::tells_the_application))]
     pub fn notices(&self) -> Notices<'_>
         ensures told { result.notices ≡ notices_told self.now }
         ensures table { result.table ≡ self.now.server.table }
-        // And of all that is told, for every start and input:
+        // For every start and input:
         ensures laws { TellsTheApplication }
     {
         Notices {
@@ -268,7 +258,7 @@ impl Host {
         }
     }
 
-    /// The notice at a place, counted from 0, if there are so many.
+    /// Returns the notice at this index, counted from 0, if it exists.
     pub(crate) fn notice(&self, at: usize) -> Option<Notice<'_>>
         ensures notice { option_map notice_of result ≡ slice_get (notices_told self.now) at }
         ensures value { IfSome result (HasTheValue self.now.server.table) }
@@ -280,11 +270,11 @@ impl Host {
         self.state.notice(at)
     }
 
-    /// What each peer has configured, and who is owed that the table has changed.
+    /// Returns what each peer with a key has configured, and which peers must get Service Changed.
     #[tactic(auto, using(crate::proofs::model::Rows::rows_where))]
     pub fn rows(&self) -> &Rows
         ensures server { result.now ≡ self.now.server.rows }
-        // As a list: the bond of each peer of the keys, and nothing else.
+        // As a list: exactly one bond for each peer that has a key.
         ensures run { (start : Start) (input : List Item) (sent : List Octets)
             → RefinesRun (run start input) sent self.now
             → result.now ≡ rows_of (run start input).intake.state }
@@ -292,7 +282,7 @@ impl Host {
         &self.state.rows
     }
 
-    /// The table that stands, with its values.
+    /// Returns the current table with its values.
     pub fn table(&self) -> &Table
         ensures server { result.now ≡ self.now.server.table }
         ensures run { (start : Start) (input : List Item) (sent : List Octets)
@@ -302,26 +292,27 @@ impl Host {
         &self.state.table
     }
 
-    /// Returns the earliest time, in milliseconds, at which an indication that is not confirmed is late
-    /// or the authorization of a connection that serves ends; `None` if there is neither.
+    /// Returns the time, in milliseconds, before which the host needs no tick. It is the earliest
+    /// time at which an unconfirmed indication is late or the authorization of a serving connection
+    /// ends. `None` means neither.
     ///
-    /// A caller needs no tick before that time. Until then a tick causes no notice and no packet of its
-    /// own, and each request is answered as without it.
+    /// An earlier tick causes no notice, and only the packets that the event `Nothing` would. Each
+    /// request is answered as without it.
     #[tactic(auto, using(crate::proofs::model::Deadlines::tells_from_the_deadline))]
     pub fn deadline(&self) -> Option<u64>
         ensures server { result ≡ slots_deadline self.now.server.time self.now.server.slots }
         ensures run { (start : Start) (input : List Item) (sent : List Octets)
             → RefinesRun (run start input) sent self.now
             → result ≡ deadline (run start input).intake.state }
-        // And of every state, for every time:
+        // For every state and time:
         ensures told { TellsFromTheDeadlineOn }
         ensures quiet { IsQuietBeforeTheDeadline }
     {
         self.state.slots.deadline(self.state.time)
     }
 
-    /// Returns whether the controller is initialised: it has answered each command of the initialisation,
-    /// from Reset on, and may have connections.
+    /// Returns true if the controller is initialised and may have connections. It has then answered
+    /// each command from Reset on.
     #[tactic(auto, using(crate::proofs::model::Initialised::initialised_where))]
     pub fn is_initialised(&self) -> bool
         ensures server { result ≡ is_ready self.now.server.controller }
@@ -332,10 +323,10 @@ impl Host {
         self.state.controller.is_ready()
     }
 
-    /// Who is connected: each connection that is there, in the order of the slots.
+    /// Returns the connections, in slot order.
     pub fn connections(&self) -> Connections<'_>
         ensures server { result ≡ connections_in self.now }
-        // In a run, but for when each was last heard.
+        // The run determines all except the time of each one's last packet.
         ensures run { (start : Start) (input : List Item) (sent : List Octets)
             → RefinesRun (run start input) sent self.now
             → result ≡ connections_of self.now.frames.arrivals.heard
@@ -348,7 +339,7 @@ impl Host {
         }
     }
 
-    /// The connection with a handle, if one is there.
+    /// Returns the connection with this handle, if there is one.
     pub fn connection(&self, handle: u16) -> Option<Connection>
         ensures server { result ≡ connection_with handle (connections_in self.now) }
         ensures run { (start : Start) (input : List Item) (sent : List Octets)
@@ -364,7 +355,7 @@ impl Host {
         None
     }
 
-    /// The table with its values, the keys and the rows, to go on with: also after a fault.
+    /// Returns the table with its values, the keys and the rows, even after a fault.
     pub fn into_parts(self) -> (Table, Keys, Rows)
         ensures table { result.0 ≡ self.server.table }
         ensures keys { result.1 ≡ self.server.keys }
@@ -380,8 +371,6 @@ impl Host {
     }
 }
 
-/// Puts the next packet that is to go out in place of what `out` holds, by way of `packet`, and takes in
-/// that it is out: `false`, with nothing changed, where there is none.
 fn copy_next(state: &mut HostState, packet: &mut PacketBuf, out: &mut PacketOctets) -> bool
     ensures some { result ≡ is_some (next_packet_out state.old) }
     ensures octets { OnTrue result (next_packet_out state.old ≡ Some out.new.items) }
@@ -396,8 +385,6 @@ fn copy_next(state: &mut HostState, packet: &mut PacketBuf, out: &mut PacketOcte
     true
 }
 
-/// Puts the next packet that is to go out at the front of `out`, a command by way of `packet`, and takes
-/// in that it is out. Says how many octets it has.
 #[inline(always)]
 fn next_into(state: &mut HostState, packet: &mut PacketBuf, out: &mut [u8]) -> Option<usize>
     requires room { MAX_PACKET_OUT ≤ length out.old }
@@ -412,7 +399,6 @@ fn next_into(state: &mut HostState, packet: &mut PacketBuf, out: &mut [u8]) -> O
     state.next_into(packet, out)
 }
 
-/// Whether it is an ACL packet with more data than the largest that is kept.
 fn is_long(packet: &PacketRef<'_>) -> bool
     ensures { result ≡ is_long (packet_of_ref packet.now) }
 {
@@ -422,7 +408,6 @@ fn is_long(packet: &PacketRef<'_>) -> bool
     }
 }
 
-/// Whether nothing is to go to the controller, or a fault stands. It stands apart for its proof.
 fn is_out(state: &HostState, fault: Option<HostFault>) -> bool
     ensures { result ≡ (is_some fault || is_drained state.now.controller (open_slots state.now)) }
 {

@@ -5,27 +5,27 @@ use le_hci::InitFault;
 use std::error::Error;
 use std::fmt;
 
-/// Why a host stops for good, or why it could not go on serving.
+/// The reason why a host stopped, for good.
 #[derive(Clone, Copy, Debug, PartialEq, Eq)]
 pub enum HostFault {
-    /// This octet stands where a packet begins, and begins none.
+    /// This octet is not a packet indicator, at the start of a packet.
     Desync(u8),
     /// The event with this code is too short for its fields, or has another length than it states.
     BadEvent(u8),
     /// The controller could not be initialised.
     Init(InitFault),
-    /// The controller reports an error of its own, with this code.
+    /// The controller reports a hardware error with this code.
     Hardware(u8),
-    /// Octets could not be read.
+    /// The reader failed.
     Read,
-    /// Octets could not be written.
+    /// The writer failed.
     Write,
-    /// As many turns are over as there may be.
+    /// The maximum number of turns was reached.
     Turns,
 }
 
 impl HostFault {
-    /// The number of the fault, 1 to 7, in the order of the variants.
+    /// Returns the number of the fault, 1 to 7, in the order of the variants.
     pub fn number(self) -> u8
         ensures { result ≡ number_of_fault self }
     {

@@ -6,8 +6,8 @@ ghost use Rattle.att_writes.specs.declared.queue.TheConstants.{MAX_PREPARED};
 ghost use Rattle.gatt_host.specs.ServerState.{server_after_event, after_ask_key, after_authorize, server_after_packets_completed, after_disconnect, after_disconnection_complete, after_link, after_no_change, after_replacing, server_after_other_channel, server_after_tick, after_update, server_slot_at, with_last, without_notices, ServesRequest};
 ghost use Rattle.gatt_host.specs.Meaning.{IsOfItsTable};
 ghost use Rattle.gatt_laws.specs.machine.Packets.{entries_of_connections};
-ghost use Rattle.gatt_slots.specs.Slots.{place_holding};
-ghost use Rattle.gatt_slots.specs.OfTable.{AreOfTableIfAny};
+ghost use Rattle.host_connections.specs.Slots.{place_holding};
+ghost use Rattle.host_connections.specs.OfTable.{AreOfTableIfAny};
 ghost use Rattle.le_hci.specs.Event.{completed_packets_of};
 ghost use Rattle.le_security.specs.Link.{Encryption, Refresh};
 
@@ -18,35 +18,34 @@ use att_policy::KeyFacts;
 use att_table::Table;
 use gatt_conn::Touched;
 use gatt_laws::MAX_SLOTS;
-use gatt_slots::{Moment, Skips, Slots};
 use gatt_subs::Rows;
+use host_connections::{Moment, Skips, Slots};
 use le_hci::reason::REMOTE_USER_TERMINATED;
 use le_security::Keys;
 use std::marker::Model;
 use std::mem;
 
-/// All that a host holds: what its connections share, and each of them in its slot.
+/// Everything that a host stores: what its connections share, and the slots.
 #[derive(Drop)]
 pub(crate) struct HostState {
     pub(crate) table: Table,
-    /// The handle of the table's changer.
+    /// Handle of the Service Changed value.
     pub(crate) changer: Option<u16>,
     pub(crate) keys: Keys,
     pub(crate) rows: Rows,
-    /// The largest PDU that the host receives.
+    /// Largest ATT PDU that the host receives.
     pub(crate) rx_mtu: u16,
     /// In milliseconds.
     pub(crate) time: u64,
     pub(crate) controller: Controller,
-    /// As many as connections may come to have.
+    /// One for each possible connection.
     pub(crate) slots: Slots,
-    /// What the application is told of the last event.
     pub(crate) last: LastEvent,
-    /// The handles that the last request wrote, each once, in the order of their first writes.
+    /// Handles that the last request wrote, each once, in the order of the first writes.
     pub(crate) written: Touched,
-    /// The handles of the connections that the last time told has timed out.
+    /// Connections that the last tick timed out.
     pub(crate) late: ArrayVec<u16, MAX_SLOTS>,
-    /// The values that the last event notified and that were skipped, for each connection.
+    /// Notifications that the last event skipped, for each connection.
     pub(crate) skipped: Skips,
 }
 
@@ -75,9 +74,9 @@ impl Model for HostState {
     ghost invariant = { λ h. (MIN_MTU ≤ h.rx_mtu) × (h.rx_mtu ≤ MAX_MTU) };
 }
 
-// Each event: what it changes, and then what is heard.
+// Each event first changes the state and then notifies the connections.
 impl HostState {
-    /// Nothing is told any more of the last event.
+    /// Clears the notices.
     pub(crate) fn forget(&mut self)
         ensures { self.new ≡ without_notices self.old }
     {
@@ -85,8 +84,7 @@ impl HostState {
         self.skipped.clear();
     }
 
-    /// Ends an event that notifies nothing: what waits may be indicated. This is what the application is
-    /// told of it.
+    /// Ends an event that changes no value: pending indications may now be sent.
     pub(crate) fn end_event(&mut self, last: LastEvent)
         ensures { self.new ≡ with_last last (after_no_change self.old) }
     {
@@ -94,9 +92,8 @@ impl HostState {
         self.last = last;
     }
 
-    /// Ends an event: the connections hear of the values that it notified to them, that of the slot
-    /// `own` of those of `here` and the others of `handles`, and of what is then due. Nothing is told of
-    /// it as yet.
+    /// Ends an event: notifies the connection in slot `own` of the values `here` and the others of
+    /// `handles`, and sends pending indications. Sets no notice yet.
     #[inline(always)]
     fn hear(&mut self, own: Option<usize>, here: &[u16], handles: &[u16])
         requires here { AreOfTableIfAny here.now self.old.table.attributes self.old.rows
@@ -117,7 +114,7 @@ impl HostState {
         self.last = LastEvent::Quiet;
     }
 
-    /// Time goes by, in milliseconds.
+    /// Sets the time, in milliseconds, and times out connections.
     pub(crate) fn tick(&mut self, now: u64)
         ensures { self.new ≡ server_after_tick now self.old }
     {
@@ -126,7 +123,6 @@ impl HostState {
         self.end_event(LastEvent::Ticked);
     }
 
-    /// The application writes a value.
     pub(crate) fn update(&mut self, handle: u16, value: &[u8])
         requires exists { IsSome (attribute_at self.old.table.attributes handle) }
         requires fits { length value.now ≤ room_at self.old.table handle }
@@ -139,8 +135,7 @@ impl HostState {
         self.hear(None, &[], &[handle]);
     }
 
-    /// The application authorizes the connection of a slot up to a moment.
-    #[tactic(auto, using(gatt_slots::proofs::AtPlace::lent_at))]
+    #[tactic(auto, using(host_connections::proofs::AtPlace::lent_at))]
     pub(crate) fn authorize(&mut self, place: usize, until: u64)
         requires { place < length self.old.slots }
         ensures { self.new ≡ after_authorize place until self.old }
@@ -149,8 +144,7 @@ impl HostState {
         self.end_event(LastEvent::Quiet);
     }
 
-    /// The application ends the connection of a slot.
-    #[tactic(auto, using(gatt_slots::proofs::AtPlace::lent_at))]
+    #[tactic(auto, using(host_connections::proofs::AtPlace::lent_at))]
     pub(crate) fn disconnect(&mut self, place: usize)
         requires place { place < length self.old.slots }
         requires there { IsSome (server_slot_at self.old place) }
@@ -165,7 +159,6 @@ impl HostState {
         });
     }
 
-    /// The controller asks for the key of the connection of a slot.
     pub(crate) fn ask_key(&mut self, place: usize, random_number: [u8; 8], diversifier: u16)
         requires { place < length self.old.slots }
         ensures { self.new ≡ after_ask_key place random_number diversifier self.old }
@@ -175,7 +168,7 @@ impl HostState {
         self.end_event(LastEvent::Quiet);
     }
 
-    /// A payload comes on a channel that is not that of the Attribute Protocol.
+    /// Handles a payload on a channel other than that of ATT.
     pub(crate) fn other_channel(&mut self, place: usize, channel: u16, payload: &[u8])
         requires place { place < length self.old.slots }
         requires there { IsSome (server_slot_at self.old place) }
@@ -186,9 +179,8 @@ impl HostState {
         self.end_event(ended_if(ended, handle));
     }
 
-    /// Packets are completed.
     #[inline(always)]
-    #[tactic(auto, using(gatt_slots::proofs::states::Found::entries_at_places))]
+    #[tactic(auto, using(host_connections::proofs::states::Found::entries_at_places))]
     pub(crate) fn packets_completed(&mut self, entries: &[[u8; 4]])
         ensures { self.new ≡ server_after_packets_completed (entries_of_connections
             (place_holding self.old.slots) (map completed_packets_of entries.now)) self.old }
@@ -197,7 +189,6 @@ impl HostState {
         self.end_event(LastEvent::Quiet);
     }
 
-    /// A connection goes.
     pub(crate) fn disconnected(&mut self, place: usize)
         requires place { place < length self.old.slots }
         requires there { IsSome (server_slot_at self.old place) }
@@ -209,7 +200,6 @@ impl HostState {
         self.end_event(LastEvent::Disconnected { handle });
     }
 
-    /// A PDU of the Attribute Protocol comes from the connection of a slot.
     #[inline(always)]
     pub(crate) fn ask(&mut self, place: usize, pdu: &[u8])
         requires place { place < length self.old.slots }
@@ -247,7 +237,6 @@ impl HostState {
         );
     }
 
-    /// Encryption of the link of the connection of a slot was changed, or could not be.
     pub(crate) fn encrypt(&mut self, place: usize, status: u8, enabled: u8)
         requires place { place < length self.old.slots }
         requires there { IsSome (server_slot_at self.old place) }
@@ -261,7 +250,6 @@ impl HostState {
         self.hear_link(place, before, gained && owed);
     }
 
-    /// The key of the link of the connection of a slot was refreshed, or could not be.
     pub(crate) fn refresh(&mut self, place: usize, status: u8)
         requires place { place < length self.old.slots }
         requires there { IsSome (server_slot_at self.old place) }
@@ -275,8 +263,7 @@ impl HostState {
         self.hear_link(place, before, gained && owed);
     }
 
-    /// Ends an event that changed the link of the connection of a slot, whose key was worth this
-    /// before.
+    /// Ends an event that changed a link. `before` describes its key before the event.
     fn hear_link(&mut self, place: usize, before: Option<KeyFacts>, due: bool)
         requires place { place < length self.old.slots }
         requires there { IsSome (server_slot_at self.old place) }
@@ -301,8 +288,7 @@ impl HostState {
         );
     }
 
-    /// Ends an event: the connection of a slot hears that the table was replaced, if it is to, and all
-    /// of what is then due.
+    /// Ends an event. If `due`, sends Service Changed to the slot's connection.
     fn hear_changes(&mut self, place: usize, due: bool, last: LastEvent)
         requires of_table { IsOfItsTable self.old }
         ensures { self.new ≡ with_last last (server_after_event (Some place)
@@ -315,7 +301,7 @@ impl HostState {
         self.last = last;
     }
 
-    /// A table replaces the one that stands, which is given back.
+    /// Replaces the table, announces that, and returns the old table.
     pub(crate) fn replace(&mut self, table: Table) -> Table
         ensures given { result ≡ self.old.table }
         ensures after { self.new ≡ after_replacing table self.old }
@@ -336,7 +322,7 @@ impl HostState {
     }
 }
 
-/// What is told of a connection that has no room for an answer, where that is so.
+/// Returns the event of a connection that ends because an answer finds no space.
 fn ended_if(ended: bool, handle: u16) -> LastEvent
     ensures { result
         ≡ (if ended then LastEvent.Ended handle REMOTE_USER_TERMINATED else LastEvent.Quiet) }
@@ -351,6 +337,5 @@ fn ended_if(ended: bool, handle: u16) -> LastEvent
     }
 }
 
-/// The value of a changer where all attributes have changed, from the first handle to the last: Core
-/// 5.0, Vol 3 Part G, 7.1.
+/// Service Changed value for the whole handle range (Core 5.0, Vol 3 Part G, 7.1).
 const ALL_CHANGED: [u8; 4] = [0x01, 0x00, 0xFF, 0xFF];

@@ -1,41 +1,38 @@
-//! The last event, as far as the application is told of it.
+//! The last event, as the source of the notices.
 
 use att_policy::KeyFacts;
-use gatt_slots::Brought;
+use host_connections::Brought;
 use le_hci::Peer;
 
-/// What the last event did to a connection, as far as the application is told of it: the notices are
-/// read from this when they are asked for.
+/// The last event. The notices are computed from it on demand.
 #[derive(Clone, Copy)]
 pub(crate) enum LastEvent {
-    /// Nothing is told.
+    /// No notice.
     Quiet,
-    /// A connection has come.
     Connected {
         handle: u16,
         peer: Peer,
     },
-    /// A connection is gone.
     Disconnected {
         handle: u16,
     },
-    /// The key of a link was worth this before, and is worth that now.
+    /// The key of a link changed from `before` to `after`.
     LinkChanged {
         handle: u16,
         before: Option<KeyFacts>,
         after: Option<KeyFacts>,
     },
-    /// The connection of a slot was served a PDU. The handles that it wrote stand beside it.
+    /// A connection was served a PDU. `HostState::written` has the handles that it wrote.
     Served {
         place: usize,
         handle: u16,
         brought: Brought,
     },
-    /// A connection is ended for a reason.
+    /// The host ends a connection for a reason.
     Ended {
         handle: u16,
         reason: u8,
     },
-    /// The time was told. The handles of the connections that it timed out stand beside it.
+    /// The time was set. `HostState::late` has the connections that timed out.
     Ticked,
 }

@@ -8,18 +8,18 @@ ghost use Rattle.gatt_host.specs.Notices.{received_from};
 ghost use Rattle.gatt_host.specs.Telling.{received_told};
 
 use crate::host::Host;
-use gatt_app::Notice;
+use host_api::Notice;
 
 /// Receives the notices of a host, one after another.
 pub trait Listener {
-    /// The notices that it has received so far, with their octets, if they are known.
+    /// Notices received so far, with their values, if they are known.
     ghost heard: { Self → Option (List Received) } = { λ listener. None };
 
     /// Receives one more notice.
     fn hear(&mut self, notice: Notice<'_>)
         ensures heard { Hears (received_from notice.entry ∷ []) (heard self.old) (heard self.new) };
 
-    /// Returns whether it receives notices; one that does not is given none.
+    /// Returns true if it receives notices; `hear` is not called otherwise.
     #[inline(always)]
     fn listens(&self) -> bool
         ensures deaf { OnFalse result (heard self.now ≡ None) }
@@ -41,7 +41,7 @@ impl Listener for Nobody {
     }
 }
 
-/// Delivers to a listener the notices of what a host took in last, each with its octets.
+/// Delivers the notices of the last input to a listener, with their values.
 #[inline(always)]
 pub fn deliver_notices<L: Listener>(host: &Host, listener: &mut L)
     ensures hears { Hears (received_told host.now) (L.heard listener.old) (L.heard listener.new) }
@@ -51,7 +51,6 @@ pub fn deliver_notices<L: Listener>(host: &Host, listener: &mut L)
     }
 }
 
-/// Delivers each notice to a listener that receives any.
 fn deliver_each<L: Listener>(host: &Host, listener: &mut L)
     ensures hears { Hears (received_told host.now) (L.heard listener.old) (L.heard listener.new) }
 {

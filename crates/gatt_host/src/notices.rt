@@ -1,4 +1,4 @@
-//! The notices of the last event, read from what is held.
+//! The notices of the last event, computed from the host state.
 
 ghost use Rattle.std.specs.Prelude.{◌≡◌, ℕ, ◌<◌, ◌≤◌, ◌==◌, [], ◌∷◌, ◌++◌, length, map, if◌then◌else◌, slice_get, is_some, IfSome, IsSome, Some, None};
 ghost use Rattle.std.specs.Option.{option_map, option_to_list};
@@ -13,13 +13,13 @@ use crate::host_state::HostState;
 use crate::last_event::LastEvent;
 use att_policy::KeyFacts;
 use att_table::{Role, Table};
-use gatt_app::Notice;
-use gatt_slots::Brought;
+use host_api::Notice;
+use host_connections::Brought;
 use le_hci::reason::{AUTHENTICATION_FAILURE, REMOTE_USER_TERMINATED};
 
 impl HostState {
-    /// Returns the notice at a place among those of the last event, counted from 0, if there are so many:
-    /// first what happened, and then the values that were skipped.
+    /// Returns the notice at this index, counted from 0: first those of the event, then those of
+    /// skipped values.
     pub(crate) fn notice(&self, at: usize) -> Option<Notice<'_>>
         ensures notice { option_map notice_of result ≡ slice_get (last_notices self.now) at }
         ensures value { IfSome result (HasTheValue self.now.table) }
@@ -31,7 +31,6 @@ impl HostState {
         }
     }
 
-    /// Returns the notice at a place among the values that were skipped.
     fn skip_notice(&self, at: usize) -> Option<Notice<'_>>
         ensures notice { option_map notice_of result
             ≡ slice_get (map skip_told self.now.skipped) at }
@@ -48,7 +47,6 @@ impl HostState {
         }
     }
 
-    /// Returns how many notices tell what happened.
     fn event_count(&self) -> usize
         ensures count { result ≡ length (notices_by self.now self.now.last) }
         ensures few { result ≤ 34 }
@@ -64,7 +62,7 @@ impl HostState {
         }
     }
 
-    /// Returns the notice at a place among those that tell what happened.
+    /// Returns the notice of the event itself at this index.
     fn event_notice(&self, at: usize) -> Option<Notice<'_>>
         ensures notice { option_map notice_of result
             ≡ slice_get (notices_by self.now self.now.last) at }
@@ -90,7 +88,6 @@ impl HostState {
         }
     }
 
-    /// Of the connections that were timed out.
     fn late_notice(&self, at: usize) -> Option<Notice<'_>>
         ensures notice { option_map notice_of result ≡ slice_get (map TimedOut self.now.late) at }
         ensures value { IfSome result (HasTheValue self.now.table) }
@@ -103,7 +100,7 @@ impl HostState {
         }
     }
 
-    /// Of a connection that was served: first what it wrote.
+    /// Returns the notice of a served connection at this index: its writes first.
     fn served_notice(
         &self,
         at: usize,
@@ -123,7 +120,6 @@ impl HostState {
         }
     }
 
-    /// What it wrote at a handle.
     fn write_notice(&self, place: usize, handle: u16, attribute: u16) -> Notice<'_>
         ensures notice { notice_of result
             ≡ write_told self.now.table.attributes (row_at_place self.now place) handle
@@ -145,7 +141,6 @@ impl HostState {
     }
 }
 
-/// Returns the value at a handle, or no octets if there is no attribute.
 fn value_at(table: &Table, handle: u16) -> &[u8]
     ensures { result.now ≡ (if is_some (attribute_at table.now.attributes handle)
         then value_at table.now.values handle else []) }
@@ -156,7 +151,6 @@ fn value_at(table: &Table, handle: u16) -> &[u8]
     }
 }
 
-/// Of one notice the one at a place.
 fn only(at: usize, notice: Notice<'_>) -> Option<Notice<'_>>
     ensures notice { result ≡ (if at == 0 then Some notice.entry else None) }
     ensures few { IsSome result → at < 1 }
@@ -164,7 +158,6 @@ fn only(at: usize, notice: Notice<'_>) -> Option<Notice<'_>>
     if at == 0 { Some(notice) } else { None }
 }
 
-/// Of a link whose key was worth this before, and is worth that now.
 fn link_notice(
     at: usize,
     handle: u16,
@@ -196,7 +189,6 @@ fn link_notice(
     }
 }
 
-/// Returns how many notices tell that the key of a link was worth this before, and is worth that now.
 fn link_count(before: Option<KeyFacts>, after: Option<KeyFacts>) -> usize
     ensures count { (handle : ℕ) → result ≡ length (link_change_told handle before after) }
     ensures few { result ≤ 2 }
@@ -209,7 +201,6 @@ fn link_count(before: Option<KeyFacts>, after: Option<KeyFacts>) -> usize
     }
 }
 
-/// Returns how many notices tell what a request brought.
 fn brought_count(brought: Brought) -> usize
     ensures count { (handle : ℕ) → result
         ≡ length (map (Confirmed handle) (option_to_list brought.confirmed)
@@ -219,7 +210,7 @@ fn brought_count(brought: Brought) -> usize
     usize::from(brought.confirmed.is_some()) + usize::from(brought.ended)
 }
 
-/// What a request brought, beside what it wrote.
+/// Returns the notice at this index of a request's effects, except its writes.
 fn brought_notice(at: usize, handle: u16, brought: Brought) -> Option<Notice<'static>>
     ensures notice { option_map notice_of result
         ≡ slice_get (map (Confirmed handle) (option_to_list brought.confirmed)

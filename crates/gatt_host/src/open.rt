@@ -1,4 +1,4 @@
-//! A host is opened, and all its room is made.
+//! Opens a host and allocates all its memory.
 
 ghost use Rattle.std.specs.Prelude.{◌≡◌, ◌↔◌, [], false, true, replicate, None, Err, IfOk, IsOk};
 ghost use Rattle.std.specs.Option.{option_map_or};
@@ -19,19 +19,19 @@ use arrayvec::ArrayVec;
 use att_pdu::{MAX_MTU, MIN_MTU};
 use att_table::Table;
 use gatt_laws::MAX_SLOTS;
-use gatt_slots::Slots;
 use gatt_subs::Rows;
+use host_connections::Slots;
 use le_h4::{Deframer, PacketBuf};
 use le_security::Keys;
 use std::alloc::Global;
 
-/// The two most significant bits of a static random address, in its last octet: Core 5.0, Vol 6 Part
-/// B, 1.3.2.1.
+/// The two most significant bits of a static random address, in its last octet (Core 5.0, Vol 6
+/// Part B, 1.3.2.1).
 const STATIC: u8 = 0xC0;
 
 impl Host {
-    /// A host that serves a table to peers with these keys. Of what the rows have, it keeps what fits
-    /// the keys and the table. It owes the controller the first command.
+    /// Opens a host that serves a table to peers with these keys. It retains the rows that fit the
+    /// keys and the table. The first command for the controller is then pending.
     #[tactic(auto, using(crate::proofs::Promises::keeps_its_promise))]
     pub fn open(
         alloc: Global,
@@ -44,9 +44,9 @@ impl Host {
         ensures opened { IfOk result
             (λ host. RefinesRun (run (start_of table keys rows config) []) [] host) }
         ensures no_fault { IfOk result (λ host. host.fault ≡ None) }
-        // What goes out from then on is what is due, whatever is taken in.
+        // From then on it sends what is due, for any input.
         ensures runs { IfOk result (GivesWhatIsDue (start_of table keys rows config)) }
-        // And of all that it takes in from then on, for every start and input:
+        // For every start and input:
         ensures promise { Promise }
     {
         let mut rows = rows;
@@ -64,7 +64,7 @@ impl Host {
     }
 }
 
-/// Judges the configuration, keeps of the rows what fits the keys and the table, and makes the slots.
+/// Checks the configuration, drops rows that do not fit, and allocates the slots.
 fn free_slots(
     alloc: Global,
     table: &Table,
@@ -90,7 +90,6 @@ fn free_slots(
     }
 }
 
-/// What a host holds at first.
 fn held_at_first(table: Table, keys: Keys, rows: Rows, slots: Slots, config: Config) -> HostState
     requires { is_configured config ≡ true }
     ensures { result ≡ held_at_first table keys rows slots config }
@@ -111,7 +110,6 @@ fn held_at_first(table: Table, keys: Keys, rows: Rows, slots: Slots, config: Con
     }
 }
 
-/// Whether a host may be opened so.
 fn is_configured(config: &Config) -> bool
     ensures { result ≡ is_configured config.now }
 {
@@ -120,7 +118,7 @@ fn is_configured(config: &Config) -> bool
         && may_be_used(config.address)
 }
 
-/// Whether a random address is static, if there is one.
+/// Returns true if the address is static or absent.
 fn may_be_used(address: Option<[u8; 6]>) -> bool
     ensures { result ≡ option_map_or is_static address true }
 {

@@ -1,4 +1,4 @@
-//! Packets from the controller, as what happens to a host.
+//! Packets from the controller as events of the host state.
 
 ghost use Rattle.std.specs.Bool.{OnTrue};
 ghost use Rattle.std.specs.Prelude.{◌≡◌, ◌<◌, false, true, length, IsSome, IsOk, IfErr, Ok, Some, OnErr};
@@ -12,7 +12,7 @@ ghost use Rattle.gatt_host.specs.Meaning.{recombination, once_heard, with_fragme
 ghost use Rattle.le_h4.specs.Packet.{packet_of_ref};
 ghost use Rattle.gatt_host.specs.Packet.{acl_happening, packet_stop, TakesPacket, event_stop, fragment_left, frame_given, frames_after_acl, frames_after_event, frames_after_packet, TakesEvent};
 ghost use Rattle.gatt_host.specs.Telling.{TellsOfPacket};
-ghost use Rattle.gatt_slots.specs.Slots.{IsThere};
+ghost use Rattle.host_connections.specs.Slots.{IsThere};
 ghost use Rattle.le_acl.specs.Fragment.{fragment_of, Beginning};
 ghost use Rattle.le_acl.specs.Frame.{is_frame};
 ghost use Rattle.le_acl.specs.Reassembler.{assembled_of, no_assembly};
@@ -32,7 +32,6 @@ use le_l2cap::channel::{ATT, LE_SIGNALLING, SECURITY_MANAGER};
 use le_l2cap::{Frame, Skip, read_frame};
 
 impl HostState {
-    /// Takes in an event: its code and what follows.
     pub(crate) fn event(&mut self, frames: &mut Frames, octets: &[u8]) -> Result<(), HostFault>
         requires of_table { IsOfItsTable self.old }
         ensures taken { IsOk result → TakesEvent (event_of octets.now) self.old self.new }
@@ -43,15 +42,14 @@ impl HostState {
         ensures unchanged { OnErr result (self.new ≡ self.old) }
         ensures frames_unchanged { OnErr result (frames.new ≡ frames.old) }
     {
-        // The event that follows each packet has a copy of its own, in which no other is asked for.
+        // `take_event` is inlined here for the most frequent event, without tests for others.
         match octets.first() {
             Some(&NUMBER_OF_COMPLETED_PACKETS) => self.take_event(frames, octets),
             _ => self.take_other_event(frames, octets),
         }
     }
 
-    /// Takes in an event that tells of no completed packets. Most of them are of a kind that tells a host
-    /// nothing.
+    /// Handles an event other than Number Of Completed Packets. A host ignores most kinds.
     #[inline(never)]
     fn take_other_event(&mut self, frames: &mut Frames, octets: &[u8]) -> Result<(), HostFault>
         requires of_table { IsOfItsTable self.old }
@@ -69,7 +67,6 @@ impl HostState {
         self.take_rare_event(frames, octets)
     }
 
-    /// Takes in an event of a kind that is rare.
     #[inline(never)]
     fn take_rare_event(&mut self, frames: &mut Frames, octets: &[u8]) -> Result<(), HostFault>
         requires of_table { IsOfItsTable self.old }
@@ -81,7 +78,7 @@ impl HostState {
         ensures unchanged { OnErr result (self.new ≡ self.old) }
         ensures frames_unchanged { OnErr result (frames.new ≡ frames.old) }
     {
-        // Each arm is a copy for one kind, in which no other is asked for.
+        // Each arm inlines `take_event` for one kind, without tests for others.
         match octets.first() {
             Some(&event_code::COMMAND_COMPLETE) => self.take_event(frames, octets),
             Some(&event_code::LE_META) => self.take_event(frames, octets),
@@ -91,7 +88,6 @@ impl HostState {
         }
     }
 
-    /// Takes in an event of any kind.
     #[inline(always)]
     fn take_event(&mut self, frames: &mut Frames, octets: &[u8]) -> Result<(), HostFault>
         requires of_table { IsOfItsTable self.old }
@@ -109,7 +105,6 @@ impl HostState {
         }
     }
 
-    /// Takes in an event that has the form of its kind.
     #[inline(always)]
     fn take_reported(&mut self, frames: &mut Frames, event: &Event<'_>) -> Result<(), HostFault>
         requires of_table { IsOfItsTable self.old }
@@ -140,7 +135,6 @@ impl HostState {
         }
     }
 
-    /// Hears a frame that is whole, of the connection of a slot.
     #[inline(always)]
     fn frame(&mut self, place: usize, octets: &[u8])
         requires there { IsThere self.old.slots place }
@@ -151,7 +145,6 @@ impl HostState {
         self.hear_frame(place, read_frame(octets));
     }
 
-    /// Hears what was read of the octets of a frame, of the connection of a slot.
     #[inline(always)]
     fn hear_frame(&mut self, place: usize, read: Result<Frame<'_>, Skip>)
         requires there { IsThere self.old.slots place }
@@ -175,7 +168,7 @@ impl HostState {
     }
 }
 
-/// Whether octets are an event of a kind that tells a host nothing.
+/// Returns true for a well-formed event of a kind that a host ignores.
 #[inline(always)]
 fn tells_nothing(octets: &[u8]) -> bool
     ensures { OnTrue result (event_of octets.now ≡ Ok (report_of Event.Other)) }
@@ -196,8 +189,7 @@ fn tells_nothing(octets: &[u8]) -> bool
     }
 }
 
-/// Takes in an ACL packet, whose fragment joins the frame of its connection, which is heard. Packets of
-/// connections that do not serve are ignored.
+/// Handles an ACL packet, which is ignored if its connection does not serve.
 pub(crate) fn acl(
     state: &mut HostState,
     frames: &mut Frames,
@@ -220,7 +212,7 @@ pub(crate) fn acl(
     }
 }
 
-/// Takes in a fragment of the connection of a slot: a frame that it makes whole is heard, and dropped.
+/// Handles a fragment. A frame that it completes is handled and dropped.
 #[tactic(auto, using(crate::proofs::packets::WholeFrames::nothing_left))]
 fn fragment(
     state: &mut HostState,
@@ -237,8 +229,8 @@ fn fragment(
     ensures left { frame.new ≡ fragment_left (fragment_of pb bc octets.now) frame.old }
 {
     if is_whole(pb, bc, octets) {
-        // Most frames lie whole in one packet, and are heard where they lie. They are read before what
-        // is held is dropped, so that their length is asked for once.
+        // Most frames are whole in one packet and are handled in place. Reading before `clear`
+        // computes the length only once.
         let read = read_frame(octets);
         frame.clear();
         return state.hear_frame(place, read);
@@ -246,7 +238,6 @@ fn fragment(
     join_fragment(state, frame, place, pb, bc, octets);
 }
 
-/// Takes in a fragment that has to be put to those before it.
 #[inline(never)]
 fn join_fragment(
     state: &mut HostState,
@@ -271,7 +262,6 @@ fn join_fragment(
     }
 }
 
-/// Whether a fragment is a whole frame.
 #[tactic(auto, using(crate::proofs::packets::WholeFrames::gives_frame, crate::proofs::packets::WholeFrames::leaves_nothing))]
 fn is_whole(pb: u8, bc: u8, octets: &[u8]) -> bool
     ensures begins { OnTrue result (fragment_of pb bc octets.now ≡ Some (Beginning octets.now)) }
@@ -281,7 +271,6 @@ fn is_whole(pb: u8, bc: u8, octets: &[u8]) -> bool
     bc == 0 && (pb == FIRST || pb == FIRST_NOT_FLUSHED) && is_frame(octets)
 }
 
-/// Puts a fragment to those before it.
 fn join(frame: &mut Reassembler, pb: u8, bc: u8, octets: &[u8]) -> Piece
     ensures after { frame.new
         ≡ option_map_or (with_fragment frame.old) (fragment_of pb bc octets.now) frame.old }
@@ -300,7 +289,7 @@ fn join(frame: &mut Reassembler, pb: u8, bc: u8, octets: &[u8]) -> Piece
     }
 }
 
-/// Takes in a packet, or says why the host stops for good, and refines its run.
+/// Handles a packet, or returns the fault for which the host stops for good.
 pub(crate) fn packet(
     state: &mut HostState,
     frames: &mut Frames,
@@ -321,7 +310,7 @@ pub(crate) fn packet(
     take_packet(state, frames, packet)
 }
 
-/// Takes in a packet, or says why the host stops for good. It stands apart for its proof.
+/// Implements `packet`. Separate function: keeps the proof small.
 fn take_packet(
     state: &mut HostState,
     frames: &mut Frames,

@@ -1,11 +1,11 @@
-//! What the controller reports, as what happens to the connections of a host.
+//! Reports of the controller as events of connections.
 
 ghost use Rattle.std.specs.Prelude.{◌≡◌, ◌==◌, ◌<◌, true, if◌then◌else◌, Some};
 ghost use Rattle.gatt_laws.specs.machine.Controller as laws;
 ghost use Rattle.gatt_laws.specs.machine.Event.{Disconnected, KeyAsked, Encrypted, Refreshed, Nothing};
 ghost use Rattle.gatt_laws.specs.machine.Packets.{connection_complete_event, connection_event, connection_event_if_ready, own_event};
 ghost use Rattle.gatt_host.specs.Meaning.{context_in, frames_after, IsAfter, IsOfItsTable};
-ghost use Rattle.gatt_slots.specs.Slots.{place_holding, place_serving};
+ghost use Rattle.host_connections.specs.Slots.{place_holding, place_serving};
 ghost use Rattle.le_hci.specs.Event.{report_of};
 
 use crate::frames::Frames;
@@ -14,8 +14,7 @@ use crate::last_event::LastEvent;
 use le_hci::{Event, LAST_CONNECTION_HANDLE, PERIPHERAL, Peer};
 
 impl HostState {
-    /// Takes in what is reported of connections. Until the controller is initialised nothing of it
-    /// counts.
+    /// Handles a report, which is ignored until the controller is initialised.
     #[inline(always)]
     pub(crate) fn reported(&mut self, frames: &mut Frames, event: &Event<'_>)
         requires of_table { IsOfItsTable self.old }
@@ -32,7 +31,6 @@ impl HostState {
         }
     }
 
-    /// Takes in what an initialised controller reports of connections.
     #[inline(always)]
     fn connection_reported(&mut self, frames: &mut Frames, event: &Event<'_>)
         requires ready { laws.is_ready self.old.controller ≡ true }
@@ -71,7 +69,6 @@ impl HostState {
         }
     }
 
-    /// A connection has ended.
     fn disconnection_complete(&mut self, status: u8, handle: u16)
         ensures { IsAfter (if status == 0 then own_event
             (place_holding self.old.slots handle) Disconnected else Nothing) self.old self.new }
@@ -85,7 +82,6 @@ impl HostState {
         }
     }
 
-    /// Encryption of a link was changed, or could not be.
     fn encryption_changed(&mut self, status: u8, handle: u16, enabled: u8)
         requires of_table { IsOfItsTable self.old }
         ensures { IsAfter (own_event (place_serving self.old.slots handle)
@@ -97,7 +93,6 @@ impl HostState {
         }
     }
 
-    /// The key of a link was refreshed, or could not be.
     fn key_refreshed(&mut self, status: u8, handle: u16)
         requires of_table { IsOfItsTable self.old }
         ensures { IsAfter
@@ -109,7 +104,6 @@ impl HostState {
         }
     }
 
-    /// The key of a link is asked for.
     fn key_asked(&mut self, handle: u16, random_number: [u8; 8], diversifier: u16)
         ensures { IsAfter (own_event (place_serving self.old.slots handle)
             (KeyAsked random_number diversifier)) self.old self.new }
@@ -120,8 +114,8 @@ impl HostState {
         }
     }
 
-    /// A connection was made. It is accepted where this side is the peripheral, its handle is one and
-    /// not in use, and a slot is free.
+    /// Accepts a connection if the host is its peripheral, its handle is valid and unused, and a
+    /// slot is free.
     #[tactic(auto, using(crate::proofs::commands::Readies::ready_told))]
     fn connected(&mut self, frames: &mut Frames, status: u8, handle: u16, role: u8, peer: Peer)
         requires { laws.is_ready self.old.controller ≡ true }
@@ -129,8 +123,9 @@ impl HostState {
             (connection_complete_event (context_in self.old) status handle role peer) self.old
             self.new }
         ensures frames { frames.new
-            ≡ frames_after self.old.time (connection_complete_event (context_in self.old) status handle role
-            peer) frames.old }
+            ≡ frames_after self.old.time
+            (connection_complete_event (context_in self.old) status handle role peer)
+            frames.old }
     {
         if status != 0 || role != PERIPHERAL || handle > LAST_CONNECTION_HANDLE {
             return self.end_event(LastEvent::Quiet);

@@ -1,4 +1,4 @@
-//! A reader and a writer stand for the controller.
+//! Serves a controller through a reader and a writer.
 
 ghost use Rattle.std.specs.Prelude.{◌≡◌, ◌≤◌, ◌==◌, [], is_ok, length, None, Some, IsSome, IsOk, IfErr, IfOk, OnErr, true};
 ghost use Rattle.std.specs.Io.KnownBytes.{Consumes, IsAtEnd, Keeps};
@@ -8,29 +8,31 @@ ghost use Rattle.gatt_host.specs.Listening.{ListensServing};
 ghost use Rattle.gatt_host.specs.Promises.{KeepsConnectionsApart, KeepsThePolicy};
 ghost use Rattle.gatt_host.specs.HostModel.{all_out, Takes};
 ghost use Rattle.gatt_laws.specs.machine.Input.{TheEnd};
-ghost use Rattle.octets.specs.Stream.{CountsFailure, CountsIf, CountsNone, CountsOne};
+ghost use Rattle.octet_io.specs.Stream.{CountsFailure, CountsIf, CountsNone, CountsOne};
 
 use crate::feeding::{feed_to, stop, write_out};
 use crate::host::Host;
 use crate::host_fault::HostFault;
 use crate::listener::{Listener, Nobody};
 use le_h4::Deframer;
-use octets::{Failed, Sink, Source};
+use octet_io::{Failed, Sink, Source};
 
-/// As many octets as one turn reads at most.
+/// Maximum number of bytes of one read.
 const TURN: usize = 512;
 
-/// The input has come to its end.
+/// The end of the input.
 #[derive(Clone, Copy, Debug, PartialEq, Eq)]
 pub struct End {
-    /// How many reads were made, that of the end among them.
+    /// Number of reads, including the read of the end.
     pub turns: u64,
 }
 
-/// Serves a controller: writes what is owed, and then reads at most 512 octets a turn and writes what
-/// goes back, until the reader is at its end or as many turns are over as there may be. The octets of a
-/// packet that is unfinished at the end are dropped. After a fault it answers that, and changes
-/// nothing.
+/// Serves a controller until its reader ends or `turns` reads are over. Writes pending packets,
+/// then reads at most 512 bytes a turn and writes the packets that follow. An unfinished packet at
+/// the end is dropped.
+///
+/// Returns `HostFault::Turns` if the turns are over; the host has then stopped for good. After a
+/// fault it returns that fault and changes nothing.
 pub fn serve<R: Source, W: Sink>(
     host: &mut Host,
     reader: &mut R,
@@ -57,17 +59,14 @@ pub fn serve<R: Source, W: Sink>(
     ensures stopped { IsSome host.old.fault → host.new ≡ host.old }
     ensures reader_stopped { IsSome host.old.fault → reader.new ≡ reader.old }
     ensures writer_stopped { IsSome host.old.fault → writer.new ≡ writer.old }
-    // And of all that is taken in, for every start and input:
     ensures policy { KeepsThePolicy }
     ensures apart { KeepsConnectionsApart }
 {
     serve_to(host, reader, writer, turns, &mut Nobody)
 }
 
-/// Serves a controller: writes what is owed, and then reads at most 512 octets a turn and writes what
-/// goes back, until the reader is at its end or as many turns are over as there may be. The octets of a
-/// packet that is unfinished at the end are dropped. After a fault it answers that, and changes
-/// nothing. The listener receives the notices of each packet that was taken in, also if the writer fails.
+/// Does the same as `serve` and delivers the notices to a listener. It receives those of each
+/// packet that was processed, also of one whose output could not be written.
 pub fn serve_to<R: Source, W: Sink, L: Listener>(
     host: &mut Host,
     reader: &mut R,
@@ -99,7 +98,6 @@ pub fn serve_to<R: Source, W: Sink, L: Listener>(
     ensures reader_stopped { IsSome host.old.fault → reader.new ≡ reader.old }
     ensures writer_stopped { IsSome host.old.fault → writer.new ≡ writer.old }
     ensures listener_stopped { IsSome host.old.fault → listener.new ≡ listener.old }
-    // And of all that is taken in, for every start and input:
     ensures policy { KeepsThePolicy }
     ensures apart { KeepsConnectionsApart }
 {
@@ -109,7 +107,6 @@ pub fn serve_to<R: Source, W: Sink, L: Listener>(
     }
 }
 
-/// Serves a controller, where the host has not stopped.
 #[inline(always)]
 fn serve_all<R: Source, W: Sink, L: Listener>(
     host: &mut Host,
@@ -149,7 +146,7 @@ fn serve_all<R: Source, W: Sink, L: Listener>(
     stop(host, HostFault::Turns)
 }
 
-/// Reads into `octets`, and gives what was read: nothing at the end of the input.
+/// Returns what was read, which is empty at the end of the input.
 fn read_turn<'a, R: Source>(reader: &mut R, octets: &'a mut [u8; TURN]) -> Result<&'a [u8], Failed>
     ensures within { IfOk result (λ read. length read.now ≤ TURN) }
     ensures consumed { IfOk result
@@ -166,7 +163,7 @@ fn read_turn<'a, R: Source>(reader: &mut R, octets: &'a mut [u8; TURN]) -> Resul
     Ok(octets.split_at(count).0)
 }
 
-/// The stream ends: the octets of a packet that is unfinished are dropped, and nothing is told.
+/// Ends the stream: drops an unfinished packet and clears the notices.
 fn end_stream(host: &mut Host)
     requires none { host.old.fault ≡ None }
     ensures takes { Takes TheEnd host.old host.new }

@@ -9,7 +9,7 @@ use Rattle.att_attributes.specs.declared.attr.Attr.{Attr}
 use Rattle.att_table.specs.Table.{value_at}
 use Rattle.att_writes.specs.SameBut.{SameBut}
 use Rattle.gatt_laws.proofs.Silence.{only_serves_the_live}
-use Rattle.gatt_laws.proofs.EffectsAlike.{both_choices, either_choice}
+use Rattle.octet_io.proofs.Choices.{both_choices, either_choice}
 use Rattle.gatt_laws.specs.laws.Alike.{erased, is_of, Alike, MayNotKnow, HidesFrom}
 use Rattle.gatt_laws.specs.machine.Controller.{Slots, command_of_init, command_for, commands_for, commands_due, count_before, without_command, enabling, controller_after}
 use Rattle.gatt_laws.specs.machine.Event.{Ordinal}

@@ -2,7 +2,7 @@
 use Rattle.std.proofs.Common.{◌≡◌, ℕ, Bool, true, false, List, [], ◌∷◌, map, length, Option, Some}
 use Rattle.std.proofs.Common.{None}
 use Rattle.std.proofs.Common.{Result, Ok, Err, refl, sym, ap, subst, ◌∙◌, arith, inl, inr, ◌<◌, ◌⊎◌}
-use Rattle.std.proofs.lemmas.Bool.{eqb-true, leb-false}
+use Rattle.std.proofs.lemmas.Bool.{eqb-true, leb-false, and_right}
 use Rattle.std.specs.Prelude.{◌++◌, ◌==◌, ◌&&◌, not, nat_le, if◌then◌else◌}
 use Rattle.std.specs.Option.{option_map_or, option_to_list}
 use Rattle.att_numbers.specs.Types.{Handle, Row, Mtu, Opcode, Code}
@@ -44,7 +44,7 @@ use Rattle.gatt_laws.specs.machine.ConnectionState.{bearer_of}
 use Rattle.gatt_laws.specs.machine.SharedState.{SharedState}
 use Rattle.gatt_laws.specs.machine.State.{State, change_of}
 use Rattle.gatt_laws.specs.machine.Effect.{Effect, effect_on_connection, is_full, served, live_effect, effect_of, values_among}
-use Rattle.octets.specs.Number.{Octets}
+use Rattle.octet_io.specs.Number.{Octets}
 
 -- Who does not serve tells nothing.
 
@@ -210,10 +210,6 @@ silent-in state ordinal pdu free none confirms =
     (effect_of state.shared bond owed connection (Asks pdu)) notifies.0 notifies.1)
     ∙ silent state.shared bond owed connection pdu (is_live connection.mark) refl free none confirms
 
-and-none : (one other : Bool) → other ≡ false → (one && other) ≡ false
-and-none true other none = none
-and-none false other none = refl
-
 pub tells_no_refusals : TellsNoRefusals
 tells_no_refusals state ordinal pdu request handle code free is =
     let connection : ConnectionState = state.connections ordinal in
@@ -223,7 +219,7 @@ tells_no_refusals state ordinal pdu request handle code free is =
     let row : Row = row_in_force bond connection in
     let answers : Question → Option Response = λ of. answer_to state.shared.table row conn of in
     silent-in state ordinal pdu
-    (and-none (is_due (request_of pdu mtu)) (is_full state.shared connection) free)
+    (and_right (is_due (request_of pdu mtu)) (is_full state.shared connection) free)
     (refused-none state.shared.table row conn (request_of pdu mtu) request handle code is)
     (no-confirmation (λ (of : Octets). answers (request_of of mtu)
     ≡ Some (ErrorResponse request handle code)) pdu

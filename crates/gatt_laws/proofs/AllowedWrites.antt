@@ -5,7 +5,7 @@ use Rattle.std.proofs.Common.{Result, Ok, Err, refl}
 use Rattle.std.specs.Prelude.{◌++◌, ◌==◌, ◌&&◌, ◌||◌, not, All, IfSome, if◌then◌else◌}
 use Rattle.std.specs.List.{flat_map}
 use Rattle.std.specs.Option.{option_to_list}
-use Rattle.std.proofs.lemmas.Bool.{eq-eqb}
+use Rattle.std.proofs.lemmas.Bool.{eq-eqb, or_right}
 use Rattle.std.proofs.lemmas.List.Elements.{All-nil, All-cons, All-append}
 use Rattle.att_numbers.specs.Types.{Handle, Row}
 use Rattle.att_attributes.specs.declared.attr.Attr.{Attr}
@@ -37,21 +37,17 @@ use Rattle.gatt_laws.specs.machine.ConnectionState.{bearer_of, prepared_of}
 use Rattle.gatt_laws.specs.machine.State.{State}
 use Rattle.gatt_laws.specs.machine.Effect.{Effect, is_full, effect_of, handles_written}
 use Rattle.gatt_subs.specs.declared.pending.Unconfirmed.{Unconfirmed}
-use Rattle.octets.specs.Number.{Octets}
+use Rattle.octet_io.specs.Number.{Octets}
 
 -- each handle that is written is one that an entry names
 abbrev IsTouched : List Entry → Handle → Type 0
 IsTouched entries handle = is_touched entries handle ≡ true
 
-or-touched : (one other : Bool) → other ≡ true → (one || other) ≡ true
-or-touched true other is = refl
-or-touched false other is = is
-
 also-touched : (entry : Entry) (entries : List Entry) (handles : List Handle) → Each (IsTouched entries) handles
     → Each (IsTouched (entry ∷ entries)) handles
 also-touched entry entries [] each = tt
 also-touched entry entries (handle ∷ handles) each =
-    (or-touched (entry.handle == handle) (is_touched entries handle) each.0, also-touched entry entries handles each.1)
+    (or_right (entry.handle == handle) (is_touched entries handle) each.0, also-touched entry entries handles each.1)
 
 each-touched : (entries : List Entry) → Each (IsTouched entries) (map (λ (entry : Entry). entry.handle) entries)
 each-touched [] = tt

@@ -19,7 +19,7 @@ use Rattle.att_table.specs.Table.{Contents, value_at}
 use Rattle.att_writes.specs.SameBut.{SameBut}
 use Rattle.gatt_laws.specs.laws.NothingCrosses.{TablesAgree}
 use Rattle.gatt_laws.specs.laws.TwoWorlds.{SameTable}
-use Rattle.octets.specs.Number.{Octets, two_octets}
+use Rattle.octet_io.specs.Number.{Octets, two_octets}
 
 -- an attribute that is found is one of the list, and passes the test
 found-one : (P : Attr → Type 0) (test : Attr → Bool) (attributes : List Attr) (attr : Attr) → All P attributes → find test attributes ≡ Some attr

@@ -9,7 +9,8 @@ use Rattle.att_table.specs.Table.{Contents, with_value}
 use Rattle.att_writes.proofs.Lengths.{stored_both}
 use Rattle.att_writes.specs.SameBut.{SameBut}
 use Rattle.gatt_conn.specs.Transcript.{Dropped}
-use Rattle.gatt_laws.proofs.EffectsAlike.{both_choices, either_choice, SameEffect, OwnEffect, OtherEffect, own_effect, other_effect}
+use Rattle.gatt_laws.proofs.EffectsAlike.{SameEffect, OwnEffect, OtherEffect, own_effect, other_effect}
+use Rattle.octet_io.proofs.Choices.{both_choices, either_choice}
 use Rattle.gatt_laws.specs.laws.Alike.{erased, is_of, Alike, HidesFrom}
 use Rattle.gatt_laws.specs.machine.Event.{Ordinal, Own, Of, Completed, Credit, Update, Tick, Replaced, Nothing}
 use Rattle.gatt_laws.specs.machine.ConnectionState.{ConnectionState, is_live, row_in_force, standing_of}
@@ -26,7 +27,7 @@ use Rattle.le_hci.specs.declared.peer.Peer.{Peer}
 use Rattle.le_hci.specs.InitTold.{told_in}
 use Rattle.le_security.proofs.Peers.{equal_peers, same_as_itself}
 use Rattle.le_security.specs.Entry.{same_peer}
-use Rattle.octets.specs.Number.{Octets}
+use Rattle.octet_io.specs.Number.{Octets}
 use Rattle.gatt_laws.proofs.AlikeHearing.{readable-there}
 
 abbrev pub moved : State → Values → ServiceChangedPending → (Ordinal → ConnectionState) → State

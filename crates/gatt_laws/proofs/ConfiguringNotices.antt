@@ -22,7 +22,7 @@ use Rattle.gatt_laws.specs.machine.Notice.{Notice, Connected, Disconnected, Secu
 use Rattle.gatt_laws.specs.machine.Notice.{Confirmed, TimedOut, Ending, are_same_facts, link_told, write_told}
 use Rattle.gatt_laws.specs.machine.Notice.{confirmation_told, end_told, live_told, late_told, slot_told, event_told, noticed}
 use Rattle.gatt_laws.specs.machine.State.{State}
-use Rattle.octets.specs.Number.{Octets}
+use Rattle.octet_io.specs.Number.{Octets}
 
 -- a notice of a configuration, and one of who is connected or of a key
 abbrev pub is_configured_notice : Notice → Bool

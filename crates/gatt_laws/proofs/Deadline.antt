@@ -3,7 +3,7 @@ use Rattle.std.proofs.Common.{◌≡◌, ℕ, ◌<◌, Bool, true, false, List, 
 use Rattle.std.specs.Prelude.{◌^◌, ◌==◌, ◌||◌, All, min, nat_le, nat_lt, fold, filter_map, if◌then◌else◌}
 use Rattle.std.specs.List.{list_any, reduce, flat_map, cons_option}
 use Rattle.std.specs.Option.{option_and_then, option_map_or}
-use Rattle.std.proofs.lemmas.Bool.{eqb-true, eq-eqb}
+use Rattle.std.proofs.lemmas.Bool.{eqb-true, eq-eqb, or_left, or_right}
 use Rattle.std.proofs.lemmas.List.Elements.{All-nil, All-cons, All-append}
 use Rattle.std.proofs.lemmas.List.Folds.{list_any-append}
 use Rattle.gatt_laws.proofs.Skips.{finds_what_is_told, noticed_where_quiet}
@@ -82,14 +82,6 @@ tells_from_the_deadline_on state time few =
 
 -- A notice of a Tick is of a connection that is late.
 
-or-first-true : (one other : Bool) → one ≡ true → (one || other) ≡ true
-or-first-true true other is = refl
-or-first-true false other is = cc is
-
-or-second-true : (one other : Bool) → other ≡ true → (one || other) ≡ true
-or-second-true true other is = refl
-or-second-true false other is = is
-
 module _ (state : State) (time : ℕ) where
   abbrev AreLate : List Notice → Type 0
   AreLate notices = All (IsNoticeOfLate state time) notices
@@ -112,8 +104,8 @@ module _ (state : State) (time : ℕ) where
       All-append (IsNoticeOfLate state time) (late_told time (state.connections ordinal))
       (flat_map (slot_told state time) slots)
       (late-if ordinal (times_out (state.connections ordinal).pending time)
-      (has ordinal (or-first-true (ordinal == ordinal) (has_slot ordinal slots) (eq-eqb ordinal ordinal refl))) refl)
-      (slots-late slots (λ other later. has other (or-second-true (ordinal == other) (has_slot other slots) later)))
+      (has ordinal (or_left (ordinal == ordinal) (has_slot ordinal slots) (eq-eqb ordinal ordinal refl))) refl)
+      (slots-late slots (λ other later. has other (or_right (ordinal == other) (has_slot other slots) later)))
 
 pub notices_only_who_is_late : NoticesOnlyWhoIsLate
 unfolding event_told
@@ -146,8 +138,8 @@ module _ (state : State) (time : ℕ) (ordinal : Ordinal)
           → (has_slot ordinal slots ≡ true → list_any its (flat_map (slot_told state time) slots) ≡ true)
           → (list_any its (late_told time (state.connections one))
           || list_any its (flat_map (slot_told state time) slots)) ≡ true
-      first-or-later true same there later = or-first-true _ _ (own-late one same)
-      first-or-later false differs there later = or-second-true _ _ (later there)
+      first-or-later true same there later = or_left _ _ (own-late one same)
+      first-or-later false differs there later = or_right _ _ (later there)
 
 pub notices_each_who_is_late : NoticesEachWhoIsLate
 unfolding event_told

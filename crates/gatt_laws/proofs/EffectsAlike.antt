@@ -20,20 +20,8 @@ use Rattle.gatt_laws.specs.laws.TwoWorlds.{is_answer_due, finds_no_room}
 use Rattle.le_hci.specs.declared.peer.Peer.{Peer}
 use Rattle.le_security.specs.Keys.{key_asked_for}
 use Rattle.le_security.specs.Link.{Step, Encryption, Refresh}
-use Rattle.octets.specs.Number.{Octets}
-
--- two choices by equal tests are related where both branches are
-pub both_choices : {A : Type 0} (R : A → A → Type 0) (p q : Bool) (a b c d : A) → p ≡ q → (p ≡ true → R a c) → (p ≡ false → R b d)
-    → R (if p then a else b) (if q then c else d)
-both_choices R true true a b c d same first second = first refl
-both_choices R false false a b c d same first second = second refl
-both_choices R true false a b c d same first second = cc same
-both_choices R false true a b c d same first second = cc same
-
--- what is so of both branches is so of a choice
-pub either_choice : {A : Type 0} (P : A → Type 0) (test : Bool) (a b : A) → P a → P b → P (if test then a else b)
-either_choice P true a b first second = first
-either_choice P false a b first second = second
+use Rattle.octet_io.proofs.Choices.{both_choices, either_choice, and_false_right}
+use Rattle.octet_io.specs.Number.{Octets}
 
 -- what both kinds of effect share
 pub record SameEffect (hidden : Handle → Bool) (one other : Effect) : Type 0 where
@@ -150,8 +138,7 @@ module _ (hidden : Handle → Bool) (shared : SharedState) (ys : Values) (same :
   live-own bond owed connection (Refreshed status) readable = link-own bond owed connection (Refresh status)
   live-own bond owed connection (Authorized until) readable = nothing-changed bond owed (record connection { until = until })
   live-own bond owed connection Ended readable = nothing-changed bond owed (after_ending connection remote_user_terminated)
-  live-own bond owed connection (Connected handle peer) readable = nothing-changed bond owed connection
-  live-own bond owed connection Disconnected readable = nothing-changed bond owed connection
+  live-own bond owed connection own readable = nothing-changed bond owed connection
 
   live-or-not : (bond : Row) (owed : Bool) (connection : ConnectionState) (own : Own) → (is_live connection.mark ≡ true → IsAlike (standing_of shared connection) shared.table there.table)
       → OwnEffect hidden (if is_live connection.mark then live_effect shared bond owed connection own else effect_on_connection shared bond owed connection)
@@ -276,10 +263,6 @@ module _ (hidden : Handle → Bool) (shared : SharedState) (ys : Values) (same :
     live-other (Connected handle other_peer) spared spared_too = kept
     live-other Disconnected spared spared_too = kept
 
-    not-live : (test more : Bool) → test ≡ true → (test && more) ≡ false → more ≡ false
-    not-live true more is spared = spared
-    not-live false more is spared = cc is
-
     live-or-kept : (own : Own) → finds_no_room shared connection own ≡ false → finds_no_room there other own ≡ false
         → OtherEffect peer hidden (if is_live connection.mark then live_effect shared bond owed connection own else effect_on_connection shared bond owed connection)
         (if is_live other.mark then live_effect there bond its other own else effect_on_connection there bond its other)
@@ -287,7 +270,7 @@ module _ (hidden : Handle → Bool) (shared : SharedState) (ys : Values) (same :
         let marks : is_live connection.mark ≡ is_live other.mark = λ i. is_live (parts i).mark in
         both_choices (OtherEffect peer hidden) (is_live connection.mark) (is_live other.mark) (live_effect shared bond owed connection own) (effect_on_connection shared bond owed connection)
         (live_effect there bond its other own) (effect_on_connection there bond its other) marks
-        (λ is. live-other own (not-live (is_live connection.mark) _ is spared) (not-live (is_live other.mark) _ (sym marks ∙ is) spared_too)) (λ is. kept)
+        (λ is. live-other own (and_false_right (is_live connection.mark) _ is spared) (and_false_right (is_live other.mark) _ (sym marks ∙ is) spared_too)) (λ is. kept)
 
     came : (handle : ℕ) (of : Peer) → OtherEffect peer hidden (effect_of shared bond owed connection (Connected handle of)) (effect_of there bond its other (Connected handle of))
     came handle of =
@@ -310,10 +293,4 @@ module _ (hidden : Handle → Bool) (shared : SharedState) (ys : Values) (same :
       own = λ is. refl;
       to_notify_here = λ is. refl;
     }
-    other_effect (KeyAsked random_number diversifier) spared spared_too = live-or-kept (KeyAsked random_number diversifier) spared spared_too
-    other_effect (Encrypted status enabled) spared spared_too = live-or-kept (Encrypted status enabled) spared spared_too
-    other_effect (Refreshed status) spared spared_too = live-or-kept (Refreshed status) spared spared_too
-    other_effect (Asks pdu) spared spared_too = live-or-kept (Asks pdu) spared spared_too
-    other_effect (OtherChannel channel payload) spared spared_too = live-or-kept (OtherChannel channel payload) spared spared_too
-    other_effect (Authorized until) spared spared_too = live-or-kept (Authorized until) spared spared_too
-    other_effect Ended spared spared_too = live-or-kept Ended spared spared_too
+    other_effect own spared spared_too = live-or-kept own spared spared_too

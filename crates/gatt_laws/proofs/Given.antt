@@ -13,7 +13,7 @@ use Rattle.gatt_laws.specs.laws.Settled.{has_slot, HaveOneSlotEach, IsSettled}
 use Rattle.gatt_laws.specs.laws.Runs.{after_events, events_of, ArePossible}
 use Rattle.le_hci.specs.declared.peer.Peer.{Peer}
 use Rattle.gatt_laws.specs.machine.Controller.{Slots, is_ready, command_of_init, count_before, without_command}
-use Rattle.gatt_laws.specs.machine.Event.{Ordinal, Own, Event, Connected, Of, Completed, Credit, Update, Tick, Replaced, Nothing}
+use Rattle.gatt_laws.specs.machine.Event.{Ordinal, Own, Event, Connected, Of, Completed, Credit, Tick, Replaced}
 use Rattle.gatt_laws.proofs.Always.{any_tables}
 use Rattle.gatt_laws.proofs.Runs.{is_where_events_lead, means_possible_events}
 use Rattle.gatt_laws.proofs.Settled.{stays_settled, settled_at_first}
@@ -29,7 +29,7 @@ use Rattle.gatt_laws.specs.machine.Effect.{effect_of}
 use Rattle.gatt_subs.specs.Indications.{after_replacement}
 use Rattle.le_acl.specs.Packets.{total}
 use Rattle.le_hci.specs.declared.buffers.Buffers.{Buffers}
-use Rattle.octets.specs.Number.{Octets}
+use Rattle.octet_io.specs.Number.{Octets}
 use Rattle.gatt_laws.proofs.GivenQueue.{GoesOn, HasAll, goes-on, step-grows}
 
 -- A connection that comes serves.
@@ -57,12 +57,10 @@ unfolding change_of
 change-absent state (Of at own) ordinal none = of-absent state at ordinal own (ordinal == at) refl none
 change-absent state (Completed entries) ordinal none = same-absent (after_packets_completed ordinal entries) (state.connections ordinal) none (completed_gone ordinal entries)
 change-absent state (Credit allowed opcode status (Some init)) ordinal none = same-absent (λ (connection : ConnectionState). connection) (state.connections ordinal) none refl
-change-absent state (Credit allowed opcode status None) ordinal none = same-absent (λ (connection : ConnectionState). connection) (state.connections ordinal) none refl
-change-absent state (Update handle value) ordinal none = same-absent (λ (connection : ConnectionState). connection) (state.connections ordinal) none refl
 change-absent state (Tick time) ordinal none =
     same-absent (λ (connection : ConnectionState). record connection { pending = Rattle.gatt_subs.specs.Indications.after_tick connection.pending time }) (state.connections ordinal) none refl
 change-absent state (Replaced table) ordinal none = same-absent (connection_after_replacement state.shared.table table) (state.connections ordinal) none refl
-change-absent state Nothing ordinal none = same-absent (λ (connection : ConnectionState). connection) (state.connections ordinal) none refl
+change-absent state event ordinal none = same-absent (λ (connection : ConnectionState). connection) (state.connections ordinal) none refl
 
 step-absent : (state : State) (event : Event) (ordinal : Ordinal) → state.connections ordinal ≡ no_connection → ServesIfThere ((step state event).connections ordinal)
 step-absent state event ordinal none there =

@@ -1,35 +1,33 @@
 -- What an event leaves of the queue of a connection that is there before and after it.
 use Rattle.std.proofs.Common.{◌≡◌, ℕ, zero, suc, ◌+◌, ◌≤◌, Bool, true, false, List, [], ◌∷◌, ◌++◌, length, map, take, drop, Option, Some, None, refl, sym, subst, ap, ◌∙◌, arith, append_assoc, append-nil}
-use Rattle.std.specs.Prelude.{min, is_some, nat_lt, ◌==◌, ◌&&◌, if◌then◌else◌}
+use Rattle.std.specs.Prelude.{min, is_some, nat_lt, ◌==◌, if◌then◌else◌}
 use Rattle.std.specs.Option.{option_to_list}
 use Rattle.std.proofs.lemmas.Bool.{eqb-true}
 use Rattle.std.proofs.lemmas.Grind.{flat_map-append}
 use Rattle.std.proofs.lemmas.List.{length-append, map-append}
 use Rattle.att_numbers.specs.Types.{Handle, Row}
-use Rattle.att_pdu.specs.Grammar.{request_of, is_due}
 use Rattle.att_table.specs.ConfigRow.{kept_row}
 use Rattle.att_table.specs.Table.{Contents}
-use Rattle.gatt_conn.specs.Answer.{Question, answer_to}
-use Rattle.gatt_conn.specs.Transcript.{Dropped}
+use Rattle.gatt_conn.specs.Answer.{answer_to}
 use Rattle.std.specs.List.{flat_map}
 use Rattle.gatt_laws.proofs.Ends.{end_keeps}
 use Rattle.le_acl.specs.History.{packets_allowed}
 use Rattle.gatt_laws.proofs.Silence.{only_serves_the_live}
 use Rattle.gatt_laws.specs.machine.Controller.{command_of_init, count_before, without_command}
-use Rattle.gatt_laws.specs.machine.Event.{Ordinal, Own, Event, Connected, Disconnected, KeyAsked, Encrypted, Refreshed, Asks, OtherChannel, Authorized, Ended, Of, Completed, Credit, Update, Tick, Replaced, Nothing}
+use Rattle.gatt_laws.proofs.KeptByChanges.{KeepsByChanges, keeps_if_live}
+use Rattle.octet_io.proofs.Choices.{either_choice}
+use Rattle.gatt_laws.specs.machine.Event.{Ordinal, Own, Event, Connected, Disconnected, Of, Completed, Credit, Tick, Replaced}
 use Rattle.gatt_laws.specs.laws.Given.{packets_given_by_now}
 use Rattle.gatt_laws.specs.machine.Heard.{heard_in_turn, hearer_of, after_hearing, att_pdu}
-use Rattle.gatt_laws.specs.machine.ConnectionState.{ConnectionState, is_live, is_there, key_of, row_in_force, connection_mtu, bearer_of, with_pdus, after_ending}
+use Rattle.gatt_laws.specs.machine.ConnectionState.{ConnectionState, is_live, is_there, row_in_force, bearer_of}
 use Rattle.gatt_laws.specs.machine.SharedState.{SharedState, Bonds, quota_of, fragment_size_of}
 use Rattle.gatt_laws.specs.machine.State.{State, Change, with_packets_completed, after_packets_completed, connection_after_replacement, change_of, finished, connections_finished, step}
-use Rattle.gatt_laws.specs.machine.Effect.{effect_on_connection, served, is_full, request_effect, after_other_channel, channel_answer, with_step, lost_encryption, live_effect, effect_of, remote_user_terminated, authentication_failure}
-use Rattle.gatt_subs.specs.Indications.{after_replacement}
+use Rattle.gatt_laws.specs.machine.Effect.{effect_of}
 use Rattle.le_acl.specs.Fragment.{Fragment}
 use Rattle.le_acl.specs.Outgoing.{acl_octets}
 use Rattle.le_acl.specs.Packets.{Pdu, fragments_of, packets_of, total}
 use Rattle.le_hci.specs.declared.buffers.Buffers.{Buffers}
-use Rattle.le_security.specs.Link.{Step, Encryption, Refresh}
-use Rattle.octets.specs.Number.{Octets}
+use Rattle.octet_io.specs.Number.{Octets}
 
 pub record Grows (old new : ConnectionState) : Type 0 where
   more : List Pdu
@@ -48,72 +46,36 @@ stays : (old new : ConnectionState) → new.pdus ≡ old.pdus → new.handle ≡
     → (is_live new.mark ≡ true → is_live old.mark ≡ true) → Grows old new
 stays old new pdus handle done given live = grows-by old new [] (pdus ∙ sym (append-nil old.pdus)) handle done given live
 
-request-grows : (shared : SharedState) (bond : Row) (owed : Bool) (connection : ConnectionState) (pdu : Octets) → is_live connection.mark ≡ true → Grows connection (request_effect shared bond owed connection pdu).connection
-request-grows shared bond owed connection pdu live =
-    let asked : Question = request_of pdu (connection_mtu shared connection) in
-    elim (is_due asked && is_full shared connection) as (λ (full : Bool).
-    Grows connection (if full then effect_on_connection shared bond owed (after_ending connection remote_user_terminated) else served shared bond owed connection pdu asked).connection) [
-      | true ↦ stays connection (after_ending connection remote_user_terminated) refl refl refl refl (λ is. live)
-      | false ↦
-          grows-by connection (served shared bond owed connection pdu asked).connection
-          (map att_pdu (option_to_list (answer_to shared.table (row_in_force bond connection) (bearer_of shared connection) asked))) refl refl refl refl (λ is. live)
-    ]
-
-channel-grows : (shared : SharedState) (connection : ConnectionState) (channel : ℕ) (answer : Option Octets) → is_live connection.mark ≡ true → Grows connection (after_other_channel shared connection channel answer)
-channel-grows shared connection channel None live = stays connection connection refl refl refl refl (λ is. live)
-channel-grows shared connection channel (Some answer) live =
-    elim (is_full shared connection) as (λ (full : Bool). Grows connection (if full then after_ending connection remote_user_terminated else with_pdus connection ((channel, answer) ∷ []))) [
-      | true ↦ stays connection (after_ending connection remote_user_terminated) refl refl refl refl (λ is. live)
-      | false ↦ grows-by connection (with_pdus connection ((channel, answer) ∷ [])) ((channel, answer) ∷ []) refl refl refl refl (λ is. live)
-    ]
-
-link-grows : (connection : ConnectionState) (step : Step) (lost : Bool) → is_live connection.mark ≡ true
-    → Grows connection (if lost then after_ending (with_step connection step) authentication_failure else with_step connection step)
-link-grows connection step true live = stays connection (after_ending (with_step connection step) authentication_failure) refl refl refl refl (λ is. live)
-link-grows connection step false live = stays connection (with_step connection step) refl refl refl refl (λ is. live)
-
-live-grows : (shared : SharedState) (bond : Row) (owed : Bool) (connection : ConnectionState) (own : Own) → is_live connection.mark ≡ true → Grows connection (live_effect shared bond owed connection own).connection
-unfolding live_effect
-live-grows shared bond owed connection (Asks pdu) live = request-grows shared bond owed connection pdu live
-live-grows shared bond owed connection (OtherChannel channel payload) live = channel-grows shared connection channel (channel_answer channel payload) live
-live-grows shared bond owed connection (KeyAsked random_number diversifier) live =
-    stays connection (live_effect shared bond owed connection (KeyAsked random_number diversifier)).connection refl refl refl refl (λ is. live)
-live-grows shared bond owed connection (Encrypted status enabled) live =
-    link-grows connection (Encryption status enabled) (lost_encryption (key_of connection) (key_of (with_step connection (Encryption status enabled)))) live
-live-grows shared bond owed connection (Refreshed status) live =
-    link-grows connection (Refresh status) (lost_encryption (key_of connection) (key_of (with_step connection (Refresh status)))) live
-live-grows shared bond owed connection (Authorized until) live = stays connection (record connection { until = until }) refl refl refl refl (λ is. live)
-live-grows shared bond owed connection Ended live = stays connection (after_ending connection remote_user_terminated) refl refl refl refl (λ is. live)
-live-grows shared bond owed connection (Connected handle peer) live = stays connection connection refl refl refl refl (λ is. live)
-live-grows shared bond owed connection Disconnected live = stays connection connection refl refl refl refl (λ is. live)
-
-if-live-grows : (shared : SharedState) (bond : Row) (owed : Bool) (connection : ConnectionState) (own : Own) (live : Bool) → is_live connection.mark ≡ live
-    → Grows connection (if live then live_effect shared bond owed connection own else effect_on_connection shared bond owed connection).connection
-if-live-grows shared bond owed connection own true is = live-grows shared bond owed connection own is
-if-live-grows shared bond owed connection own false is = stays connection connection refl refl refl refl (λ lives. lives)
+by-changes : (connection : ConnectionState) → is_live connection.mark ≡ true → KeepsByChanges Grows connection
+by-changes connection live = record {
+  same = stays connection connection refl refl refl refl (λ is. live);
+  authorized = λ until. stays connection _ refl refl refl refl (λ is. live);
+  ended = λ reason. stays connection _ refl refl refl refl (λ is. live);
+  key_asked = λ found. stays connection _ refl refl refl refl (λ is. live);
+  stepped = λ step. stays connection _ refl refl refl refl (λ is. live);
+  ended_then = λ step reason. stays connection _ refl refl refl refl (λ is. live);
+  queued = λ pdu. grows-by connection _ (pdu ∷ []) refl refl refl refl (λ is. live);
+  served_by = λ shared bond owed pdu asked.
+      grows-by connection _ (map att_pdu (option_to_list (answer_to shared.table (row_in_force bond connection) (bearer_of shared connection) asked))) refl refl refl refl (λ is. live);
+}
 
 turn-grows : (shared : SharedState) (bond : Row) (owed : Bool) (connection : ConnectionState) (own : Own) → is_there connection.mark ≡ true → is_there (effect_of shared bond owed connection own).connection.mark ≡ true
     → Grows connection (effect_of shared bond owed connection own).connection
 turn-grows shared bond owed connection (Connected handle peer) there after = rw there (stays connection connection refl refl refl refl (λ lives. lives))
 turn-grows shared bond owed connection Disconnected there after = cc after
-turn-grows shared bond owed connection own there after = if-live-grows shared bond owed connection own (is_live connection.mark) refl
+turn-grows shared bond owed connection own there after = keeps_if_live Grows shared bond owed connection (stays connection connection refl refl refl refl (λ lives. lives)) (by-changes connection) own
 
 completed-grows : (ordinal : Ordinal) (entries : List (Ordinal × ℕ)) (old connection : ConnectionState) → Grows old connection → Grows old (after_packets_completed ordinal entries connection)
 completed-grows ordinal [] old connection grows = grows
 completed-grows ordinal (entry ∷ entries) old connection grows =
     completed-grows ordinal entries old (if entry.0 == ordinal then with_packets_completed connection entry.1 else connection)
-    (elim (entry.0 == ordinal) as (λ (own : Bool). Grows old (if own then with_packets_completed connection entry.1 else connection)) [
-      | true ↦ record { more = grows.more; pdus = grows.pdus; handle = grows.handle; done = omega (arith, grows.done); live = grows.live; still = grows.still }
-      | false ↦ grows
-    ])
+    (either_choice (Grows old) (entry.0 == ordinal) _ _
+    (record { more = grows.more; pdus = grows.pdus; handle = grows.handle; done = omega (arith, grows.done); live = grows.live; still = grows.still }) grows)
 
 replaced-grows : (old new : Contents) (connection : ConnectionState) → Grows connection (connection_after_replacement old new connection)
 replaced-grows old new connection =
-    elim (is_live connection.mark) as (λ (live : Bool).
-    Grows connection (record (if live then record connection { said = Dropped ∷ connection.said; pending = after_replacement connection.pending } else connection) { row = kept_row old.attributes new.attributes connection.row })) [
-      | true ↦ stays connection _ refl refl refl refl (λ lives. lives)
-      | false ↦ stays connection _ refl refl refl refl (λ lives. lives)
-    ]
+    either_choice (λ (dropped : ConnectionState). Grows connection (record dropped { row = kept_row old.attributes new.attributes connection.row })) (is_live connection.mark) _ _
+    (stays connection _ refl refl refl refl (λ lives. lives)) (stays connection _ refl refl refl refl (λ lives. lives))
 
 of-grows : (state : State) (at ordinal : Ordinal) (own : Own) (same : Bool) → (ordinal == at) ≡ same → is_there (state.connections ordinal).mark ≡ true
     → is_there (if same then (effect_of state.shared (state.bonds (state.connections at).peer) (state.owed (state.connections at).peer) (state.connections at) own).connection else state.connections ordinal).mark ≡ true
@@ -132,11 +94,9 @@ change-grows state (Of at own) ordinal there after = of-grows state at ordinal o
 change-grows state (Completed entries) ordinal there after =
     completed-grows ordinal entries (state.connections ordinal) (state.connections ordinal) (stays (state.connections ordinal) (state.connections ordinal) refl refl refl refl (λ lives. lives))
 change-grows state (Credit allowed opcode status (Some init)) ordinal there after = stays (state.connections ordinal) (state.connections ordinal) refl refl refl refl (λ lives. lives)
-change-grows state (Credit allowed opcode status None) ordinal there after = stays (state.connections ordinal) (state.connections ordinal) refl refl refl refl (λ lives. lives)
-change-grows state (Update handle value) ordinal there after = stays (state.connections ordinal) (state.connections ordinal) refl refl refl refl (λ lives. lives)
 change-grows state (Tick time) ordinal there after = stays (state.connections ordinal) _ refl refl refl refl (λ lives. lives)
 change-grows state (Replaced table) ordinal there after = replaced-grows state.shared.table table (state.connections ordinal)
-change-grows state Nothing ordinal there after = stays (state.connections ordinal) (state.connections ordinal) refl refl refl refl (λ lives. lives)
+change-grows state event ordinal there after = stays (state.connections ordinal) (state.connections ordinal) refl refl refl refl (λ lives. lives)
 
 -- at the end of an event
 finish-grows : (shared : SharedState) (bonds : Bonds) (handles : List Handle) (old connection : ConnectionState) (live : Bool) → is_live connection.mark ≡ live → Grows old connection

@@ -36,7 +36,7 @@ use Rattle.att_writes.specs.Fault.{entry_fault, form_fault, unless_broken}
 use Rattle.att_writes.specs.Queue.{once_each, touched_by, prepare_fault, queue_after}
 use Rattle.gatt_conn.specs.Answer.{entry_at, prepare_response, written_response}
 use Rattle.gatt_conn.specs.Connection.{Bearer}
-use Rattle.octets.specs.Number.{Octets}
+use Rattle.octet_io.specs.Number.{Octets}
 use Rattle.gatt_laws.specs.laws.Headline.{Each, MayUse, element_handle, handles_sent, SendsWhatMayBeRead, WritesWhatMayBeWritten, RefusalsChangeNothing}
 
 none-mapped : {A B : Type 0} (f : A → B) (x : Option A) → option_map f x ≡ None → x ≡ None

@@ -1,9 +1,9 @@
 -- What is hidden no connection of the peer may know, in an item and in an event.
 use Rattle.std.proofs.Common.{◌≡◌, Bool, true, false, ◌==◌, ◌&&◌, ◌||◌, List, [], ◌∷◌, ◌++◌, Option, Some, None, refl, sym, ap, ◌∙◌}
-use Rattle.std.specs.Prelude.{not, if◌then◌else◌}
+use Rattle.std.specs.Prelude.{if◌then◌else◌}
 use Rattle.std.specs.List.{list_any}
 use Rattle.std.specs.Option.{option_to_list}
-use Rattle.std.proofs.lemmas.Bool.{eqb-true}
+use Rattle.std.proofs.lemmas.Bool.{eqb-true, not-true, not_from_false}
 use Rattle.att_numbers.specs.Types.{Handle}
 use Rattle.att_table.specs.Table.{Contents}
 use Rattle.gatt_laws.proofs.ItemEvents.{means_its_event}
@@ -20,27 +20,8 @@ use Rattle.gatt_laws.specs.laws.Runs.{events_in}
 use Rattle.gatt_laws.specs.laws.TwoWorlds.{SameTable, Matched, Agrees, Spared, packets_given_in, packets_given_at}
 use Rattle.gatt_subs.specs.Hearing.{may_hear_at}
 use Rattle.le_hci.specs.declared.peer.Peer.{Peer}
-use Rattle.octets.specs.Number.{Octets}
-
-first-false : (one other : Bool) → (one || other) ≡ false → one ≡ false
-first-false false other is = refl
-first-false true other is = cc is
-
-second-false : (one other : Bool) → (one || other) ≡ false → other ≡ false
-second-false false other is = is
-second-false true other is = cc is
-
-false-then : (one other : Bool) → one ≡ true → (one && other) ≡ false → other ≡ false
-false-then true other is both = both
-false-then false other is both = cc is
-
-not-true : (test : Bool) → not test ≡ true → test ≡ false
-not-true false is = refl
-not-true true is = cc is
-
-not-false : (test : Bool) → test ≡ false → not test ≡ true
-not-false false is = refl
-not-false true is = cc is
+use Rattle.octet_io.proofs.Choices.{or_false_left, or_false_right, and_false_right}
+use Rattle.octet_io.specs.Number.{Octets}
 
 -- What is hidden no connection of the peer may know.
 
@@ -49,8 +30,8 @@ unknown-slot : (peer : Peer) (state : State) (handle : Handle) (ordinal other : 
     → (rest ≡ true → more ≡ false → knows peer state handle ordinal ≡ false) → knows peer state handle ordinal ≡ false
 unknown-slot peer state handle ordinal other rest known more is none has later =
     elim (other == ordinal) as (λ (same : Bool). (other == ordinal) ≡ same → (same || rest) ≡ true → knows peer state handle ordinal ≡ false) [
-      | true ↦ λ same there. ap (knows peer state handle) (sym (eqb-true other ordinal same)) ∙ is ∙ first-false known more none
-      | false ↦ λ same there. later there (second-false known more none)
+      | true ↦ λ same there. ap (knows peer state handle) (sym (eqb-true other ordinal same)) ∙ is ∙ or_false_left known more none
+      | false ↦ λ same there. later there (or_false_right known more none)
     ] refl has
 
 unknown-in : (peer : Peer) (state : State) (handle : Handle) (ordinal : Ordinal) (slots : List (Option Ordinal)) → list_any (knows_in peer state handle) slots ≡ false
@@ -77,21 +58,21 @@ hides-unknown peer hidden state settled unknown ordinal live mine handle is =
     let hears : Bool = may_hear_at attributes (row_in_force (state.bonds connection.peer) connection) (standing_of state.shared connection) handle in
     let none : knows peer state handle ordinal ≡ false =
     unknown-in peer state handle ordinal state.slots (unknown handle is) (live-has-slot state ordinal settled live) in
-    let neither : (reads || hears) ≡ false = false-then (is_of peer connection) (reads || hears) mine (false-then (is_live connection.mark) (is_of peer connection && (reads || hears)) live none) in
-    record { unread = first-false reads hears neither; unheard = second-false reads hears neither }
+    let neither : (reads || hears) ≡ false = and_false_right (is_of peer connection) (reads || hears) mine (and_false_right (is_live connection.mark) (is_of peer connection && (reads || hears)) live none) in
+    record { unread = or_false_left reads hears neither; unheard = or_false_right reads hears neither }
 
 pub now-unknown : (peer : Peer) (run : Run) (items : List Item) (handle : Handle) → hidden_while peer run items handle ≡ true
     → is_value_known peer run.intake.state handle ≡ false
 now-unknown peer run [] handle is = not-true (is_value_known peer run.intake.state handle) is
-now-unknown peer run (item ∷ items) handle is = first-false (is_value_known peer run.intake.state handle) _ (not-true _ is)
+now-unknown peer run (item ∷ items) handle is = or_false_left (is_value_known peer run.intake.state handle) _ (not-true _ is)
 
 pub later-unknown : (peer : Peer) (run : Run) (item : Item) (items : List Item) (handle : Handle) → is_replaced run.intake item ≡ false
     → hidden_while peer run (item ∷ items) handle ≡ true → hidden_while peer (after_item run item) items handle ≡ true
 later-unknown peer run item items handle stays is =
     let later : Bool = known_while peer (after_item run item) items handle in
     let none : (if is_replaced run.intake item then false else later) ≡ false =
-    second-false (is_value_known peer run.intake.state handle) (if is_replaced run.intake item then false else later) (not-true _ is) in
-    not-false later (sym (ap (λ (replaced : Bool). if replaced then false else later) stays) ∙ none)
+    or_false_right (is_value_known peer run.intake.state handle) (if is_replaced run.intake item then false else later) (not-true _ is) in
+    not_from_false later (sym (ap (λ (replaced : Bool). if replaced then false else later) stays) ∙ none)
 
 -- more may be hidden
 pub alike-more : (peer : Peer) (hidden more : Handle → Bool) (one other : State) → ((handle : Handle) → hidden handle ≡ true → more handle ≡ true) → Alike peer hidden one other

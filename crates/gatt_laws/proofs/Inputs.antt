@@ -9,7 +9,7 @@ use Rattle.gatt_laws.specs.machine.Event.{Event}
 use Rattle.gatt_laws.specs.machine.Input.{Item, Run, after_item, after_items, run_at_start, run}
 use Rattle.gatt_laws.specs.machine.ItemEvents.{after_if, event_at, out_if}
 use Rattle.gatt_laws.specs.machine.State.{State}
-use Rattle.octets.specs.Number.{Octets}
+use Rattle.octet_io.specs.Number.{Octets}
 
 pub items_append : (old : Run) (items more : List Item) → after_items old (items ++ more) ≡ after_items (after_items old items) more
 items_append old [] more = refl

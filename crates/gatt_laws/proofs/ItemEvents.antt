@@ -14,7 +14,7 @@ use Rattle.gatt_laws.specs.machine.State.{State}
 use Rattle.le_acl.specs.Fragment.{fragment_of}
 use Rattle.le_h4.specs.Division.{is_long}
 use Rattle.le_h4.specs.Packet.{Packet, AclPacket, EventPacket, ScoPacket, First, FirstPacket, NoneYet, NoPacket, first_of}
-use Rattle.octets.specs.Number.{Octets}
+use Rattle.octet_io.specs.Number.{Octets}
 
 -- An item does what its event does.
 

@@ -12,9 +12,7 @@ use Rattle.att_table.specs.ConfigRow.{kept_row}
 use Rattle.att_table.specs.Table.{Contents}
 use Rattle.gatt_conn.specs.Answer.{Question}
 use Rattle.gatt_conn.specs.Transcript.{Dropped}
-use Rattle.gatt_laws.proofs.Meant.{first-true, last-true}
 use Rattle.gatt_laws.proofs.Ends.{end_keeps}
-use Rattle.gatt_laws.proofs.Notices.{or-first, or-second}
 use Rattle.gatt_laws.proofs.Skips.{none_of_the_event}
 use Rattle.gatt_laws.proofs.Steady.{completed_steady}
 use Rattle.gatt_laws.specs.machine.Event as event
@@ -34,7 +32,8 @@ use Rattle.gatt_laws.specs.machine.Effect.{Effect, effect_on_connection, effect_
 use Rattle.gatt_laws.specs.machine.Effect.{after_other_channel, channel_answer}
 use Rattle.gatt_laws.specs.machine.Effect.{remote_user_terminated}
 use Rattle.gatt_subs.specs.Indications.{after_replacement}
-use Rattle.octets.specs.Number.{Octets}
+use Rattle.octet_io.proofs.Choices.{and_true_right, and_true_left, or_false_left, or_false_right}
+use Rattle.octet_io.specs.Number.{Octets}
 
 -- Keys of the same facts are worth the same.
 
@@ -49,12 +48,12 @@ same-facts one other is =
     let sizes : Bool = one.size == other.size in
     let authenticated : Bool = are_both one.authenticated other.authenticated in
     let secure : Bool = are_both one.secure other.secure in
-    let flags : (sizes && authenticated) ≡ true = first-true (sizes && authenticated) secure is in
+    let flags : (sizes && authenticated) ≡ true = and_true_left (sizes && authenticated) secure is in
     λ i. record {
-      size = eqb-true one.size other.size (first-true sizes authenticated flags) i;
+      size = eqb-true one.size other.size (and_true_left sizes authenticated flags) i;
       authenticated =
-          both-same one.authenticated other.authenticated (last-true sizes authenticated flags) i;
-      secure = both-same one.secure other.secure (last-true (sizes && authenticated) secure is) i;
+          both-same one.authenticated other.authenticated (and_true_right sizes authenticated flags) i;
+      secure = both-same one.secure other.secure (and_true_right (sizes && authenticated) secure is) i;
     }
 
 -- a notice that the link of the connection of this handle has another key, or none
@@ -69,7 +68,7 @@ Untold handle notices = list_any (changes_key handle) notices ≡ false
 -- a notice of this handle is there
 told-here : {P : Type 0} (handle : ℕ) (others : Bool) → ((handle == handle) || others) ≡ false → P
 told-here handle others none =
-    let differs : (handle == handle) ≡ false = or-first (handle == handle) others none in
+    let differs : (handle == handle) ≡ false = or_false_left (handle == handle) others none in
     absurd (cc (differs, eq-eqb handle handle refl))
 
 same-or-told : (handle : ℕ) (old new : KeyFacts) (same : Bool) → are_same_facts old new ≡ same
@@ -121,7 +120,7 @@ module _ (shared : SharedState) (bond : Row) (owed : Bool) (connection : Connect
       let notices : List Notice = link_told connection.handle (key_of connection) (key_of (effect own).connection) in
       let end : List Notice = end_told connection.handle (effect own).connection in
       same ∙ link-same connection.handle (key_of connection) (key_of (effect own).connection)
-      (or-first (list_any (changes_key connection.handle) notices) (list_any (changes_key connection.handle) end)
+      (or_false_left (list_any (changes_key connection.handle) notices) (list_any (changes_key connection.handle) end)
       (sym (list_any-append (changes_key connection.handle) notices end) ∙ none))
   linked own false is same none = refl
 
@@ -210,8 +209,8 @@ pub none-stricter : (less more : Notice → Bool) → ((notice : Notice) → mor
     → (notices : List Notice) → list_any more notices ≡ false → list_any less notices ≡ false
 none-stricter less more fewer [] none = refl
 none-stricter less more fewer (notice ∷ rest) none =
-    let first = fewer notice (or-first (more notice) (list_any more rest) none) in
-    let later = none-stricter less more fewer rest (or-second (more notice) (list_any more rest) none) in
+    let first = fewer notice (or_false_left (more notice) (list_any more rest) none) in
+    let later = none-stricter less more fewer rest (or_false_right (more notice) (list_any more rest) none) in
     (λ i. first i || list_any less rest) ∙ later
 
 tells-changes : (handle : ℕ) (notice : Notice) → tells_key handle notice ≡ false → changes_key handle notice ≡ false
@@ -246,10 +245,10 @@ key-by-kind state event ordinal false kind there none =
     (none-stricter (changes_key (state.connections ordinal).handle) (tells_key (state.connections ordinal).handle)
     (tells-changes (state.connections ordinal).handle) (noticed state event) none)
 key-by-kind state (Of at own) ordinal true kind there none =
-    let same : (ordinal == at) ≡ true = first-true (ordinal == at) (is_for_all own) kind in
+    let same : (ordinal == at) ≡ true = and_true_left (ordinal == at) (is_for_all own) kind in
     let here : ordinal ≡ at = eqb-true ordinal at same in
     end_keeps key_of (λ connection pdus pending given reply reason. refl) state (Of at own) ordinal
-    ∙ here-key state at ordinal own same (last-true (ordinal == at) (is_for_all own) kind)
+    ∙ here-key state at ordinal own same (and_true_right (ordinal == at) (is_for_all own) kind)
     (subst (λ (one : Ordinal). is_there (state.connections one).mark ≡ true) here there)
     (subst (λ (one : Ordinal). list_any (tells_key (state.connections one).handle)
     (event_told state (Of at own)) ≡ false) here

@@ -7,7 +7,7 @@ use Rattle.att_numbers.specs.Types.{Handle}
 use Rattle.att_table.specs.Table.{value_at}
 use Rattle.gatt_laws.proofs.ItemEvents.{MeantIfSome, any_table, item_meant, means_its_event}
 use Rattle.gatt_laws.proofs.Meant.{possible_where_meant}
-use Rattle.gatt_laws.proofs.Notices.{or-first, or-second, tells_each_value}
+use Rattle.gatt_laws.proofs.Notices.{tells_each_value}
 use Rattle.gatt_laws.specs.machine.Event.{Event}
 use Rattle.gatt_laws.specs.machine.Input.{Item, Run}
 use Rattle.gatt_laws.specs.machine.Input.{after_item, after_items, run_at_start, run}
@@ -16,6 +16,7 @@ use Rattle.gatt_laws.specs.machine.Notice.{noticed, notices_of}
 use Rattle.gatt_laws.specs.laws.Notices.{is_value_told, sets_value, KnownValues, values_in, is_known_anew}
 use Rattle.gatt_laws.specs.laws.Notices.{known_after, known_in, KnowsTheValues}
 use Rattle.gatt_laws.specs.machine.State.{State}
+use Rattle.octet_io.proofs.Choices.{or_false_left, or_false_right}
 
 -- An item of which nothing is told of a value leaves it.
 
@@ -39,8 +40,8 @@ item-values old item attribute used none =
     ap (λ (state : State). value_at state.shared.table.values attribute) (means_its_event old item).state
     ∙ event-values old.intake.state found attribute used
     (item_meant (λ table. Unit) old.intake item (any_table item))
-    (or-first sets (is_value_told attribute (notices_of old item)) none)
-    (or-second sets (is_value_told attribute (notices_of old item)) none)
+    (or_false_left sets (is_value_told attribute (notices_of old item)) none)
+    (or_false_right sets (is_value_told attribute (notices_of old item)) none)
 
 -- So what is known stays right.
 

@@ -12,7 +12,7 @@ use Rattle.gatt_laws.proofs.ConfiguringNotices.{is_configured_notice, is_link_no
 use Rattle.gatt_laws.proofs.ConfiguringNotices.{request_changes_no_link, others_configure_nothing}
 use Rattle.gatt_laws.proofs.ItemEvents.{MeantIfSome, any_table, item_meant, means_its_event}
 use Rattle.gatt_laws.proofs.KeyNotices.{changes_key, none-stricter, stays_keyed}
-use Rattle.gatt_laws.proofs.KnowingWho.{and-false, had_slot, knowing-at-first, stays-knowing, tells_who_is_there}
+use Rattle.gatt_laws.proofs.KnowingWho.{had_slot, knowing-at-first, stays-knowing, tells_who_is_there}
 use Rattle.gatt_laws.proofs.KnownConfigurations.{held, present-at, fold-present, fold-keys, same-present, same-keys}
 use Rattle.gatt_laws.proofs.KnownConfigurations.{same-bonds, own-unconfigured, own-configured, bonds-configured}
 use Rattle.gatt_laws.proofs.KnownKeys.{connects, has-slot, is-alone, keys-known, was-there}
@@ -39,7 +39,8 @@ use Rattle.gatt_laws.specs.machine.Start.{Start, state_at}
 use Rattle.gatt_laws.specs.machine.State.{State, step}
 use Rattle.le_hci.specs.declared.peer.Peer.{Peer}
 use Rattle.le_security.specs.Entry.{same_peer}
-use Rattle.octets.specs.Number.{Octets}
+use Rattle.octet_io.proofs.Choices.{and_with_false}
+use Rattle.octet_io.specs.Number.{Octets}
 
 -- what a listener knows is right
 record IsKnown (state : State) (known : Known) : Type 0 where
@@ -159,7 +160,7 @@ module _ (state : State) (at : Ordinal) (pdu : Octets) (known : Known) (is : IsK
   present-asked = sym (same-present (noticed state asks) known.present no-link) ∙ present-folded state asks known is tt tt
 
   still : (ordinal : Ordinal) → is_connection_or_disconnection ordinal asks ≡ false
-  still ordinal = and-false (ordinal == at)
+  still ordinal = and_with_false (ordinal == at)
 
   same-key : (ordinal : Ordinal) → key_of (asked.connections ordinal) ≡ key_of (state.connections ordinal)
   same-key ordinal =

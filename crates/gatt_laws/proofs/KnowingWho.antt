@@ -36,10 +36,7 @@ use Rattle.gatt_laws.specs.machine.Start.{Start, state_at}
 use Rattle.gatt_laws.specs.machine.State.{State, change_of, step}
 use Rattle.gatt_laws.specs.machine.Effect.{effect_of}
 use Rattle.le_hci.specs.declared.peer.Peer.{Peer}
-
-pub and-false : (test : Bool) → (test && false) ≡ false
-and-false true = refl
-and-false false = refl
+use Rattle.octet_io.proofs.Choices.{and_with_false}
 
 -- a connection that has a slot is none that has none
 apart : (state : State) (at ordinal : Ordinal) → has_slot at state.slots ≡ false
@@ -173,59 +170,13 @@ event-tells state (Of at (event.Connected handle peer)) asked is possible unused
     coming-peers state at handle peer is possible unused asked
 event-tells state (Of at event.Disconnected) asked is possible unused = going-by state at is asked
     (has_slot at state.slots) refl
-event-tells state (Of at (KeyAsked random_number diversifier)) asked is possible unused =
+event-tells state (Of at own) asked is possible unused =
     let connection : ConnectionState = state.connections at in
     let bond : Row = state.bonds connection.peer in
     ap (λ (present : Present). present asked)
-    (if-live-others state.shared bond connection (KeyAsked random_number diversifier)
-    (effect_of state.shared bond (state.owed connection.peer) connection (KeyAsked random_number diversifier))
-    (peers_in state))
-    ∙ still state (Of at (KeyAsked random_number diversifier))
-    (λ ordinal. and-false (ordinal == at)) asked
-event-tells state (Of at (Encrypted status enabled)) asked is possible unused =
-    let connection : ConnectionState = state.connections at in
-    let bond : Row = state.bonds connection.peer in
-    ap (λ (present : Present). present asked)
-    (if-live-others state.shared bond connection (Encrypted status enabled)
-    (effect_of state.shared bond (state.owed connection.peer) connection (Encrypted status enabled))
-    (peers_in state))
-    ∙ still state (Of at (Encrypted status enabled)) (λ ordinal. and-false (ordinal == at)) asked
-event-tells state (Of at (Refreshed status)) asked is possible unused =
-    let connection : ConnectionState = state.connections at in
-    let bond : Row = state.bonds connection.peer in
-    ap (λ (present : Present). present asked)
-    (if-live-others state.shared bond connection (Refreshed status)
-    (effect_of state.shared bond (state.owed connection.peer) connection (Refreshed status)) (peers_in state))
-    ∙ still state (Of at (Refreshed status)) (λ ordinal. and-false (ordinal == at)) asked
-event-tells state (Of at (Asks pdu)) asked is possible unused =
-    let connection : ConnectionState = state.connections at in
-    let bond : Row = state.bonds connection.peer in
-    ap (λ (present : Present). present asked)
-    (if-live-others state.shared bond connection (Asks pdu)
-    (effect_of state.shared bond (state.owed connection.peer) connection (Asks pdu)) (peers_in state))
-    ∙ still state (Of at (Asks pdu)) (λ ordinal. and-false (ordinal == at)) asked
-event-tells state (Of at (OtherChannel channel payload)) asked is possible unused =
-    let connection : ConnectionState = state.connections at in
-    let bond : Row = state.bonds connection.peer in
-    ap (λ (present : Present). present asked)
-    (if-live-others state.shared bond connection (OtherChannel channel payload)
-    (effect_of state.shared bond (state.owed connection.peer) connection (OtherChannel channel payload))
-    (peers_in state))
-    ∙ still state (Of at (OtherChannel channel payload)) (λ ordinal. and-false (ordinal == at)) asked
-event-tells state (Of at (Authorized until)) asked is possible unused =
-    let connection : ConnectionState = state.connections at in
-    let bond : Row = state.bonds connection.peer in
-    ap (λ (present : Present). present asked)
-    (if-live-others state.shared bond connection (Authorized until)
-    (effect_of state.shared bond (state.owed connection.peer) connection (Authorized until)) (peers_in state))
-    ∙ still state (Of at (Authorized until)) (λ ordinal. and-false (ordinal == at)) asked
-event-tells state (Of at Ended) asked is possible unused =
-    let connection : ConnectionState = state.connections at in
-    let bond : Row = state.bonds connection.peer in
-    ap (λ (present : Present). present asked)
-    (if-live-others state.shared bond connection Ended
-    (effect_of state.shared bond (state.owed connection.peer) connection Ended) (peers_in state))
-    ∙ still state (Of at Ended) (λ ordinal. and-false (ordinal == at)) asked
+    (if-live-others state.shared bond connection own
+    (effect_of state.shared bond (state.owed connection.peer) connection own) (peers_in state))
+    ∙ still state (Of at own) (λ ordinal. and_with_false (ordinal == at)) asked
 event-tells state (Credit allowed opcode status (Some init)) asked is possible unused =
     let happens : Event = Credit allowed opcode status (Some init) in
     still state happens (λ ordinal. refl) asked
@@ -286,14 +237,14 @@ unfolding step change_of
 had_slot state (Of at (event.Connected handle peer)) ordinal is possible kind has = cc kind
 had_slot state (Of at event.Disconnected) ordinal is possible kind has = freed-back at ordinal state has
 had_slot state (Of at (KeyAsked random_number diversifier)) ordinal is possible kind has =
-    (has, and-false (ordinal == at))
-had_slot state (Of at (Encrypted status enabled)) ordinal is possible kind has = (has, and-false (ordinal == at))
-had_slot state (Of at (Refreshed status)) ordinal is possible kind has = (has, and-false (ordinal == at))
-had_slot state (Of at (Asks pdu)) ordinal is possible kind has = (has, and-false (ordinal == at))
+    (has, and_with_false (ordinal == at))
+had_slot state (Of at (Encrypted status enabled)) ordinal is possible kind has = (has, and_with_false (ordinal == at))
+had_slot state (Of at (Refreshed status)) ordinal is possible kind has = (has, and_with_false (ordinal == at))
+had_slot state (Of at (Asks pdu)) ordinal is possible kind has = (has, and_with_false (ordinal == at))
 had_slot state (Of at (OtherChannel channel payload)) ordinal is possible kind has =
-    (has, and-false (ordinal == at))
-had_slot state (Of at (Authorized until)) ordinal is possible kind has = (has, and-false (ordinal == at))
-had_slot state (Of at Ended) ordinal is possible kind has = (has, and-false (ordinal == at))
+    (has, and_with_false (ordinal == at))
+had_slot state (Of at (Authorized until)) ordinal is possible kind has = (has, and_with_false (ordinal == at))
+had_slot state (Of at Ended) ordinal is possible kind has = (has, and_with_false (ordinal == at))
 had_slot state (Credit allowed opcode status (Some init)) ordinal is possible kind has =
     (init-has state.shared.slots init ordinal state.slots has, refl)
 had_slot state (Credit allowed opcode status None) ordinal is possible kind has = (has, refl)

@@ -4,14 +4,14 @@ use Rattle.std.proofs.Common.{refl, sym, ap, ◌∙◌}
 use Rattle.std.specs.Prelude.{◌==◌, ◌&&◌, ◌||◌, not, is_some, All, fold, if◌then◌else◌}
 use Rattle.std.specs.List.{list_any}
 use Rattle.std.specs.Option.{option_map}
-use Rattle.std.proofs.lemmas.Bool.{eqb-true, eq-eqb}
+use Rattle.std.proofs.lemmas.Bool.{eqb-true, eq-eqb, or_right}
 use Rattle.std.proofs.lemmas.List.Elements.{All-head, All-tail}
 use Rattle.att_numbers.specs.Types.{Handle, Row}
 use Rattle.att_policy.specs.declared.standing.KeyFacts.{KeyFacts}
 use Rattle.att_table.specs.ConfigRow.{bits_at}
 use Rattle.gatt_laws.proofs.ConfiguringNotices.{is_configured_notice, is_link_notice}
 use Rattle.gatt_laws.proofs.KnownKeys.{IsAlone, connects, has-slot, set-or-kept}
-use Rattle.gatt_laws.proofs.Present.{Parts, found_at, or-has}
+use Rattle.gatt_laws.proofs.Present.{Parts, found_at}
 use Rattle.gatt_laws.specs.laws.KnownConfigurations.{Known, is_peer_of, known_after_notice}
 use Rattle.gatt_laws.specs.laws.KnownKeys.{KnownKeys, known_keys_after, AreKeysKnown}
 use Rattle.gatt_laws.specs.laws.OwnWrites.{row_of_connection}
@@ -38,7 +38,7 @@ found-at parts [] ordinal has alone = cc has
 found-at parts (None ∷ slots) ordinal has alone = found-at parts slots ordinal has alone
 found-at parts (Some one ∷ slots) ordinal has alone =
     by-first ((parts one).handle == (parts ordinal).handle) (one == ordinal) refl refl has
-    (λ has_one. found-at parts slots ordinal has_one (λ other later. alone other (or-has (one == other) _ later)))
+    (λ has_one. found-at parts slots ordinal has_one (λ other later. alone other (or_right (one == other) _ later)))
   where
     by-first : (same is : Bool) → ((parts one).handle == (parts ordinal).handle) ≡ same → (one == ordinal) ≡ is
         → (is || has_slot ordinal slots) ≡ true

@@ -14,7 +14,6 @@ use Rattle.gatt_laws.proofs.KnowingWho.{away, had_slot, its-handle, knowing-at-f
 use Rattle.gatt_laws.proofs.KnowingWho.{stays-knowing}
 use Rattle.gatt_laws.proofs.Meant.{possible_where_meant, unused_where_meant}
 use Rattle.gatt_laws.proofs.Named.{step_named}
-use Rattle.gatt_laws.proofs.Notices.{or-first}
 use Rattle.gatt_laws.proofs.Skips.{none_of_the_event}
 use Rattle.gatt_laws.proofs.ToldIsSo.{tells_what_is_so}
 use Rattle.gatt_laws.specs.laws.KnownKeys.{KnownKeys, with_key, known_keys_after, no_keys_known, AreKeysKnown, KnowsTheKeys}
@@ -30,6 +29,7 @@ use Rattle.gatt_laws.specs.machine.Input.{Item, Run, after_item, after_items, ru
 use Rattle.gatt_laws.specs.machine.ItemEvents.{event_at, after_if}
 use Rattle.gatt_laws.specs.machine.Notice.{Notice, Connected, Secured, Unsecured, event_told, noticed, notices_of, notices_in}
 use Rattle.gatt_laws.specs.machine.State.{State, step}
+use Rattle.octet_io.proofs.Choices.{or_false_left}
 
 -- a connection that is there has a slot
 pub has-slot : (state : State) (ordinal : Ordinal) → IsSettled state → is_there (state.connections ordinal).mark ≡ true
@@ -165,7 +165,7 @@ was-there state (Of at (event.Connected handle peer)) ordinal is possible unused
           let found : (handle == ((step state happens).connections ordinal).handle) ≡ true =
           eq-eqb handle ((step state happens).connections ordinal).handle (sym its) in
           let lacks : (handle == ((step state happens).connections ordinal).handle) ≡ false =
-          or-first (handle == ((step state happens).connections ordinal).handle) false missing in
+          or_false_left (handle == ((step state happens).connections ordinal).handle) false missing in
           absurd (cc (found, lacks))
       | false ↦ λ differs. (old-slot state at handle peer is possible unused ordinal differs has, refl)
     ] refl

@@ -1,5 +1,5 @@
 -- A later time allows a connection the same if it is authorized at both times or at neither.
-use Rattle.std.proofs.Common.{◌≡◌, ℕ, Bool, true, false, List, [], ◌∷◌, map, length, Option, Some, None, Result, Ok, Err, refl, ap}
+use Rattle.std.proofs.Common.{◌≡◌, ℕ, Bool, false, List, [], ◌∷◌, map, length, Option, Some, None, Result, Ok, Err, refl, ap}
 use Rattle.std.specs.Prelude.{◌-◌, ◌/◌, ◌==◌, ◌&&◌, not, nat_le, is_none, drop, filter, take}
 use Rattle.std.specs.Int.RustNames.{bit_and}
 use Rattle.std.specs.List.{find, flat_map}
@@ -9,20 +9,20 @@ use Rattle.att_attributes.specs.Attributes.{attribute_at, guard_at, is_value}
 use Rattle.att_attributes.specs.OfType.{handles_of_type}
 use Rattle.att_attributes.specs.declared.attr.Attr.{Attr}
 use Rattle.att_numbers.specs.AttributeType.{of_16_bits}
-use Rattle.att_numbers.specs.Types.{AttributeType, Code, Handle, Mtu, Row}
+use Rattle.att_numbers.specs.Types.{Code, Handle, Mtu, Row}
 use Rattle.att_numbers.specs.declared.opcode.TheConstants.{EXECUTE_WRITE_REQUEST, FIND_BY_TYPE_VALUE_REQUEST, READ_BLOB_REQUEST}
 use Rattle.att_numbers.specs.declared.opcode.TheConstants.{READ_BY_GROUP_TYPE_REQUEST, READ_BY_TYPE_REQUEST, READ_MULTIPLE_REQUEST}
 use Rattle.att_numbers.specs.declared.opcode.TheConstants.{READ_REQUEST, WRITE_REQUEST}
-use Rattle.att_pdu.specs.Request.{Asked, ExchangeMtuRequest, FindInformationRequest, FindByTypeValueRequest, ReadByTypeRequest, ReadRequest}
+use Rattle.att_pdu.specs.Request.{Asked, ExchangeMtuRequest, FindByTypeValueRequest, ReadByTypeRequest, ReadRequest}
 use Rattle.att_pdu.specs.Request.{ReadBlobRequest, ReadMultipleRequest, ReadByGroupTypeRequest}
 use Rattle.att_pdu.specs.Request.{WriteRequest, PrepareWriteRequest, ExecuteWriteRequest}
-use Rattle.att_pdu.specs.Response.{Response, FindByTypeValueResponse, ReadByTypeResponse, ReadResponse, ReadBlobResponse}
+use Rattle.att_pdu.specs.Response.{FindByTypeValueResponse, ReadByTypeResponse, ReadResponse, ReadBlobResponse}
 use Rattle.att_pdu.specs.Response.{ReadMultipleResponse, ReadByGroupTypeResponse, WriteResponse, ExecuteWriteResponse}
 use Rattle.att_pdu.specs.Uuid.{uuid_number}
 use Rattle.att_pdu.specs.declared.grammar.PduFault.TheVariants.{Ignored, Invalid, Unsupported}
 use Rattle.att_pdu.specs.declared.request.ExecuteFlags.TheVariants as flags
 use Rattle.att_policy.specs.Policy.{code_of, configuration_bits_of, first_broken_of, first_unmet_rule_of, is_broken, is_unmet}
-use Rattle.att_policy.specs.Policy.{may_hear_of, need_of, rules_in_order, rules_of_need}
+use Rattle.att_policy.specs.Policy.{need_of, rules_in_order, rules_of_need}
 use Rattle.att_policy.specs.Refusal.{Refusal}
 use Rattle.att_policy.specs.declared.guard.Guard.{Guard}
 use Rattle.att_policy.specs.declared.guard.Need.{Need}
@@ -42,13 +42,13 @@ use Rattle.att_reads.specs.declared.list.Listing.TheVariants.{Values, Groups}
 use Rattle.att_table.specs.Table.{Contents, value_at}
 use Rattle.att_writes.specs.Applied.{Stored, after_entries, after_entry, stored_after, stored_in, unless_entry_refused}
 use Rattle.att_writes.specs.Entry.{Entry, whole_value}
-use Rattle.att_writes.specs.Fault.{entry_fault, form_fault, unless_broken}
-use Rattle.att_writes.specs.Queue.{broken_or_full, has_queue_room, prepare_fault, touched_by}
+use Rattle.att_writes.specs.Fault.{form_fault, unless_broken}
+use Rattle.att_writes.specs.Queue.{broken_or_full, has_queue_room, touched_by}
 use Rattle.gatt_conn.specs.Answer.{Question, Writing, answer_to, entry_at, handles_after, handles_by, prepare_response, response_to}
 use Rattle.gatt_conn.specs.Answer.{stored_after_writing, stored_by, writing_asked, written_response}
 use Rattle.gatt_conn.specs.Connection.{Bearer}
 use Rattle.gatt_subs.specs.Hearing.{bits_for, is_indicated, may_hear_at, wants_indications}
-use Rattle.octets.specs.Number.{Octets}
+use Rattle.octet_io.specs.Number.{Octets}
 
 module _ (standing : Standing) (now : ℕ) (same : nat_le standing.until now ≡ nat_le standing.until standing.now) where
   abbrev later : Standing

@@ -62,3 +62,4 @@ pub mod ViewOfOthers
 pub mod ViewOfOwn
 pub mod WaitingOfTheTable
 pub mod examples
+pub mod KeptByChanges

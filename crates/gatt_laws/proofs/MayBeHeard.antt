@@ -2,13 +2,14 @@
 use Rattle.std.proofs.Common.{◌≡◌, Bool, true, false, List, [], ◌∷◌, ◌++◌, Option, Some, None, refl}
 use Rattle.std.specs.Prelude.{◌&&◌, not, nat_lt, if◌then◌else◌}
 use Rattle.std.specs.Option.{option_map, option_to_list}
+use Rattle.std.proofs.lemmas.Bool.{and_parts}
 use Rattle.att_numbers.specs.Types.{Handle, Values}
 use Rattle.att_pdu.specs.Response.{Response}
 use Rattle.att_attributes.specs.declared.attr.Attr.{Attr}
 use Rattle.gatt_laws.specs.laws.Headline.{Each}
 use Rattle.gatt_laws.specs.machine.Heard.{Heard, heard_when_notifying, hearer_after, heard_in_turn}
 use Rattle.gatt_laws.specs.laws.MayBeHeard.{handle_told, handles_told, TellsWhatMayBeHeard}
-use Rattle.gatt_subs.proofs.Heard.{both, releases_only_what_is_heard}
+use Rattle.gatt_subs.proofs.Heard.{releases_only_what_is_heard}
 use Rattle.gatt_subs.specs.Hearing.{may_hear_at, wants_indications}
 use Rattle.gatt_subs.specs.Indications.{hears, is_notified, indicated_handle}
 use Rattle.gatt_subs.specs.Told.{Hearer, notification_of, indication_of}
@@ -41,9 +42,9 @@ raised-may attributes values hearer handle =
     (λ (tells : Bool). (hearer.live && is_notified hearer.pending attributes hearer.row hearer.standing handle hearer.backlog) ≡ tells
     → Each (MayHear attributes hearer) (handles_told (option_to_list (if tells then Some (notification_of values handle hearer.mtu) else None)))) [
       | true ↦ λ is.
-          let notified = (both hearer.live (is_notified hearer.pending attributes hearer.row hearer.standing handle hearer.backlog) is).1 in
-          let heard = (both (hears hearer.pending attributes hearer.row hearer.standing handle) (not (wants_indications hearer.row handle)) (both _ (nat_lt hearer.backlog 8) notified).0).0 in
-          ((both (not hearer.pending.timed_out) (may_hear_at attributes hearer.row hearer.standing handle) heard).1, tt)
+          let notified = (and_parts hearer.live (is_notified hearer.pending attributes hearer.row hearer.standing handle hearer.backlog) is).1 in
+          let heard = (and_parts (hears hearer.pending attributes hearer.row hearer.standing handle) (not (wants_indications hearer.row handle)) (and_parts _ (nat_lt hearer.backlog 8) notified).0).0 in
+          ((and_parts (not hearer.pending.timed_out) (may_hear_at attributes hearer.row hearer.standing handle) heard).1, tt)
       | false ↦ λ is. tt
     ] refl
 

@@ -4,7 +4,7 @@ use Rattle.std.proofs.Common.{None, refl, sym, ap, ◌∙◌, arith}
 use Rattle.std.specs.Prelude.{Result, Ok, Err, is_none, nat_le, nat_lt, ◌==◌, ◌&&◌, ◌||◌, not}
 use Rattle.std.specs.Prelude.{if◌then◌else◌}
 use Rattle.std.specs.Option.{option_map, option_map_or, option_to_list}
-use Rattle.std.proofs.lemmas.Bool.{eq-eqb, ltb-false}
+use Rattle.std.proofs.lemmas.Bool.{eq-eqb, ltb-false, or_right}
 use Rattle.att_numbers.specs.Types.{Handle}
 use Rattle.att_attributes.specs.declared.attr.Attr.{Attr}
 use Rattle.att_attributes.specs.Attributes.{attribute_at, is_value}
@@ -44,7 +44,8 @@ use Rattle.le_hci.specs.Init.{command_awaited, init_outcome}
 use Rattle.le_l2cap.specs.declared.channel.TheConstants.{ATT, LE_SIGNALLING, SECURITY_MANAGER}
 use Rattle.le_l2cap.specs.declared.frame.Skip.{Skip}
 use Rattle.le_l2cap.specs.Frame.{BasicFrame, frame_of}
-use Rattle.octets.specs.Number.{Octets}
+use Rattle.octet_io.proofs.Choices.{and_true_right, and_true_left}
+use Rattle.octet_io.specs.Number.{Octets}
 
 -- a command that is awaited is one of initialisation
 awaits-some : (awaiting : Bool) (command : Option Commanded) (opcode : ℕ)
@@ -53,18 +54,6 @@ awaits-some : (awaiting : Bool) (command : Option Commanded) (opcode : ℕ)
 awaits-some awaiting (Some command) opcode is = refl
 awaits-some true None opcode is = cc is
 awaits-some false None opcode is = cc is
-
-pub last-true : (one other : Bool) → (one && other) ≡ true → other ≡ true
-last-true true other is = is
-last-true false other is = cc is
-
-pub first-true : (one other : Bool) → (one && other) ≡ true → one ≡ true
-first-true true other is = refl
-first-true false other is = cc is
-
-or-true : (one other : Bool) → other ≡ true → (one || other) ≡ true
-or-true true other is = refl
-or-true false other is = is
 
 none-there : {A : Type 0} (found : Option A) → is_none found ≡ true → found ≡ None
 none-there None is = refl
@@ -95,7 +84,7 @@ is-found test (Some other ∷ slots) ordinal is =
       | false ↦ λ fails later.
           let found = is-found test slots ordinal later in
           record {
-            has = or-true (other == ordinal) (has_slot ordinal slots) found.has;
+            has = or_right (other == ordinal) (has_slot ordinal slots) found.has;
             passes =
                 found.passes;
           }
@@ -114,7 +103,7 @@ serves_in_a_slot state handle ordinal is =
     record {
       has = found.has;
       live =
-          first-true (is_live (state.connections ordinal).mark) ((state.connections ordinal).handle == handle) found.passes;
+          and_true_left (is_live (state.connections ordinal).mark) ((state.connections ordinal).handle == handle) found.passes;
     }
 
 module _ (Fine : Contents → Type 0) where
@@ -197,7 +186,7 @@ module _ (Fine : Contents → Type 0) where
       either-meant state (made && is_none (holding state handle))
       (own_event (context_of state).next_free (Connected handle peer)) Nothing
       (λ is. coming-meant state handle peer
-      (none-there (holding state handle) (last-true made (is_none (holding state handle)) is))) tt
+      (none-there (holding state handle) (and_true_right made (is_none (holding state handle)) is))) tt
   connection-meant state (event.LongTermKeyRequest handle random_number diversifier) ready =
       own-meant state (serving state handle) (KeyAsked random_number diversifier)
       (serves_in_a_slot state handle)
@@ -220,7 +209,7 @@ module _ (Fine : Contents → Type 0) where
       (λ init is. awaited-early state.controller opcode
       (is_awaited state.controller opcode && not (status == 0))
       (following_of (init_outcome state.controller.init (status ∷ []))) init
-      (λ so. first-true (is_awaited state.controller opcode) (not (status == 0)) so) is)
+      (λ so. and_true_left (is_awaited state.controller opcode) (not (status == 0)) so) is)
   reported-meant state (event.HardwareError code) = tt
   reported-meant state reported = if-ready state reported
 

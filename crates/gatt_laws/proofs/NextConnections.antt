@@ -1,27 +1,25 @@
 -- What becomes of one connection at an event, before its end: it stays, it goes, or it comes.
-use Rattle.std.proofs.Common.{◌≡◌, ℕ, zero, suc, Bool, true, false, ◌==◌, List, [], ◌∷◌, Option, Some, None, refl, sym, ap, subst, ◌∙◌, add-zero}
+use Rattle.std.proofs.Common.{◌≡◌, ℕ, zero, suc, Bool, true, false, ◌==◌, List, [], ◌∷◌, Some, refl, sym, ap, subst, ◌∙◌, add-zero}
 use Rattle.std.proofs.lemmas.Bool.{eqb-true}
 use Rattle.std.proofs.lemmas.List.{drop-take}
-use Rattle.std.specs.Prelude.{map, take, drop, if◌then◌else◌, ◌&&◌}
+use Rattle.std.specs.Prelude.{map, take, drop, if◌then◌else◌}
 use Rattle.att_numbers.specs.Types.{Handle, Row}
-use Rattle.att_pdu.specs.Grammar.{request_of, is_due}
-use Rattle.gatt_conn.specs.Transcript.{Dropped}
 use Rattle.gatt_laws.proofs.Silence.{only_serves_the_live}
-use Rattle.gatt_laws.specs.machine.Event.{Ordinal, Own, Event, Connected, Disconnected, KeyAsked, Encrypted, Refreshed, Asks, OtherChannel, Authorized, Ended, Of, Completed, Credit, Update, Tick, Replaced, Nothing}
+use Rattle.gatt_laws.proofs.KeptByChanges.{KeepsByChanges, keeps_if_live}
+use Rattle.octet_io.proofs.Choices.{either_choice}
+use Rattle.gatt_laws.specs.machine.Event.{Ordinal, Own, Event, Connected, Disconnected, Of, Completed, Credit, Tick, Replaced}
 use Rattle.gatt_laws.specs.machine.Heard.{after_hearing}
-use Rattle.gatt_laws.specs.machine.ConnectionState.{ConnectionState, Mark, Absent, Live, Ending, no_connection, fresh_connection, is_live, is_there, key_of, connection_mtu, with_pdus, after_ending}
+use Rattle.gatt_laws.specs.machine.ConnectionState.{ConnectionState, Mark, Absent, Live, Ending, no_connection, fresh_connection, is_live, is_there}
 use Rattle.gatt_laws.specs.machine.SharedState.{SharedState, fragment_size_of}
 use Rattle.gatt_laws.specs.machine.State.{State, Change, own_change, with_packets_completed, after_packets_completed, connection_dropped, change_of, finished, packets_given}
-use Rattle.gatt_laws.specs.machine.Effect.{Effect, effect_on_connection, is_full, served, channel_answer, after_other_channel, with_step, lost_encryption, link_effect, live_effect, effect_of, authentication_failure, remote_user_terminated}
+use Rattle.gatt_laws.specs.machine.Effect.{Effect, effect_of}
 use Rattle.gatt_laws.specs.laws.TwoWorlds.{GivesNothingToTheAbsent}
 use Rattle.gatt_laws.specs.laws.Given.{packets_at}
-use Rattle.gatt_subs.specs.Indications.{after_replacement}
 use Rattle.le_acl.specs.Outgoing.{acl_octets}
 use Rattle.le_acl.specs.Fragment.{Fragment}
 use Rattle.le_acl.specs.Packets.{Pdu, packets_of}
 use Rattle.le_hci.specs.declared.peer.Peer.{Peer}
-use Rattle.le_security.specs.Link.{Step, Encryption, Refresh}
-use Rattle.octets.specs.Number.{Octets}
+use Rattle.octet_io.specs.Number.{Octets}
 
 -- it stays: its peer, and what it was given; and it serves only if it did
 pub record Stays (old new : ConnectionState) : Type 0 where
@@ -45,48 +43,20 @@ pub data Becomes (old new : ConnectionState) (raised : List Handle) : Type 0 whe
 stays : (connection : ConnectionState) → Stays connection connection
 stays connection = record { peer = refl; given = refl; live = λ is. is }
 
-stays-either : (connection one other : ConnectionState) (test : Bool) → Stays connection one → Stays connection other → Stays connection (if test then one else other)
-stays-either connection one other true first second = first
-stays-either connection one other false first second = second
+ends : (connection new : ConnectionState) → new.peer ≡ connection.peer → new.given ≡ connection.given → is_live new.mark ≡ false → Stays connection new
+ends connection new peer given away = record { peer = peer; given = given; live = λ is. away }
 
-stays-ending : (connection : ConnectionState) (reason : ℕ) → Stays connection (after_ending connection reason)
-stays-ending connection reason = record { peer = refl; given = refl; live = λ is. refl }
-
-channel-stays : (shared : SharedState) (connection : ConnectionState) (channel : ℕ) (answer : Option Octets) → Stays connection (after_other_channel shared connection channel answer)
-channel-stays shared connection channel None = stays connection
-channel-stays shared connection channel (Some answer) =
-    stays-either connection (after_ending connection remote_user_terminated) (with_pdus connection ((channel, answer) ∷ [])) (is_full shared connection)
-    (stays-ending connection remote_user_terminated) (record { peer = refl; given = refl; live = λ is. is })
-
-link-stays : (shared : SharedState) (bond : Row) (owed : Bool) (connection : ConnectionState) (step : Step) → Stays connection (link_effect shared bond owed connection step).connection
-link-stays shared bond owed connection step =
-    let new : ConnectionState = with_step connection step in
-    stays-either connection (after_ending new authentication_failure) new (lost_encryption (key_of connection) (key_of new))
-    (record { peer = refl; given = refl; live = λ is. refl }) (record { peer = refl; given = refl; live = λ is. is })
-
-turn-stays : (connection : ConnectionState) (one other : Effect) (test : Bool) → Stays connection one.connection → Stays connection other.connection → Stays connection (if test then one else other).connection
-turn-stays connection one other true first second = first
-turn-stays connection one other false first second = second
-
-live-stays : (shared : SharedState) (bond : Row) (owed : Bool) (connection : ConnectionState) (own : Own) → Stays connection (live_effect shared bond owed connection own).connection
-unfolding live_effect
-live-stays shared bond owed connection (Asks pdu) =
-    let asked = request_of pdu (connection_mtu shared connection) in
-    turn-stays connection (effect_on_connection shared bond owed (after_ending connection remote_user_terminated)) (served shared bond owed connection pdu asked) (is_due asked && is_full shared connection)
-    (stays-ending connection remote_user_terminated) (record { peer = refl; given = refl; live = λ is. is })
-live-stays shared bond owed connection (OtherChannel channel payload) = channel-stays shared connection channel (channel_answer channel payload)
-live-stays shared bond owed connection (KeyAsked random_number diversifier) = record { peer = refl; given = refl; live = λ is. is }
-live-stays shared bond owed connection (Encrypted status enabled) = link-stays shared bond owed connection (Encryption status enabled)
-live-stays shared bond owed connection (Refreshed status) = link-stays shared bond owed connection (Refresh status)
-live-stays shared bond owed connection (Authorized until) = record { peer = refl; given = refl; live = λ is. is }
-live-stays shared bond owed connection Ended = stays-ending connection remote_user_terminated
-live-stays shared bond owed connection (Connected handle peer) = stays connection
-live-stays shared bond owed connection Disconnected = stays connection
-
-live-or-stays : (shared : SharedState) (bond : Row) (owed : Bool) (connection : ConnectionState) (own : Own)
-    → Stays connection (if is_live connection.mark then live_effect shared bond owed connection own else effect_on_connection shared bond owed connection).connection
-live-or-stays shared bond owed connection own =
-    turn-stays connection (live_effect shared bond owed connection own) (effect_on_connection shared bond owed connection) (is_live connection.mark) (live-stays shared bond owed connection own) (stays connection)
+by-changes : (connection : ConnectionState) → KeepsByChanges Stays connection
+by-changes connection = record {
+  same = stays connection;
+  authorized = λ until. record { peer = refl; given = refl; live = λ is. is };
+  ended = λ reason. ends connection _ refl refl refl;
+  key_asked = λ found. record { peer = refl; given = refl; live = λ is. is };
+  stepped = λ step. record { peer = refl; given = refl; live = λ is. is };
+  ended_then = λ step reason. ends connection _ refl refl refl;
+  queued = λ pdu. record { peer = refl; given = refl; live = λ is. is };
+  served_by = λ shared bond owed pdu asked. record { peer = refl; given = refl; live = λ is. is };
+}
 
 comes-or-stays : (connection : ConnectionState) (handle : ℕ) (peer : Peer) (there : Bool) → is_there connection.mark ≡ there → Becomes connection (if there then connection else fresh_connection handle peer) []
 comes-or-stays connection handle peer true is = Stayed (stays connection)
@@ -96,13 +66,13 @@ turn-becomes : (shared : SharedState) (bond : Row) (owed : Bool) (connection : C
     → (let effect = effect_of shared bond owed connection own in Becomes connection effect.connection effect.to_notify_here)
 turn-becomes shared bond owed connection (Connected handle peer) = comes-or-stays connection handle peer (is_there connection.mark) refl
 turn-becomes shared bond owed connection Disconnected = Went refl
-turn-becomes shared bond owed connection own = Stayed (live-or-stays shared bond owed connection own)
+turn-becomes shared bond owed connection own = Stayed (keeps_if_live Stays shared bond owed connection (stays connection) (λ live. by-changes connection) own)
 
 completed-stays : (ordinal : Ordinal) (entries : List (Ordinal × ℕ)) (old connection : ConnectionState) → Stays old connection → Stays old (after_packets_completed ordinal entries connection)
 completed-stays ordinal [] old connection is = is
 completed-stays ordinal (entry ∷ entries) old connection is =
     completed-stays ordinal entries old (if entry.0 == ordinal then with_packets_completed connection entry.1 else connection)
-    (stays-either old (with_packets_completed connection entry.1) connection (entry.0 == ordinal) (record { peer = is.peer; given = is.given; live = is.live }) is)
+    (either_choice (Stays old) (entry.0 == ordinal) _ _ (record { peer = is.peer; given = is.given; live = is.live }) is)
 
 own-becomes : (state : State) (at : Ordinal) (own : Own) (ordinal : Ordinal)
     → (let change = own_change state at own in Becomes (state.connections ordinal) (change.state.connections ordinal) (change.to_notify ordinal))
@@ -122,16 +92,14 @@ unfolding change_of
 becomes state (Of at own) ordinal = own-becomes state at own ordinal
 becomes state (Completed entries) ordinal = Stayed (completed-stays ordinal entries (state.connections ordinal) (state.connections ordinal) (stays (state.connections ordinal)))
 becomes state (Credit allowed opcode status (Some init)) ordinal = Stayed (stays (state.connections ordinal))
-becomes state (Credit allowed opcode status None) ordinal = Stayed (stays (state.connections ordinal))
-becomes state (Update handle value) ordinal = Stayed (stays (state.connections ordinal))
 becomes state (Tick time) ordinal = Stayed (record { peer = refl; given = refl; live = λ is. is })
 becomes state (Replaced table) ordinal =
     let connection : ConnectionState = state.connections ordinal in
     let dropped : Stays connection (connection_dropped connection) =
-    stays-either connection (record connection { said = Dropped ∷ connection.said; pending = after_replacement connection.pending }) connection (is_live connection.mark)
+    either_choice (Stays connection) (is_live connection.mark) _ _
     (record { peer = refl; given = refl; live = λ is. is }) (stays connection) in
     Stayed (record { peer = dropped.peer; given = dropped.given; live = dropped.live })
-becomes state Nothing ordinal = Stayed (stays (state.connections ordinal))
+becomes state event ordinal = Stayed (stays (state.connections ordinal))
 
 -- Nothing is given to a connection that was not there, and nothing to one that goes.
 

@@ -2,9 +2,9 @@
 use Rattle.std.proofs.Common.{◌≡◌, ℕ, zero, suc, ◌<◌, Bool, true, false, List, [], ◌∷◌, map, Option}
 use Rattle.std.proofs.Common.{Some, None}
 use Rattle.std.proofs.Common.{Result, Ok, Err, refl, sym, ap, ◌∙◌, arith}
-use Rattle.std.specs.Prelude.{◌==◌, ◌&&◌, ◌||◌, ◌++◌, not, if◌then◌else◌}
+use Rattle.std.specs.Prelude.{◌==◌, ◌&&◌, ◌++◌, not, if◌then◌else◌}
 use Rattle.std.specs.List.{list_any, filter}
-use Rattle.std.proofs.lemmas.Bool.{eqb-true}
+use Rattle.std.proofs.lemmas.Bool.{eqb-true, or_from}
 use Rattle.std.proofs.lemmas.List.Folds.{list_any-append}
 use Rattle.att_numbers.specs.Types.{Handle, Row, Values}
 use Rattle.att_attributes.specs.declared.attr.Attr.{Attr}
@@ -34,21 +34,10 @@ use Rattle.gatt_laws.specs.laws.Possible.{Possible}
 use Rattle.gatt_laws.specs.machine.SharedState.{SharedState}
 use Rattle.gatt_laws.specs.machine.State.{State, step, change_of}
 use Rattle.gatt_laws.specs.machine.Effect.{Effect, effect_on_connection, effect_of, live_effect, served, is_full, remote_user_terminated, handles_written}
-use Rattle.octets.specs.Number.{Octets}
+use Rattle.octet_io.proofs.Choices.{or_false_left, or_false_right}
+use Rattle.octet_io.specs.Number.{Octets}
 
 -- Handles that were written, each once.
-
-pub or-first : (one other : Bool) → (one || other) ≡ false → one ≡ false
-or-first false other is = refl
-or-first true other is = cc is
-
-pub or-second : (one other : Bool) → (one || other) ≡ false → other ≡ false
-or-second false other is = is
-or-second true other is = cc is
-
-pub both-none : (one other : Bool) → one ≡ false → other ≡ false → (one || other) ≡ false
-both-none false other is none = none
-both-none true other is none = cc is
 
 -- whether a handle is among some
 abbrev pub is_among : Handle → List Handle → Bool
@@ -64,11 +53,11 @@ kept-none : (attribute handle other : Handle) (rest : List Handle) (same : Bool)
     → is_among attribute (other ∷ rest) ≡ false
 kept-none attribute handle other rest true is differs none later =
     let equal : other ≡ handle = eqb-true other handle is in
-    both-none (other == attribute) _ (ap (λ (one : Handle). one == attribute) equal ∙ differs)
+    or_from (other == attribute) _ (ap (λ (one : Handle). one == attribute) equal ∙ differs)
     (later none)
 kept-none attribute handle other rest false is differs none later =
-    both-none (other == attribute) _ (or-first (other == attribute) _ none)
-    (later (or-second (other == attribute) _ none))
+    or_from (other == attribute) _ (or_false_left (other == attribute) _ none)
+    (later (or_false_right (other == attribute) _ none))
 
 none-left : (attribute handle : Handle) (handles : List Handle) → (handle == attribute) ≡ false
     → is_among attribute (filter (λ one. not (one == handle)) handles) ≡ false
@@ -83,18 +72,18 @@ pub none-once : (attribute : Handle) (handles : List Handle)
     → is_among attribute handles ≡ false
 none-once attribute [] none = refl
 none-once attribute (handle ∷ rest) none =
-    let differs : (handle == attribute) ≡ false = or-first (handle == attribute) _ none in
-    both-none (handle == attribute) _ differs
+    let differs : (handle == attribute) ≡ false = or_false_left (handle == attribute) _ none in
+    or_from (handle == attribute) _ differs
     (none-once attribute rest
-    (none-left attribute handle (once_each rest) differs (or-second (handle == attribute) _ none)))
+    (none-left attribute handle (once_each rest) differs (or_false_right (handle == attribute) _ none)))
 
 pub none-touched : (attribute : Handle) (entries : List Entry)
     → is_among attribute (map (λ (entry : Entry). entry.handle) entries) ≡ false
     → is_touched entries attribute ≡ false
 none-touched attribute [] none = refl
 none-touched attribute (entry ∷ rest) none =
-    both-none (entry.handle == attribute) _ (or-first (entry.handle == attribute) _ none)
-    (none-touched attribute rest (or-second (entry.handle == attribute) _ none))
+    or_from (entry.handle == attribute) _ (or_false_left (entry.handle == attribute) _ none)
+    (none-touched attribute rest (or_false_right (entry.handle == attribute) _ none))
 
 -- A value that is written is told.
 
@@ -120,12 +109,12 @@ pub value_not_written : (attributes : List Attr) (row : Row) (handle : ℕ) (att
 value_not_written attributes row handle attribute [] value none = refl
 value_not_written attributes row handle attribute (other ∷ rest) value none =
     let notice : Notice = write_told attributes row handle other in
-    both-none (other == attribute) _
+    or_from (other == attribute) _
     (told-next attributes row handle attribute other
     (is_configuration_at attributes other) refl value
-    (or-first (tells_value attribute notice) _ none))
+    (or_false_left (tells_value attribute notice) _ none))
     (value_not_written attributes row handle attribute rest value
-    (or-second (tells_value attribute notice) _ none))
+    (or_false_right (tells_value attribute notice) _ none))
 
 -- what is written leaves a value that is not told
 module _ (table : Contents) (row new_row : Row) (standing : Standing) (handle : ℕ) where
@@ -176,7 +165,7 @@ none-first : (attribute : Handle) (one other : List Notice)
     → is_value_told attribute (one ++ other) ≡ false
     → is_value_told attribute one ≡ false
 none-first attribute one other none =
-    or-first (is_value_told attribute one) (is_value_told attribute other)
+    or_false_left (is_value_told attribute one) (is_value_told attribute other)
     (sym (list_any-append (tells_value attribute) one other) ∙ none)
 
 -- where there is no room for the answer, nothing is written

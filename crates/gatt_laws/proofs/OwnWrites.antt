@@ -23,7 +23,7 @@ use Rattle.gatt_laws.specs.machine.Effect.{Effect, effect_on_connection, served,
 use Rattle.le_hci.specs.declared.peer.Peer.{Peer}
 use Rattle.le_security.specs.Entry.{same_peer}
 use Rattle.le_security.proofs.Peers.{same_as_itself}
-use Rattle.octets.specs.Number.{Octets}
+use Rattle.octet_io.specs.Number.{Octets}
 
 -- what it asks
 abbrev execution : Question

@@ -1,33 +1,26 @@
 -- Each possible event keeps that who has a slot is there, and waits for one command at most.
-use Rattle.std.proofs.Common.{◌≡◌, ℕ, zero, suc, ◌+◌, Bool, true, false, List, [], ◌∷◌, length, Option, Some, None, refl, sym, subst}
-use Rattle.std.specs.Prelude.{is_some, nat_lt, ◌&&◌, replicate, ◌==◌, ◌||◌, if◌then◌else◌}
+use Rattle.std.proofs.Common.{◌≡◌, ℕ, zero, suc, ◌+◌, Bool, true, false, List, [], ◌∷◌, length, Some, None, refl, sym, ap, subst, ◌∙◌}
+use Rattle.std.specs.Prelude.{nat_lt, replicate, ◌==◌, ◌||◌, if◌then◌else◌}
 use Rattle.std.proofs.lemmas.Bool.{eq-eqb, eqb-true}
 use Rattle.att_numbers.specs.Types.{Handle, Row}
-use Rattle.att_pdu.specs.Grammar.{request_of, is_due}
-use Rattle.att_table.specs.ConfigRow.{kept_row}
 use Rattle.att_table.specs.Table.{Contents}
-use Rattle.gatt_conn.specs.Answer.{Question}
-use Rattle.gatt_conn.specs.Transcript.{Dropped}
 use Rattle.gatt_laws.proofs.Always.{always, any_tables}
+use Rattle.gatt_laws.proofs.KeptByChanges.{KeepsByChanges, completed_keeps, finished_keeps, keeps_if_live, replaced_keeps, sent_keeps}
 use Rattle.gatt_laws.specs.machine.Controller.{Slots, with_taken, with_freed, command_of_init, count_before, without_command}
-use Rattle.gatt_laws.specs.machine.Event.{Ordinal, Own, Event, Connected, Disconnected, KeyAsked, Encrypted, Refreshed, Asks, OtherChannel, Authorized, Ended, Of, Completed, Credit, Update, Tick, Replaced, Nothing}
+use Rattle.gatt_laws.specs.machine.Event.{Ordinal, Own, Event, Connected, Disconnected, Of, Completed, Credit, Tick, Replaced}
 use Rattle.gatt_laws.specs.machine.Heard.{after_hearing}
 use Rattle.gatt_laws.specs.machine.Input.{run_at_start, run}
-use Rattle.gatt_laws.specs.machine.ConnectionState.{ConnectionState, no_connection, fresh_connection, is_live, is_there, key_of, connection_mtu, with_pdus, after_ending, after_giving}
+use Rattle.gatt_laws.specs.machine.ConnectionState.{ConnectionState, Ending, no_connection, fresh_connection, is_live, is_there}
 use Rattle.gatt_laws.specs.laws.Placed.{WaitsOnce, IsPlaced, IsAlwaysPlaced}
 use Rattle.gatt_laws.specs.laws.Possible.{Possible}
-use Rattle.gatt_laws.specs.machine.SharedState.{SharedState, Bonds, quota_of, fragment_size_of}
+use Rattle.gatt_laws.specs.machine.SharedState.{SharedState, Bonds}
 use Rattle.gatt_laws.specs.laws.Settled.{is_slot_of, has_slot}
 use Rattle.gatt_laws.specs.machine.Start.{Start, before_first_command, state_at}
-use Rattle.gatt_laws.specs.machine.State.{State, Change, slots_after, slots_when_ready, own_change, with_packets_completed, after_packets_completed, connection_after_replacement, change_of, finished, connections_finished, before_commands, step}
-use Rattle.gatt_laws.specs.machine.Effect.{effect_on_connection, served, is_full, request_effect, after_other_channel, channel_answer, with_step, lost_encryption, live_effect, effect_of, remote_user_terminated, authentication_failure}
-use Rattle.gatt_subs.specs.Indications.{after_replacement}
-use Rattle.le_acl.specs.History.{packets_allowed}
+use Rattle.gatt_laws.specs.machine.State.{State, Change, slots_after, slots_when_ready, own_change, after_packets_completed, connection_after_replacement, change_of, finished, connections_finished, before_commands, step}
+use Rattle.gatt_laws.specs.machine.Effect.{effect_of}
 use Rattle.le_acl.specs.Quotas.{usable}
 use Rattle.le_hci.specs.declared.init.Init.{Init}
 use Rattle.le_hci.specs.declared.init.Init.TheVariants.{Ready}
-use Rattle.le_security.specs.Link.{Step, Encryption, Refresh}
-use Rattle.octets.specs.Number.{Octets}
 
 -- one connection
 record Keeps (old new : ConnectionState) : Type 0 where
@@ -40,55 +33,27 @@ keeps-same connection = record { there = λ there. there; once = λ once. once }
 keeps-both : (first second third : ConnectionState) → Keeps first second → Keeps second third → Keeps first third
 keeps-both first second third one other = record { there = λ there. other.there (one.there there); once = λ once. other.once (one.once once) }
 
-ending : (connection : ConnectionState) (reason : ℕ) → Keeps connection (after_ending connection reason)
-ending connection reason = record { there = λ there. refl; once = λ once. record { serving = λ live. cc live; others = λ other. refl } }
+-- a mark and what waits for it: a change of neither keeps both
+as-before : (connection new : ConnectionState) → new.mark ≡ connection.mark → new.reply ≡ connection.reply → new.reason ≡ connection.reason → Keeps connection new
+as-before connection new mark reply reason = record {
+  there = λ there. ap is_there mark ∙ there;
+  once = λ once. record { serving = λ live. reason ∙ once.serving (ap is_live (sym mark) ∙ live); others = λ other. reply ∙ once.others (ap is_live (sym mark) ∙ other) };
+}
 
-with-more : (connection : ConnectionState) (more : _) → Keeps connection (with_pdus connection more)
-with-more connection more = record { there = λ there. there; once = λ once. record { serving = once.serving; others = once.others } }
+end-keeps : (connection new : ConnectionState) → new.mark ≡ Ending → new.reply ≡ None → Keeps connection new
+end-keeps connection new mark none = record { there = λ there. ap is_there mark; once = λ once. record { serving = λ live. cc (sym (ap is_live mark) ∙ live); others = λ other. none } }
 
-served-keeps : (shared : SharedState) (bond : Row) (owed : Bool) (connection : ConnectionState) (pdu : Octets) (asked : Question) → Keeps connection (served shared bond owed connection pdu asked).connection
-served-keeps shared bond owed connection pdu asked = record { there = λ there. there; once = λ once. record { serving = once.serving; others = once.others } }
-
-request-keeps : (shared : SharedState) (bond : Row) (owed : Bool) (connection : ConnectionState) (pdu : Octets) → Keeps connection (request_effect shared bond owed connection pdu).connection
-request-keeps shared bond owed connection pdu =
-    let asked : Question = request_of pdu (connection_mtu shared connection) in
-    elim (is_due asked && is_full shared connection) as
-    (λ (full : Bool). Keeps connection (if full then effect_on_connection shared bond owed (after_ending connection remote_user_terminated) else served shared bond owed connection pdu asked).connection) [
-      | true ↦ ending connection remote_user_terminated
-      | false ↦ served-keeps shared bond owed connection pdu asked
-    ]
-
-channel-keeps : (shared : SharedState) (connection : ConnectionState) (channel : ℕ) (answer : Option Octets) → Keeps connection (after_other_channel shared connection channel answer)
-channel-keeps shared connection channel None = keeps-same connection
-channel-keeps shared connection channel (Some answer) =
-    elim (is_full shared connection) as (λ (full : Bool). Keeps connection (if full then after_ending connection remote_user_terminated else with_pdus connection ((channel, answer) ∷ []))) [
-      | true ↦ ending connection remote_user_terminated
-      | false ↦ with-more connection ((channel, answer) ∷ [])
-    ]
-
-link-keeps : (connection : ConnectionState) (step : Step) (lost : Bool) → Keeps connection (if lost then after_ending (with_step connection step) authentication_failure else with_step connection step)
-link-keeps connection step true = record { there = λ there. refl; once = λ once. record { serving = λ live. cc live; others = λ other. refl } }
-link-keeps connection step false = record { there = λ there. there; once = λ once. record { serving = once.serving; others = once.others } }
-
-live-keeps : (shared : SharedState) (bond : Row) (owed : Bool) (connection : ConnectionState) (own : Own) → is_live connection.mark ≡ true → Keeps connection (live_effect shared bond owed connection own).connection
-unfolding live_effect
-live-keeps shared bond owed connection (Asks pdu) live = request-keeps shared bond owed connection pdu
-live-keeps shared bond owed connection (OtherChannel channel payload) live = channel-keeps shared connection channel (channel_answer channel payload)
-live-keeps shared bond owed connection (KeyAsked random_number diversifier) live =
-    record { there = λ there. there; once = λ once. record { serving = once.serving; others = λ other. cc (live, other) } }
-live-keeps shared bond owed connection (Encrypted status enabled) live =
-    link-keeps connection (Encryption status enabled) (lost_encryption (key_of connection) (key_of (with_step connection (Encryption status enabled))))
-live-keeps shared bond owed connection (Refreshed status) live =
-    link-keeps connection (Refresh status) (lost_encryption (key_of connection) (key_of (with_step connection (Refresh status))))
-live-keeps shared bond owed connection (Authorized until) live = record { there = λ there. there; once = λ once. record { serving = once.serving; others = once.others } }
-live-keeps shared bond owed connection Ended live = ending connection remote_user_terminated
-live-keeps shared bond owed connection (Connected handle peer) live = keeps-same connection
-live-keeps shared bond owed connection Disconnected live = keeps-same connection
-
-if-live : (shared : SharedState) (bond : Row) (owed : Bool) (connection : ConnectionState) (own : Own) (live : Bool) → is_live connection.mark ≡ live
-    → Keeps connection (if live then live_effect shared bond owed connection own else effect_on_connection shared bond owed connection).connection
-if-live shared bond owed connection own true is = live-keeps shared bond owed connection own is
-if-live shared bond owed connection own false is = keeps-same connection
+by-changes : (connection : ConnectionState) → is_live connection.mark ≡ true → KeepsByChanges Keeps connection
+by-changes connection live = record {
+  same = keeps-same connection;
+  authorized = λ until. as-before connection _ refl refl refl;
+  ended = λ reason. end-keeps connection _ refl refl;
+  key_asked = λ found. record { there = λ there. there; once = λ once. record { serving = once.serving; others = λ other. cc (live, other) } };
+  stepped = λ step. as-before connection _ refl refl refl;
+  ended_then = λ step reason. end-keeps connection _ refl refl;
+  queued = λ pdu. as-before connection _ refl refl refl;
+  served_by = λ shared bond owed pdu asked. as-before connection _ refl refl refl;
+}
 
 come-once : (handle : ℕ) (peer : _) → WaitsOnce (fresh_connection handle peer)
 come-once handle peer = record { serving = λ live. refl; others = λ other. refl }
@@ -98,43 +63,22 @@ absent-once = record { serving = λ live. refl; others = λ other. refl }
 
 heard-keeps : (shared : SharedState) (bond : Row) (handles : List Handle) (connection : ConnectionState) → Keeps connection (after_hearing shared bond handles connection)
 unfolding after_hearing
-heard-keeps shared bond handles connection = record { there = λ there. there; once = λ once. record { serving = once.serving; others = once.others } }
-
-given-keeps : (connection : ConnectionState) (given : ℕ) (live : Bool) → Keeps connection (if live then record connection { given = given } else connection)
-given-keeps connection given true = record { there = λ there. there; once = λ once. record { serving = once.serving; others = once.others } }
-given-keeps connection given false = keeps-same connection
+heard-keeps shared bond handles connection = as-before connection _ refl refl refl
 
 finished-keeps : (shared : SharedState) (bonds : Bonds) (handles : List Handle) (connection : ConnectionState) → Keeps connection (finished shared bonds handles connection)
-finished-keeps shared bonds handles connection =
-    let heard : ConnectionState = after_hearing shared (bonds connection.peer) handles connection in
-    keeps-both connection heard (after_giving shared heard) (heard-keeps shared (bonds connection.peer) handles connection)
-    (given-keeps heard (packets_allowed (quota_of shared.slots shared.buffers) (fragment_size_of shared.buffers) heard.pdus heard.done) (is_live heard.mark))
+finished-keeps = finished_keeps Keeps keeps-same keeps-both heard-keeps (λ connection given. as-before connection _ refl refl refl)
 
 sent-keeps : (connection : ConnectionState) (sent : Bool) → Keeps connection (if sent then without_command connection else connection)
-sent-keeps connection false = keeps-same connection
-sent-keeps connection true =
-    elim (is_some connection.reason) as (λ (has : Bool). Keeps connection (if has then record connection { reason = None } else record connection { reply = None })) [
-      | true ↦ record { there = λ there. there; once = λ once. record { serving = λ live. refl; others = once.others } }
-      | false ↦ record { there = λ there. there; once = λ once. record { serving = once.serving; others = λ other. refl } }
-    ]
+sent-keeps = sent_keeps Keeps keeps-same keeps-both
+    (λ connection. record { there = λ there. there; once = λ once. record { serving = λ live. refl; others = once.others } })
+    (λ connection. record { there = λ there. there; once = λ once. record { serving = once.serving; others = λ other. refl } })
 
 completed-keeps : (ordinal : Ordinal) (entries : List (Ordinal × ℕ)) (connection : ConnectionState) → Keeps connection (after_packets_completed ordinal entries connection)
-completed-keeps ordinal [] connection = keeps-same connection
-completed-keeps ordinal (entry ∷ entries) connection =
-    let next : ConnectionState = if entry.0 == ordinal then with_packets_completed connection entry.1 else connection in
-    keeps-both connection next (after_packets_completed ordinal entries next)
-    (elim (entry.0 == ordinal) as (λ (own : Bool). Keeps connection (if own then with_packets_completed connection entry.1 else connection)) [
-      | true ↦ record { there = λ there. there; once = λ once. record { serving = once.serving; others = once.others } }
-      | false ↦ keeps-same connection
-    ])
-    (completed-keeps ordinal entries next)
+completed-keeps = completed_keeps Keeps keeps-same keeps-both (λ connection done. as-before connection _ refl refl refl)
 
 replaced-keeps : (old new : Contents) (connection : ConnectionState) → Keeps connection (connection_after_replacement old new connection)
 replaced-keeps old new connection =
-    elim (is_live connection.mark) as (λ (live : Bool). Keeps connection (record (if live then record connection { said = Dropped ∷ connection.said; pending = after_replacement connection.pending } else connection) { row = kept_row old.attributes new.attributes connection.row })) [
-      | true ↦ record { there = λ there. there; once = λ once. record { serving = once.serving; others = once.others } }
-      | false ↦ record { there = λ there. there; once = λ once. record { serving = once.serving; others = once.others } }
-    ]
+    replaced_keeps Keeps keeps-same keeps-both old new connection (as-before connection _ refl refl refl) (as-before connection _ refl refl refl)
 
 -- what has a slot
 or-true : (one other : Bool) → (one || other) ≡ true → one ≡ false → other ≡ true
@@ -195,7 +139,7 @@ turn-once : (shared : SharedState) (bond : Row) (owed : Bool) (connection : Conn
 turn-once shared bond owed connection (Connected handle peer) once =
     elim (is_there connection.mark) as (λ (there : Bool). WaitsOnce (if there then connection else fresh_connection handle peer)) [ true ↦ once | false ↦ come-once handle peer ]
 turn-once shared bond owed connection Disconnected once = absent-once
-turn-once shared bond owed connection own once = (if-live shared bond owed connection own (is_live connection.mark) refl).once once
+turn-once shared bond owed connection own once = (keeps_if_live Keeps shared bond owed connection (keeps-same connection) (by-changes connection) own).once once
 
 -- who has a slot then
 come-there : (connection : ConnectionState) (handle : ℕ) (peer : _) (there : Bool) → is_there connection.mark ≡ there → is_there (if there then connection else fresh_connection handle peer).mark ≡ true
@@ -207,7 +151,7 @@ turn-there : (shared : SharedState) (bond : Row) (owed : Bool) (connection : Con
 turn-there shared bond owed connection (Connected handle peer) at slots there has = come-there connection handle peer (is_there connection.mark) refl
 turn-there shared bond owed connection Disconnected at slots there has = cc (has, freed_lacks at slots)
 turn-there shared bond owed connection own at slots there has =
-    (if-live shared bond owed connection own (is_live connection.mark) refl).there (there has)
+    (keeps_if_live Keeps shared bond owed connection (keeps-same connection) (by-changes connection) own).there (there has)
 
 other-has : (own : Own) (at other : Ordinal) (slots : Slots) → (other == at) ≡ false → has_slot other (slots_after own at slots) ≡ true → has_slot other slots ≡ true
 other-has (Connected handle peer) at other slots differs has = taken-has at other slots differs (same-too other at differs) has
@@ -242,8 +186,6 @@ change-placed state (Completed entries) placed = record {
 }
 change-placed state (Credit allowed opcode status (Some init)) placed =
     record { there = λ ordinal has. placed.there ordinal (init-has state.shared.slots init ordinal state.slots has); once = placed.once }
-change-placed state (Credit allowed opcode status None) placed = record { there = placed.there; once = placed.once }
-change-placed state (Update handle value) placed = record { there = placed.there; once = placed.once }
 change-placed state (Tick time) placed = record {
   there = placed.there;
   once = λ ordinal. record { serving = (placed.once ordinal).serving; others = (placed.once ordinal).others };
@@ -252,7 +194,7 @@ change-placed state (Replaced table) placed = record {
   there = λ ordinal has. (replaced-keeps state.shared.table table (state.connections ordinal)).there (placed.there ordinal has);
   once = λ ordinal. (replaced-keeps state.shared.table table (state.connections ordinal)).once (placed.once ordinal);
 }
-change-placed state Nothing placed = record { there = placed.there; once = placed.once }
+change-placed state event placed = record { there = placed.there; once = placed.once }
 
 pub placed_before_commands : (state : State) (event : Event) → IsPlaced state → IsPlaced (before_commands state event)
 placed_before_commands state event placed =

@@ -5,27 +5,24 @@ use Rattle.std.specs.Prelude.{min, nat_lt, ◌==◌, ◌&&◌, if◌then◌else�
 use Rattle.std.specs.Option.{option_map_or}
 use Rattle.std.proofs.lemmas.Bool.{eqb-true}
 use Rattle.att_numbers.specs.Types.{Row}
-use Rattle.att_pdu.specs.Grammar.{request_of, is_due}
 use Rattle.att_table.specs.Table.{Contents}
-use Rattle.gatt_conn.specs.Answer.{Question}
-use Rattle.gatt_conn.specs.Transcript.{Dropped}
 use Rattle.gatt_laws.proofs.Ends.{end_keeps}
 use Rattle.gatt_laws.proofs.Silence.{only_serves_the_live}
 use Rattle.gatt_laws.specs.machine.Controller.{Controller, command_of_init, count_before, without_command, is_ready}
-use Rattle.gatt_laws.specs.machine.Event.{Ordinal, Own, Event, Connected, Disconnected, KeyAsked, Encrypted, Refreshed, Asks, OtherChannel, Authorized, Ended, Of, Completed, Credit, Update, Tick, Replaced, Nothing}
-use Rattle.gatt_laws.specs.machine.ConnectionState.{Mark, Absent, Live, Ending, ConnectionState, no_connection, fresh_connection, is_live, is_there, key_of, connection_mtu, with_pdus, after_ending}
+use Rattle.gatt_laws.proofs.KeptByChanges.{KeepsByChanges, live_keeps}
+use Rattle.octet_io.proofs.Choices.{either_choice}
+use Rattle.gatt_laws.specs.machine.Event.{Ordinal, Own, Event, Connected, Disconnected, Of, Completed, Credit, Tick, Replaced}
+use Rattle.gatt_laws.specs.machine.ConnectionState.{Mark, Absent, Live, Ending, ConnectionState, no_connection, fresh_connection, is_live, is_there}
 use Rattle.gatt_laws.specs.laws.Possible.{Possible}
 use Rattle.gatt_laws.specs.machine.SharedState.{SharedState}
 use Rattle.gatt_laws.specs.laws.Runs.{after_events, ArePossible}
 use Rattle.gatt_laws.specs.laws.Settled.{has_slot, IsSettled}
 use Rattle.gatt_laws.specs.machine.Start.{Start, before_first_command, state_at}
 use Rattle.gatt_laws.specs.machine.State.{State, Change, next_after, advertising_after, is_refusal, with_packets_completed, after_packets_completed, connection_after_replacement, change_of, finished, connections_finished, step}
-use Rattle.gatt_laws.specs.machine.Effect.{effect_on_connection, served, is_full, request_effect, after_other_channel, channel_answer, with_step, lost_encryption, live_effect, effect_of, remote_user_terminated, authentication_failure}
+use Rattle.gatt_laws.specs.machine.Effect.{effect_on_connection, live_effect, effect_of}
 use Rattle.gatt_laws.specs.laws.View.{own_connecting, peer_connecting, peer_in}
 use Rattle.gatt_subs.specs.Indications.{after_tick}
 use Rattle.le_hci.specs.declared.peer.Peer.{Peer}
-use Rattle.le_security.specs.Link.{Step, Encryption, Refresh}
-use Rattle.octets.specs.Number.{Octets}
 
 -- A connection that is there stays with its peer, and of one that is not, nothing is kept.
 
@@ -59,50 +56,23 @@ live-there Ending is = refl
 stays-itself : (connection : ConnectionState) → StaysWith connection connection
 stays-itself connection = record { there = refl; peer = refl }
 
-ending-stays : (connection : ConnectionState) (reason : ℕ) → is_there connection.mark ≡ true → StaysWith connection (after_ending connection reason)
-ending-stays connection reason there = record { there = sym there; peer = refl }
-
-request-stays : (shared : SharedState) (bond : Row) (owed : Bool) (connection : ConnectionState) (pdu : Octets) → is_there connection.mark ≡ true → StaysWith connection (request_effect shared bond owed connection pdu).connection
-request-stays shared bond owed connection pdu there =
-    let asked : Question = request_of pdu (connection_mtu shared connection) in
-    elim (is_due asked && is_full shared connection) as (λ (full : Bool).
-    StaysWith connection (if full then effect_on_connection shared bond owed (after_ending connection remote_user_terminated) else served shared bond owed connection pdu asked).connection) [
-      | true ↦ ending-stays connection remote_user_terminated there
-      | false ↦ record { there = refl; peer = refl }
-    ]
-
-channel-stays : (shared : SharedState) (connection : ConnectionState) (channel : ℕ) (answer : Option Octets) → is_there connection.mark ≡ true → StaysWith connection (after_other_channel shared connection channel answer)
-channel-stays shared connection channel None there = stays-itself connection
-channel-stays shared connection channel (Some answer) there =
-    elim (is_full shared connection) as (λ (full : Bool). StaysWith connection (if full then after_ending connection remote_user_terminated else with_pdus connection ((channel, answer) ∷ []))) [
-      | true ↦ ending-stays connection remote_user_terminated there
-      | false ↦ record { there = refl; peer = refl }
-    ]
-
-link-stays : (connection : ConnectionState) (step : Step) (lost : Bool) → is_there connection.mark ≡ true
-    → StaysWith connection (if lost then after_ending (with_step connection step) authentication_failure else with_step connection step)
-link-stays connection step true there = record { there = sym there; peer = refl }
-link-stays connection step false there = record { there = refl; peer = refl }
-
-live-stays : (shared : SharedState) (bond : Row) (owed : Bool) (connection : ConnectionState) (own : Own) → is_there connection.mark ≡ true → StaysWith connection (live_effect shared bond owed connection own).connection
-unfolding live_effect
-live-stays shared bond owed connection (Asks pdu) there = request-stays shared bond owed connection pdu there
-live-stays shared bond owed connection (OtherChannel channel payload) there = channel-stays shared connection channel (channel_answer channel payload) there
-live-stays shared bond owed connection (KeyAsked random_number diversifier) there = record { there = refl; peer = refl }
-live-stays shared bond owed connection (Encrypted status enabled) there =
-    link-stays connection (Encryption status enabled) (lost_encryption (key_of connection) (key_of (with_step connection (Encryption status enabled)))) there
-live-stays shared bond owed connection (Refreshed status) there =
-    link-stays connection (Refresh status) (lost_encryption (key_of connection) (key_of (with_step connection (Refresh status)))) there
-live-stays shared bond owed connection (Authorized until) there = record { there = refl; peer = refl }
-live-stays shared bond owed connection Ended there = ending-stays connection remote_user_terminated there
-live-stays shared bond owed connection (Connected handle peer) there = stays-itself connection
-live-stays shared bond owed connection Disconnected there = stays-itself connection
+by-changes : (connection : ConnectionState) → is_there connection.mark ≡ true → KeepsByChanges StaysWith connection
+by-changes connection there = record {
+  same = stays-itself connection;
+  authorized = λ until. record { there = refl; peer = refl };
+  ended = λ reason. record { there = sym there; peer = refl };
+  key_asked = λ found. record { there = refl; peer = refl };
+  stepped = λ step. record { there = refl; peer = refl };
+  ended_then = λ step reason. record { there = sym there; peer = refl };
+  queued = λ pdu. record { there = refl; peer = refl };
+  served_by = λ shared bond owed pdu asked. record { there = refl; peer = refl };
+}
 
 if-live-place : (peer : Peer) (shared : SharedState) (bond : Row) (owed : Bool) (connection : ConnectionState) (own : Own) (live : Bool) → is_live connection.mark ≡ live → HasPlace peer connection
     → HasPlace peer (if live then live_effect shared bond owed connection own else effect_on_connection shared bond owed connection).connection
 if-live-place peer shared bond owed connection own true is place =
     let there : is_there connection.mark ≡ true = live-there connection.mark is in
-    let stays = live-stays shared bond owed connection own there in
+    let stays = live_keeps StaysWith shared bond owed connection (by-changes connection there) own in
     record {
       of = λ after. stays.peer ∙ place.of there;
       absent = λ lacks. absurd (cc (lacks, stays.there, there));
@@ -127,10 +97,7 @@ completed-stays : (ordinal : Ordinal) (entries : List (Ordinal × ℕ)) (old con
 completed-stays ordinal [] old connection stays = stays
 completed-stays ordinal (entry ∷ entries) old connection stays =
     completed-stays ordinal entries old (if entry.0 == ordinal then with_packets_completed connection entry.1 else connection)
-    (elim (entry.0 == ordinal) as (λ (own : Bool). StaysWith old (if own then with_packets_completed connection entry.1 else connection)) [
-      | true ↦ record { there = stays.there; peer = stays.peer }
-      | false ↦ stays
-    ])
+    (either_choice (StaysWith old) (entry.0 == ordinal) _ _ (record { there = stays.there; peer = stays.peer }) stays)
 
 completed-none : (count : ℕ) → with_packets_completed no_connection count ≡ no_connection
 completed-none count =
@@ -147,11 +114,8 @@ completed_gone ordinal (entry ∷ entries) =
 
 replaced-stays : (old new : Contents) (connection : ConnectionState) → StaysWith connection (connection_after_replacement old new connection)
 replaced-stays old new connection =
-    elim (is_live connection.mark) as (λ (live : Bool).
-    StaysWith connection (record (if live then record connection { said = Dropped ∷ connection.said; pending = Rattle.gatt_subs.specs.Indications.after_replacement connection.pending } else connection) { row = Rattle.att_table.specs.ConfigRow.kept_row old.attributes new.attributes connection.row })) [
-      | true ↦ record { there = refl; peer = refl }
-      | false ↦ record { there = refl; peer = refl }
-    ]
+    either_choice (λ (dropped : ConnectionState). StaysWith connection (record dropped { row = Rattle.att_table.specs.ConfigRow.kept_row old.attributes new.attributes connection.row })) (is_live connection.mark) _ _
+    (record { there = refl; peer = refl }) (record { there = refl; peer = refl })
 
 of-place : (peer : Peer) (state : State) (ordinal at : Ordinal) (own : Own) (same : Bool) → (ordinal == at) ≡ same
     → ComesFrom peer (if same then own_connecting own else None) → HasPlace peer (state.connections ordinal)
@@ -170,13 +134,11 @@ change-place peer ordinal state (Completed entries) from place =
     stays-in-place peer (after_packets_completed ordinal entries) (state.connections ordinal) (completed-stays ordinal entries (state.connections ordinal) (state.connections ordinal) (stays-itself (state.connections ordinal)))
     (completed_gone ordinal entries) place
 change-place peer ordinal state (Credit allowed opcode status (Some init)) from place = place
-change-place peer ordinal state (Credit allowed opcode status None) from place = place
-change-place peer ordinal state (Update handle value) from place = place
 change-place peer ordinal state (Tick time) from place =
     stays-in-place peer (λ (connection : ConnectionState). record connection { pending = after_tick connection.pending time }) (state.connections ordinal) (record { there = refl; peer = refl }) refl place
 change-place peer ordinal state (Replaced table) from place =
     stays-in-place peer (connection_after_replacement state.shared.table table) (state.connections ordinal) (replaced-stays state.shared.table table (state.connections ordinal)) refl place
-change-place peer ordinal state Nothing from place = place
+change-place peer ordinal state event from place = place
 
 sent-absent : (connection : ConnectionState) (sent : Bool) → connection ≡ no_connection → (if sent then without_command connection else connection) ≡ no_connection
 sent-absent connection true is = ap without_command is
@@ -261,14 +223,7 @@ next_grows state event ordinal below = below
 came-own : (state : State) (at ordinal : Ordinal) (own : Own) (peer : Peer) (same : Bool) → (ordinal == at) ≡ same → Possible IsAny state (Of at own)
     → (if same then own_connecting own else None) ≡ Some peer → (ordinal ≡ state.next) × (next_after own state.next ≡ state.next + 1)
 came-own state at ordinal (Connected handle other) peer true is may found = (eqb-true ordinal at is ∙ may.next, refl)
-came-own state at ordinal Disconnected peer true is may found = cc found
-came-own state at ordinal (KeyAsked random_number diversifier) peer true is may found = cc found
-came-own state at ordinal (Encrypted status enabled) peer true is may found = cc found
-came-own state at ordinal (Refreshed status) peer true is may found = cc found
-came-own state at ordinal (Asks pdu) peer true is may found = cc found
-came-own state at ordinal (OtherChannel channel payload) peer true is may found = cc found
-came-own state at ordinal (Authorized until) peer true is may found = cc found
-came-own state at ordinal Ended peer true is may found = cc found
+came-own state at ordinal own peer true is may found = cc found
 came-own state at ordinal own peer false is may found = absurd (cc found)
 
 record Comes (state : State) (event : Event) (ordinal : Ordinal) : Type 0 where

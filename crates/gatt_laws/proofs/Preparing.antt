@@ -25,7 +25,7 @@ use Rattle.gatt_laws.specs.machine.Start.{Start, new_shared_state, before_first_
 use Rattle.gatt_laws.specs.machine.State.{State, after_packets_completed, with_packets_completed, announced, connection_after_replacement, change_of, step}
 use Rattle.gatt_laws.specs.machine.Effect.{effect_on_connection, served, is_full, request_effect, after_other_channel, channel_answer, with_step, lost_encryption, live_effect, effect_of, remote_user_terminated, authentication_failure}
 use Rattle.le_security.specs.Link.{Step, Encryption, Refresh}
-use Rattle.octets.specs.Number.{Octets}
+use Rattle.octet_io.specs.Number.{Octets}
 
 -- an exchange that is asked for is answered
 no-more : (first : Option Mtu) (test : Bool) → option_or first (if test then None else None) ≡ option_or first None

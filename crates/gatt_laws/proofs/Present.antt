@@ -5,7 +5,7 @@ use Rattle.std.proofs.Common.{refl, sym, ap, ◌∙◌}
 use Rattle.std.specs.Prelude.{◌++◌, ◌==◌, ◌||◌, replicate, if◌then◌else◌}
 use Rattle.std.specs.List.{flat_map}
 use Rattle.std.specs.Option.{option_map, option_to_list}
-use Rattle.std.proofs.lemmas.Bool.{eqb-true, eq-eqb}
+use Rattle.std.proofs.lemmas.Bool.{eqb-true, eq-eqb, or_right}
 use Rattle.att_numbers.specs.Types.{Handle, Row}
 use Rattle.att_attributes.specs.declared.attr.Attr.{Attr}
 use Rattle.att_attributes.specs.Attributes.{is_configuration_at}
@@ -153,10 +153,6 @@ peer-first parts ordinal slots handle =
     ≡ (if is then Some (parts ordinal).peer
     else peer_at parts slots handle)) [ true ↦ refl | false ↦ refl ]
 
-pub or-has : (same has : Bool) → has ≡ true → (same || has) ≡ true
-or-has true has is = refl
-or-has false has is = is
-
 -- connections that keep their names are found as they were
 pub same-peers : (old new : Parts) (slots : Slots) (handle : ℕ)
     → ((ordinal : Ordinal) → has_slot ordinal slots ≡ true → IsNamedAs (old ordinal) (new ordinal))
@@ -167,7 +163,7 @@ same-peers old new (Some ordinal ∷ slots) handle named =
     let own = named ordinal
     (ap (λ (same : Bool). same || has_slot ordinal slots) (eq-eqb ordinal ordinal refl)) in
     let others = same-peers old new slots handle
-    (λ one has. named one (or-has (ordinal == one) _ has)) in
+    (λ one has. named one (or_right (ordinal == one) _ has)) in
     peer-first new ordinal slots handle
     ∙ (λ i. if own.handle i == handle then Some (own.peer i) else others i)
     ∙ sym (peer-first old ordinal slots handle)
@@ -228,7 +224,7 @@ module _ (old new : Parts) (at : Ordinal) (handle : ℕ) (peer : Peer)
       ap (λ (same : Bool). if same then Some ordinal else found_at old slots handle) (sym differs)
       ∙ unused in
       let later = taken-peers slots asked free rest_unused
-      (λ one has. named one (or-has (ordinal == one) _ has)) in
+      (λ one has. named one (or_right (ordinal == one) _ has)) in
       peer-first new ordinal (with_taken at slots) asked
       ∙ (λ i. if own.handle i == asked then Some (own.peer i) else later i)
       ∙ later-one ((old ordinal).handle == asked) true (handle == asked) (old ordinal).peer
@@ -301,7 +297,7 @@ module _ (old new : Parts) (at : Ordinal) where
       let here : has_slot ordinal (Some ordinal ∷ slots) ≡ true =
       ap (λ (same : Bool). same || has_slot ordinal slots) (eq-eqb ordinal ordinal refl) in
       freed-one asked ordinal slots (ordinal == at) refl (alone ordinal here) (named ordinal)
-      (freed-peers slots asked (λ one has. alone one (or-has (ordinal == one) _ has)) named)
+      (freed-peers slots asked (λ one has. alone one (or_right (ordinal == one) _ has)) named)
       ∙ ap (λ (of : Option Peer). if sent == asked then None else of)
       (sym (peer-first old ordinal slots asked))
 

@@ -11,7 +11,6 @@ use Rattle.att_attributes.specs.declared.attr.Attr.{Attr}
 use Rattle.gatt_conn.proofs.Dues.{answered_where_due}
 use Rattle.gatt_conn.specs.Answer.{Question, answer_to}
 use Rattle.gatt_laws.proofs.Always.{always, any_tables}
-use Rattle.gatt_laws.proofs.Meant.{last-true}
 use Rattle.std.proofs.lemmas.List.{length-map}
 use Rattle.att_table.specs.ConfigRow.{kept_row}
 use Rattle.att_table.specs.Table.{Contents}
@@ -28,8 +27,9 @@ use Rattle.gatt_laws.specs.machine.Effect.{effect_on_connection, served, is_full
 use Rattle.gatt_subs.specs.Indications.{after_replacement}
 use Rattle.le_acl.specs.History.{packets_allowed}
 use Rattle.le_security.specs.Link.{Step, Encryption, Refresh}
-use Rattle.octets.specs.Number.{Octets}
-use Rattle.gatt_laws.specs.machine.Event.{Ordinal, Own, Event, Connected, Disconnected, Encrypted, Refreshed, Asks, OtherChannel, Of, Completed, Credit, Update, Tick, Replaced, Nothing}
+use Rattle.octet_io.proofs.Choices.{and_true_right}
+use Rattle.octet_io.specs.Number.{Octets}
+use Rattle.gatt_laws.specs.machine.Event.{Ordinal, Own, Event, Connected, Disconnected, Encrypted, Refreshed, Asks, OtherChannel, Of, Completed, Credit, Tick, Replaced}
 use Rattle.gatt_laws.specs.machine.Heard.{Heard, hearer_of, after_hearing, heard_when_notifying, hearer_after, heard_in_turn, att_pdu}
 use Rattle.gatt_laws.specs.machine.ConnectionState.{ConnectionState, no_connection, fresh_connection, is_live, is_there, key_of, row_in_force, connection_mtu, bearer_of, backlog_of, with_pdus, after_ending}
 use Rattle.gatt_laws.specs.laws.Queued.{IsWithinBounds, HasBoundedQueues, AlwaysHasBoundedQueues}
@@ -113,7 +113,7 @@ raised-few attributes values hearer handle few =
     (λ (tells : Bool). (hearer.live && is_notified hearer.pending attributes hearer.row hearer.standing handle hearer.backlog) ≡ tells
     → hearer.backlog + length (option_to_list (if tells then Some (notification_of values handle hearer.mtu) else None)) ≤ 16) [
       | true ↦ λ is.
-          let below_limit : nat_lt hearer.backlog 8 ≡ true = last-true _ _ (last-true hearer.live _ is) in
+          let below_limit : nat_lt hearer.backlog 8 ≡ true = and_true_right _ _ (and_true_right hearer.live _ is) in
           omega (arith, ltb-true hearer.backlog 8 below_limit)
       | false ↦ λ is. omega (arith, few)
     ] refl
@@ -128,7 +128,7 @@ released-if attributes values hearer true few =
     → hearer.backlog + length (option_to_list (option_map (λ handle. indication_of values handle hearer.mtu)
     (if may then first_handle (from_due (is_indicated attributes hearer.row hearer.standing) hearer.pending.waiting) else None))) ≤ 16) [
       | true ↦ λ is.
-          let below_limit : nat_lt hearer.backlog 8 ≡ true = last-true _ _ is in
+          let below_limit : nat_lt hearer.backlog 8 ≡ true = and_true_right _ _ is in
           one-or-none (option_map (λ handle. indication_of values handle hearer.mtu) (first_handle (from_due (is_indicated attributes hearer.row hearer.standing) hearer.pending.waiting)))
           hearer.backlog (omega (arith, ltb-true hearer.backlog 8 below_limit))
       | false ↦ λ is. omega (arith, few)
@@ -326,12 +326,10 @@ unfolding change_of
 change-queued state (Of at own) possible kept = own-queued state at own kept.queued
 change-queued state (Completed entries) possible kept = λ ordinal. completed-within _ _ ordinal entries (state.connections ordinal) (kept.queued ordinal)
 change-queued state (Credit allowed opcode status (Some init)) possible kept = λ ordinal. early-queued state _ _ ordinal kept.settled possible
-change-queued state (Credit allowed opcode status None) possible kept = kept.queued
-change-queued state (Update handle value) possible kept = kept.queued
 change-queued state (Tick time) possible kept = λ ordinal.
     let is = kept.queued ordinal in record { few = is.few; given = is.given; within = is.within; done = is.done }
 change-queued state (Replaced table) possible kept = λ ordinal. replaced-within _ _ state.shared.table table (state.connections ordinal) (kept.queued ordinal)
-change-queued state Nothing possible kept = kept.queued
+change-queued state event possible kept = kept.queued
 
 pub stays-kept : (state : State) (event : Event) → Possible (λ table. Unit) state event → IsKept state → IsKept (step state event)
 unfolding step

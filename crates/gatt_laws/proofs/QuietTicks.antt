@@ -1,16 +1,13 @@
 -- A Tick before the deadline causes no notice and no packet, and each connection is allowed the same after it.
 use Rattle.std.proofs.Common.{◌≡◌, ℕ, ◌<◌, ◌≤◌, Bool, true, false, List, [], ◌∷◌, ◌++◌, map, Option, Some, None, refl, sym, ap, ◌∙◌, arith}
 use Rattle.std.proofs.Common.{subst}
-use Rattle.std.specs.Prelude.{◌+◌, ◌&&◌, length, ◌^◌, ◌==◌, ◌||◌, is_some, min, nat_le, nat_lt, filter_map, take, if◌then◌else◌}
-use Rattle.std.specs.List.{list_any, reduce, flat_map, cons_option}
+use Rattle.std.specs.Prelude.{◌+◌, ◌&&◌, length, ◌^◌, ◌==◌, ◌||◌, is_some, nat_le, nat_lt, filter_map, take, if◌then◌else◌}
+use Rattle.std.specs.List.{list_any, flat_map, cons_option}
 use Rattle.std.specs.Option.{option_and_then, option_map, option_map_or, option_to_list}
-use Rattle.std.proofs.lemmas.Bool.{eqb-true, eq-eqb}
+use Rattle.std.proofs.lemmas.Bool.{eqb-true, eq-eqb, or_left, or_right}
 use Rattle.att_attributes.specs.declared.attr.Attr.{Attr}
 use Rattle.att_numbers.specs.Types.{Handle, Row, Values}
 use Rattle.att_pdu.specs.Response.{Response}
-use Rattle.att_policy.specs.Policy.{is_unmet}
-use Rattle.att_policy.specs.declared.guard.Need.{Need}
-use Rattle.att_policy.specs.declared.policy.Rule.TheVariants.{Authorization}
 use Rattle.gatt_laws.proofs.Deadline.{has-come, least-come, reached}
 use Rattle.gatt_laws.proofs.LaterStandings.{answer_later, handles_later, indicated_later, may_hear_later, stored_later}
 use Rattle.gatt_laws.proofs.Skips.{noticed_where_quiet}
@@ -19,36 +16,21 @@ use Rattle.gatt_laws.specs.laws.Deadline.{EndsAuthorizations, IsAllowedTheSame, 
 use Rattle.gatt_laws.specs.laws.Settled.{has_slot}
 use Rattle.gatt_laws.specs.machine.ConnectionState.{ConnectionState, after_giving, backlog_of, bearer_of, is_live, row_in_force}
 use Rattle.gatt_laws.specs.machine.ConnectionState.{connection_mtu, standing_of}
-use Rattle.gatt_laws.specs.machine.Controller.{Controller, Slots, command_for, commands_due, commands_for, enabling, command_of_init}
-use Rattle.gatt_laws.specs.machine.Controller.{count_before, without_command}
+use Rattle.gatt_laws.specs.machine.Controller.{Slots, command_for, commands_due, commands_for, enabling, command_of_init}
+use Rattle.gatt_laws.specs.machine.Controller.{count_before}
 use Rattle.gatt_laws.specs.machine.Event.{Ordinal, Nothing, Tick}
-use Rattle.gatt_laws.specs.machine.Heard.{Heard, after_hearing, att_pdu, hearer_of, heard_when_indicating, with_heard}
-use Rattle.gatt_laws.specs.machine.Notice.{Notice, TimedOut, event_told, late_told, slot_told}
+use Rattle.gatt_laws.specs.machine.Heard.{Heard, after_hearing, hearer_of, heard_when_indicating, with_heard}
+use Rattle.gatt_laws.specs.machine.Notice.{TimedOut, event_told, slot_told}
 use Rattle.gatt_laws.specs.machine.SharedState.{SharedState, fragment_size_of, quota_of}
 use Rattle.le_acl.specs.History.{packets_allowed}
-use Rattle.gatt_laws.specs.machine.State.{State, before_commands, change_of, command_octets, finished, out, packets_given, slot_out, step}
+use Rattle.gatt_laws.specs.machine.State.{State, before_commands, change_of, command_octets, finished, out, packets_given, step}
 use Rattle.gatt_subs.specs.Deadline.{deadline_of, late_at, late_from}
 use Rattle.gatt_subs.specs.Indications.{Indications, after_tick, first_handle, from_due, is_late, may_indicate, no_indications, times_out}
 use Rattle.gatt_subs.specs.Hearing.{is_indicated}
 use Rattle.gatt_subs.specs.Told.{indicate_tells, indication_of}
 use Rattle.gatt_subs.specs.declared.pending.Unconfirmed.{Unconfirmed}
-use Rattle.octets.specs.Number.{Octets}
-
-first-false : (one other : Bool) → (one || other) ≡ false → one ≡ false
-first-false true other is = is
-first-false false other is = refl
-
-second-false : (one other : Bool) → (one || other) ≡ false → other ≡ false
-second-false true other is = cc is
-second-false false other is = is
-
-first-true : (one other : Bool) → one ≡ true → (one || other) ≡ true
-first-true true other is = refl
-first-true false other is = cc is
-
-second-true : (one other : Bool) → other ≡ true → (one || other) ≡ true
-second-true true other is = refl
-second-true false other is = is
+use Rattle.octet_io.proofs.Choices.{or_false_left, or_false_right}
+use Rattle.octet_io.specs.Number.{Octets}
 
 -- The deadline is not reached if no time of a connection is.
 module _ (time : ℕ) where
@@ -78,8 +60,8 @@ module _ (time : ℕ) where
         let found : Option ℕ = slot_deadline state.shared.time state (Some one) in
         let neither : (is_reached found time || list_any (has-come time) (times slots)) ≡ false =
         sym (one-come found (times slots)) ∙ none in
-        by-place (one == ordinal) refl has (first-false _ _ neither)
-        (λ there. of-slot slots there (second-false _ _ neither))
+        by-place (one == ordinal) refl has (or_false_left _ _ neither)
+        (λ there. of-slot slots there (or_false_right _ _ neither))
       where
         by-place : (same : Bool) → (one == ordinal) ≡ same → (same || has_slot ordinal slots) ≡ true
             → is_reached (slot_deadline state.shared.time state (Some one)) time ≡ false
@@ -138,7 +120,7 @@ module _ (state : State) (time : ℕ) (later : state.shared.time ≤ time) (few 
       (reached time (filter_map (slot_deadline state.shared.time state) state.slots) ∙ below)
 
   quiet : (ordinal : Ordinal) → has_slot ordinal state.slots ≡ true → times_out (connection_at ordinal).pending time ≡ false
-  quiet ordinal has = not-late (connection_at ordinal).pending time few (first-false _ _ (neither ordinal has))
+  quiet ordinal has = not-late (connection_at ordinal).pending time few (or_false_left _ _ (neither ordinal has))
 
   same-if : (ordinal : Ordinal) (live : Bool)
       → is_reached (if live then end_after state.shared.time (connection_at ordinal).until else None) time ≡ false → live ≡ true
@@ -150,7 +132,7 @@ module _ (state : State) (time : ℕ) (later : state.shared.time ≤ time) (few 
   same-authorization : (ordinal : Ordinal) → has_slot ordinal state.slots ≡ true → is_live (connection_at ordinal).mark ≡ true
       → nat_le (connection_at ordinal).until time ≡ nat_le (connection_at ordinal).until state.shared.time
   same-authorization ordinal has live =
-      same-if ordinal (is_live (connection_at ordinal).mark) (second-false _ _ (neither ordinal has)) live
+      same-if ordinal (is_live (connection_at ordinal).mark) (or_false_right _ _ (neither ordinal has)) live
 
   allowed_the_same : (ordinal : Ordinal) → has_slot ordinal state.slots ≡ true → is_live (connection_at ordinal).mark ≡ true
       → IsAllowedTheSame then_shared state.shared (connection_at ordinal)
@@ -171,9 +153,9 @@ module _ (state : State) (time : ℕ) (later : state.shared.time ≤ time) (few 
   none-told [] has = refl
   none-told (None ∷ slots) has = none-told slots has
   none-told (Some ordinal ∷ slots) has = λ i.
-      (if quiet ordinal (has ordinal (first-true (ordinal == ordinal) (has_slot ordinal slots) (eq-eqb ordinal ordinal refl))) i
+      (if quiet ordinal (has ordinal (or_left (ordinal == ordinal) (has_slot ordinal slots) (eq-eqb ordinal ordinal refl))) i
       then TimedOut (connection_at ordinal).handle ∷ [] else [])
-      ++ none-told slots (λ other is. has other (second-true (ordinal == other) (has_slot other slots) is)) i
+      ++ none-told slots (λ other is. has other (or_right (ordinal == other) (has_slot other slots) is)) i
 
   -- Each connection is sent the same.
 
@@ -259,10 +241,10 @@ module _ (state : State) (time : ℕ) (later : state.shared.time ≤ time) (few 
     Within slots = (ordinal : Ordinal) → has_slot ordinal slots ≡ true → has_slot ordinal state.slots ≡ true
 
     at-first : (ordinal : Ordinal) (slots : Slots) → Within (Some ordinal ∷ slots) → has_slot ordinal state.slots ≡ true
-    at-first ordinal slots has = has ordinal (first-true (ordinal == ordinal) (has_slot ordinal slots) (eq-eqb ordinal ordinal refl))
+    at-first ordinal slots has = has ordinal (or_left (ordinal == ordinal) (has_slot ordinal slots) (eq-eqb ordinal ordinal refl))
 
     in-rest : (ordinal : Ordinal) (slots : Slots) → Within (Some ordinal ∷ slots) → Within slots
-    in-rest ordinal slots has = λ other is. has other (second-true (ordinal == other) (has_slot other slots) is)
+    in-rest ordinal slots has = λ other is. has other (or_right (ordinal == other) (has_slot other slots) is)
 
     commands-alike : (slots : Slots) → Within slots → commands_for one slots ≡ commands_for other slots
     commands-alike [] has = refl

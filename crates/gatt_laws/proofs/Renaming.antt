@@ -36,7 +36,7 @@ use Rattle.le_hci.specs.declared.peer.Peer.{Peer}
 use Rattle.le_hci.specs.Event as event
 use Rattle.le_hci.specs.Event.{Reported, event_of}
 use Rattle.le_hci.specs.Init.{init_outcome}
-use Rattle.octets.specs.Number.{Octets}
+use Rattle.octet_io.specs.Number.{Octets}
 
 module _ (C D : Type 0) (names : C → D) where
   abbrev other_name : Happening C → Happening D

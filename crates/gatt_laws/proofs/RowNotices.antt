@@ -3,7 +3,7 @@ use Rattle.std.proofs.Common.{◌≡◌, ℕ, Bool, true, false, List, [], ◌�
 use Rattle.std.proofs.Common.{Result, Ok, Err, refl, sym, ap, subst, ◌∙◌}
 use Rattle.std.specs.Prelude.{◌++◌, ◌==◌, ◌&&◌, not, is_some, if◌then◌else◌}
 use Rattle.std.specs.List.{filter}
-use Rattle.std.proofs.lemmas.Bool.{eqb-true, eq-eqb}
+use Rattle.std.proofs.lemmas.Bool.{eqb-true, eq-eqb, or_from}
 use Rattle.std.proofs.lemmas.List.Folds.{list_any-append}
 use Rattle.att_numbers.specs.Types.{Handle, Row}
 use Rattle.att_attributes.specs.declared.attr.Attr.{Attr}
@@ -20,13 +20,13 @@ use Rattle.att_writes.specs.Queue.{handles_of_entries, touched_by}
 use Rattle.gatt_conn.specs.Answer.{Question, Writing, writing_asked, stored_after_writing, stored_by}
 use Rattle.gatt_conn.specs.Answer.{handles_after, handles_by, is_confirmation}
 use Rattle.gatt_laws.proofs.Ends.{end_keeps}
-use Rattle.gatt_laws.proofs.Notices.{or-first, or-second, both-none, is_among, none-once}
+use Rattle.gatt_laws.proofs.Notices.{is_among, none-once}
 use Rattle.gatt_laws.proofs.Notices.{none-touched}
 use Rattle.gatt_laws.proofs.Skips.{none_of_the_event}
 use Rattle.gatt_laws.proofs.Steady.{is_asking, live_steady, completed_steady}
 use Rattle.gatt_laws.proofs.Stores.{set_bits, sets_written}
-use Rattle.gatt_laws.specs.machine.Event.{Ordinal, Own, Event, Connected, Disconnected, KeyAsked, Encrypted}
-use Rattle.gatt_laws.specs.machine.Event.{Refreshed, Asks, OtherChannel, Authorized, Ended, Of, Completed, Credit}
+use Rattle.gatt_laws.specs.machine.Event.{Ordinal, Own, Event, Connected, Disconnected}
+use Rattle.gatt_laws.specs.machine.Event.{Asks, Of, Completed, Credit}
 use Rattle.gatt_laws.specs.machine.Event.{Replaced}
 use Rattle.gatt_laws.specs.machine.Notice.{Notice, Configured, Written, write_told, confirmation_told}
 use Rattle.gatt_laws.specs.machine.Notice.{end_told, own_told, event_told, noticed}
@@ -40,13 +40,10 @@ use Rattle.gatt_laws.specs.machine.Effect.{Effect, effect_on_connection, effect_
 use Rattle.le_hci.specs.declared.peer.Peer.{Peer}
 use Rattle.le_security.proofs.Peers.{equal_peers}
 use Rattle.le_security.specs.Entry.{same_peer}
-use Rattle.octets.specs.Number.{Octets}
+use Rattle.octet_io.proofs.Choices.{and_false_right, or_false_left, or_false_right}
+use Rattle.octet_io.specs.Number.{Octets}
 
 -- A configuration that is written is told.
-
-not-both : (one other : Bool) → one ≡ true → (one && other) ≡ false → other ≡ false
-not-both true other is none = none
-not-both false other is none = cc is
 
 bits-next : (attributes : List Attr) (row : Row) (handle : ℕ) (attribute other : Handle)
     (configuration : Bool) → is_configuration_at attributes other ≡ configuration
@@ -55,7 +52,7 @@ bits-next : (attributes : List Attr) (row : Row) (handle : ℕ) (attribute other
     else Written handle other) ≡ false
     → (other == attribute) ≡ false
 bits-next attributes row handle attribute other true is of none =
-    not-both (handle == handle) (other == attribute) (eq-eqb handle handle refl) none
+    and_false_right (handle == handle) (other == attribute) (eq-eqb handle handle refl) none
 bits-next attributes row handle attribute other false is of none =
     elim (other == attribute) as (λ same. (other == attribute) ≡ same → same ≡ false) [
       | true ↦ λ same. absurd (cc (eqb-true other attribute same, is, of))
@@ -69,11 +66,11 @@ bits_not_written : (attributes : List Attr) (row : Row) (handle : ℕ) (attribut
 bits_not_written attributes row handle attribute [] of none = refl
 bits_not_written attributes row handle attribute (other ∷ rest) of none =
     let notice : Notice = write_told attributes row handle other in
-    both-none (other == attribute) (is_among attribute rest)
+    or_from (other == attribute) (is_among attribute rest)
     (bits-next attributes row handle attribute other (is_configuration_at attributes other) refl of
-    (or-first (tells_bits handle attribute notice) _ none))
+    (or_false_left (tells_bits handle attribute notice) _ none))
     (bits_not_written attributes row handle attribute rest of
-    (or-second (tells_bits handle attribute notice) _ none))
+    (or_false_right (tells_bits handle attribute notice) _ none))
 
 -- bits that are set at configurations leave what is none
 set-next : (attributes : List Attr) (from row : Row) (attribute other : Handle) (rest : List Handle)
@@ -146,7 +143,7 @@ none-first : (handle : ℕ) (attribute : Handle) (one other : List Notice)
     → is_bits_told handle attribute (one ++ other) ≡ false → is_bits_told handle attribute one
     ≡ false
 none-first handle attribute one other none =
-    or-first (is_bits_told handle attribute one) (is_bits_told handle attribute other)
+    or_false_left (is_bits_told handle attribute one) (is_bits_told handle attribute other)
     (sym (list_any-append (tells_bits handle attribute) one other) ∙ none)
 
 module _ (shared : SharedState) (bond : Row) (owed : Bool) (connection : ConnectionState) (pdu : Octets)
@@ -283,13 +280,7 @@ module _ (shared : SharedState) (bond : Row) (owed : Bool) (connection : Connect
   own-row (Asks pdu) kind untold =
       asks-own shared bond owed connection pdu attribute (effect_of shared bond owed connection (Asks pdu))
       (is_live connection.mark) refl untold
-  own-row (KeyAsked random_number diversifier) kind untold = other-own
-      (KeyAsked random_number diversifier) refl
-  own-row (Encrypted status enabled) kind untold = other-own (Encrypted status enabled) refl
-  own-row (Refreshed status) kind untold = other-own (Refreshed status) refl
-  own-row (OtherChannel channel payload) kind untold = other-own (OtherChannel channel payload) refl
-  own-row (Authorized until) kind untold = other-own (Authorized until) refl
-  own-row Ended kind untold = other-own Ended refl
+  own-row own kind untold = other-own own refl
 
   either-bond : (one other : Effect) (test : Bool) → one.bond ≡ bond → other.bond ≡ bond
       → (if test then one else other).bond ≡ bond

@@ -21,7 +21,7 @@ use Rattle.gatt_conn.specs.Answer.{Question, Writing, stored_after_writing, stor
 use Rattle.att_pdu.specs.Grammar.{request_of, is_due}
 use Rattle.att_table.specs.Changer.{changer_of}
 use Rattle.gatt_laws.specs.machine.Controller.{command_of_init, count_before, without_command}
-use Rattle.gatt_laws.specs.machine.Event.{Ordinal, Own, Event, Connected, Disconnected, KeyAsked, Encrypted, Refreshed, Asks, OtherChannel, Authorized, Ended, Of, Completed, Credit, Update, Tick, Replaced, Nothing}
+use Rattle.gatt_laws.specs.machine.Event.{Ordinal, Own, Event, Connected, Disconnected, Encrypted, Refreshed, Asks, OtherChannel, Of, Completed, Credit, Replaced, Nothing}
 use Rattle.gatt_laws.specs.machine.Heard.{after_hearing}
 use Rattle.gatt_laws.proofs.Always.{always, any_tables}
 use Rattle.gatt_laws.specs.machine.Input.{run_at_start, run}
@@ -34,7 +34,7 @@ use Rattle.le_hci.specs.declared.init.Init.{Init}
 use Rattle.le_hci.specs.declared.peer.Peer.{Peer}
 use Rattle.le_security.specs.Entry.{same_peer}
 use Rattle.le_security.specs.Link.{Step, Encryption, Refresh}
-use Rattle.octets.specs.Number.{Octets}
+use Rattle.octet_io.specs.Number.{Octets}
 use Rattle.gatt_laws.specs.laws.RowsOfTheTable.{HasRowsOfItsTable, KeepsRowsOfItsTable, AlwaysHasRowsOfItsTable}
 
 -- what an entry writes, and what entries write
@@ -119,15 +119,13 @@ live-rows : (shared : SharedState) (bond : Row) (owed : Bool) (connection : Conn
 unfolding live_effect
 live-rows shared bond owed connection (Asks pdu) rows = request-rows shared bond owed connection pdu (is_due (request_of pdu (connection_mtu shared connection)) && is_full shared connection) rows
 live-rows shared bond owed connection (OtherChannel channel payload) rows = channel-rows shared bond owed connection channel (channel_answer channel payload) rows
-live-rows shared bond owed connection (KeyAsked random_number diversifier) rows = record { bond = rows.bond; own = rows.own }
 live-rows shared bond owed connection (Encrypted status enabled) rows =
     link-rows shared bond owed connection (Encryption status enabled) (lost_encryption (key_of connection) (key_of (with_step connection (Encryption status enabled)))) rows
 live-rows shared bond owed connection (Refreshed status) rows =
     link-rows shared bond owed connection (Refresh status) (lost_encryption (key_of connection) (key_of (with_step connection (Refresh status)))) rows
-live-rows shared bond owed connection (Authorized until) rows = record { bond = rows.bond; own = rows.own }
-live-rows shared bond owed connection Ended rows = record { bond = rows.bond; own = rows.own }
 live-rows shared bond owed connection (Connected handle peer) rows = rows
 live-rows shared bond owed connection Disconnected rows = rows
+live-rows shared bond owed connection own' rows = record { bond = rows.bond; own = rows.own }
 
 if-live : (shared : SharedState) (bond : Row) (owed : Bool) (connection : ConnectionState) (own : Own) (live : Bool) → AreRows shared.table.attributes bond connection
     → TurnRows shared.table.attributes (if live then live_effect shared bond owed connection own else effect_on_connection shared bond owed connection)
@@ -199,10 +197,9 @@ change_rows state (Of ordinal own) rows = own-rows state ordinal own rows
 change_rows state (Completed entries) rows =
     record { bonds = rows.bonds; own = λ ordinal. completed-row state.shared.table.attributes ordinal entries (state.connections ordinal) (rows.own ordinal) }
 change_rows state (Credit allowed opcode status following) rows = credit-rows state allowed opcode status following rows
-change_rows state (Update handle value) rows = record { bonds = rows.bonds; own = rows.own }
-change_rows state (Tick time) rows = record { bonds = rows.bonds; own = rows.own }
 change_rows state (Replaced table) rows = replaced-rows state table
 change_rows state Nothing rows = rows
+change_rows state event rows = record { bonds = rows.bonds; own = rows.own }
 
 -- the end of an event and the commands that go out leave each row
 finished-row : (attributes : List Attr) (shared : SharedState) (bonds : Bonds) (handles : List Handle) (connection : ConnectionState) → IsRowOf attributes connection.row

@@ -3,13 +3,13 @@ use Rattle.std.proofs.Common.{◌≡◌, ℕ, zero, suc, arith, ◌+◌, Bool, t
 use Rattle.std.specs.Prelude.{nat_lt, drop, take, ◌==◌, ◌&&◌, not, if◌then◌else◌}
 use Rattle.std.proofs.lemmas.Grind.{common_steps}
 use Rattle.std.specs.Option.{option_to_list}
-use Rattle.std.proofs.lemmas.Bool.{eqb-true}
+use Rattle.std.proofs.lemmas.Bool.{eqb-true, not-true}
 use Rattle.att_table.specs.Changer.{changer_of}
 use Rattle.att_table.specs.ConfigRow.{kept_row}
 use Rattle.att_table.specs.Table.{with_value}
 use Rattle.gatt_laws.proofs.Stores.{store, set_bits}
 use Rattle.gatt_laws.specs.machine.Controller.{command_of_init, count_before}
-use Rattle.gatt_laws.specs.machine.Event.{Ordinal, Own, Event, Of, Completed, Credit, Update, Tick, Replaced, Nothing}
+use Rattle.gatt_laws.specs.machine.Event.{Ordinal, Own, Event, Of, Completed, Credit, Update, Tick, Replaced}
 use Rattle.gatt_laws.specs.machine.ConnectionState.{ConnectionState, no_connection, is_live, is_there}
 use Rattle.gatt_laws.specs.machine.SharedState.{SharedState, quota_of, fragment_size_of}
 use Rattle.gatt_laws.specs.laws.Runs.{after_events}
@@ -25,9 +25,10 @@ use Rattle.le_acl.specs.Outgoing.{acl_octets}
 use Rattle.le_acl.specs.Packets.{packets_of}
 use Rattle.le_hci.specs.declared.buffers.Buffers.{Buffers}
 use Rattle.le_hci.specs.declared.peer.Peer.{Peer}
-use Rattle.octets.specs.Number.{Octets}
+use Rattle.octet_io.proofs.Choices.{and_true_right, and_true_left}
+use Rattle.octet_io.specs.Number.{Octets}
 use Rattle.gatt_laws.proofs.ViewOfOwn.{commands-kept, own-next, own-seen, quiet, seen-at-end, seen_change, seen_end, there-if-live, with_buffers}
-use Rattle.gatt_laws.proofs.ViewOfOthers.{acknowledged, completed-silent, handles_of_values, left-true, other-seen, replaced-silent, without-ceasing, write-next}
+use Rattle.gatt_laws.proofs.ViewOfOthers.{acknowledged, completed-silent, handles_of_values, other-seen, replaced-silent, without-ceasing, write-next}
 
 -- Each event.
 
@@ -64,23 +65,15 @@ module _ (buffers : Option Buffers) (peer : Peer) (ordinal : Ordinal) where
   none-there [] is = refl
   none-there (x ∷ xs) is = cc is
 
-  not-true : (test : Bool) → not test ≡ true → test ≡ false
-  not-true true is = cc is
-  not-true false is = refl
-
-  right-true : (one other : Bool) → (one && other) ≡ true → other ≡ true
-  right-true true other is = is
-  right-true false other is = cc is
-
   unseen-next : (state : State) (written : WrittenByOthers) → IsKnown buffers peer ordinal state → is_unseen written ≡ true
       → write-next (seen_of buffers peer ordinal state) written ≡ seen_of buffers peer ordinal state
   unfolding write-next store set_bits handles_of_values
   unseen-next state written known is =
       let old : Seen = seen_of buffers peer ordinal state in
-      let lists : (are_none written.values && are_none written.bits) ≡ true = left-true (are_none written.values && are_none written.bits) (not written.ceases) is in
-      let values : written.values ≡ [] = none-there written.values (left-true (are_none written.values) (are_none written.bits) lists) in
-      let bits : written.bits ≡ [] = none-there written.bits (right-true (are_none written.values) (are_none written.bits) lists) in
-      let stays : written.ceases ≡ false = not-true written.ceases (right-true (are_none written.values && are_none written.bits) (not written.ceases) is) in
+      let lists : (are_none written.values && are_none written.bits) ≡ true = and_true_left (are_none written.values && are_none written.bits) (not written.ceases) is in
+      let values : written.values ≡ [] = none-there written.values (and_true_left (are_none written.values) (are_none written.bits) lists) in
+      let bits : written.bits ≡ [] = none-there written.bits (and_true_right (are_none written.values) (are_none written.bits) lists) in
+      let stays : written.ceases ≡ false = not-true written.ceases (and_true_right (are_none written.values && are_none written.bits) (not written.ceases) is) in
       (λ i. write-next old (record { values = values i; bits = bits i; ceases = stays i }))
       ∙ ap (λ (owed : Bool). seen_end old.shared old.bond owed [] old.connection) (sym (without-ceasing old.owed))
       ∙ quiet-seen state known
@@ -117,14 +110,13 @@ module _ (buffers : Option Buffers) (peer : Peer) (ordinal : Ordinal) where
       ap (seen_end (with_buffers state.shared buffers) (state.bonds peer) (state.owed peer) []) (completed-silent ordinal entries (state.connections ordinal))
       ∙ counts-seen state (own_counts ordinal entries) known
   change-seen state (Credit allowed opcode status (Some init)) known = quiet-seen state known
-  change-seen state (Credit allowed opcode status None) known = quiet-seen state known
   change-seen state (Update handle value) known = refl
   change-seen state (Tick time) known = refl
   change-seen state (Replaced table) known =
       let bond = kept_row state.shared.table.attributes table.attributes (state.bonds peer) in
       ap (seen_end (record state.shared { table = announced table; changer = changer_of table; buffers = buffers }) bond (wants_changes (changer_of table) bond) (option_to_list (changer_of table)))
       (replaced-silent state.shared.table table (state.connections ordinal))
-  change-seen state Nothing known = quiet-seen state known
+  change-seen state event known = quiet-seen state known
 
   step_seen : (state : State) (event : Event) → IsKnown buffers peer ordinal state → IsKnown buffers peer ordinal (step state event)
       → seen_of buffers peer ordinal (step state event) ≡ seen_any (seen_of buffers peer ordinal state) (shown peer ordinal state event)

@@ -9,8 +9,6 @@ use Rattle.std.proofs.lemmas.List.Folds.{list_any-append}
 use Rattle.att_numbers.specs.Types.{Handle, Row}
 use Rattle.att_pdu.specs.Grammar.{request_of, is_due}
 use Rattle.gatt_conn.specs.Answer.{Question, is_confirmation}
-use Rattle.gatt_laws.proofs.Meant.{first-true, last-true}
-use Rattle.gatt_laws.proofs.Notices.{or-first, or-second}
 use Rattle.gatt_laws.proofs.Skips.{none_of_the_event}
 use Rattle.gatt_laws.specs.laws.ServiceChanged.{is_confirmed_notice, NoticesServiceChangedConfirmed}
 use Rattle.gatt_laws.specs.machine.ConnectionState.{ConnectionState, is_live, key_of, row_in_force, connection_mtu, after_ending}
@@ -25,16 +23,17 @@ use Rattle.gatt_subs.specs.declared.pending.Unconfirmed.{Unconfirmed}
 use Rattle.le_hci.specs.declared.peer.Peer.{Peer}
 use Rattle.le_security.proofs.Peers.{equal_peers}
 use Rattle.le_security.specs.Entry.{same_peer}
-use Rattle.octets.specs.Number.{Octets}
+use Rattle.octet_io.proofs.Choices.{and_true_right, and_true_left, or_false_left, or_false_right}
+use Rattle.octet_io.specs.Number.{Octets}
 
 -- A confirmation by which the indication is no longer pending is noticed.
 
 current-noticed : (handle at changer : ℕ) (outdated : Bool) → ((at == changer) && not outdated) ≡ true
     → list_any (is_confirmed_notice handle changer) (if outdated then [] else Confirmed handle at ∷ []) ≡ true
-current-noticed handle at changer true is = let never = last-true (at == changer) false is in cc never
+current-noticed handle at changer true is = let never = and_true_right (at == changer) false is in cc never
 current-noticed handle at changer false is =
     (λ i. (eq-eqb handle handle refl i && (at == changer)) || false)
-    ∙ ap (λ (same : Bool). same || false) (first-true (at == changer) true is)
+    ∙ ap (λ (same : Bool). same || false) (and_true_left (at == changer) true is)
 
 confirmed-noticed : (handle : ℕ) (changer : Handle) (unconfirmed : Option Unconfirmed)
     → option_map_or (λ (one : Unconfirmed). (one.handle == changer) && not one.outdated) unconfirmed false ≡ true
@@ -47,7 +46,7 @@ told-noticed : (handle : ℕ) (changer : Handle) (pending : Indications) → is_
     → list_any (is_confirmed_notice handle changer) (confirmation_told handle pending.unconfirmed) ≡ true
 told-noticed handle changer pending is =
     confirmed-noticed handle changer pending.unconfirmed
-    (first-true (option_map_or (λ (one : Unconfirmed). (one.handle == changer) && not one.outdated)
+    (and_true_left (option_map_or (λ (one : Unconfirmed). (one.handle == changer) && not one.outdated)
     pending.unconfirmed false) (not (is_waiting pending.waiting changer)) is)
 
 stays-pending : (owed confirmed : Bool) → (confirmed ≡ true → ⊥) → (owed && not confirmed) ≡ owed
@@ -82,9 +81,9 @@ module _ (shared : SharedState) (bond : Row) (owed : Bool) (connection : Connect
     of-three : (test : Notice → Bool) (one other third : List Notice)
         → list_any test ((one ++ other) ++ third) ≡ false → list_any test other ≡ false
     of-three test one other third none =
-        or-second (list_any test one) (list_any test other)
+        or_false_right (list_any test one) (list_any test other)
         (sym (list_any-append test one other)
-        ∙ or-first (list_any test (one ++ other)) (list_any test third)
+        ∙ or_false_left (list_any test (one ++ other)) (list_any test third)
         (sym (list_any-append test (one ++ other) third) ∙ none))
 
     not-confirmed : is_live connection.mark ≡ true
@@ -93,13 +92,13 @@ module _ (shared : SharedState) (bond : Row) (owed : Bool) (connection : Connect
         → (is_confirmation pdu && is_some (key_of connection)
         && option_map_or (is_told connection.pending) changer false) ≡ true → ⊥
     not-confirmed live none None is confirms =
-        let never = last-true (is_confirmation pdu && is_some (key_of connection)) false confirms in cc never
+        let never = and_true_right (is_confirmation pdu && is_some (key_of connection)) false confirms in cc never
     not-confirmed live none (Some changer) is confirms =
-        let both = first-true (is_confirmation pdu && is_some (key_of connection))
+        let both = and_true_left (is_confirmation pdu && is_some (key_of connection))
         (is_told connection.pending changer) confirms in
-        let pdu_confirms = first-true (is_confirmation pdu) (is_some (key_of connection)) both in
-        let keyed = last-true (is_confirmation pdu) (is_some (key_of connection)) both in
-        let told = last-true (is_confirmation pdu && is_some (key_of connection))
+        let pdu_confirms = and_true_left (is_confirmation pdu) (is_some (key_of connection)) both in
+        let keyed = and_true_right (is_confirmation pdu) (is_some (key_of connection)) both in
+        let told = and_true_right (is_confirmation pdu && is_some (key_of connection))
         (is_told connection.pending changer) confirms in
         let test : Notice → Bool = is_confirmed_notice connection.handle changer in
         let unnoticed : list_any test (confirmation_told connection.handle connection.pending.unconfirmed) ≡ false =

@@ -1,13 +1,13 @@
 -- Each possible event keeps what is settled.
 use Rattle.std.proofs.Common.{◌≡◌, ℕ, zero, suc, ◌+◌, ◌-◌, ◌<◌, Bool, true, false, List, [], ◌∷◌, length, Option, Some, None, refl, sym, ap, subst, ◌∙◌, arith}
-use Rattle.std.specs.Prelude.{min, is_none, nat_lt, ◌&&◌, replicate, ◌==◌, ◌||◌, if◌then◌else◌}
-use Rattle.std.proofs.lemmas.Bool.{eq-eqb, eqb-true}
+use Rattle.std.specs.Prelude.{min, is_none, nat_lt, ◌&&◌, replicate, ◌==◌, if◌then◌else◌}
+use Rattle.std.proofs.lemmas.Bool.{eq-eqb, eqb-true, or_from, or_right}
 use Rattle.std.proofs.lemmas.Bool.Decides.{nat_tests}
 use Rattle.att_numbers.specs.Types.{Handle}
 use Rattle.gatt_laws.proofs.Always.{always, any_tables}
 use Rattle.gatt_laws.proofs.Silence.{only_serves_the_live}
 use Rattle.gatt_laws.specs.machine.Controller.{Controller, Slots, has_free, with_taken, with_freed, command_of_init, count_before, without_command, is_ready}
-use Rattle.gatt_laws.specs.machine.Event.{Ordinal, Own, Event, Connected, Disconnected, Of, Completed, Credit, Update, Tick, Replaced, Nothing}
+use Rattle.gatt_laws.specs.machine.Event.{Ordinal, Own, Event, Connected, Disconnected, Of, Completed, Credit, Tick, Replaced}
 use Rattle.gatt_laws.specs.machine.Input.{run_at_start, run}
 use Rattle.gatt_laws.specs.machine.ConnectionState.{ConnectionState, no_connection}
 use Rattle.gatt_laws.specs.laws.Possible.{Possible}
@@ -21,42 +21,27 @@ use Rattle.le_acl.specs.Quotas.{usable}
 use Rattle.le_hci.specs.Init.{command_awaited}
 use Rattle.le_hci.specs.declared.init.Init.{Init}
 use Rattle.le_hci.specs.declared.init.Init.TheVariants.{Ready}
-
-left-false : (one other : Bool) → (one || other) ≡ false → one ≡ false
-left-false false other is = refl
-left-false true other is = cc is
-
-right-false : (one other : Bool) → (one || other) ≡ false → other ≡ false
-right-false false other is = is
-right-false true other is = cc is
-
-both-false : (one other : Bool) → one ≡ false → other ≡ false → (one || other) ≡ false
-both-false false other is so = so
-both-false true other is so = cc is
-
-right-true : (one other : Bool) → other ≡ true → (one || other) ≡ true
-right-true true other is = refl
-right-true false other is = is
+use Rattle.octet_io.proofs.Choices.{or_false_left, or_false_right}
 
 -- a slot is taken
 taken-other : (ordinal other : Ordinal) (slots : Slots) → has_slot other (with_taken ordinal slots) ≡ false → has_slot other slots ≡ false
 taken-other ordinal other [] lacks = refl
-taken-other ordinal other (None ∷ slots) lacks = right-false (ordinal == other) (has_slot other slots) lacks
+taken-other ordinal other (None ∷ slots) lacks = or_false_right (ordinal == other) (has_slot other slots) lacks
 taken-other ordinal other (Some one ∷ slots) lacks =
-    both-false (one == other) (has_slot other slots) (left-false (one == other) (has_slot other (with_taken ordinal slots)) lacks)
-    (taken-other ordinal other slots (right-false (one == other) (has_slot other (with_taken ordinal slots)) lacks))
+    or_from (one == other) (has_slot other slots) (or_false_left (one == other) (has_slot other (with_taken ordinal slots)) lacks)
+    (taken-other ordinal other slots (or_false_right (one == other) (has_slot other (with_taken ordinal slots)) lacks))
 
 taken-own : (ordinal : Ordinal) (slots : Slots) → has_free slots ≡ true → has_slot ordinal (with_taken ordinal slots) ≡ true
 taken-own ordinal [] free = cc free
 taken-own ordinal (None ∷ slots) free = rw (eq-eqb ordinal ordinal refl) refl
-taken-own ordinal (Some one ∷ slots) free = right-true (one == ordinal) (has_slot ordinal (with_taken ordinal slots)) (taken-own ordinal slots free)
+taken-own ordinal (Some one ∷ slots) free = or_right (one == ordinal) (has_slot ordinal (with_taken ordinal slots)) (taken-own ordinal slots free)
 
 taken-adds : (ordinal other : Ordinal) (slots : Slots) → (ordinal == other) ≡ false → has_slot other slots ≡ false → has_slot other (with_taken ordinal slots) ≡ false
 taken-adds ordinal other [] differs lacks = refl
-taken-adds ordinal other (None ∷ slots) differs lacks = both-false (ordinal == other) (has_slot other slots) differs lacks
+taken-adds ordinal other (None ∷ slots) differs lacks = or_from (ordinal == other) (has_slot other slots) differs lacks
 taken-adds ordinal other (Some one ∷ slots) differs lacks =
-    both-false (one == other) (has_slot other (with_taken ordinal slots)) (left-false (one == other) (has_slot other slots) lacks)
-    (taken-adds ordinal other slots differs (right-false (one == other) (has_slot other slots) lacks))
+    or_from (one == other) (has_slot other (with_taken ordinal slots)) (or_false_left (one == other) (has_slot other slots) lacks)
+    (taken-adds ordinal other slots differs (or_false_right (one == other) (has_slot other slots) lacks))
 
 -- and freed
 differs-too : (one ordinal other : Ordinal) → (one == ordinal) ≡ true → (other == ordinal) ≡ false → (one == other) ≡ false
@@ -72,9 +57,9 @@ freed-other ordinal other [] differs lacks = refl
 freed-other ordinal other (None ∷ slots) differs lacks = freed-other ordinal other slots differs lacks
 freed-other ordinal other (Some one ∷ slots) differs lacks =
     let slot : Option Ordinal = if one == ordinal then None else Some one in
-    both-false (one == other) (has_slot other slots)
-    (freed-one one ordinal other slots (one == ordinal) refl differs (left-false (is_slot_of other slot) (has_slot other (with_freed ordinal slots)) lacks))
-    (freed-other ordinal other slots differs (right-false (is_slot_of other slot) (has_slot other (with_freed ordinal slots)) lacks))
+    or_from (one == other) (has_slot other slots)
+    (freed-one one ordinal other slots (one == ordinal) refl differs (or_false_left (is_slot_of other slot) (has_slot other (with_freed ordinal slots)) lacks))
+    (freed-other ordinal other slots differs (or_false_right (is_slot_of other slot) (has_slot other (with_freed ordinal slots)) lacks))
 
 none-or-one : (one other : Ordinal) (is : Bool) → (one == other) ≡ false → is_slot_of other (if is then None else Some one) ≡ false
 none-or-one one other true differs = refl
@@ -84,9 +69,9 @@ freed-adds-none : (ordinal other : Ordinal) (slots : Slots) → has_slot other s
 freed-adds-none ordinal other [] lacks = refl
 freed-adds-none ordinal other (None ∷ slots) lacks = freed-adds-none ordinal other slots lacks
 freed-adds-none ordinal other (Some one ∷ slots) lacks =
-    both-false (is_slot_of other (if one == ordinal then None else Some one)) (has_slot other (with_freed ordinal slots))
-    (none-or-one one other (one == ordinal) (left-false (one == other) (has_slot other slots) lacks))
-    (freed-adds-none ordinal other slots (right-false (one == other) (has_slot other slots) lacks))
+    or_from (is_slot_of other (if one == ordinal then None else Some one)) (has_slot other (with_freed ordinal slots))
+    (none-or-one one other (one == ordinal) (or_false_left (one == other) (has_slot other slots) lacks))
+    (freed-adds-none ordinal other slots (or_false_right (one == other) (has_slot other slots) lacks))
 
 -- slots by ordinals below the next
 pub none_next : (next least : Ordinal) (slots : Slots) → next < least + 1 → HaveOneSlotEach next slots → has_slot least slots ≡ false
@@ -94,7 +79,7 @@ none_next next least [] below each = refl
 none_next next least (None ∷ slots) below each = none_next next least slots below each
 none_next next least (Some one ∷ slots) below each =
     let less : one < least = omega (arith, each.0) in
-    both-false (one == least) (has_slot least slots) (grind (arith, nat_tests)) (none_next next least slots below each.2)
+    or_from (one == least) (has_slot least slots) (grind (arith, nat_tests)) (none_next next least slots below each.2)
 
 one-more : (next : Ordinal) (slots : Slots) → HaveOneSlotEach next slots → HaveOneSlotEach (next + 1) slots
 one-more next [] each = tt
@@ -188,12 +173,10 @@ unfolding change_of
 change-gone state (Of at own) ordinal possible settled lacks = own-gone state at ordinal own settled possible lacks
 change-gone state (Completed entries) ordinal possible settled lacks = ap (after_packets_completed ordinal entries) (settled.absent ordinal lacks) ∙ completed-gone ordinal entries
 change-gone state (Credit allowed opcode status (Some init)) ordinal possible settled lacks = credit-gone state allowed opcode status init ordinal settled possible lacks
-change-gone state (Credit allowed opcode status None) ordinal possible settled lacks = settled.absent ordinal lacks
-change-gone state (Update handle value) ordinal possible settled lacks = settled.absent ordinal lacks
 change-gone state (Tick time) ordinal possible settled lacks =
     ap (λ (connection : ConnectionState). record connection { pending = after_tick connection.pending time }) (settled.absent ordinal lacks)
 change-gone state (Replaced table) ordinal possible settled lacks = ap (connection_after_replacement state.shared.table table) (settled.absent ordinal lacks)
-change-gone state Nothing ordinal possible settled lacks = settled.absent ordinal lacks
+change-gone state event ordinal possible settled lacks = settled.absent ordinal lacks
 
 -- the slots
 early-own : (own : Own) (at : Ordinal) (slots : Slots) → slots ≡ [] → slots_after own at slots ≡ []
@@ -236,7 +219,6 @@ change-slots state (Of at own) possible settled = record {
   early = λ early. early-own own at state.slots (settled.early (sym (told-early own state.controller) ∙ early));
   slots = own-slots state at own settled.slots possible;
 }
-change-slots state (Completed entries) possible settled = record { early = settled.early; slots = settled.slots }
 change-slots state (Credit allowed opcode status (Some init)) possible settled = record {
   early = λ early. init-early state.shared.slots init state.slots (settled.early possible) early;
   slots = init-slots state.next state.shared.slots init state.slots settled.slots;
@@ -245,10 +227,7 @@ change-slots state (Credit allowed opcode status None) possible settled = record
   early = λ early. settled.early (sym (refused-early state.controller allowed (is_ready state.controller && is_refusal opcode status)) ∙ early);
   slots = settled.slots;
 }
-change-slots state (Update handle value) possible settled = record { early = settled.early; slots = settled.slots }
-change-slots state (Tick time) possible settled = record { early = settled.early; slots = settled.slots }
-change-slots state (Replaced table) possible settled = record { early = settled.early; slots = settled.slots }
-change-slots state Nothing possible settled = record { early = settled.early; slots = settled.slots }
+change-slots state event possible settled = record { early = settled.early; slots = settled.slots }
 
 pub settled_before_commands : (state : State) (event : Event) → Possible (λ table. Unit) state event → IsSettled state → IsSettled (before_commands state event)
 settled_before_commands state event possible settled =

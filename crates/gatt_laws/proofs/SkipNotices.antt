@@ -4,7 +4,7 @@ use Rattle.std.proofs.Common.{refl, sym, ap, ◌∙◌, arith}
 use Rattle.std.specs.Prelude.{◌==◌, ◌&&◌, ◌||◌, not, nat_lt, All, is_some, if◌then◌else◌}
 use Rattle.std.specs.List.{list_any, flat_map}
 use Rattle.std.specs.Option.{option_to_list}
-use Rattle.std.proofs.lemmas.Bool.{eqb-true, eq-eqb, ltb-false}
+use Rattle.std.proofs.lemmas.Bool.{eqb-true, eq-eqb, ltb-false, not-true, or_left, or_right, and_parts}
 use Rattle.std.proofs.lemmas.List.{length-append}
 use Rattle.std.proofs.lemmas.List.Elements.{All-nil, All-cons, All-head, All-tail, All-append}
 use Rattle.std.proofs.lemmas.List.Folds.{list_any-append}
@@ -15,7 +15,7 @@ use Rattle.att_pdu.specs.Response.{Response}
 use Rattle.att_policy.specs.declared.standing.KeyFacts.{KeyFacts}
 use Rattle.att_table.specs.ConfigRow.{bits_at}
 use Rattle.gatt_conn.specs.Answer.{is_confirmation}
-use Rattle.gatt_laws.proofs.Skipped.{first-holds, second-holds, still-on-time, accounts_for_each_value}
+use Rattle.gatt_laws.proofs.Skipped.{still-on-time, accounts_for_each_value}
 use Rattle.gatt_laws.specs.laws.MayBeHeard.{handles_told}
 use Rattle.gatt_laws.specs.laws.Settled.{has_slot}
 use Rattle.gatt_laws.specs.laws.Skipped.{is_among, hearer_at, heard_at, is_skip_of, IsSkippedIfTold}
@@ -33,7 +33,6 @@ use Rattle.gatt_laws.specs.machine.Notice.{end_told, live_told, own_told, late_t
 use Rattle.gatt_laws.specs.machine.Notice.{slot_skips_told, skips_told, noticed}
 use Rattle.gatt_laws.specs.machine.SharedState.{SharedState, quota_of, fragment_size_of}
 use Rattle.gatt_laws.specs.machine.State.{State, Change, change_of, connections_finished, step}
-use Rattle.gatt_subs.proofs.Heard.{both}
 use Rattle.gatt_subs.specs.declared.pending.TheConstants.{MAX_BACKLOG}
 use Rattle.gatt_subs.specs.declared.pending.Unconfirmed.{Unconfirmed}
 use Rattle.gatt_subs.specs.Hearing.{may_hear_at, wants_indications}
@@ -85,10 +84,10 @@ module _ (change : Change) (ordinal : Ordinal) (attribute : Handle) where
           → (is_among attribute values ≡ true → list_any (is_skip_of handle attribute) (map (Skipped handle) values) ≡ true)
           → ((handle == handle && same) || list_any (is_skip_of handle attribute) (map (Skipped handle) values)) ≡ true
       first-or-later true there later =
-          first-holds (handle == handle && true) (list_any (is_skip_of handle attribute) (map (Skipped handle) values))
+          or_left (handle == handle && true) (list_any (is_skip_of handle attribute) (map (Skipped handle) values))
           (λ i. eq-eqb handle handle refl i && true)
       first-or-later false there later =
-          second-holds (handle == handle && false) (list_any (is_skip_of handle attribute) (map (Skipped handle) values)) (later there)
+          or_right (handle == handle && false) (list_any (is_skip_of handle attribute) (map (Skipped handle) values)) (later there)
 
   one-told : (slots : Slots) → is_among attribute (values_skipped change ordinal) ≡ true → has_slot ordinal slots ≡ true
       → list_any its (flat_map (slot_skips_told change) slots) ≡ true
@@ -102,18 +101,18 @@ module _ (change : Change) (ordinal : Ordinal) (attribute : Handle) where
           → (has_slot ordinal slots ≡ true → list_any its (flat_map (slot_skips_told change) slots) ≡ true)
           → (list_any its (slot_skips_told change (Some one)) || list_any its (flat_map (slot_skips_told change) slots)) ≡ true
       first-or-later true same there later =
-          first-holds (list_any its (slot_skips_told change (Some one))) (list_any its (flat_map (slot_skips_told change) slots))
+          or_left (list_any its (slot_skips_told change (Some one))) (list_any its (flat_map (slot_skips_told change) slots))
           (ap (λ (of : Ordinal). list_any its (slot_skips_told change (Some of))) (eqb-true one ordinal same)
           ∙ values-told (change.state.connections ordinal).handle (values_skipped change ordinal) among)
       first-or-later false differs there later =
-          second-holds (list_any its (slot_skips_told change (Some one))) (list_any its (flat_map (slot_skips_told change) slots))
+          or_right (list_any its (slot_skips_told change (Some one))) (list_any its (flat_map (slot_skips_told change) slots))
           (later there)
 
 or-last : (sent waits then_waits skipped told : Bool) → waits ≡ then_waits → (skipped ≡ true → told ≡ true)
     → ((sent || waits) || skipped) ≡ true → ((sent || then_waits) || told) ≡ true
 or-last true waits then_waits skipped told same becomes is = refl
 or-last false true then_waits skipped told same becomes is = (λ i. sym same i || told)
-or-last false false then_waits skipped told same becomes is = second-holds then_waits told (becomes is)
+or-last false false then_waits skipped told same becomes is = or_right then_waits told (becomes is)
 
 pub notices_each_skipped : NoticesEachSkipped
 unfolding noticed
@@ -127,7 +126,7 @@ notices_each_skipped state happens ordinal attribute to_hear =
     (is_among attribute (values_skipped change ordinal)) (list_any its (noticed state happens))
     (sym (ap (λ (pending : Indications). is_among attribute pending.waiting) (waits-then state happens ordinal)))
     (λ among. list_any-append its (event_told state happens) (skips_told change)
-    ∙ second-holds (list_any its (event_told state happens)) (list_any its (skips_told change))
+    ∙ or_right (list_any its (event_told state happens)) (list_any its (skips_told change))
     (one-told change ordinal attribute change.state.slots among to_hear.has))
     (accounts_for_each_value shared.table.attributes shared.table.values (hearer_at change ordinal) shared.time
     (change.to_notify ordinal) attribute to_hear.live to_hear.on_time to_hear.notified to_hear.may)
@@ -149,10 +148,6 @@ all-weaker P Q (handle ∷ handles) weaker all =
     All-cons Q handle handles (weaker handle (All-head P handle handles all))
     (all-weaker P Q handles weaker (All-tail P handle handles all))
 
-not-holds : (one : Bool) → not one ≡ true → one ≡ false
-not-holds true is = cc is
-not-holds false is = refl
-
 module _ (attributes : List Attr) (values : Values) (hearer : Hearer) (now : ℕ) (handle : Handle) (handles : List Handle) where
   abbrev first : Heard
   first = heard_when_notifying attributes values hearer handle
@@ -171,7 +166,7 @@ module _ (attributes : List Attr) (values : Values) (hearer : Hearer) (now : ℕ
       record {
         live = is.live;
         on_time = sym (still-on-time attributes hearer handle) ∙ is.on_time;
-        among = second-holds (handle == other) (is_among other handles) is.among;
+        among = or_right (handle == other) (is_among other handles) is.among;
         may = is.may;
         by_notification = is.by_notification;
         full = omega (arith, count, full);
@@ -180,17 +175,17 @@ module _ (attributes : List Attr) (values : Values) (hearer : Hearer) (now : ℕ
   right-here : is_skipped attributes hearer handle ≡ true → IsRight handle
   right-here is =
       let heard_it : Bool = hears hearer.pending attributes hearer.row hearer.standing handle in
-      let all = both (hearer.live && heard_it && not (wants_indications hearer.row handle)) (not (nat_lt hearer.backlog MAX_BACKLOG)) is in
-      let but_full = both (hearer.live && heard_it) (not (wants_indications hearer.row handle)) all.0 in
-      let may_too = both hearer.live heard_it but_full.0 in
-      let timely = both (not hearer.pending.timed_out) (may_hear_at attributes hearer.row hearer.standing handle) may_too.1 in
-      let full = ltb-false hearer.backlog MAX_BACKLOG (not-holds (nat_lt hearer.backlog MAX_BACKLOG) all.1) in
+      let all = and_parts (hearer.live && heard_it && not (wants_indications hearer.row handle)) (not (nat_lt hearer.backlog MAX_BACKLOG)) is in
+      let but_full = and_parts (hearer.live && heard_it) (not (wants_indications hearer.row handle)) all.0 in
+      let may_too = and_parts hearer.live heard_it but_full.0 in
+      let timely = and_parts (not hearer.pending.timed_out) (may_hear_at attributes hearer.row hearer.standing handle) may_too.1 in
+      let full = ltb-false hearer.backlog MAX_BACKLOG (not-true (nat_lt hearer.backlog MAX_BACKLOG) all.1) in
       record {
         live = may_too.0;
-        on_time = not-holds hearer.pending.timed_out timely.0;
-        among = first-holds (handle == handle) (is_among handle handles) (eq-eqb handle handle refl);
+        on_time = not-true hearer.pending.timed_out timely.0;
+        among = or_left (handle == handle) (is_among handle handles) (eq-eqb handle handle refl);
         may = timely.1;
-        by_notification = not-holds (wants_indications hearer.row handle) but_full.1;
+        by_notification = not-true (wants_indications hearer.row handle) but_full.1;
         full = omega (arith, full);
       }
 
@@ -344,10 +339,10 @@ module _ (change : Change) where
       let shared : SharedState = change.state.shared in
       both-skipped (slot_skips_told change (Some ordinal)) (flat_map (slot_skips_told change) slots)
       (values-skipped ordinal
-      (has ordinal (first-holds (ordinal == ordinal) (has_slot ordinal slots) (eq-eqb ordinal ordinal refl)))
+      (has ordinal (or_left (ordinal == ordinal) (has_slot ordinal slots) (eq-eqb ordinal ordinal refl)))
       (values_skipped change ordinal)
       (are-right shared.table.attributes shared.table.values (hearer_at change ordinal) shared.time (change.to_notify ordinal)))
-      (slots-skipped slots (λ other later. has other (second-holds (ordinal == other) (has_slot other slots) later)))
+      (slots-skipped slots (λ other later. has other (or_right (ordinal == other) (has_slot other slots) later)))
 
 pub notices_only_what_is_skipped : NoticesOnlyWhatIsSkipped
 unfolding noticed

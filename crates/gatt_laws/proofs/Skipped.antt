@@ -3,7 +3,7 @@ use Rattle.std.proofs.Common.{◌≡◌, ℕ, Bool, true, false, List, [], ◌�
 use Rattle.std.proofs.Common.{refl, sym, ap, subst, ◌∙◌, append_assoc}
 use Rattle.std.specs.Prelude.{◌==◌, ◌&&◌, ◌||◌, not, nat_lt, if◌then◌else◌}
 use Rattle.std.specs.Option.{option_map, option_to_list}
-use Rattle.std.proofs.lemmas.Bool.{eqb-true, eq-eqb}
+use Rattle.std.proofs.lemmas.Bool.{eqb-true, eq-eqb, or_left, or_right}
 use Rattle.std.proofs.lemmas.List.Folds.{list_any-append}
 use Rattle.att_numbers.specs.Types.{Handle, Values}
 use Rattle.att_attributes.specs.declared.attr.Attr.{Attr}
@@ -20,23 +20,15 @@ use Rattle.gatt_subs.specs.Told.{Hearer, notification_of, indication_of, pending
 
 -- Disjunctions.
 
-pub first-holds : (one other : Bool) → one ≡ true → (one || other) ≡ true
-first-holds true other is = refl
-first-holds false other is = cc is
-
-pub second-holds : (one other : Bool) → other ≡ true → (one || other) ≡ true
-second-holds true other is = refl
-second-holds false other is = is
-
 -- Lists of handles.
 
 among-first : (one other : List Handle) (handle : Handle) → is_among handle one ≡ true → is_among handle (one ++ other) ≡ true
 among-first one other handle is =
-    list_any-append (λ at. at == handle) one other ∙ first-holds (is_among handle one) (is_among handle other) is
+    list_any-append (λ at. at == handle) one other ∙ or_left (is_among handle one) (is_among handle other) is
 
 among-second : (one other : List Handle) (handle : Handle) → is_among handle other ≡ true → is_among handle (one ++ other) ≡ true
 among-second one other handle is =
-    list_any-append (λ at. at == handle) one other ∙ second-holds (is_among handle one) (is_among handle other) is
+    list_any-append (λ at. at == handle) one other ∙ or_right (is_among handle one) (is_among handle other) is
 
 alone-among : (handle : Handle) → is_among handle (handle ∷ []) ≡ true
 alone-among handle = (λ i. eq-eqb handle handle refl i || false)
@@ -62,15 +54,15 @@ told-second responses more handle is =
 
 either-more : (one other third more further : Bool) → (one ≡ true → more ≡ true) → (third ≡ true → further ≡ true)
     → ((one || other) || third) ≡ true → ((more || other) || further) ≡ true
-either-more true other third more further becomes too is = first-holds (more || other) further (first-holds more other (becomes refl))
-either-more false true third more further becomes too is = first-holds (more || true) further (second-holds more true refl)
-either-more false false third more further becomes too is = second-holds (more || false) further (too is)
+either-more true other third more further becomes too is = or_left (more || other) further (or_left more other (becomes refl))
+either-more false true third more further becomes too is = or_left (more || true) further (or_right more true refl)
+either-more false false third more further becomes too is = or_right (more || false) further (too is)
 
 -- One value, and a hearer that may hear it.
 
 or-more : (one other more : Bool) → (one ≡ true → more ≡ true) → (one || other) ≡ true → (more || other) ≡ true
-or-more true other more becomes is = first-holds more other (becomes refl)
-or-more false other more becomes is = second-holds more other is
+or-more true other more becomes is = or_left more other (becomes refl)
+or-more false other more becomes is = or_right more other is
 
 module _ (attributes : List Attr) (values : Values) (now : ℕ) (handle : Handle) where
   abbrev IsSentOrWaits : Heard → Type 0
@@ -207,26 +199,26 @@ module _ (attributes : List Attr) (values : Values) (now : ℕ) (handle : Handle
         let first : Heard = heard_when_notifying attributes values hearer handle in
         let after : Hearer = hearer_after hearer first in
         let heard : Heard = heard_in_turn attributes values after now handles in
-        first-holds (is_among handle (handles_told (first.responses ++ heard.responses)) || is_among handle heard.pending.waiting)
+        or_left (is_among handle (handles_told (first.responses ++ heard.responses)) || is_among handle heard.pending.waiting)
         (is_among handle (skipped_in_turn attributes values hearer (handle ∷ handles)))
         (more-sent first.responses heard (waits-on after handles live may wants (begins-to-wait wants)))
     accounted-here handles false true wants is_few =
         let first : Heard = heard_when_notifying attributes values hearer handle in
         let heard : Heard = heard_in_turn attributes values (hearer_after hearer first) now handles in
         let sent : Bool = is_among handle (handles_told (first.responses ++ heard.responses)) in
-        first-holds (sent || is_among handle heard.pending.waiting)
+        or_left (sent || is_among handle heard.pending.waiting)
         (is_among handle (skipped_in_turn attributes values hearer (handle ∷ handles)))
-        (first-holds sent (is_among handle heard.pending.waiting)
+        (or_left sent (is_among handle heard.pending.waiting)
         (told-first first.responses heard.responses handle (is-notified wants is_few)))
     accounted-here handles false false wants is_few =
         let first : Heard = heard_when_notifying attributes values hearer handle in
         let after : Hearer = hearer_after hearer first in
         let heard : Heard = heard_in_turn attributes values hearer now (handle ∷ handles) in
-        second-holds (is_among handle (handles_told heard.responses) || is_among handle heard.pending.waiting)
+        or_right (is_among handle (handles_told heard.responses) || is_among handle heard.pending.waiting)
         (is_among handle (skipped_in_turn attributes values hearer (handle ∷ handles)))
         (ap (λ (skips : Bool). is_among handle ((if skips then handle ∷ [] else [])
         ++ skipped_in_turn attributes values after handles)) (is-skipped wants is_few)
-        ∙ first-holds (handle == handle) (is_among handle (skipped_in_turn attributes values after handles))
+        ∙ or_left (handle == handle) (is_among handle (skipped_in_turn attributes values after handles))
         (eq-eqb handle handle refl))
 
 -- A hearer that is not timed out still is not when a value is notified.

@@ -17,10 +17,7 @@ use Rattle.gatt_laws.specs.machine.Event.{Event, Of, Update, Replaced}
 use Rattle.gatt_laws.specs.machine.Notice.{Notice, Skipped, event_told, values_skipped, slot_skips_told, skips_told, noticed}
 use Rattle.gatt_laws.specs.machine.SharedState.{SharedState}
 use Rattle.gatt_laws.specs.machine.State.{State, Change, change_of, after_effect}
-
-or-none : (one : Bool) → (one || false) ≡ one
-or-none true = refl
-or-none false = refl
+use Rattle.octet_io.proofs.Choices.{or_with_false}
 
 -- A test that each Skipped fails finds none of them.
 module _ (test : Notice → Bool) (fails : (handle : ℕ) (attribute : Handle) → test (Skipped handle attribute) ≡ false) where
@@ -49,7 +46,7 @@ module _ (test : Notice → Bool) (fails : (handle : ℕ) (attribute : Handle) �
   finds_what_is_told state event =
       list_any-append test (event_told state event) (skips_told (change_of state event))
       ∙ ap (λ (skips : Bool). list_any test (event_told state event) || skips) (finds_no_skip (change_of state event))
-      ∙ or-none (list_any test (event_told state event))
+      ∙ or_with_false (list_any test (event_told state event))
 
   pub none_of_the_event : (state : State) (event : Event) → list_any test (noticed state event) ≡ false
       → list_any test (event_told state event) ≡ false

@@ -18,7 +18,7 @@ use Rattle.le_acl.specs.Packets.{Pdu}
 use Rattle.le_security.specs.declared.entry.Key.{Key}
 use Rattle.le_security.specs.Keys.{key_asked_for}
 use Rattle.le_security.specs.Link.{Step, Request, Encryption, Refresh}
-use Rattle.octets.specs.Number.{Octets}
+use Rattle.octet_io.specs.Number.{Octets}
 
 -- it reads none of these
 abbrev pub IsSteady : {A : Type 0} → (ConnectionState → A) → Type 0

@@ -1,6 +1,6 @@
 -- What entries write is what stands afterwards at their handles, each once, and the rest as it was.
 use Rattle.std.proofs.Common.{◌≡◌, ℕ, ◌-◌, ◌<◌, Bool, true, false, ◌==◌, not, if◌then◌else◌, List, [], ◌∷◌, length, map, filter, Option, Some, None, Ok, refl, sym, ap, ◌∙◌, arith}
-use Rattle.std.proofs.lemmas.Bool.{eq-eqb, eqb-true}
+use Rattle.std.proofs.lemmas.Bool.{eq-eqb, eqb-true, not-false}
 use Rattle.std.proofs.lemmas.Bool.Decides.{nat_tests}
 use Rattle.std.proofs.lemmas.Grind.{common_steps}
 use Rattle.std.proofs.lemmas.List.{set-set, set_comm, set-get_or}
@@ -22,7 +22,7 @@ use Rattle.att_writes.proofs.AtOnce.{fits_unless_refused}
 use Rattle.att_writes.proofs.Put.{handles_in, stored_touched}
 use Rattle.att_writes.proofs.PutBits.{apart, has_own, row_touched, twice}
 use Rattle.att_writes.proofs.Sizes.{used}
-use Rattle.octets.specs.Number.{Octets}
+use Rattle.octet_io.specs.Number.{Octets}
 
 -- the handles but one
 abbrev but : Handle → List Handle → List Handle
@@ -175,10 +175,6 @@ leaves-configurations access attributes standing (entry ∷ rest) stored new is 
     leaves-at access attributes standing stored new entry rest (entry_fault access attributes standing (length (value_at stored.values entry.handle)) entry) refl is
     (leaves-configurations access attributes standing rest (after_entry attributes stored entry) new)
 
-not-not : (test : Bool) → not test ≡ false → test ≡ true
-not-not true is = refl
-not-not false is = cc is
-
 -- what is written is the old values with those of the written handles stored, each once
 pub stores_written : (access : Access) (attributes : List Attr) (standing : Standing) (entries : List Entry) (stored new : Stored)
     → after_entries access attributes standing stored entries ≡ Ok new
@@ -188,7 +184,7 @@ stores_written access attributes standing entries stored new is =
     let test : Handle → Bool = λ handle. not (is_configuration_at attributes handle) in
     let there : (at : Handle) → test at ≡ false → put_value from stored.values at ≡ stored.values =
     λ at none.
-    ap (with_value stored.values at) (leaves-configurations access attributes standing entries stored new is at (not-not (is_configuration_at attributes at) none))
+    ap (with_value stored.values at) (leaves-configurations access attributes standing entries stored new is at (not-false (is_configuration_at attributes at) none))
     ∙ set-get_or stored.values (at - 1) [] in
     stored_touched access attributes standing entries stored new is
     ∙ puts-all from (handles_in entries) stored.values

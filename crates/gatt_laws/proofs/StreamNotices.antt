@@ -14,7 +14,7 @@ use Rattle.le_h4.proofs.Dividing.{division_first, division-lost, division-part}
 use Rattle.le_h4.proofs.Firsts.{first_append-packet}
 use Rattle.le_h4.specs.Division.{Division, after_first, before, division, division_within, is_long}
 use Rattle.le_h4.specs.Packet.{Packet, First, FirstPacket, NoneYet, NoPacket, first_of}
-use Rattle.octets.specs.Number.{Octets}
+use Rattle.octet_io.specs.Number.{Octets}
 
 -- what is unfinished does not matter to what is told of packets
 apart-taken : (old : Run) (octets : Octets) (packet : Packet) (result : Result Event Fault)

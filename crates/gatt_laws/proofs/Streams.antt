@@ -11,7 +11,7 @@ use Rattle.le_h4.proofs.Dividing.{division_first, division-part, division-lost}
 use Rattle.le_h4.proofs.Firsts.{first_append-packet}
 use Rattle.le_h4.specs.Division.{Division, End, Unfinished, Lost, before, division, is_long, after_first}
 use Rattle.le_h4.specs.Packet.{Packet, ScoPacket, EventPacket, First, FirstPacket, NoneYet, NoPacket, first_of, with_data, acl_packet, acl_form, sco_form, event_form}
-use Rattle.octets.specs.Number.{Octets, from_two}
+use Rattle.octet_io.specs.Number.{Octets, from_two}
 
 -- where one octet more makes a packet whole, nothing follows it
 abbrev pub EndsWithIt : First → First → Type 0

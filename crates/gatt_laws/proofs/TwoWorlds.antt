@@ -4,7 +4,7 @@ use Rattle.std.specs.Prelude.{nat_lt, if◌then◌else◌}
 use Rattle.att_numbers.specs.Types.{Handle, Values}
 use Rattle.att_writes.specs.SameBut.{SameBut}
 use Rattle.gatt_laws.proofs.NextConnections.{none_given, none_left}
-use Rattle.gatt_laws.proofs.EffectsAlike.{both_choices}
+use Rattle.octet_io.proofs.Choices.{both_choices}
 use Rattle.gatt_laws.specs.laws.Alike.{erased, is_of, Alike, HidesFrom, Hides}
 use Rattle.gatt_laws.specs.machine.Controller.{command_of_init, count_before, without_command}
 use Rattle.gatt_laws.specs.machine.Event.{Ordinal, Event, Of, Completed, Credit, Update, Tick, Replaced, Nothing}
@@ -15,7 +15,7 @@ use Rattle.gatt_laws.specs.laws.TwoWorlds.{Matched, Spared, Agrees, KeepsAlike, 
 use Rattle.gatt_laws.specs.laws.Given.{packets_at}
 use Rattle.le_hci.specs.declared.peer.Peer.{Peer}
 use Rattle.le_security.specs.Entry.{same_peer}
-use Rattle.octets.specs.Number.{Octets}
+use Rattle.octet_io.specs.Number.{Octets}
 use Rattle.gatt_laws.proofs.AlikeHearing.{bare, commands_alike, finished-erased, finished-same, sent-bare}
 use Rattle.gatt_laws.proofs.ChangesAlike.{SameChange, completed-change, credit-change, moved, nothing-change, of-change, replaced-change, tick-change, update-change}
 

@@ -11,7 +11,7 @@ use Rattle.le_h4.proofs.Dividing.{division_first, division-part}
 use Rattle.le_h4.proofs.Firsts.{first_append-packet}
 use Rattle.le_h4.specs.Division.{Division, after_first, before, division, is_long}
 use Rattle.le_h4.specs.Packet.{Packet, First, FirstPacket, NoneYet, NoPacket, first_of}
-use Rattle.octets.specs.Number.{Octets}
+use Rattle.octet_io.specs.Number.{Octets}
 
 -- less than a packet
 abbrev IsPart : Run → Type 0

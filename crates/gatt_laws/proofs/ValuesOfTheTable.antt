@@ -28,7 +28,7 @@ use Rattle.att_pdu.specs.Grammar.{request_of, is_due}
 use Rattle.att_table.proofs.ServiceBefore.{of_a_changer}
 use Rattle.att_table.specs.Changer.{is_changer}
 use Rattle.gatt_conn.specs.Answer.{writing_asked}
-use Rattle.gatt_laws.specs.machine.Event.{Ordinal, Own, Event, Connected, Disconnected, KeyAsked, Encrypted, Refreshed, Asks, OtherChannel, Authorized, Ended, Of, Credit, Update, Replaced}
+use Rattle.gatt_laws.specs.machine.Event.{Ordinal, Own, Event, Connected, Disconnected, Asks, Of, Credit, Update, Replaced}
 use Rattle.gatt_laws.specs.laws.Headline.{MayUse}
 use Rattle.gatt_laws.proofs.Always.{always}
 use Rattle.gatt_laws.specs.machine.Calls.{has_length}
@@ -40,7 +40,7 @@ use Rattle.gatt_laws.specs.machine.SharedState.{SharedState}
 use Rattle.gatt_laws.specs.machine.State.{State, own_change, all_changed, change_of, step}
 use Rattle.gatt_laws.specs.machine.Effect.{effect_on_connection, served, is_full, live_effect, remote_user_terminated}
 use Rattle.gatt_laws.proofs.Headline.{written-may}
-use Rattle.octets.specs.Number.{Octets}
+use Rattle.octet_io.specs.Number.{Octets}
 
 abbrev table_with : List Attr → Values → Contents
 table_with attributes values = record { attributes = attributes; values = values }
@@ -168,14 +168,7 @@ turn-table shared bond owed connection (Asks pdu) true is = request-table shared
     request-table shared bond owed connection pdu false is =
         let conn = bearer_of shared connection in
         writing-table shared.table (row_in_force bond connection) conn.standing (writing_asked conn.queue (request_of pdu (connection_mtu shared connection))) is
-turn-table shared bond owed connection (Connected handle peer) true is = is
-turn-table shared bond owed connection Disconnected true is = is
-turn-table shared bond owed connection (KeyAsked random_number diversifier) true is = is
-turn-table shared bond owed connection (Encrypted status enabled) true is = is
-turn-table shared bond owed connection (Refreshed status) true is = is
-turn-table shared bond owed connection (OtherChannel channel payload) true is = is
-turn-table shared bond owed connection (Authorized until) true is = is
-turn-table shared bond owed connection Ended true is = is
+turn-table shared bond owed connection own true is = is
 turn-table shared bond owed connection own false is = is
 
 own-table : (state : State) (ordinal : Ordinal) (own : Own) → IsTable state.shared.table → IsTable (own_change state ordinal own).state.shared.table

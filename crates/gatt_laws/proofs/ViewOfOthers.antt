@@ -30,7 +30,8 @@ use Rattle.le_hci.specs.declared.peer.Peer.{Peer}
 use Rattle.le_security.proofs.Peers.{equal_peers}
 use Rattle.le_security.specs.Entry.{same_peer}
 use Rattle.le_security.specs.Link.{Step, Encryption, Refresh}
-use Rattle.octets.specs.Number.{Octets}
+use Rattle.octet_io.proofs.Choices.{and_true_left}
+use Rattle.octet_io.specs.Number.{Octets}
 use Rattle.gatt_laws.proofs.ViewOfOwn.{seen_change, seen_end, with_buffers}
 
 unfoldable pub acknowledged : ConnectionState → List ℕ → ConnectionState
@@ -95,10 +96,6 @@ either-way : (keyed : Bool) (row : Row) → row ≡ (if keyed then row else row)
 either-way true row = refl
 either-way false row = refl
 
-pub left-true : (one other : Bool) → (one && other) ≡ true → one ≡ true
-left-true true other is = refl
-left-true false other is = cc is
-
 writes-nothing : (shared : SharedState) (bond : Row) (owed : Bool) (connection new : ConnectionState) → WritesAt shared bond owed connection (effect_on_connection shared bond owed new) []
 writes-nothing shared bond owed connection new = record {
   stores = refl;
@@ -116,7 +113,7 @@ served-writes shared bond owed connection pdu asked =
       stores = stores.values;
       sets = row-in-force shared.table.attributes bond connection.row (stored_by shared.table (row_in_force bond connection) conn asked).row
           (handles_by shared.table (row_in_force bond connection) conn asked) (is_some (key_of connection)) stores.row;
-      owes = λ is. left-true owed (not (Rattle.gatt_conn.specs.Answer.is_confirmation pdu && is_some (key_of connection) && option_map_or (Rattle.gatt_subs.specs.Indications.is_told connection.pending) shared.changer false)) is;
+      owes = λ is. and_true_left owed (not (Rattle.gatt_conn.specs.Answer.is_confirmation pdu && is_some (key_of connection) && option_map_or (Rattle.gatt_subs.specs.Indications.is_told connection.pending) shared.changer false)) is;
       raises = refl;
     }
 

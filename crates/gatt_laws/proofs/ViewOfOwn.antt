@@ -28,7 +28,7 @@ use Rattle.le_hci.specs.declared.peer.Peer.{Peer}
 use Rattle.le_security.proofs.Peers.{equal_peers, same_as_itself}
 use Rattle.le_security.specs.Entry.{same_peer}
 use Rattle.le_security.specs.Link.{Step, Encryption, Refresh}
-use Rattle.octets.specs.Number.{Octets}
+use Rattle.octet_io.specs.Number.{Octets}
 
 unfoldable pub seen_end : SharedState → Row → Bool → List Handle → ConnectionState → Seen
 seen_end shared bond owed handles connection =

@@ -7,7 +7,7 @@ use Rattle.std.specs.Option.{option_map}
 use Rattle.std.proofs.lemmas.Bool.Decides.{nat_tests}
 use Rattle.std.proofs.lemmas.List.Elements.{All-nil, All-head, All-push, All-tail}
 use Rattle.att_numbers.specs.Types.{Handle, Row, Values}
-use Rattle.att_pdu.specs.Grammar.{request_of, is_due}
+use Rattle.att_pdu.specs.Grammar.{is_due}
 use Rattle.att_policy.specs.declared.guard.TheConstants.{INDICATION}
 use Rattle.att_policy.specs.declared.standing.Standing.{Standing}
 use Rattle.att_attributes.specs.declared.attr.Attr.{Attr}
@@ -16,14 +16,14 @@ use Rattle.att_table.specs.ConfigRow.{bits_at, IsRowOf}
 use Rattle.gatt_conn.specs.Answer.{is_confirmation}
 use Rattle.gatt_conn.specs.Transcript.{Dropped}
 use Rattle.gatt_laws.proofs.Always.{always, any_tables}
-use Rattle.gatt_laws.proofs.Meant.{last-true}
 use Rattle.gatt_laws.proofs.RowsOfTheTable.{change_rows, either_row, keeps_rows_of_its_table, rows_at_start}
 use Rattle.gatt_laws.specs.laws.RowsOfTheTable.{HasRowsOfItsTable}
 use Rattle.gatt_laws.specs.laws.WaitingOfTheTable.{HasConfiguration, AreConfigured, MayWait, WaitsForItsTable, HasWaitingOfItsTable, KeepsWaitingOfItsTable, AlwaysHasWaitingOfItsTable}
-use Rattle.gatt_laws.specs.machine.ConnectionState.{ConnectionState, no_connection, fresh_connection, is_live, is_there, key_of, connection_mtu, with_pdus, after_ending}
+use Rattle.gatt_laws.proofs.KeptByChanges.{KeepsByChanges, keeps_if_live}
+use Rattle.gatt_laws.specs.machine.ConnectionState.{ConnectionState, no_connection, fresh_connection, is_live, is_there, key_of}
 use Rattle.gatt_laws.specs.machine.Controller.{command_of_init, count_before, without_command}
-use Rattle.gatt_laws.specs.machine.Effect.{Effect, effect_on_connection, served, is_full, after_other_channel, channel_answer, with_step, lost_encryption, live_effect, effect_of, remote_user_terminated, authentication_failure}
-use Rattle.gatt_laws.specs.machine.Event.{Ordinal, Own, Event, Connected, Disconnected, KeyAsked, Encrypted, Refreshed, Asks, OtherChannel, Authorized, Ended, Of, Completed, Credit, Update, Tick, Replaced, Nothing}
+use Rattle.gatt_laws.specs.machine.Effect.{Effect, effect_of}
+use Rattle.gatt_laws.specs.machine.Event.{Ordinal, Own, Event, Connected, Disconnected, Of, Completed, Credit, Tick, Replaced}
 use Rattle.gatt_laws.specs.machine.Heard.{after_hearing, hearer_after, heard_in_turn, heard_when_notifying, hearer_of}
 use Rattle.gatt_laws.specs.machine.Input.{run_at_start, run}
 use Rattle.gatt_laws.specs.machine.SharedState.{SharedState, Bonds, quota_of, fragment_size_of}
@@ -34,8 +34,7 @@ use Rattle.gatt_subs.specs.Indications.{Indications, Milliseconds, after_confirm
 use Rattle.gatt_subs.specs.Told.{Hearer, pending_after_indicate, pending_after_notify}
 use Rattle.le_acl.specs.History.{packets_allowed}
 use Rattle.le_hci.specs.declared.init.Init.{Init}
-use Rattle.le_security.specs.Link.{Step, Encryption, Refresh}
-use Rattle.octets.specs.Number.{Octets}
+use Rattle.octet_io.proofs.Choices.{and_true_right}
 
 -- what a row asks for is in the table, if the row is one of it
 asked-there : (attributes : List Attr) (row : Row) (handle : Handle) → IsRowOf attributes row → not (bit_and (bits_at row handle) INDICATION == 0) ≡ true
@@ -72,7 +71,7 @@ notified_configured attributes pending row standing handle of all =
     → AreConfigured attributes (let after : Indications = if indicates then record pending { waiting = with_handle pending.waiting handle } else pending in after).waiting) [
       | true ↦ λ is.
           with-more attributes pending.waiting handle all
-          (configured_where_wanted attributes row handle of (last-true (hears pending attributes row standing handle) (wants_indications row handle) is))
+          (configured_where_wanted attributes row handle of (and_true_right (hears pending attributes row standing handle) (wants_indications row handle) is))
       | false ↦ λ is. all
     ] refl
 
@@ -140,50 +139,25 @@ confirmed-waits : (attributes : List Attr) (live : Bool) (pending : Indications)
 confirmed-waits attributes live pending true waits = waits
 confirmed-waits attributes live pending false waits = waits
 
-request-waits : (shared : SharedState) (bond : Row) (owed : Bool) (connection : ConnectionState) (pdu : Octets) (full : Bool) → WaitsForItsTable shared.table.attributes connection
-    → EffectWaits shared.table.attributes (if full then effect_on_connection shared bond owed (after_ending connection remote_user_terminated)
-    else served shared bond owed connection pdu (request_of pdu (connection_mtu shared connection)))
-request-waits shared bond owed connection pdu true waits = refl
-request-waits shared bond owed connection pdu false waits =
-    confirmed-waits shared.table.attributes (is_live connection.mark) connection.pending (is_confirmation pdu) waits
-
-channel-waits : (shared : SharedState) (connection : ConnectionState) (channel : ℕ) (answer : Option Octets) → WaitsForItsTable shared.table.attributes connection
-    → WaitsForItsTable shared.table.attributes (after_other_channel shared connection channel answer)
-channel-waits shared connection channel None waits = waits
-channel-waits shared connection channel (Some answer) waits =
-    either-waits shared.table.attributes (is_full shared connection) (after_ending connection remote_user_terminated) (with_pdus connection ((channel, answer) ∷ [])) refl waits
-
-link-waits : (attributes : List Attr) (connection : ConnectionState) (step : Step) (lost : Bool) → WaitsForItsTable attributes connection
-    → WaitsForItsTable attributes (if lost then after_ending (with_step connection step) authentication_failure else with_step connection step)
-link-waits attributes connection step lost waits =
-    either-waits attributes lost (after_ending (with_step connection step) authentication_failure) (with_step connection step) refl waits
-
-live-waits : (shared : SharedState) (bond : Row) (owed : Bool) (connection : ConnectionState) (own : Own) → WaitsForItsTable shared.table.attributes connection
-    → EffectWaits shared.table.attributes (live_effect shared bond owed connection own)
-unfolding live_effect
-live-waits shared bond owed connection (Asks pdu) waits = request-waits shared bond owed connection pdu (is_due (request_of pdu (connection_mtu shared connection)) && is_full shared connection) waits
-live-waits shared bond owed connection (OtherChannel channel payload) waits = channel-waits shared connection channel (channel_answer channel payload) waits
-live-waits shared bond owed connection (KeyAsked random_number diversifier) waits = waits
-live-waits shared bond owed connection (Encrypted status enabled) waits =
-    link-waits shared.table.attributes connection (Encryption status enabled) (lost_encryption (key_of connection) (key_of (with_step connection (Encryption status enabled)))) waits
-live-waits shared bond owed connection (Refreshed status) waits =
-    link-waits shared.table.attributes connection (Refresh status) (lost_encryption (key_of connection) (key_of (with_step connection (Refresh status)))) waits
-live-waits shared bond owed connection (Authorized until) waits = waits
-live-waits shared bond owed connection Ended waits = refl
-live-waits shared bond owed connection (Connected handle peer) waits = waits
-live-waits shared bond owed connection Disconnected waits = waits
-
-if-live : (shared : SharedState) (bond : Row) (owed : Bool) (connection : ConnectionState) (own : Own) (live : Bool) → WaitsForItsTable shared.table.attributes connection
-    → EffectWaits shared.table.attributes (if live then live_effect shared bond owed connection own else effect_on_connection shared bond owed connection)
-if-live shared bond owed connection own true waits = live-waits shared bond owed connection own waits
-if-live shared bond owed connection own false waits = waits
+by-changes : (attributes : List Attr) (connection : ConnectionState) → WaitsForItsTable attributes connection → KeepsByChanges (λ old new. WaitsForItsTable attributes new) connection
+by-changes attributes connection waits = record {
+  same = waits;
+  authorized = λ until. waits;
+  ended = λ reason. refl;
+  key_asked = λ found. waits;
+  stepped = λ step. waits;
+  ended_then = λ step reason. refl;
+  queued = λ pdu. waits;
+  served_by = λ shared bond owed pdu asked. confirmed-waits attributes (is_live connection.mark) connection.pending (is_confirmation pdu) waits;
+}
 
 own-waits : (shared : SharedState) (bond : Row) (owed : Bool) (connection : ConnectionState) (own : Own) → WaitsForItsTable shared.table.attributes connection
     → EffectWaits shared.table.attributes (effect_of shared bond owed connection own)
 own-waits shared bond owed connection (Connected handle peer) waits =
     either-waits shared.table.attributes (is_there connection.mark) connection (fresh_connection handle peer) waits (none-waits shared.table.attributes true)
 own-waits shared bond owed connection Disconnected waits = refl
-own-waits shared bond owed connection own waits = if-live shared bond owed connection own (is_live connection.mark) waits
+own-waits shared bond owed connection own waits =
+    keeps_if_live (λ old new. WaitsForItsTable shared.table.attributes new) shared bond owed connection waits (λ live. by-changes shared.table.attributes connection waits) own
 
 -- what an event changes
 change-own : (state : State) (ordinal : Ordinal) (own : Own) → HasWaitingOfItsTable state → HasWaitingOfItsTable (own_change state ordinal own).state
@@ -229,12 +203,11 @@ unfolding change_of
 change-waits state (Of ordinal own) waits = change-own state ordinal own waits
 change-waits state (Completed entries) waits = λ ordinal. completed-waits state.shared.table.attributes ordinal entries (state.connections ordinal) (waits ordinal)
 change-waits state (Credit allowed opcode status following) waits = credit-waits state allowed opcode status following waits
-change-waits state (Update handle value) waits = waits
 change-waits state (Tick time) waits = λ ordinal.
     let connection = state.connections ordinal in tick-waits state.shared.table.attributes (is_live connection.mark) connection.pending time (waits ordinal)
 change-waits state (Replaced table) waits = λ ordinal.
     replaced-waits state.shared.table.attributes (announced table).attributes (state.connections ordinal) (waits ordinal)
-change-waits state Nothing waits = waits
+change-waits state event waits = waits
 
 -- the end of an event, and the commands that go out
 finished-waits : (shared : SharedState) (bonds : Bonds) (handles : List Handle) (connection : ConnectionState)

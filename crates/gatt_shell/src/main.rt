@@ -1,14 +1,14 @@
-//! The program `gatt_shell`: the words of the command line choose a command, as the library
-//! `gatt_words` reads them, and the library `gatt_commands` carries it out over standard input and
-//! standard output. Its functions take the runtime as it is: what a command uses of that is named by
-//! the library which has the command.
+//! The program `gatt_shell`: `shell_args` chooses a command, and `gatt_commands` carries it out.
+//!
+//! Each function here may use all that the system offers; the crate of a command names what it uses
+//! of it.
 #![tactic(auto)]
 
 mod telling;
 
 ghost use Rattle.std.specs.Prelude.{◌≡◌, Ok, Err, IfErr, true, false};
-ghost use Rattle.gatt_files.specs.Check.{IsCheckFault};
-ghost use Rattle.gatt_files.specs.Fault.{exit_status_of};
+ghost use Rattle.shell_files.specs.Check.{IsCheckFault};
+ghost use Rattle.shell_files.specs.Fault.{exit_status_of};
 
 use arrayvec::ArrayVec;
 use device_host::{OptionTexts, Stop};
@@ -16,21 +16,21 @@ use gatt_commands::{
     Address, KeysPath, NextPath, RowsPath, RunPaths, ScriptPath, ServePaths, ShellFault, Shows,
     TablePath,
 };
-use gatt_words::{Choice, Refusal};
+use shell_args::{Choice, Refusal};
 use show_command::ShowPaths;
 use std::fs::File;
 use std::io::{BufWriter, Write};
 use std::process::ExitCode;
 use std::{io, str};
 
-/// Prints the text of a fault on standard error. Where that cannot be written, nobody can be told.
+/// Prints the text of a fault on standard error, if that is possible.
 fn tell(rt: &HostRuntime, fault: &ShellFault) {
     let mut text = ArrayVec::new();
     gatt_commands::text(fault, &mut text);
     let _ = rt.eprintln(str::from_utf8(text.as_slice()).unwrap_or(""));
 }
 
-/// Prints the text of a fault on standard error, and where the fault is, as `tell` does.
+/// Prints the text and the place of a fault on standard error.
 fn tell_at(rt: &HostRuntime, fault: &ShellFault, place: &[u8]) {
     let mut text = ArrayVec::new();
     gatt_commands::text(fault, &mut text);
@@ -39,7 +39,7 @@ fn tell_at(rt: &HostRuntime, fault: &ShellFault, place: &[u8]) {
     let _ = rt.eprintln(str::from_utf8(place).unwrap_or(""));
 }
 
-/// The status of a command that has ended, of which a fault is told.
+/// Returns the exit status of a command, after printing its fault.
 fn exit_status(rt: &HostRuntime, ran: Result<(), ShellFault>) -> u8
     ensures done { ran ≡ Ok tt → result ≡ 0 }
     ensures fault { (fault : ShellFault) → ran ≡ Err fault → result ≡ exit_status_of fault }
@@ -53,7 +53,7 @@ fn exit_status(rt: &HostRuntime, ran: Result<(), ShellFault>) -> u8
     }
 }
 
-/// The status of a command line that chooses no command, of which is told what it asks for.
+/// Returns the exit status of a refused command line, after printing what it asks for.
 fn refusal_status(rt: &HostRuntime, refusal: &Refusal) -> u8
     ensures misunderstood { refusal.now ≡ Refusal.Misunderstood → result ≡ 64 }
     ensures memory { refusal.now ≡ Refusal.Memory → result ≡ 2 }
@@ -70,8 +70,7 @@ fn refusal_status(rt: &HostRuntime, refusal: &Refusal) -> u8
     refusal.status()
 }
 
-/// How a command ended whose output was flushed afterwards: its own fault stands before one of the
-/// flush.
+/// Returns the outcome of a command whose output was flushed. Its own fault comes first.
 fn outcome_of(ran: Result<(), ShellFault>, is_flushed: bool) -> Result<(), ShellFault>
     ensures fault { (fault : ShellFault) → ran ≡ Err fault → result ≡ Err fault }
     ensures unwritten { ran ≡ Ok tt → is_flushed ≡ false → result
@@ -86,8 +85,8 @@ fn outcome_of(ran: Result<(), ShellFault>, is_flushed: bool) -> Result<(), Shell
     }
 }
 
-/// Answers the PDUs of standard input on standard output, which is written out before each read, as
-/// often as a buffer is full and at the end.
+/// Answers PDUs from standard input. The output is written before each read, when full, and at the
+/// end.
 fn run_att(rt: &HostRuntime) -> Result<(), ShellFault> {
     let Ok(mut writer) = BufWriter::new(rt.alloc(), io::writer(rt)) else {
         return Err(ShellFault::Memory);
@@ -96,16 +95,16 @@ fn run_att(rt: &HostRuntime) -> Result<(), ShellFault> {
     outcome_of(ran, writer.flush().is_ok())
 }
 
-/// Judges a table file and then a key file, and prints how many attributes and keys they give.
-/// Neither is opened before its turn.
+/// Checks a table file and then a key file, and prints how many attributes and keys they have.
+///
+/// No file is opened before its turn.
 fn run_check(rt: &HostRuntime, table: TablePath<'_>, keys: KeysPath<'_>) -> Result<(), ShellFault>
     ensures { IfErr result IsCheckFault }
 {
     gatt_commands::check_paths(rt.alloc(), rt, table, keys, &mut io::writer(rt))
 }
 
-/// Shows a table and who may use it, and returns the status of the program. Where a file is refused,
-/// where it has its fault is told behind the number of that.
+/// Shows a table and returns the exit status. Prints the place of a fault after its number.
 fn run_show(rt: &HostRuntime, paths: ShowPaths<'_>) -> u8 {
     let mut place = Vec::new(rt.alloc());
     let ran = show_command::show_paths(rt.alloc(), rt, paths, &mut io::writer(rt), &mut place);
@@ -124,8 +123,7 @@ fn run_show(rt: &HostRuntime, paths: ShowPaths<'_>) -> u8 {
     exit_status(rt, ran)
 }
 
-/// Returns which of the files of `show` cannot be opened, and why, if memory is left for that. The rows file
-/// need not be there.
+/// Returns which file of `show` cannot be opened, and why.
 fn unreadable(rt: &HostRuntime, paths: ShowPaths<'_>) -> Option<String> {
     let keys = match paths.keys {
         Some(KeysPath(path)) => Some(path),
@@ -141,8 +139,7 @@ fn unreadable(rt: &HostRuntime, paths: ShowPaths<'_>) -> Option<String> {
     None
 }
 
-/// Runs a script, and prints what its lines bring, which is written out as often as a buffer is full
-/// and at the end, whatever that is. None of the files is opened before its turn.
+/// Runs a script and prints its output, also if it fails. No file is opened before its turn.
 fn run_script(rt: &HostRuntime, paths: RunPaths<'_>) -> Result<(), ShellFault> {
     let Ok(mut writer) = BufWriter::new(rt.alloc(), io::writer(rt)) else {
         return Err(ShellFault::Memory);
@@ -151,7 +148,6 @@ fn run_script(rt: &HostRuntime, paths: RunPaths<'_>) -> Result<(), ShellFault> {
     outcome_of(ran, writer.flush().is_ok())
 }
 
-/// Serves one controller after another, as the words say, and returns the status of the program.
 fn run_host(rt: &HostRuntime, options: &OptionTexts<'_>) -> u8 {
     match device_host::serve_devices(rt, options) {
         Ok(()) => exit_status(rt, Ok(())),
@@ -159,21 +155,21 @@ fn run_host(rt: &HostRuntime, options: &OptionTexts<'_>) -> u8 {
     }
 }
 
-/// The status of `host` where it stops. Words that say nothing that can be done are told.
+/// Returns the exit status of a stopped `host`, after printing wrong options.
 fn stop_status(rt: &HostRuntime, stop: Stop) -> u8 {
     match stop {
         Stop::Fault(fault) => exit_status(rt, Err(fault)),
         Stop::File => gatt_commands::status(&ShellFault::Unwritten),
         Stop::Socket => gatt_commands::status(&ShellFault::Listen),
         Stop::Words(wrong) => {
-            // Where that cannot be written, nobody can be told.
+            // If this fails, the error cannot be reported at all.
             let _ = rt.eprintln(wrong);
             Refusal::Misunderstood.status()
         }
     }
 }
 
-/// Sends a line to a device, and returns the status of the program.
+/// Sends a line to a device and returns the exit status.
 fn run_tell<'a>(
     rt: &HostRuntime,
     socket: &str,
@@ -184,14 +180,14 @@ fn run_tell<'a>(
     words.push(command);
     for word in others {
         if let Some(word) = word {
-            // There is room for all of them.
+            // All of them fit.
             let _ = words.try_push(word);
         }
     }
     telling::tell_device(rt, socket, words.as_slice())
 }
 
-/// Carries out the command that the words have chosen, and returns the status of the program.
+/// Carries out a command and returns the exit status.
 fn carry_out(rt: &HostRuntime, choice: &Choice<'_>) -> u8 {
     match *choice {
         Choice::Host(ref choice) => run_host(rt, choice),
@@ -253,13 +249,13 @@ fn carry_out(rt: &HostRuntime, choice: &Choice<'_>) -> u8 {
     }
 }
 
-/// Does what the words of the command line ask for, and returns the status of the program.
+/// Carries out the command of some words and returns the exit status.
 fn run_words(rt: &HostRuntime, words: &[String]) -> u8 {
-    match gatt_words::chosen(rt.alloc(), words) {
+    match shell_args::chosen(rt.alloc(), words) {
         Ok(choice) => carry_out(rt, &choice),
         Err(refusal) => {
-            if let Some(error) = gatt_words::complaint(rt.alloc(), words) {
-                // If that cannot be written, nobody can be told.
+            if let Some(error) = shell_args::complaint(rt.alloc(), words) {
+                // If this fails, the error cannot be reported at all.
                 let _ = rt.eprint(&error);
             }
             refusal_status(rt, &refusal)
@@ -267,9 +263,8 @@ fn run_words(rt: &HostRuntime, words: &[String]) -> u8 {
     }
 }
 
-/// Does what the command line asks for, and returns the status of the program.
 fn run(rt: &HostRuntime) -> u8 {
-    match gatt_words::words_of(rt) {
+    match shell_args::words_of(rt) {
         Ok(words) => run_words(rt, words.as_slice()),
         Err(refusal) => refusal_status(rt, &refusal),
     }

@@ -1,25 +1,26 @@
-//! The command `tell`: a line is sent to a device, and its answer is printed.
+//! The command `tell`, which sends a line to a device and prints the answer.
 
 use gatt_commands::ShellFault;
-use gatt_words::Refusal;
+use shell_args::Refusal;
 use std::io;
 use std::io::{ErrorKind, Read, Write};
 use std::net::Shutdown;
 use std::os::unix::net::UnixStream;
 use std::time::Duration;
 
-/// For how long an answer is waited for, in seconds. A device may wait for its controller for ten.
+/// Time limit for an answer, in seconds. A device may wait ten for its controller.
 const PATIENCE: u64 = 20;
 
-/// The most octets of an answer. A device has 8 connections and 4,096 subscriptions at most.
+/// The most bytes of an answer. A device has at most 8 connections and 4,096 subscriptions.
 const MOST: usize = 1_048_576;
 
-/// Sends a line of some words to the device at a socket, and prints its answer. Returns the status of
-/// the program: 1 if the line is refused, 2 if the device cannot be reached or does not answer.
+/// Sends a line to the device at a socket, prints its answer, and returns the exit status.
+///
+/// The status is 1 if the line is refused, and 2 if the device is not reached or does not answer.
 pub(crate) fn tell_device(rt: &HostRuntime, socket: &str, words: &[&str]) -> u8 {
     for word in words {
         if word.as_bytes().contains(&b'\n') {
-            // Where that cannot be written, nobody can be told.
+            // If this fails, the error cannot be reported at all.
             let _ = rt.eprintln("tell: a word has a line feed");
             return Refusal::Misunderstood.status();
         }
@@ -33,7 +34,7 @@ pub(crate) fn tell_device(rt: &HostRuntime, socket: &str, words: &[&str]) -> u8 
     }
 }
 
-/// Tells why a device cannot be reached.
+/// Prints why a device is not reached.
 fn complain(rt: &HostRuntime, socket: &str, error: &io::Error) {
     let line = match error.kind() {
         ErrorKind::NotFound => format!(in rt.alloc(); "tell: {socket}: there is no such socket"),
@@ -50,7 +51,7 @@ fn complain(rt: &HostRuntime, socket: &str, error: &io::Error) {
     }
 }
 
-/// Sends a line to the device at a socket: what this sends until it closes the connection.
+/// Sends a line to a device, and returns what it sends until it closes the connection.
 fn exchange(rt: &HostRuntime, socket: &str, words: &[&str]) -> io::Result<Vec<u8>> {
     let mut line = Vec::new(rt.alloc());
     for word in words {
@@ -67,7 +68,7 @@ fn exchange(rt: &HostRuntime, socket: &str, words: &[&str]) -> io::Result<Vec<u8
     read_answer(rt, &mut stream)
 }
 
-/// Reads to the end of a connection, or up to a limit.
+/// Reads to the end of a connection, or up to the limit.
 fn read_answer(rt: &HostRuntime, stream: &mut UnixStream) -> io::Result<Vec<u8>> {
     let mut text = Vec::new(rt.alloc());
     let mut buffer = [0; 1_024];
@@ -81,8 +82,9 @@ fn read_answer(rt: &HostRuntime, stream: &mut UnixStream) -> io::Result<Vec<u8>>
     Ok(text)
 }
 
-/// Prints an answer: the status of the program. A line that made a call was sent by an application, and
-/// the notices that an application reads are left out.
+/// Prints an answer and returns the exit status.
+///
+/// The sender of a call becomes the application, and also receives notices, which are not printed.
 fn print_answer(rt: &HostRuntime, socket: &str, text: &[u8]) -> u8 {
     let is_application = text.starts_with(b"+ started ");
     let mut is_answered = false;
@@ -106,12 +108,11 @@ fn print_answer(rt: &HostRuntime, socket: &str, text: &[u8]) -> u8 {
     u8::from(is_refused)
 }
 
-/// Whether an answer says that the line is refused, or not understood.
+/// Returns true if the line is refused or not understood.
 fn is_refusal(line: &[u8]) -> bool {
     line.starts_with(b"fault ") || line.starts_with(b"bad: ")
 }
 
-/// Prints a line.
 fn print_line(rt: &HostRuntime, line: &[u8]) -> io::Result<()> {
     let mut out = io::writer(rt);
     out.write_all(line)?;

@@ -3,7 +3,7 @@ use Rattle.std.proofs.Common.{◌≡◌, ℕ, Bool, true, false, if◌then◌els
 use Rattle.std.specs.Prelude.{◌==◌}
 use Rattle.std.specs.List.{find}
 use Rattle.std.specs.Option.{option_map}
-use Rattle.octets.specs.Number.{Octets}
+use Rattle.octet_io.specs.Number.{Octets}
 use Rattle.gatt_show.specs.declared.names.Assigned.{Assigned}
 use Rattle.gatt_show.specs.Names.{name_in, names_view}
 

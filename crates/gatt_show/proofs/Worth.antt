@@ -3,10 +3,10 @@ use Rattle.std.proofs.Common.{◌≡◌, ℕ, ℤ, Bool, List, [], ◌∷◌, �
 use Rattle.std.specs.Prelude.{not, ◌||◌, nat_lt, length}
 use Rattle.std.specs.Result.{result_ok}
 use Rattle.std.proofs.lemmas.List.{append-nil, map-append}
-use Rattle.octets.specs.Number.{Octets}
+use Rattle.octet_io.specs.Number.{Octets}
 use Rattle.toml.specs.Data.{Data, Items, no_items, item, Members, as_table}
-use Rattle.toml_tables.specs.Reading.{◌>>=◌, unless, require, each, is_true, text_at, integer_at, boolean_at, flag_at, items_at}
-use Rattle.toml_tables.specs.Shape.{is_shaped}
+use Rattle.toml_schema.specs.Reading.{◌>>=◌, unless, require, each, is_true, text_at, integer_at, boolean_at, flag_at, items_at}
+use Rattle.toml_schema.specs.Shape.{is_shaped}
 use Rattle.att_policy.specs.declared.standing.KeyFacts.{KeyFacts}
 use Rattle.le_security.specs.declared.entry.Entry.{Entry}
 use Rattle.le_security.specs.declared.key_fault.KeyFault.{KeyFault}

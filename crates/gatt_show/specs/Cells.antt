@@ -1,8 +1,8 @@
--- Cells of a line: this profile's own.
+-- Cells of a line (this profile's own).
 use Rattle.std.specs.Prelude.{ℕ, ◌-◌, ◌++◌, length, replicate}
-use Rattle.octets.specs.Number.{Octets}
+use Rattle.octet_io.specs.Number.{Octets}
 
--- blanks fill a text up to a width, behind it or before it
+-- Spaces pad a text to a width, after or before it.
 abbrev pub blanks_for : ℕ → Octets → Octets
 blanks_for width text = replicate (width - length text) 32
 

@@ -1,22 +1,22 @@
--- The names of types of 16 bits: the Assigned Numbers of the Bluetooth SIG, 3.4, 3.7 and 3.8.
+-- The names of 16-bit types (Assigned Numbers of the Bluetooth SIG, 3.4, 3.7 and 3.8).
 use Rattle.std.specs.Prelude.{ℕ, ◌==◌, List, [], ◌∷◌, ◌++◌, map, codes, Option}
 use Rattle.std.specs.List.{find}
 use Rattle.std.specs.Option.{option_map}
-use Rattle.octets.specs.Number.{Octets}
+use Rattle.octet_io.specs.Number.{Octets}
 use Rattle.gatt_show.specs.declared.names.Assigned.{Assigned}
 
--- numbers with their names, and those of the code's list
+-- Numbers with their names, as a specification and in the code.
 abbrev pub Names : Type 0
 Names = List (ℕ × Octets)
 
 abbrev pub names_view : List Assigned → Names
 names_view names = map (λ (named : Assigned). (named.number, named.name.now)) names
 
--- the name that is the first one with a number
 abbrev pub name_in : Names → ℕ → Option Octets
-name_in names number = option_map (λ (named : ℕ × Octets). named.1) (find (λ (named : ℕ × Octets). named.0 == number) names)
+name_in names number =
+    option_map (λ (named : ℕ × Octets). named.1)
+    (find (λ (named : ℕ × Octets). named.0 == number) names)
 
--- services
 unfoldable pub service_names : Names
 service_names =
     (0x1800, codes "Generic Access")
@@ -49,7 +49,6 @@ service_names =
     ∷ (0x1826, codes "Fitness Machine")
     ∷ []
 
--- characteristics
 unfoldable pub characteristic_names : Names
 characteristic_names =
     (0x2A00, codes "Device Name")
@@ -90,7 +89,6 @@ characteristic_names =
     ∷ (0x2B3A, codes "Server Supported Features")
     ∷ []
 
--- descriptors
 unfoldable pub descriptor_names : Names
 descriptor_names =
     (0x2900, codes "Characteristic Extended Properties")
@@ -104,6 +102,6 @@ descriptor_names =
     ∷ (0x2908, codes "Report Reference")
     ∷ []
 
--- the name of a type of 16 bits, if it is a common one
+-- The name of a common 16-bit type.
 unfoldable pub type_name : ℕ → Option Octets
 type_name number = name_in (service_names ++ descriptor_names ++ characteristic_names) number

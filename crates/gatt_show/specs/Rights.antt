@@ -1,8 +1,8 @@
--- What may be done with an attribute, and what it needs, in words: this profile's own.
+-- The permitted uses of an attribute and their needs (this profile's own).
 use Rattle.std.specs.Prelude.{ℕ, ◌++◌, Bool, ◌||◌, if◌then◌else◌, [], codes, Option, Some, None}
 use Rattle.std.specs.Fmt.{decimal}
 use Rattle.std.specs.Str.{bytes_eq}
-use Rattle.octets.specs.Number.{Octets}
+use Rattle.octet_io.specs.Number.{Octets}
 use Rattle.att_policy.specs.declared.guard.Guard.{Guard}
 use Rattle.att_policy.specs.declared.guard.Need.{Need}
 use Rattle.att_policy.specs.declared.guard.Properties.{Properties}
@@ -10,27 +10,32 @@ use Rattle.att_policy.specs.declared.guard.TheConstants.Properties.{READ, WRITE_
 use Rattle.att_policy.specs.Need.{needs_encryption_of, needs_authentication_of}
 use Rattle.att_policy.specs.Policy.{has_property}
 
--- the word of a property, behind a blank
+-- A present property is named after a space.
 abbrev pub word : Properties → Properties → Octets → Octets
 word properties property text = if has_property properties property then text else []
 
--- the properties that need what reading needs: a value is notified and indicated to whom may read it
+-- A notified or indicated value needs what reading needs.
 abbrev pub needs_reading : Properties → Bool
-needs_reading properties = has_property properties READ || has_property properties NOTIFY || has_property properties INDICATE
+needs_reading properties =
+    has_property properties READ || has_property properties NOTIFY
+    || has_property properties INDICATE
 
 unfoldable pub heard_words : Properties → Octets
 heard_words properties =
-    word properties READ (codes " read") ++ word properties NOTIFY (codes " notify") ++ word properties INDICATE (codes " indicate")
+    word properties READ (codes " read") ++ word properties NOTIFY (codes " notify")
+    ++ word properties INDICATE (codes " indicate")
 
--- and those that need what writing needs
+-- These need what writing needs.
 abbrev pub is_written : Properties → Bool
-is_written properties = has_property properties WRITE || has_property properties WRITE_WITHOUT_RESPONSE
+is_written properties =
+    has_property properties WRITE || has_property properties WRITE_WITHOUT_RESPONSE
 
 unfoldable pub written_words : Properties → Octets
 written_words properties =
-    word properties WRITE (codes " write") ++ word properties WRITE_WITHOUT_RESPONSE (codes " command")
+    word properties WRITE (codes " write") ++ word properties WRITE_WITHOUT_RESPONSE
+    (codes " command")
 
--- what the link's key has to be: keys of LE Secure Connections have 16 octets
+-- The needed key; keys of LE Secure Connections have 16 octets.
 abbrev pub size_words : ℕ → Octets
 size_words size = codes ", key of " ++ decimal size
 
@@ -41,16 +46,17 @@ asked_size_words (Some size) = size_words size
 abbrev pub key_words : Need → Octets
 key_words need =
     if need.secure then codes " if secure connections"
-    else (if needs_authentication_of need then codes " if authenticated" else codes " if encrypted") ++ asked_size_words need.key_size
+    else (if needs_authentication_of need then codes " if authenticated" else codes " if encrypted")
+    ++ asked_size_words need.key_size
 
--- and that the user lets the connection through
+-- Authorization follows the key.
 unfoldable pub need_words : Need → Octets
 need_words need =
     if needs_encryption_of need
     then key_words need ++ (if need.authorized then codes ", authorized" else [])
     else (if need.authorized then codes " if authorized" else [])
 
--- each with what it needs, and once for all where that is the same
+-- Equal needs are named once.
 abbrev pub reading_text : Guard → Octets
 reading_text guard = heard_words guard.properties ++ need_words guard.read
 
@@ -59,7 +65,8 @@ writing_text guard = written_words guard.properties ++ need_words guard.write
 
 abbrev pub both_texts : Guard → Octets
 both_texts guard =
-    if bytes_eq (need_words guard.read) (need_words guard.write) then heard_words guard.properties ++ writing_text guard
+    if bytes_eq (need_words guard.read) (need_words guard.write) then heard_words guard.properties
+    ++ writing_text guard
     else reading_text guard ++ codes ";" ++ writing_text guard
 
 unfoldable pub rights_text : Guard → Octets

@@ -1,32 +1,35 @@
--- Types as texts: one of 16 bits as four hexadecimal digits with its name, any other as a UUID of 128 bits.
+-- Types as texts: four hexadecimal digits with a name, or a UUID of 128 bits.
 use Rattle.std.specs.Prelude.{[], ◌∷◌, ◌++◌, ◌==◌, if◌then◌else◌, map, slice_index, length, take, drop, Option, Some, None}
 use Rattle.hex.specs.Hex.{encode_lower}
-use Rattle.octets.specs.Number.{Octets, from_two}
+use Rattle.octet_io.specs.Number.{Octets, from_two}
 use Rattle.gatt_show.specs.Names.{type_name}
 
--- a name behind a number, if there is one
+-- The name follows a space.
 abbrev pub named : Option Octets → Octets
 named None = []
 named (Some name) = 32 ∷ name
 
--- the octets of a UUID, which has its lowest octet first in a value, from the highest one
+-- The octets of a UUID, highest first; a value has the lowest first.
 abbrev pub highest_first : Octets → Octets
 highest_first octets =
-    map (slice_index octets) (15 ∷ 14 ∷ 13 ∷ 12 ∷ 11 ∷ 10 ∷ 9 ∷ 8 ∷ 7 ∷ 6 ∷ 5 ∷ 4 ∷ 3 ∷ 2 ∷ 1 ∷ 0 ∷ [])
+    map (slice_index octets)
+    (15 ∷ 14 ∷ 13 ∷ 12 ∷ 11 ∷ 10 ∷ 9 ∷ 8 ∷ 7 ∷ 6 ∷ 5 ∷ 4 ∷ 3 ∷ 2 ∷ 1 ∷ 0 ∷ [])
 
--- groups of 4, 2, 2, 2 and 6 octets, joined by hyphens: RFC 4122, 3
+-- Hyphens join groups of 4, 2, 2, 2 and 6 octets (RFC 4122, 3).
 abbrev pub hyphenated : Octets → Octets
 hyphenated octets =
-    encode_lower (take 4 octets) ++ 45 ∷ encode_lower (take 2 (drop 4 octets)) ++ 45 ∷ encode_lower (take 2 (drop 6 octets))
+    encode_lower (take 4 octets) ++ 45 ∷ encode_lower (take 2 (drop 4 octets)) ++ 45
+    ∷ encode_lower (take 2 (drop 6 octets))
     ++ 45 ∷ encode_lower (take 2 (drop 8 octets)) ++ 45 ∷ encode_lower (drop 10 octets)
 
 unfoldable pub uuid_text : Octets → Octets
 uuid_text octets = hyphenated (highest_first octets)
 
--- a type as it stands in a value; octets of another length are no type
+-- Octets of another length are no type.
 abbrev pub long_text : Octets → Octets
 long_text octets = if length octets == 16 then uuid_text octets else []
 
 unfoldable pub type_text : Octets → Octets
-type_text (low ∷ high ∷ []) = encode_lower (high ∷ low ∷ []) ++ named (type_name (from_two low high))
+type_text (low ∷ high ∷ []) =
+    encode_lower (high ∷ low ∷ []) ++ named (type_name (from_two low high))
 type_text octets = long_text octets

@@ -1,4 +1,4 @@
-//! Who may use the attributes of a table.
+//! The attributes of a table that a peer may use.
 
 ghost use Rattle.std.specs.Prelude.{◌≡◌, ◌++◌, is_none, Some, OnOk};
 ghost use Rattle.std.specs.List.{flat_map};
@@ -14,19 +14,19 @@ use std::alloc::{AllocError, Global};
 /// A way to use an attribute.
 #[derive(Clone, Copy)]
 pub enum Way {
-    /// By a request that reads it.
     Reading,
-    /// By a Write Request, or prepared writes.
+    /// A Write Request or prepared writes.
     Writing,
-    /// By a Write Command.
+    /// A Write Command.
     Commanding,
-    /// By notifications or indications.
+    /// Notifications or indications.
     Hearing,
 }
 
-/// Adds what somebody with such a key, or with none, may do with the attributes of a table: the name,
-/// and in a line for each way the handles, declarations left out, and where being authorized is still
-/// needed this, or a dash where there are none. On `Err` memory was refused, and the text means nothing.
+/// Adds a name and, for each way, the handles that a peer with this key may use.
+///
+/// Omits declarations, marks handles that still require authorization, and prints a hyphen for
+/// none. On `Err` memory was refused and the text is invalid.
 #[tactic(auto, unfolding(crate::specs::Access::holder_lines))]
 pub fn add_holder(
     alloc: Global,
@@ -43,7 +43,6 @@ pub fn add_holder(
     add_ways(alloc, text, table, key)
 }
 
-/// Adds the line of each way.
 #[tactic(auto, unfolding(crate::specs::Access::way_lines))]
 fn add_ways(
     alloc: Global,
@@ -60,7 +59,6 @@ fn add_ways(
     add_way(alloc, text, table, key, Way::Hearing)
 }
 
-/// Adds the line of a way.
 #[tactic(auto, unfolding(crate::specs::Access::way_line))]
 fn add_way(
     alloc: Global,
@@ -77,7 +75,6 @@ fn add_way(
     add_octets(text, b"\n")
 }
 
-/// Adds some handles, or a dash for none.
 fn add_handles_or_dash(text: &mut Vec<u8>, handles: &[u8]) -> Result<(), AllocError>
     ensures ok { OnOk result (text.new.items ≡ text.old.items ++ handles_or_dash handles.now) }
 {
@@ -87,7 +84,6 @@ fn add_handles_or_dash(text: &mut Vec<u8>, handles: &[u8]) -> Result<(), AllocEr
     }
 }
 
-/// Adds the handles of the attributes that may be used in a way, or a dash for none.
 fn add_handles_cell(
     alloc: Global,
     text: &mut Vec<u8>,
@@ -103,7 +99,6 @@ fn add_handles_cell(
     add_handles_or_dash(text, &handles)
 }
 
-/// The word of a way, before the handles.
 fn way_word(way: Way) -> &'static str
     ensures { result.now ≡ way_word way }
 {
@@ -115,7 +110,6 @@ fn way_word(way: Way) -> &'static str
     }
 }
 
-/// Adds the handles of the attributes that may be used in a way.
 fn add_handles(
     text: &mut Vec<u8>,
     attributes: &[Attr],
@@ -131,7 +125,6 @@ fn add_handles(
     Ok(())
 }
 
-/// Adds the handle of an attribute, if it may be used in a way.
 fn add_handle(
     text: &mut Vec<u8>,
     attr: &Attr,
@@ -148,7 +141,6 @@ fn add_handle(
     add_left_need(text, permits(way, &attr.guard, &standing_of(key, false)))
 }
 
-/// Adds the need that is left, unless all is met.
 fn add_left_need(text: &mut Vec<u8>, is_met: bool) -> Result<(), AllocError>
     ensures ok { OnOk result (text.new.items ≡ text.old.items ++ left_need is_met) }
 {
@@ -159,7 +151,6 @@ fn add_left_need(text: &mut Vec<u8>, is_met: bool) -> Result<(), AllocError>
     }
 }
 
-/// The standing of a connection whose link has such a key, or none.
 fn standing_of(key: Option<KeyFacts>, is_authorized: bool) -> Standing
     ensures { result ≡ standing_with_key key is_authorized }
 {
@@ -171,7 +162,6 @@ fn standing_of(key: Option<KeyFacts>, is_authorized: bool) -> Standing
     }
 }
 
-/// Whether a connection may use a guarded attribute in a way.
 fn permits(way: Way, guard: &Guard, standing: &Standing) -> bool
     ensures { result ≡ permits way guard.now standing.entry.now }
 {
@@ -183,7 +173,6 @@ fn permits(way: Way, guard: &Guard, standing: &Standing) -> bool
     }
 }
 
-/// Whether a connection may access a guarded attribute.
 fn is_permitted(access: Access, guard: &Guard, standing: &Standing) -> bool
     ensures { result ≡ is_none (first_broken_of access (Some guard.now) standing.entry.now) }
 {

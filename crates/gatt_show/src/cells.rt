@@ -10,7 +10,7 @@ use std::alloc::AllocError;
 /// The width of the widest cell.
 pub(crate) const WIDEST: usize = 64;
 
-/// Adds a text, filled up with blanks behind it to a width of at most `WIDEST`.
+/// Adds a text, padded on the right with spaces to a width of at most `WIDEST`.
 pub fn add_left(text: &mut Vec<u8>, cell: &[u8], width: usize) -> Result<(), AllocError>
     requires { width ≤ WIDEST }
     ensures ok { OnOk result (text.new.items ≡ text.old.items ++ left width cell.now) }
@@ -19,7 +19,7 @@ pub fn add_left(text: &mut Vec<u8>, cell: &[u8], width: usize) -> Result<(), All
     add_blanks(text, width.saturating_sub(cell.len()))
 }
 
-/// Adds a number in decimal, filled up with blanks before it to a width of at most `WIDEST`.
+/// Adds a decimal number, padded on the left to a width of at most `WIDEST`.
 pub fn add_right(text: &mut Vec<u8>, number: u64, width: usize) -> Result<(), AllocError>
     requires { width ≤ WIDEST }
     ensures ok { OnOk result (text.new.items ≡ text.old.items ++ right width (decimal number)) }
@@ -30,7 +30,6 @@ pub fn add_right(text: &mut Vec<u8>, number: u64, width: usize) -> Result<(), Al
     add_octets(text, cell)
 }
 
-/// Adds `count` blanks.
 #[tactic(auto, using(crate::proofs::Blanks::some_blanks))]
 fn add_blanks(text: &mut Vec<u8>, count: usize) -> Result<(), AllocError>
     requires { count ≤ WIDEST }
@@ -47,7 +46,7 @@ pub fn add_number(text: &mut Vec<u8>, number: u64) -> Result<(), AllocError>
     add_octets(text, digits.format(number).as_bytes())
 }
 
-/// Adds octets.
+/// Adds bytes.
 pub fn add_octets(text: &mut Vec<u8>, octets: &[u8]) -> Result<(), AllocError>
     ensures ok { OnOk result (text.new.items ≡ text.old.items ++ octets.now) }
 {

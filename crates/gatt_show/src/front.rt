@@ -1,40 +1,38 @@
-//! Fronts of files.
+//! Prefixes of files ("fronts").
 
 use std::alloc::{AllocError, Global};
 use toml::{Table, Value};
 
-/// Which keys of the last table of a front are kept.
+/// The keys that the last table of a front keeps.
 #[derive(Clone, Copy)]
 pub enum Kept<'a> {
-    /// Each one.
     All,
-    /// This one alone.
+    /// Only this one.
     Alone(&'a str),
-    /// This one alone, with a value in place of its own, as TOML writes it.
+    /// Only this one, with another value in TOML.
     AloneAs(&'a str, &'a str),
-    /// Each one but these.
+    /// All except these.
     Without(&'a [&'a str]),
-    /// This one with a value in place of its own, and each other one but these.
+    /// This one with another value in TOML, and all others except these.
     With(&'a str, &'a str, &'a [&'a str]),
 }
 
 /// An array of a file.
 #[derive(Clone, Copy)]
 pub enum Level {
-    /// That of the root: the services of a table file, the entries of a key file.
+    /// The services of a table file, or the entries of a key file.
     Elements,
-    /// The includes of its last service.
+    /// The includes of the last service.
     Includes,
-    /// The characteristics of its last service.
+    /// The characteristics of the last service.
     Characteristics,
-    /// The descriptors of its last characteristic.
+    /// The descriptors of the last characteristic.
     Descriptors,
-    /// The properties of its last element.
+    /// The properties of the last element.
     Properties,
 }
 
 impl Level {
-    /// The key of the array, of a file whose root has this one.
     fn key(self, root: &'static str) -> &'static str {
         match self {
             Level::Elements => root,
@@ -46,32 +44,28 @@ impl Level {
     }
 }
 
-/// A front of a file: so many elements of the root, so many includes and characteristics of the last of
-/// them, and so on. The last element is the deepest one that is kept.
+/// The first elements of each array of a file, counted per `Level`.
+///
+/// An array below the root is that of the last element above it. The last element is the deepest
+/// one.
 #[derive(Clone, Copy)]
 pub struct Front<'a> {
-    /// The key of the root's array.
     pub root: &'static str,
-    /// How many elements of the root are kept.
     pub elements: usize,
-    /// How many includes of the last service.
     pub includes: usize,
-    /// How many characteristics of the last service.
     pub characteristics: usize,
-    /// How many descriptors of the last characteristic.
     pub descriptors: usize,
-    /// How many properties of the last element.
     pub properties: usize,
-    /// Which keys of the last element.
+    /// The keys of the last element.
     pub keys: &'a Kept<'a>,
-    /// The key of a table in the last element that is then the last table.
+    /// The key of a table in the last element, which is then the last table.
     pub inner: Option<&'a str>,
-    /// Which keys of that table.
+    /// The keys of that table.
     pub inner_keys: &'a Kept<'a>,
 }
 
 impl<'a> Front<'a> {
-    /// The root of a file with this array, without its elements.
+    /// Returns the front with this root array and no elements.
     pub fn of_root(root: &'static str) -> Front<'static> {
         Front {
             root,
@@ -86,7 +80,7 @@ impl<'a> Front<'a> {
         }
     }
 
-    /// The front with another count at a level.
+    /// Returns the front with another count at a level.
     pub fn with(self, level: Level, count: usize) -> Front<'a> {
         let mut front = self;
         match level {
@@ -99,7 +93,7 @@ impl<'a> Front<'a> {
         front
     }
 
-    /// The front with all elements of a level, and all that stands in the last one.
+    /// Returns the front with all elements of a level and everything in the last one.
     pub fn with_whole(self, level: Level) -> Front<'a> {
         let mut front = self.with(level, usize::MAX);
         match level {
@@ -114,7 +108,7 @@ impl<'a> Front<'a> {
         front
     }
 
-    /// The front with other keys of its last table.
+    /// Returns the front with other keys of its last table.
     pub fn with_keys<'k>(&'k self, keys: &'k Kept<'k>) -> Front<'k> {
         let (keys, inner_keys) = match self.inner {
             Some(_) => (self.keys, keys),
@@ -127,7 +121,7 @@ impl<'a> Front<'a> {
         }
     }
 
-    /// The front whose last table is that at a key of its last element.
+    /// Returns the front whose last table is at a key of its last element.
     pub fn with_inner<'k>(&'k self, inner: &'k str) -> Front<'k> {
         Front {
             inner: Some(inner),
@@ -136,7 +130,7 @@ impl<'a> Front<'a> {
         }
     }
 
-    /// The front of a document.
+    /// Returns a copy of a document that is cut to this front.
     pub fn of(&self, alloc: Global, document: &Table) -> Result<Table, AllocError> {
         let mut kept = document.clone()?;
         self.cut(&mut kept);
@@ -152,16 +146,16 @@ impl<'a> Front<'a> {
         Ok(kept)
     }
 
-    /// How many elements a document that is cut so has at a level, of the last element in which that
-    /// array stands.
+    /// Returns the number of elements at a level, in the last element that has any.
+    ///
+    /// `document` is cut to this front.
     pub fn count(&self, document: &mut Table, level: Level) -> usize {
         match self.with(level, 0).last_element(document) {
-            Some(element) => toml_tables::items(element, level.key(self.root)).len(),
+            Some(element) => toml_schema::items(element, level.key(self.root)).len(),
             None => 0,
         }
     }
 
-    /// Cuts the arrays of a document.
     fn cut(&self, document: &mut Table) {
         cut_array(document, self.root, self.elements);
         let Some(service) = last_table(document, self.root) else {
@@ -175,7 +169,7 @@ impl<'a> Front<'a> {
         cut_array(characteristic, "descriptor", self.descriptors);
     }
 
-    /// The last element of a document that is cut so: none where that is no table.
+    /// Returns the last element of a document cut to this front, if it is a table.
     pub fn last_element<'t>(&self, document: &'t mut Table) -> Option<&'t mut Table> {
         if self.elements == 0 {
             return Some(document);
@@ -191,7 +185,7 @@ impl<'a> Front<'a> {
         last_table(characteristic, "descriptor")
     }
 
-    /// The last table: that in the last element, where one is chosen, and else the element.
+    /// Returns the table at `inner` in the last element, or else that element.
     pub fn last_table<'t>(&self, document: &'t mut Table) -> Option<&'t mut Table> {
         let element = self.last_element(document)?;
         match self.inner {
@@ -201,24 +195,20 @@ impl<'a> Front<'a> {
     }
 }
 
-/// Leaves the first `count` elements of the array at a key, if there is one.
 fn cut_array(table: &mut Table, key: &str, count: usize) {
     if let Some(array) = array_at(table, key) {
         array.truncate(count);
     }
 }
 
-/// The table that the array at a key has last.
 fn last_table<'t>(table: &'t mut Table, key: &str) -> Option<&'t mut Table> {
     array_at(table, key)?.last_mut()?.as_table_mut()
 }
 
-/// The array at a key.
 fn array_at<'t>(table: &'t mut Table, key: &str) -> Option<&'t mut Vec<Value>> {
     table.get_mut(key)?.as_array_mut()
 }
 
-/// Leaves some keys of a table.
 fn keep_keys(alloc: Global, table: &mut Table, keys: &Kept<'_>) -> Result<(), AllocError> {
     match *keys {
         Kept::All => Ok(()),
@@ -238,7 +228,7 @@ fn keep_keys(alloc: Global, table: &mut Table, keys: &Kept<'_>) -> Result<(), Al
     }
 }
 
-/// Leaves one key of a table, if it has this one.
+/// Removes all other keys, if the table has this one.
 fn keep_alone(alloc: Global, table: &mut Table, key: &str) -> Result<(), AllocError> {
     let name = String::from_str(alloc, key)?;
     match table.remove(key) {
@@ -250,7 +240,6 @@ fn keep_alone(alloc: Global, table: &mut Table, key: &str) -> Result<(), AllocEr
     }
 }
 
-/// Puts a value at a key, as TOML writes it.
 fn put(alloc: Global, table: &mut Table, key: &str, value: &str) -> Result<(), AllocError> {
     let name = String::from_str(alloc, key)?;
     match Value::from_str(alloc, value) {
@@ -259,13 +248,11 @@ fn put(alloc: Global, table: &mut Table, key: &str, value: &str) -> Result<(), A
     }
 }
 
-/// Puts a value at a key.
 fn insert(table: &mut Table, name: String, value: Value) -> Result<(), AllocError> {
     table.insert(name, value)?;
     Ok(())
 }
 
-/// Takes some keys out of a table.
 fn remove_all(table: &mut Table, keys: &[&str]) {
     for key in keys {
         table.remove(*key);

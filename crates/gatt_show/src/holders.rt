@@ -1,8 +1,8 @@
-//! Who has which key, and what he may do.
+//! The holders of keys and the attributes that they may use.
 
 ghost use Rattle.std.specs.Prelude.{◌≡◌, ◌++◌, option_map, Some, OnOk};
 ghost use Rattle.toml.specs.View.{items_view, table_view};
-ghost use Rattle.toml_tables.specs.Reading.{text_at};
+ghost use Rattle.toml_schema.specs.Reading.{text_at};
 ghost use Rattle.gatt_show.specs.Holders.{FactsAreTheServers, TellsHolders, entries_text, entry_text, facts_at, facts_words, holder_name, holder_text, holders_text, words_if, written_size, written_text};
 
 use crate::access::add_holder;
@@ -13,9 +13,9 @@ use att_table::Table;
 use std::alloc::{AllocError, Global};
 use toml::Value;
 
-/// Adds what a stranger may do with the attributes of a table, and what each peer of a key file may do
-/// with each of its keys, in the order of the file. On `Err` memory was refused, or the text of the
-/// file is no TOML, and `text` means nothing.
+/// Adds the permitted uses of a stranger, then of each key of a key file in order.
+///
+/// On `Err` memory was refused or the file is not TOML, and `text` is invalid.
 #[tactic(auto, using(crate::proofs::Worth::facts_are_the_servers))]
 pub fn add_holders(
     alloc: Global,
@@ -29,7 +29,6 @@ pub fn add_holders(
     add_all(alloc, text, table, key_file)
 }
 
-/// Adds what a stranger may do, and what each peer of a key file may do.
 fn add_all(
     alloc: Global,
     text: &mut Vec<u8>,
@@ -44,7 +43,6 @@ fn add_all(
     add_of_document(alloc, text, table, &document)
 }
 
-/// Adds what a stranger may do, and what each peer of the document of a key file may do.
 fn add_of_document(
     alloc: Global,
     text: &mut Vec<u8>,
@@ -55,10 +53,9 @@ fn add_of_document(
         ≡ text.old.items ++ holders_text table.now (table_view document.now)) }
 {
     add_one(alloc, text, table, b"stranger", None)?;
-    add_entries(alloc, text, table, toml_tables::items(document, "key"))
+    add_entries(alloc, text, table, toml_schema::items(document, "key"))
 }
 
-/// Adds what somebody may do, behind a blank line.
 fn add_one(
     alloc: Global,
     text: &mut Vec<u8>,
@@ -73,7 +70,6 @@ fn add_one(
     add_holder(alloc, text, table, name, key)
 }
 
-/// Adds what the peers of some entries may do.
 fn add_entries(
     alloc: Global,
     text: &mut Vec<u8>,
@@ -89,7 +85,6 @@ fn add_entries(
     Ok(())
 }
 
-/// Adds what the peer of an entry may do.
 fn add_entry(
     alloc: Global,
     text: &mut Vec<u8>,
@@ -105,7 +100,6 @@ fn add_entry(
     }
 }
 
-/// Adds what the peer of an entry that is a table may do.
 fn add_peer(
     alloc: Global,
     text: &mut Vec<u8>,
@@ -121,19 +115,18 @@ fn add_peer(
     add_one(alloc, text, table, name.as_slice(), Some(facts))
 }
 
-/// What the key of an entry is worth.
 #[tactic(auto, unfolding(crate::specs::Holders::facts_at))]
 fn facts_at(members: &toml::Table) -> KeyFacts
     ensures { result ≡ facts_at (table_view members.now) }
 {
     KeyFacts {
-        size: written_size(toml_tables::integer(members, "size")),
-        authenticated: toml_tables::flag(members, "authenticated"),
-        secure: toml_tables::flag(members, "secure"),
+        size: written_size(toml_schema::integer(members, "size")),
+        authenticated: toml_schema::flag(members, "authenticated"),
+        secure: toml_schema::flag(members, "secure"),
     }
 }
 
-/// The size of a key, in octets.
+/// Returns the size of a key in octets, or 0 if it is not a valid one.
 fn written_size(size: Option<i64>) -> u8
     ensures { result ≡ written_size size }
 {
@@ -146,7 +139,6 @@ fn written_size(size: Option<i64>) -> u8
     }
 }
 
-/// Adds who the peer of an entry is, and what its key is worth.
 #[tactic(auto, unfolding(crate::specs::Holders::holder_name))]
 fn add_name(text: &mut Vec<u8>, members: &toml::Table, facts: KeyFacts) -> Result<(), AllocError>
     requires { facts ≡ facts_at (table_view members.now) }
@@ -159,18 +151,16 @@ fn add_name(text: &mut Vec<u8>, members: &toml::Table, facts: KeyFacts) -> Resul
     add_facts(text, facts)
 }
 
-/// Adds the text at a key.
 fn add_text(text: &mut Vec<u8>, members: &toml::Table, key: &str) -> Result<(), AllocError>
     ensures ok { OnOk result (text.new.items
         ≡ text.old.items ++ written_text (text_at key.now (table_view members.now))) }
 {
-    match toml_tables::text(members, key) {
+    match toml_schema::text(members, key) {
         Some(written) => add_octets(text, written.as_bytes()),
         None => Ok(()),
     }
 }
 
-/// Adds what a key is worth.
 fn add_facts(text: &mut Vec<u8>, facts: KeyFacts) -> Result<(), AllocError>
     ensures ok { OnOk result (text.new.items ≡ text.old.items ++ facts_words facts) }
 {
@@ -179,7 +169,6 @@ fn add_facts(text: &mut Vec<u8>, facts: KeyFacts) -> Result<(), AllocError>
     add_if(text, facts.secure, b", secure connections")
 }
 
-/// Adds words where something holds.
 fn add_if(text: &mut Vec<u8>, holds: bool, words: &[u8]) -> Result<(), AllocError>
     ensures ok { OnOk result (text.new.items ≡ text.old.items ++ words_if holds words.now) }
 {

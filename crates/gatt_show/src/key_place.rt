@@ -1,4 +1,4 @@
-//! Where a key file has its fault, and what it is, in words.
+//! The place and the fault of a bad key file, in words.
 
 use crate::front::{Front, Kept, Level};
 use crate::report::Report;
@@ -6,7 +6,7 @@ use crate::wrong_key::{Others, add_name, add_range, add_said, add_wrong_key};
 use le_security::KeyFault;
 use toml::Table;
 
-/// The keys that an entry has to have, in the order in which they are missed.
+/// The required keys of an entry, in the order in which the reader misses them.
 const WANTED: [&str; 7] = [
     "address",
     "kind",
@@ -17,14 +17,13 @@ const WANTED: [&str; 7] = [
     "authenticated",
 ];
 
-/// Adds where a document has its first fault, and what it is.
+/// Adds the place of a document's first fault, and the fault.
 pub fn add_key_place(report: &mut Report<'_>, fault: KeyFault) {
     let front = report.shortest("key", &[Level::Elements]);
     report.add_counted(b"key ", front.elements);
     add_fault(report, &front, fault);
 }
 
-/// Adds which key of the last entry of a front is at fault, and why.
 fn add_fault(report: &mut Report<'_>, front: &Front<'_>, fault: KeyFault) {
     match fault {
         KeyFault::Shape => add_wrong_key(report, front),
@@ -40,7 +39,6 @@ fn add_fault(report: &mut Report<'_>, front: &Front<'_>, fault: KeyFault) {
     }
 }
 
-/// Adds the key of an entry that is missed first.
 fn add_missing(report: &mut Report<'_>, front: &Front<'_>) {
     let mut kept = report.document(front);
     if let Some(entry) = front.last_element(&mut kept) {
@@ -50,7 +48,6 @@ fn add_missing(report: &mut Report<'_>, front: &Front<'_>) {
     report.add(b": the key is missing");
 }
 
-/// The key of an entry that is missed first.
 fn missing(table: &Table) -> &'static str {
     for key in &WANTED {
         if table.get(*key).is_none() {
@@ -60,7 +57,6 @@ fn missing(table: &Table) -> &'static str {
     ""
 }
 
-/// Adds whether the kind of an address is bad, or else the address.
 fn add_bad_address(report: &mut Report<'_>, front: &Front<'_>) {
     if stays_with(report, front, "kind", "\"public\"") {
         let said = b": it is not six pairs of hexadecimal digits joined by colons";
@@ -70,7 +66,6 @@ fn add_bad_address(report: &mut Report<'_>, front: &Front<'_>) {
     }
 }
 
-/// Adds whether the random number is bad, or else the long-term key.
 fn add_bad_hex(report: &mut Report<'_>, front: &Front<'_>) {
     if stays_with(report, front, "rand", "\"0000000000000000\"") {
         add_said(report, front, "ltk", b": it is not 32 hexadecimal digits");
@@ -79,13 +74,12 @@ fn add_bad_hex(report: &mut Report<'_>, front: &Front<'_>) {
     }
 }
 
-/// Adds which numbers the size may be.
 fn add_bad_size(report: &mut Report<'_>, front: &Front<'_>) {
     add_name(report, front, "size");
     add_range(report, front, Others::Kept, "size", 16);
 }
 
-/// Whether the fault stays with a good text at a key, so that it is that of another one.
+/// Returns true if the fault remains with a good text at a key.
 fn stays_with(report: &mut Report<'_>, front: &Front<'_>, key: &str, good: &str) -> bool {
     report.has_fault_with(front, &Kept::With(key, good, &[]))
 }

@@ -1,4 +1,4 @@
-//! What a table says, for people: a line for each attribute, and who may do what.
+//! A table in words: a line for each attribute, and the uses that each peer is permitted.
 #![tactic(auto)]
 
 mod access;

@@ -15,16 +15,16 @@ use att_numbers::attribute_type::{INCLUDE, PRIMARY_SERVICE, SECONDARY_SERVICE};
 use att_table::{Attr, Role, Table, is_service, type_octets};
 use std::alloc::{AllocError, Global};
 
-/// Adds a line for each attribute of a table, in the order of their handles: its handle, what it is,
-/// its type with its name, how many octets its value may have, and what may be done with it; or a line
-/// that says that there are none. On `Err` memory was refused, and the text means nothing.
+/// Adds a line for each attribute in order of handles, or `no attributes`.
+///
+/// A line has the handle, kind, type with name, octets of the value, and permitted uses. On `Err`
+/// memory was refused and the text is invalid.
 pub fn add_table(alloc: Global, text: &mut Vec<u8>, table: &Table) -> Result<(), AllocError>
     ensures ok { OnOk result (text.new.items ≡ text.old.items ++ shown_table table.now) }
 {
     add_lines(alloc, text, table, all_attributes(table))
 }
 
-/// Adds the lines of some attributes of a table, or one that says that there are none.
 fn add_lines(
     alloc: Global,
     text: &mut Vec<u8>,
@@ -40,7 +40,7 @@ fn add_lines(
     }
 }
 
-/// All attributes of a table.
+/// Returns all attributes of a table.
 #[tactic(auto, using(crate::proofs::Lines::all_attributes))]
 pub fn all_attributes(table: &Table) -> &[Attr]
     ensures { result.now ≡ table.now.attributes }
@@ -48,7 +48,6 @@ pub fn all_attributes(table: &Table) -> &[Attr]
     table.in_range(1, table.len() as u16)
 }
 
-/// Adds the lines of some attributes of a table.
 fn add_attributes(
     alloc: Global,
     text: &mut Vec<u8>,
@@ -64,7 +63,6 @@ fn add_attributes(
     Ok(())
 }
 
-/// Adds the line of an attribute.
 #[tactic(auto, unfolding(crate::specs::Line::attribute_line))]
 fn add_attribute(
     alloc: Global,
@@ -80,7 +78,6 @@ fn add_attribute(
     add_octets(text, b"\n")
 }
 
-/// Adds the handle of an attribute, and what it is.
 fn add_front(text: &mut Vec<u8>, attr: &Attr) -> Result<(), AllocError>
     ensures ok { OnOk result (text.new.items ≡ text.old.items ++ (right 4 (decimal attr.now.handle)
         ++ codes "  " ++ left 14 (kind_word attr.now.role attr.now.kind) ++ codes "  ")) }
@@ -91,7 +88,6 @@ fn add_front(text: &mut Vec<u8>, attr: &Attr) -> Result<(), AllocError>
     add_octets(text, b"  ")
 }
 
-/// What an attribute is, in a word.
 #[tactic(auto, unfolding(crate::specs::Line::kind_word))]
 fn kind_word(role: Role, kind: u128) -> &'static str
     ensures { result.now ≡ kind_word role kind }
@@ -107,7 +103,6 @@ fn kind_word(role: Role, kind: u128) -> &'static str
     }
 }
 
-/// Adds what a line says behind what the attribute is.
 #[tactic(auto, unfolding(crate::specs::Line::rest_of_line))]
 fn add_rest(alloc: Global, text: &mut Vec<u8>, table: &Table, attr: &Attr) -> Result<(), AllocError>
     ensures ok { OnOk result (text.new.items
@@ -121,14 +116,12 @@ fn add_rest(alloc: Global, text: &mut Vec<u8>, table: &Table, attr: &Attr) -> Re
     }
 }
 
-/// The value at a handle, and none where there is no attribute.
 fn told_value(table: &Table, handle: u16) -> &[u8]
     ensures { result.now ≡ told_value table.now handle }
 {
     table.value_of(handle).unwrap_or(&[])
 }
 
-/// Adds what a declaration of this type and value declares.
 fn add_declared(
     text: &mut Vec<u8>,
     table: &Table,
@@ -147,7 +140,6 @@ fn add_declared(
     }
 }
 
-/// Adds the service that an include has, by its value.
 fn add_include(text: &mut Vec<u8>, table: &Table, value: &[u8]) -> Result<(), AllocError>
     ensures ok { OnOk result (text.new.items
         ≡ text.old.items ++ include_text table.now value.now) }
@@ -161,8 +153,6 @@ fn add_include(text: &mut Vec<u8>, table: &Table, value: &[u8]) -> Result<(), Al
     add_number(text, u64::from(first))
 }
 
-/// Adds the type of an attribute that is no declaration, how many octets its value may have, and
-/// what may be done with it.
 fn add_used(alloc: Global, text: &mut Vec<u8>, attr: &Attr) -> Result<(), AllocError>
     ensures ok { OnOk result (text.new.items ≡ text.old.items ++ used_text attr.now) }
 {
@@ -172,7 +162,6 @@ fn add_used(alloc: Global, text: &mut Vec<u8>, attr: &Attr) -> Result<(), AllocE
     add_rights(alloc, text, &attr.guard)
 }
 
-/// Adds a type, as a cell.
 fn add_type_cell(alloc: Global, text: &mut Vec<u8>, kind: u128) -> Result<(), AllocError>
     ensures ok { OnOk result (text.new.items
         ≡ text.old.items ++ left 40 (type_text (type_octets kind))) }
@@ -182,7 +171,6 @@ fn add_type_cell(alloc: Global, text: &mut Vec<u8>, kind: u128) -> Result<(), Al
     add_left(text, &cell, 40)
 }
 
-/// Adds how many octets the value of an attribute may have, as a cell.
 fn add_length_cell(alloc: Global, text: &mut Vec<u8>, attr: &Attr) -> Result<(), AllocError>
     ensures ok { OnOk result (text.new.items
         ≡ text.old.items ++ left 5 (length_text attr.now.role attr.now)) }
@@ -192,7 +180,6 @@ fn add_length_cell(alloc: Global, text: &mut Vec<u8>, attr: &Attr) -> Result<(),
     add_left(text, &cell, 5)
 }
 
-/// Adds how many octets the value of an attribute may have.
 #[tactic(auto, unfolding(crate::specs::Line::length_text))]
 fn add_length(text: &mut Vec<u8>, attr: &Attr) -> Result<(), AllocError>
     ensures ok { OnOk result (text.new.items

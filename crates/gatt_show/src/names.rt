@@ -1,22 +1,20 @@
-//! The names of the common types of 16 bits: the Assigned Numbers of the Bluetooth SIG, 3.4, 3.7 and
-//! 3.8.
+//! Names of common 16-bit types (Assigned Numbers of the Bluetooth SIG, 3.4, 3.7 and 3.8).
 
 ghost use Rattle.std.specs.Prelude.{◌≡◌, ◌==◌};
 ghost use Rattle.std.specs.List.{find};
 ghost use Rattle.std.specs.Option.{option_copied, option_map};
 ghost use Rattle.gatt_show.specs.Names.{name_in, type_name, names_view};
 
-/// A number that the Bluetooth SIG has assigned, and the name of what it stands for.
+/// An assigned number of the Bluetooth SIG, and its name.
 #[derive(Clone, Copy)]
 pub struct Assigned {
-    /// The number.
     pub number: u16,
-    /// The name.
     pub name: &'static str,
 }
 
-/// The name of the type of a service, a characteristic or a descriptor of 16 bits, if it is a common
-/// one.
+/// Returns the name of a 16-bit service, characteristic or descriptor type.
+///
+/// Only common types have one.
 #[tactic(auto, unfolding(crate::specs::Names::type_name, crate::specs::Names::service_names, crate::specs::Names::characteristic_names, crate::specs::Names::descriptor_names))]
 pub fn name_of(number: u16) -> Option<&'static str>
     ensures { option_map (λ name. name.now) result ≡ type_name number }
@@ -24,7 +22,6 @@ pub fn name_of(number: u16) -> Option<&'static str>
     name_in(&NAMES, number)
 }
 
-/// The first of some names that has a number.
 #[tactic(auto, using(crate::proofs::Naming::viewed))]
 fn name_in(names: &[Assigned], number: u16) -> Option<&'static str>
     ensures { option_map (λ name. name.now) result ≡ name_in (names_view names.now) number }
@@ -35,7 +32,6 @@ fn name_in(names: &[Assigned], number: u16) -> Option<&'static str>
     }
 }
 
-/// The first of some numbers with their names that is this one.
 fn first(names: &[Assigned], number: u16) -> Option<&Assigned>
     ensures { option_copied result
         ≡ find (λ (named : Assigned). named.number == number) names.now }
@@ -43,7 +39,6 @@ fn first(names: &[Assigned], number: u16) -> Option<&Assigned>
     names.iter().find(|named| named.number == number)
 }
 
-/// The names, in the order of their numbers.
 pub const NAMES: [Assigned; 73] = [
     Assigned {
         number: 0x1800,

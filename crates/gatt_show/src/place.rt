@@ -1,4 +1,4 @@
-//! Where a file that is TOML has its fault, and what it is, in words.
+//! The place and the fault of a bad TOML file, in words. Lines, columns and elements count from 1.
 
 use crate::key_place::add_key_place;
 use crate::position::{add_no_text, add_no_toml};
@@ -9,21 +9,20 @@ use std::alloc::{AllocError, Global};
 use std::str;
 use toml::Table;
 
-/// Adds where a table file with these octets has its first fault, and what it is. Of a file without a
-/// fault nothing is added. Lines, columns and elements count from 1. On `Err` memory was refused, and
-/// the text means nothing.
+/// Adds the place and the first fault of a table file, or nothing if it has none.
+///
+/// On `Err` memory was refused and the text is invalid.
 pub fn add_table_fault(alloc: Global, text: &mut Vec<u8>, octets: &[u8]) -> Result<(), AllocError> {
     add_file_fault(alloc, text, octets, Format::Table)
 }
 
-/// Adds where a key file with these octets has its first fault, and what it is. Of a file without a
-/// fault nothing is added. Lines, columns and elements count from 1. On `Err` memory was refused, and
-/// the text means nothing.
+/// Adds the place and the first fault of a key file, or nothing if it has none.
+///
+/// On `Err` memory was refused and the text is invalid.
 pub fn add_keys_fault(alloc: Global, text: &mut Vec<u8>, octets: &[u8]) -> Result<(), AllocError> {
     add_file_fault(alloc, text, octets, Format::Keys)
 }
 
-/// Adds where a file of a format has its first fault, and what it is.
 fn add_file_fault(
     alloc: Global,
     text: &mut Vec<u8>,
@@ -40,7 +39,6 @@ fn add_file_fault(
     }
 }
 
-/// Adds where a document has its first fault, and what it is.
 fn add_fault(
     alloc: Global,
     text: &mut Vec<u8>,
@@ -59,7 +57,6 @@ fn add_fault(
     add_place(text, &refused)
 }
 
-/// Adds where a document that is refused has its fault, and what it is.
 fn add_place(text: &mut Vec<u8>, refused: &Refused<'_>) -> Result<(), AllocError> {
     let mut report = Report::of(refused);
     match refused.fault {

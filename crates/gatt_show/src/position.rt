@@ -1,16 +1,16 @@
-//! Places in a text, and what is wrong where it is no TOML.
+//! Places at which a file is not text or not TOML.
 
 use crate::cells::{add_number, add_octets};
 use std::alloc::AllocError;
 use toml::de::Error;
 
-/// Adds where octets stop to be UTF-8: behind the first `valid` of them.
+/// Adds the place at which a text stops being UTF-8, after `valid` bytes.
 pub fn add_no_text(text: &mut Vec<u8>, octets: &[u8], valid: usize) -> Result<(), AllocError> {
     add_position(text, octets, valid)?;
     add_octets(text, b": it is not UTF-8")
 }
 
-/// Adds where a text stops to be TOML, and why. That memory was refused has no place.
+/// Adds the place at which a text stops being TOML, and why. Refused memory has no place.
 pub fn add_no_toml(text: &mut Vec<u8>, octets: &[u8], error: &Error) -> Result<(), AllocError> {
     let Some(span) = error.span() else {
         return Err(AllocError);
@@ -20,7 +20,7 @@ pub fn add_no_toml(text: &mut Vec<u8>, octets: &[u8], error: &Error) -> Result<(
     add_octets(text, error.message().as_bytes())
 }
 
-/// A place in a text: its line, and its column in characters, both counted from 1.
+/// A line and a column in characters, both from 1.
 #[derive(Clone, Copy)]
 struct Position {
     line: u64,
@@ -28,7 +28,6 @@ struct Position {
 }
 
 impl Position {
-    /// The place behind some octets.
     fn behind(octets: &[u8]) -> Position {
         let mut line: u64 = 1;
         let mut column: u64 = 1;
@@ -44,7 +43,6 @@ impl Position {
     }
 }
 
-/// Adds the line and the column of the octet at a place.
 fn add_position(text: &mut Vec<u8>, octets: &[u8], at: usize) -> Result<(), AllocError> {
     let position = Position::behind(octets.get(..at).unwrap_or(octets));
     add_octets(text, b"line ")?;
@@ -53,7 +51,7 @@ fn add_position(text: &mut Vec<u8>, octets: &[u8], at: usize) -> Result<(), Allo
     add_number(text, position.column)
 }
 
-/// Whether an octet goes on with a character that an earlier one has begun.
+/// Returns true if a byte continues a UTF-8 character.
 fn is_inside(octet: u8) -> bool {
     octet & 0xC0 == 0x80
 }

@@ -1,12 +1,13 @@
-//! Texts of files as they are quoted: one line of printable ASCII, whatever they are.
+//! Quoted texts of files, always one line of printable ASCII.
 
 use crate::report::Report;
 
-/// The most characters of a text that are quoted.
+/// The largest number of quoted characters.
 const LONGEST: usize = 60;
 
-/// Adds a text of a file, each character as `escape_default` has it: one that is not printable ASCII
-/// as `\u{1b}`. Of a text with more than 60 characters the first 60 are added, and `..`.
+/// Adds the first 60 characters of a text, and `..` if it has more.
+///
+/// Escapes all except printable ASCII as `escape_default` does, for example `\u{1b}`.
 pub fn add_quoted(report: &mut Report<'_>, quoted: &str) {
     let mut left = LONGEST;
     for character in quoted.chars() {
@@ -19,7 +20,6 @@ pub fn add_quoted(report: &mut Report<'_>, quoted: &str) {
     }
 }
 
-/// Adds a character, escaped unless it is printable ASCII.
 fn add_escaped(report: &mut Report<'_>, character: char) {
     for escaped in character.escape_default() {
         let mut octets = [0; 4];

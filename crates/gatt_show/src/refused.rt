@@ -1,30 +1,26 @@
-//! Documents that are refused, and what the reader of their format says of them.
+//! Refused documents and the words of their readers.
 
 use att_table::TableFault;
 use le_security::{KeyFault, Keys};
 use std::alloc::{AllocError, Global};
 use toml::Table;
 
-/// A format of files that are TOML.
+/// A format of TOML files.
 #[derive(Clone, Copy)]
 pub enum Format {
-    /// That of table files.
     Table,
-    /// That of key files.
     Keys,
 }
 
 /// A fault of a file.
 #[derive(Clone, Copy, PartialEq, Eq)]
 pub enum Fault {
-    /// One of a table file.
     Table(TableFault),
-    /// One of a key file.
     Keys(KeyFault),
 }
 
 impl Fault {
-    /// What the reader says of the fault.
+    /// Returns the words of the reader for the fault.
     pub fn words(self, alloc: Global) -> Result<String, AllocError> {
         match self {
             Fault::Table(fault) => format!(in alloc; "{fault}"),
@@ -33,20 +29,17 @@ impl Fault {
     }
 }
 
-/// A document that is refused.
+/// A refused document.
 #[derive(Clone, Copy)]
 pub struct Refused<'a> {
-    /// Where memory comes from.
     pub alloc: Global,
-    /// The document.
     pub document: &'a Table,
-    /// Its format.
     pub format: Format,
-    /// Its first fault.
+    /// The document's first fault.
     pub fault: Fault,
 }
 
-/// The first fault of a document.
+/// Returns the first fault of a document, if any.
 pub fn fault_of(
     alloc: Global,
     document: &Table,
@@ -58,7 +51,6 @@ pub fn fault_of(
     file_fault(alloc, file.as_str(), format)
 }
 
-/// The first fault of a file.
 fn file_fault(alloc: Global, file: &str, format: Format) -> Result<Option<Fault>, AllocError> {
     match format {
         Format::Table => table_fault(alloc, file),
@@ -66,7 +58,6 @@ fn file_fault(alloc: Global, file: &str, format: Format) -> Result<Option<Fault>
     }
 }
 
-/// The first fault of a table file.
 fn table_fault(alloc: Global, file: &str) -> Result<Option<Fault>, AllocError> {
     match att_table::Table::read(alloc, file).err() {
         None => Ok(None),
@@ -75,7 +66,6 @@ fn table_fault(alloc: Global, file: &str) -> Result<Option<Fault>, AllocError> {
     }
 }
 
-/// The first fault of a key file.
 fn key_fault(alloc: Global, file: &str) -> Result<Option<Fault>, AllocError> {
     match Keys::read(alloc, file).err() {
         None => Ok(None),

@@ -1,9 +1,9 @@
-//! Reports on documents that are refused: where they have their fault, and what it is.
+//! Reports on refused documents: the place and the fault.
 //!
-//! A reader tells which fault is the first, and not where it is. So the same reader is asked for
-//! fronts of the file: the shortest one that it refuses so ends with what is at fault. Then it is
-//! asked which key of that element it is, and with which values of that key the fault is gone. No
-//! rule of a format is written here again.
+//! A reader returns the first fault without its place. The report therefore reads prefixes of the
+//! file: the shortest with the same fault ends with the faulty element. It then tries the keys of
+//! that element, and values of a key, until the fault is gone. No rule of a format is repeated
+//! here.
 
 use crate::front::{Front, Kept, Level};
 use crate::refused::{Refused, fault_of};
@@ -11,8 +11,7 @@ use itoa::Buffer;
 use std::alloc::AllocError;
 use toml::Table;
 
-/// A report on a document that is refused: the text of where it has its fault, and what that is. It is
-/// made to its end even where memory was refused, which its end tells.
+/// A report on a refused document, built to its end even if memory is refused.
 #[derive(Drop)]
 pub struct Report<'a> {
     refused: &'a Refused<'a>,
@@ -21,7 +20,7 @@ pub struct Report<'a> {
 }
 
 impl<'a> Report<'a> {
-    /// A report on a document, without a text.
+    /// Returns an empty report on a document.
     pub fn of(refused: &'a Refused<'a>) -> Report<'a> {
         Report {
             refused,
@@ -30,7 +29,7 @@ impl<'a> Report<'a> {
         }
     }
 
-    /// The text, unless memory was refused.
+    /// Returns the text, or an error if memory was refused.
     pub fn end(self) -> Result<Vec<u8>, AllocError> {
         if self.is_out_of_memory {
             return Err(AllocError);
@@ -38,20 +37,20 @@ impl<'a> Report<'a> {
         Ok(self.text)
     }
 
-    /// Adds octets to the text.
+    /// Adds bytes to the text.
     pub fn add(&mut self, octets: &[u8]) {
         if self.text.extend_from_slice(octets).is_err() {
             self.is_out_of_memory = true;
         }
     }
 
-    /// Adds a number to the text, in decimal.
+    /// Adds a number in decimal.
     pub fn add_number(&mut self, number: u64) {
         let mut digits = Buffer::new();
         self.add(digits.format(number).as_bytes());
     }
 
-    /// Adds the name of an element and its number to the text, unless there is none.
+    /// Adds the name and the number of an element, if the number is not 0.
     pub fn add_counted(&mut self, name: &[u8], count: usize) {
         if count > 0 {
             self.add(name);
@@ -59,7 +58,7 @@ impl<'a> Report<'a> {
         }
     }
 
-    /// Adds what the reader says of the fault, behind its place.
+    /// Adds a colon and the words of the reader for the fault.
     pub fn add_words(&mut self) {
         self.add(b": ");
         match self.refused.fault.words(self.refused.alloc) {
@@ -68,7 +67,7 @@ impl<'a> Report<'a> {
         }
     }
 
-    /// The front of the document, or an empty document where memory was refused.
+    /// Returns a front of the document, or an empty document if memory is refused.
     pub fn document(&mut self, front: &Front<'_>) -> Table {
         match front.of(self.refused.alloc, self.refused.document) {
             Ok(document) => document,
@@ -79,7 +78,7 @@ impl<'a> Report<'a> {
         }
     }
 
-    /// Whether a front of the document has its first fault.
+    /// Returns true if the first fault of a front is that of the document.
     pub fn has_fault(&mut self, front: &Front<'_>) -> bool {
         let kept = self.document(front);
         let has_fault = self.is_fault_of(&kept);
@@ -87,7 +86,6 @@ impl<'a> Report<'a> {
         has_fault
     }
 
-    /// Whether the fault of the document is the first one of another.
     fn is_fault_of(&mut self, document: &Table) -> bool {
         match fault_of(self.refused.alloc, document, self.refused.format) {
             Ok(fault) => fault == Some(self.refused.fault),
@@ -98,18 +96,17 @@ impl<'a> Report<'a> {
         }
     }
 
-    /// Whether a front has the fault with these keys of its last table.
+    /// Returns true if a front has the fault with these keys of its last table.
     pub fn has_fault_with(&mut self, front: &Front<'_>, keys: &Kept<'_>) -> bool {
         self.has_fault(&front.with_keys(keys))
     }
 
-    /// Whether a front has the fault without some keys of its last table.
+    /// Returns true if a front has the fault without these keys of its last table.
     pub fn has_fault_without(&mut self, front: &Front<'_>, keys: &[&str]) -> bool {
         self.has_fault_with(front, &Kept::Without(keys))
     }
 
-    /// The shortest front of the document that has its first fault, found level by level from the root
-    /// down.
+    /// Returns the shortest front with the first fault, searched level by level.
     pub fn shortest(&mut self, root: &'static str, levels: &[Level]) -> Front<'static> {
         let mut front = Front::of_root(root);
         for level in levels {
@@ -122,8 +119,10 @@ impl<'a> Report<'a> {
         front
     }
 
-    /// How many elements of a level have to be there for the fault, of a front that is whole from this
-    /// level on: all, where it has not the fault, which then stands behind them.
+    /// Returns the number of elements of a level that the fault needs.
+    ///
+    /// If `whole`, with everything from this level down, lacks the fault, it comes later and needs
+    /// all elements.
     fn needed(&mut self, whole: &Front<'_>, level: Level) -> usize {
         if self.has_fault(whole) {
             self.least(whole, level)
@@ -132,8 +131,9 @@ impl<'a> Report<'a> {
         }
     }
 
-    /// The least count at a level with which a front has the first fault of the document, where it
-    /// has not with 0, and has with all elements.
+    /// Returns the least count at a level for which a front has the fault.
+    ///
+    /// The front must not have the fault with 0, and must have it with all elements.
     pub fn least(&mut self, front: &Front<'_>, level: Level) -> usize {
         let mut without = 0;
         let mut with = self.count(front, level);
@@ -151,8 +151,6 @@ impl<'a> Report<'a> {
         with
     }
 
-    /// How many elements the document has at a level, of the last element of a front in which that
-    /// array stands.
     fn count(&mut self, front: &Front<'_>, level: Level) -> usize {
         let mut kept = self.document(&front.with(level, usize::MAX));
         let count = front.count(&mut kept, level);

@@ -1,4 +1,4 @@
-//! What may be done with an attribute, and what it needs, in words.
+//! The permitted uses of an attribute and their needs, in words.
 
 ghost use Rattle.std.specs.Prelude.{◌≡◌, ◌++◌, codes, if◌then◌else◌, IfOk, OnOk};
 ghost use Rattle.att_policy.specs.Need.{needs_authentication_of};
@@ -10,7 +10,7 @@ use att_policy::{Guard, Need, Properties};
 use bitflags::Flags;
 use std::alloc::{AllocError, Global};
 
-/// Adds what may be done with a guarded attribute, and what it needs.
+/// Adds the permitted uses of a guarded attribute and their needs.
 #[tactic(auto, unfolding(crate::specs::Rights::rights_text))]
 pub fn add_rights(alloc: Global, text: &mut Vec<u8>, guard: &Guard) -> Result<(), AllocError>
     ensures ok { OnOk result (text.new.items ≡ text.old.items ++ rights_text guard.now) }
@@ -24,7 +24,6 @@ pub fn add_rights(alloc: Global, text: &mut Vec<u8>, guard: &Guard) -> Result<()
     }
 }
 
-/// Adds what may be done with a guarded attribute that nobody reads or hears of, and what it needs.
 fn add_unheard(text: &mut Vec<u8>, guard: &Guard) -> Result<(), AllocError>
     ensures ok { OnOk result (text.new.items ≡ text.old.items
         ++ (if is_written guard.now.properties then writing_text guard.now else codes " nothing")) }
@@ -36,7 +35,6 @@ fn add_unheard(text: &mut Vec<u8>, guard: &Guard) -> Result<(), AllocError>
     }
 }
 
-/// Adds what both ways of use need, once where it is the same.
 fn add_both(alloc: Global, text: &mut Vec<u8>, guard: &Guard) -> Result<(), AllocError>
     ensures ok { OnOk result (text.new.items ≡ text.old.items ++ both_texts guard.now) }
 {
@@ -49,7 +47,6 @@ fn add_both(alloc: Global, text: &mut Vec<u8>, guard: &Guard) -> Result<(), Allo
     add_written(text, guard)
 }
 
-/// Whether reading and writing need the same.
 fn have_same_need(alloc: Global, guard: &Guard) -> Result<bool, AllocError>
     ensures ok { IfOk result
         (λ is_same. is_same ≡ bytes_eq (need_words guard.now.read) (need_words guard.now.write)) }
@@ -59,7 +56,6 @@ fn have_same_need(alloc: Global, guard: &Guard) -> Result<bool, AllocError>
     Ok(read.as_slice() == write.as_slice())
 }
 
-/// Whether some properties need what reading needs.
 fn is_heard(properties: Properties) -> bool
     ensures { result ≡ needs_reading properties }
 {
@@ -68,7 +64,6 @@ fn is_heard(properties: Properties) -> bool
         || properties.contains(Properties::INDICATE)
 }
 
-/// Whether some properties need what writing needs.
 fn is_written(properties: Properties) -> bool
     ensures { result ≡ is_written properties }
 {
@@ -76,7 +71,6 @@ fn is_written(properties: Properties) -> bool
         || properties.contains(Properties::WRITE_WITHOUT_RESPONSE)
 }
 
-/// Adds the properties that need what reading needs, and what that is.
 fn add_heard(text: &mut Vec<u8>, guard: &Guard) -> Result<(), AllocError>
     ensures ok { OnOk result (text.new.items ≡ text.old.items ++ reading_text guard.now) }
 {
@@ -84,7 +78,6 @@ fn add_heard(text: &mut Vec<u8>, guard: &Guard) -> Result<(), AllocError>
     add_need(text, &guard.read)
 }
 
-/// Adds the properties that need what writing needs, and what that is.
 fn add_written(text: &mut Vec<u8>, guard: &Guard) -> Result<(), AllocError>
     ensures ok { OnOk result (text.new.items ≡ text.old.items ++ writing_text guard.now) }
 {
@@ -92,7 +85,6 @@ fn add_written(text: &mut Vec<u8>, guard: &Guard) -> Result<(), AllocError>
     add_need(text, &guard.write)
 }
 
-/// Adds the words of the properties that need what reading needs.
 #[tactic(auto, unfolding(crate::specs::Rights::heard_words))]
 fn add_heard_words(text: &mut Vec<u8>, properties: Properties) -> Result<(), AllocError>
     ensures ok { OnOk result (text.new.items ≡ text.old.items ++ heard_words properties) }
@@ -102,7 +94,6 @@ fn add_heard_words(text: &mut Vec<u8>, properties: Properties) -> Result<(), All
     add_word(text, properties, Properties::INDICATE, b" indicate")
 }
 
-/// Adds the words of the properties that need what writing needs.
 #[tactic(auto, unfolding(crate::specs::Rights::written_words))]
 fn add_written_words(text: &mut Vec<u8>, properties: Properties) -> Result<(), AllocError>
     ensures ok { OnOk result (text.new.items ≡ text.old.items ++ written_words properties) }
@@ -116,7 +107,6 @@ fn add_written_words(text: &mut Vec<u8>, properties: Properties) -> Result<(), A
     )
 }
 
-/// Adds the word of a property, if it is among some.
 fn add_word(
     text: &mut Vec<u8>,
     properties: Properties,
@@ -133,7 +123,6 @@ fn add_word(
     }
 }
 
-/// What a need asks for, in words.
 fn need_words(alloc: Global, need: &Need) -> Result<Vec<u8>, AllocError>
     ensures ok { IfOk result (λ words. words.items ≡ need_words need.now) }
 {
@@ -142,7 +131,6 @@ fn need_words(alloc: Global, need: &Need) -> Result<Vec<u8>, AllocError>
     Ok(words)
 }
 
-/// Adds what a need asks for.
 #[tactic(auto, unfolding(crate::specs::Rights::need_words))]
 fn add_need(text: &mut Vec<u8>, need: &Need) -> Result<(), AllocError>
     ensures ok { OnOk result (text.new.items ≡ text.old.items ++ need_words need.now) }
@@ -158,7 +146,6 @@ fn add_need(text: &mut Vec<u8>, need: &Need) -> Result<(), AllocError>
     Ok(())
 }
 
-/// Adds what a need asks of the link's key.
 fn add_key(text: &mut Vec<u8>, need: &Need) -> Result<(), AllocError>
     ensures ok { OnOk result (text.new.items ≡ text.old.items ++ key_words need.now) }
 {
@@ -169,7 +156,6 @@ fn add_key(text: &mut Vec<u8>, need: &Need) -> Result<(), AllocError>
     add_asked_size(text, need.key_size)
 }
 
-/// How the link's key has to protect the link.
 fn protection(need: &Need) -> &'static str
     ensures { result.now ≡ (if needs_authentication_of need.now
         then codes " if authenticated" else codes " if encrypted") }
@@ -181,7 +167,6 @@ fn protection(need: &Need) -> &'static str
     }
 }
 
-/// Adds how many octets a key needs, if it needs any.
 fn add_asked_size(text: &mut Vec<u8>, size: Option<u8>) -> Result<(), AllocError>
     ensures ok { OnOk result (text.new.items ≡ text.old.items ++ asked_size_words size) }
 {
@@ -191,7 +176,7 @@ fn add_asked_size(text: &mut Vec<u8>, size: Option<u8>) -> Result<(), AllocError
     }
 }
 
-/// Adds how many octets a key has, or needs.
+/// Adds the size of a key in octets.
 pub fn add_size(text: &mut Vec<u8>, size: u8) -> Result<(), AllocError>
     ensures ok { OnOk result (text.new.items ≡ text.old.items ++ size_words size) }
 {

@@ -1,4 +1,4 @@
-//! Where a rows file has its fault, and what it is, in words.
+//! The place and the fault of a bad subscriptions file, in words.
 
 use crate::cells::add_octets;
 use crate::position::add_no_text;
@@ -6,9 +6,9 @@ use gatt_subs::{Rows, RowsFault};
 use std::alloc::{AllocError, Global};
 use std::str;
 
-/// Adds where a rows file with these octets has its first fault, and what it is. Of a file without a
-/// fault nothing is added. Lines and columns count from 1. On `Err` memory was refused, and the text
-/// means nothing.
+/// Adds the place and the first fault of a subscriptions file, if it has one.
+///
+/// Lines and columns count from 1. On `Err` memory was refused and the text is invalid.
 pub fn add_rows_fault(alloc: Global, text: &mut Vec<u8>, octets: &[u8]) -> Result<(), AllocError> {
     let file = match str::from_utf8(octets) {
         Ok(file) => file,
@@ -20,12 +20,10 @@ pub fn add_rows_fault(alloc: Global, text: &mut Vec<u8>, octets: &[u8]) -> Resul
     }
 }
 
-/// Adds what the reader says of a fault.
 fn add_words(alloc: Global, text: &mut Vec<u8>, fault: RowsFault) -> Result<(), AllocError> {
     add_octets(text, format!(in alloc; "{fault}")?.as_bytes())
 }
 
-/// The first fault of a rows file.
 fn rows_fault(alloc: Global, file: &str) -> Result<Option<RowsFault>, AllocError> {
     match Rows::read(alloc, file) {
         Ok(_) => Ok(None),

@@ -1,4 +1,4 @@
-//! Where a table file has its fault, and what it is, in words.
+//! The place and the fault of a bad table file, in words.
 
 use crate::front::{Front, Kept, Level};
 use crate::quoted::add_quoted;
@@ -7,7 +7,6 @@ use crate::wrong_key::{Others, add_name, add_range, add_said, add_wrong_key};
 use att_table::{TableFault, TableKey};
 use toml::Table;
 
-/// The levels of a table file, from its root down.
 const LEVELS: [Level; 4] = [
     Level::Elements,
     Level::Includes,
@@ -15,7 +14,7 @@ const LEVELS: [Level; 4] = [
     Level::Descriptors,
 ];
 
-/// Words of properties, each as the only one of an array.
+/// Each property as an array of its own.
 const PROPERTIES: [(&str, &str); 5] = [
     ("read", "[\"read\"]"),
     ("command", "[\"command\"]"),
@@ -24,14 +23,13 @@ const PROPERTIES: [(&str, &str); 5] = [
     ("indicate", "[\"indicate\"]"),
 ];
 
-/// Adds where a document has its first fault, and what it is.
+/// Adds the place of a document's first fault, and the fault.
 pub fn add_table_place(report: &mut Report<'_>, fault: TableFault) {
     let front = report.shortest("service", &LEVELS);
     add_element(report, &front, fault);
     add_fault(report, &front, fault);
 }
 
-/// Adds which key of the last element of a front is at fault, and why.
 fn add_fault(report: &mut Report<'_>, front: &Front<'_>, fault: TableFault) {
     match fault {
         TableFault::Shape => add_wrong_key(report, front),
@@ -48,8 +46,9 @@ fn add_fault(report: &mut Report<'_>, front: &Front<'_>, fault: TableFault) {
     }
 }
 
-/// Adds which element is the last one of a front, if it is another than the root. Of an include it is
-/// told only where it is no key that is at fault.
+/// Adds the last element of a front, unless it is the root.
+///
+/// An include is named only if no key is at fault.
 fn add_element(report: &mut Report<'_>, front: &Front<'_>, fault: TableFault) {
     report.add_counted(b"service ", front.elements);
     report.add_counted(b", characteristic ", front.characteristics);
@@ -59,18 +58,15 @@ fn add_element(report: &mut Report<'_>, front: &Front<'_>, fault: TableFault) {
     }
 }
 
-/// Adds the key that is missing.
 fn add_missing(report: &mut Report<'_>, front: &Front<'_>, key: TableKey) {
     add_said(report, front, key_name(key), b": the key is missing");
 }
 
-/// Adds the key whose text is bad, and what the reader says of it.
 fn add_bad_text(report: &mut Report<'_>, front: &Front<'_>, key: &str) {
     add_name(report, front, key);
     report.add_words();
 }
 
-/// The name of a key that has to be there.
 fn key_name(key: TableKey) -> &'static str {
     match key {
         TableKey::Service => "service",
@@ -80,7 +76,6 @@ fn key_name(key: TableKey) -> &'static str {
     }
 }
 
-/// Adds whether a value is too long, or which numbers its largest length may be.
 fn add_too_long(report: &mut Report<'_>, front: &Front<'_>) {
     if report.has_fault_without(front, &["max"]) {
         add_said(report, front, "value", b": it has more than 512 octets");
@@ -89,7 +84,6 @@ fn add_too_long(report: &mut Report<'_>, front: &Front<'_>) {
     }
 }
 
-/// Adds which numbers the largest length of a value may be.
 fn add_bad_largest(report: &mut Report<'_>, front: &Front<'_>) {
     add_name(report, front, "max");
     if let Some(length) = value_length(report, front) {
@@ -97,18 +91,16 @@ fn add_bad_largest(report: &mut Report<'_>, front: &Front<'_>) {
     }
 }
 
-/// How many octets the value of the last element of a front has, if there is that element.
 fn value_length(report: &mut Report<'_>, front: &Front<'_>) -> Option<usize> {
     let mut kept = report.document(front);
     let length = match front.last_element(&mut kept) {
-        Some(element) => Some(toml_tables::text(element, "value").unwrap_or("").len() / 2),
+        Some(element) => Some(toml_schema::text(element, "value").unwrap_or("").len() / 2),
         None => None,
     };
     drop(kept);
     length
 }
 
-/// Adds which key of a bad need is at fault, and why.
 fn add_need(report: &mut Report<'_>, front: &Front<'_>) {
     if report.has_fault_without(front, &["config"]) {
         add_used_need(report, front);
@@ -117,7 +109,6 @@ fn add_need(report: &mut Report<'_>, front: &Front<'_>) {
     }
 }
 
-/// Adds which key of a bad need of a value is at fault, and why.
 fn add_used_need(report: &mut Report<'_>, front: &Front<'_>) {
     if report.has_fault_without(front, &["config", "write"]) {
         add_in_need(report, front, &["config", "write"], "read");
@@ -126,15 +117,13 @@ fn add_used_need(report: &mut Report<'_>, front: &Front<'_>) {
     }
 }
 
-/// Adds which key of a need is at fault, and why, where the others are left out.
 fn add_in_need(report: &mut Report<'_>, front: &Front<'_>, others: &[&str], need: &str) {
     let without = Kept::Without(others);
     let alone = front.with_keys(&without);
     add_wrong_key(report, &alone.with_inner(need));
 }
 
-/// Adds the property that is bad and those that it may be, or that there is a client configuration
-/// with nothing to configure.
+/// Adds the bad property and the permitted ones, or reports a useless `config`.
 fn add_property(report: &mut Report<'_>, front: &Front<'_>) {
     let without = front.with_keys(&Kept::Without(&["config"]));
     if report.has_fault(&without) {
@@ -144,7 +133,6 @@ fn add_property(report: &mut Report<'_>, front: &Front<'_>) {
     }
 }
 
-/// Adds the property that is bad, also without a client configuration, and those that it may be.
 fn add_bad_property(report: &mut Report<'_>, front: &Front<'_>, without: &Front<'_>) {
     let count = report.least(without, Level::Properties);
     add_name(report, front, "properties");
@@ -153,7 +141,6 @@ fn add_bad_property(report: &mut Report<'_>, front: &Front<'_>, without: &Front<
     add_allowed(report, front);
 }
 
-/// Adds the last property of an element, in quotes.
 fn add_last_property(report: &mut Report<'_>, front: &Front<'_>) {
     let mut kept = report.document(front);
     if let Some(element) = front.last_element(&mut kept) {
@@ -162,16 +149,15 @@ fn add_last_property(report: &mut Report<'_>, front: &Front<'_>) {
     drop(kept);
 }
 
-/// Adds the last property that an element has, in quotes, if there is one.
 fn add_last_word(report: &mut Report<'_>, element: &Table) {
-    if let Some(word) = toml_tables::items(element, "properties").last() {
+    if let Some(word) = toml_schema::items(element, "properties").last() {
         report.add(b" \"");
         add_quoted(report, word.as_str().unwrap_or(""));
         report.add(b"\"");
     }
 }
 
-/// Adds the properties that the last element of a front may have, without a client configuration.
+/// Adds the properties that are permitted without a client configuration.
 fn add_allowed(report: &mut Report<'_>, front: &Front<'_>) {
     let mut before: &[u8] = b"";
     for (word, alone) in &PROPERTIES {

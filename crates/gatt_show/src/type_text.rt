@@ -8,8 +8,9 @@ use crate::cells::add_octets;
 use crate::names::name_of;
 use std::alloc::AllocError;
 
-/// Adds a type, as its octets in a value: four hexadecimal digits and the name for one of 16 bits,
-/// else the text of a UUID of 128 bits.
+/// Adds a type, given as the octets of a value.
+///
+/// A 16-bit type is four hexadecimal digits and its name, another the text of a 128-bit UUID.
 #[tactic(auto, unfolding(crate::specs::TypeText::type_text))]
 pub fn add_type(text: &mut Vec<u8>, octets: &[u8]) -> Result<(), AllocError>
     ensures ok { OnOk result (text.new.items ≡ text.old.items ++ type_text octets.now) }
@@ -25,7 +26,6 @@ pub fn add_type(text: &mut Vec<u8>, octets: &[u8]) -> Result<(), AllocError>
     }
 }
 
-/// Adds a type of 128 bits.
 fn add_long(text: &mut Vec<u8>, octets: &[u8]) -> Result<(), AllocError>
     ensures ok { OnOk result (text.new.items ≡ text.old.items ++ long_text octets.now) }
 {
@@ -35,7 +35,6 @@ fn add_long(text: &mut Vec<u8>, octets: &[u8]) -> Result<(), AllocError>
     }
 }
 
-/// Adds a blank and a name, if there is one.
 fn add_name(text: &mut Vec<u8>, name: Option<&str>) -> Result<(), AllocError>
     ensures ok { OnOk result (text.new.items
         ≡ text.old.items ++ named (option_map (λ given. given.now) name.entry)) }
@@ -49,7 +48,6 @@ fn add_name(text: &mut Vec<u8>, name: Option<&str>) -> Result<(), AllocError>
     }
 }
 
-/// The text of a UUID of 128 bits, as its octets in a value.
 #[tactic(auto, unfolding(crate::specs::TypeText::uuid_text))]
 fn uuid_text(octets: [u8; 16]) -> [u8; 36]
     ensures { result ≡ uuid_text octets }

@@ -1,4 +1,4 @@
-//! Which key of an element is at fault, and what it has to be.
+//! The faulty key of an element, and its right type or range.
 
 use crate::front::{Front, Kept};
 use crate::quoted::add_quoted;
@@ -6,7 +6,7 @@ use crate::report::Report;
 use itoa::Buffer;
 use toml::Table;
 
-/// A value of each type that a key may have, and the type.
+/// A value of each type that a key may have, with the name of the type.
 const TYPES: [(&str, &[u8]); 7] = [
     ("\"\"", b"a string"),
     ("true", b"a boolean"),
@@ -17,23 +17,21 @@ const TYPES: [(&str, &[u8]); 7] = [
     ("[{}]", b"an array of tables"),
 ];
 
-/// The type of numbers among these.
 const INTEGER: &[u8] = b"an integer";
 
-/// A number above all that a key may have.
+/// A number above any that a key may have.
 const TOO_MUCH: usize = 0x10_0000;
 
-/// Whether a number is tried beside the other keys of its table, or alone.
+/// The treatment of a table's other keys while a number is tried.
 #[derive(Clone, Copy)]
 pub enum Others {
-    /// They are kept, since a number is judged by them, or behind them.
+    /// Keeps them, because the number is checked with or after them.
     Kept,
-    /// They are left out, since one of them may have the same fault.
+    /// Drops them, because one of them may have the same fault.
     Left,
 }
 
 impl Others {
-    /// The keys that are kept where a key has this value.
     fn with<'a>(self, key: &'a str, value: &'a str) -> Kept<'a> {
         match self {
             Others::Kept => Kept::With(key, value, &[]),
@@ -42,7 +40,7 @@ impl Others {
     }
 }
 
-/// Adds the name of a key, behind the element that has it.
+/// Adds the name of a key after that of its element.
 pub fn add_name(report: &mut Report<'_>, front: &Front<'_>, key: &str) {
     if front.elements > 0 {
         report.add(b", ");
@@ -54,14 +52,15 @@ pub fn add_name(report: &mut Report<'_>, front: &Front<'_>, key: &str) {
     add_quoted(report, key);
 }
 
-/// Adds the name of a key, behind the element that has it, and what is wrong with it.
+/// Adds the name of a key after that of its element, and what is wrong with it.
 pub fn add_said(report: &mut Report<'_>, front: &Front<'_>, key: &str, said: &[u8]) {
     add_name(report, front, key);
     report.add(said);
 }
 
-/// Adds the first key of the last table of a front that is refused where it stands alone, and why: it
-/// is unknown, or has another type than its own, or is a number out of its range.
+/// Adds the first key of the last table that is refused even alone, and why.
+///
+/// It is unknown, has the wrong type, or is a number out of range.
 pub fn add_wrong_key(report: &mut Report<'_>, front: &Front<'_>) {
     let mut kept = report.document(front);
     match front.last_table(&mut kept) {
@@ -71,8 +70,6 @@ pub fn add_wrong_key(report: &mut Report<'_>, front: &Front<'_>) {
     drop(kept);
 }
 
-/// Adds the first key of this table, the last one of a front, that is refused where it stands alone,
-/// and why.
 fn add_wrong_key_of(report: &mut Report<'_>, front: &Front<'_>, table: &Table) {
     for (name, value) in table.iter() {
         let key = name.as_str();
@@ -84,7 +81,6 @@ fn add_wrong_key_of(report: &mut Report<'_>, front: &Front<'_>, table: &Table) {
     report.add_words();
 }
 
-/// Adds why a key is refused where it stands alone.
 fn add_wrong(report: &mut Report<'_>, front: &Front<'_>, key: &str, is_integer: bool) {
     for (value, name) in &TYPES {
         if !report.has_fault_with(front, &Kept::AloneAs(key, value)) {
@@ -94,7 +90,7 @@ fn add_wrong(report: &mut Report<'_>, front: &Front<'_>, key: &str, is_integer: 
     report.add(b": there is no such key");
 }
 
-/// Adds which type a key has to have, or which numbers it may have where it is a number already.
+/// Adds the type that a key must have, or its range if it is a number already.
 fn add_right(report: &mut Report<'_>, front: &Front<'_>, key: &str, name: &[u8], is_integer: bool) {
     if is_integer && name == INTEGER {
         add_range(report, front, Others::Left, key, 16);
@@ -104,7 +100,7 @@ fn add_right(report: &mut Report<'_>, front: &Front<'_>, key: &str, name: &[u8],
     }
 }
 
-/// Adds from which number to which one a key may have, of which this one is accepted.
+/// Adds the range of a key, for which `good` is accepted.
 pub fn add_range(
     report: &mut Report<'_>,
     front: &Front<'_>,
@@ -121,7 +117,6 @@ pub fn add_range(
     add_numbers(report, least as u64, greatest as u64);
 }
 
-/// Adds from which number to which one a key may have.
 fn add_numbers(report: &mut Report<'_>, least: u64, greatest: u64) {
     report.add(b": it has to be ");
     if least != greatest {
@@ -132,7 +127,7 @@ fn add_numbers(report: &mut Report<'_>, least: u64, greatest: u64) {
     report.add_number(greatest);
 }
 
-/// The last number that a key may have, from one that it may have to one that it may not.
+/// Returns the last accepted number between an accepted and a rejected one.
 fn bound(
     report: &mut Report<'_>,
     front: &Front<'_>,
@@ -157,7 +152,6 @@ fn bound(
     good
 }
 
-/// Whether the fault is gone with a number at a key.
 fn is_accepted(
     report: &mut Report<'_>,
     front: &Front<'_>,

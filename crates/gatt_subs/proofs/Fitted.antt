@@ -17,6 +17,7 @@ use Rattle.gatt_subs.specs.RowEntry.{rank_of}
 use Rattle.gatt_subs.specs.Fit.{fitted_bond, fitted_rows, peers_of, peers_with, with_peer, HasFittedBonds}
 use Rattle.gatt_subs.specs.Rows.{Subscriptions, bond_of, peer_place}
 use Rattle.gatt_subs.specs.Unfitted.{WrittenRows, has_peer, nothing_written}
+use Rattle.octet_io.proofs.Choices.{or_with_false, or_with_true}
 
 -- a peer that is put in its place is there
 pub has_in_order : (peers : List Peer) (peer other : Peer) → has_peer (in_order rank_of peer peers) other ≡ (same_peer peer other || has_peer peers other)
@@ -59,11 +60,7 @@ has-peers_with peers (key ∷ keys) other =
     joined false false z = refl
 
 pub has_peers_of : (keys : List Entry) (other : Peer) → has_peer (peers_of keys) other ≡ is_known keys other
-has_peers_of keys other = has-peers_with [] keys other ∙ plain (is_known keys other)
-  where
-    plain : (x : Bool) → (x || false) ≡ x
-    plain true = refl
-    plain false = refl
+has_peers_of keys other = has-peers_with [] keys other ∙ or_with_false (is_known keys other)
 
 -- a peer that is among others has a place there
 place_missing : (peers : List Peer) (peer : Peer) → peer_place peers peer ≡ None → has_peer peers peer ≡ false
@@ -74,11 +71,7 @@ has_there : (peers : List Peer) (peer : Peer) (place : ℕ) → place < length p
 has_there [] peer place within same = absurd (omega arith)
 has_there (first ∷ peers) peer zero within same = ap (λ here. here || has_peer peers peer) same
 has_there (first ∷ peers) peer (suc place) within same =
-    ap (λ later. same_peer first peer || later) (has_there peers peer place (omega arith) same) ∙ anyway (same_peer first peer)
-  where
-    anyway : (x : Bool) → (x || true) ≡ true
-    anyway true = refl
-    anyway false = refl
+    ap (λ later. same_peer first peer || later) (has_there peers peer place (omega arith) same) ∙ or_with_true (same_peer first peer)
 
 mapped_there : (f : Peer → Bond) (peers : List Peer) (place : ℕ) (peer : Peer) → slice_get peers place ≡ Some peer → slice_get (map f peers) place ≡ Some (f peer)
 mapped_there f [] place peer there = cc there

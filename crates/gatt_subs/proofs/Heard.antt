@@ -2,6 +2,7 @@
 use Rattle.std.proofs.Common.{◌≡◌, Bool, true, false, ◌&&◌, if◌then◌else◌, List, [], ◌∷◌, Option, Some, None, refl, sym, ap, ◌∙◌}
 use Rattle.std.specs.Prelude.{not, nat_lt, is_some}
 use Rattle.std.specs.Option.{option_map}
+use Rattle.std.proofs.lemmas.Bool.{and_parts}
 use Rattle.att_numbers.specs.Types.{Handle, Row}
 use Rattle.att_policy.specs.declared.standing.Standing.{Standing}
 use Rattle.att_attributes.specs.declared.attr.Attr.{Attr}
@@ -9,14 +10,11 @@ use Rattle.gatt_subs.specs.Hearing.{is_indicated, may_hear_at, wants_indications
 use Rattle.gatt_subs.specs.HeardOnly.{NotifiesOnlyWhatIsHeard, IsHeard, IndicatesOnlyWhatIsHeard, IndicatesOnlyWhatWaits}
 use Rattle.gatt_subs.specs.Indications.{Indications, Milliseconds, first_handle, from_due, hears, may_indicate, rest_of, unconfirmed_since, with_handle}
 use Rattle.gatt_subs.specs.declared.pending.Unconfirmed.{Unconfirmed}
-
-and_false : (test : Bool) → test && false ≡ false
-and_false true = refl
-and_false false = refl
+use Rattle.octet_io.proofs.Choices.{and_with_false}
 
 not_heard : (pending : Indications) (attributes : List Attr) (row : Row) (standing : Standing) (handle : Handle) → may_hear_at attributes row standing handle ≡ false
     → hears pending attributes row standing handle ≡ false
-not_heard pending attributes row standing handle silent = ap (λ may. not pending.timed_out && may) silent ∙ and_false (not pending.timed_out)
+not_heard pending attributes row standing handle silent = ap (λ may. not pending.timed_out && may) silent ∙ and_with_false (not pending.timed_out)
 
 pub raises_only_what_is_heard : NotifiesOnlyWhatIsHeard
 raises_only_what_is_heard pending attributes row standing handle silent =
@@ -36,19 +34,13 @@ first_is_due : (is_due : Handle → Bool) (waiting : List Handle) (handle : Hand
 first_is_due is_due [] handle found = cc found
 first_is_due is_due (next ∷ rest) handle found = first_here is_due next handle rest (is_due next) (first_is_due is_due rest handle) refl found
 
--- two tests that both hold
-pub both : (one other : Bool) → one && other ≡ true → (one ≡ true) × (other ≡ true)
-both true true is = (refl, refl)
-both true false is = cc is
-both false other is = cc is
-
 pub releases_only_what_is_heard : IndicatesOnlyWhatIsHeard
 releases_only_what_is_heard pending attributes row standing backlog handle = released (may_indicate pending backlog)
   where
     released : (may : Bool) → (if may then first_handle (from_due (is_indicated attributes row standing) pending.waiting) else None) ≡ Some handle → IsHeard attributes row standing handle
     released true found =
         let due = first_is_due (is_indicated attributes row standing) pending.waiting handle found in
-        let facts = both (may_hear_at attributes row standing handle) (wants_indications row handle) due in
+        let facts = and_parts (may_hear_at attributes row standing handle) (wants_indications row handle) due in
         record { may = facts.0; wanted = facts.1 }
     released false found = cc found
 

@@ -15,13 +15,14 @@ use Rattle.std.proofs.lemmas.Str.Parse.{numerals_by_value, tells_all_ascii_digit
 use Rattle.hex.specs.Hex.{decode_sized, IsBytes}
 use Rattle.hex.specs.declared.error.FromHexError.{FromHexError}
 use Rattle.hex.proofs.HexLemmas.{decode_of-ok, decode_sized-ok, decode_sized-twice}
-use Rattle.octets.specs.Number.{Octets}
+use Rattle.octet_io.proofs.Choices.{and_true_left}
+use Rattle.octet_io.specs.Number.{Octets}
 use Rattle.le_hci.specs.declared.peer.Peer.{Peer}
 use Rattle.le_security.specs.Address.{address_of, address_type_of_digit, is_joined, address_octets, pair, peer_of}
 use Rattle.gatt_subs.specs.declared.rows_line.Line.{Line}
 use Rattle.gatt_subs.specs.declared.rows_line.Line.TheVariants.{Entry, Owed}
 use Rattle.gatt_subs.specs.ReadBack.{IsNamed, IsConfigured}
-use Rattle.octets.specs.Missing.{◌>>=◌}
+use Rattle.octet_io.specs.Missing.{◌>>=◌}
 use Rattle.gatt_subs.specs.RowsLine.{parts_of, is_from_one, handle_of_row, bits_of, line_behind, rows_line_of}
 
 some-is : {A : Type 0} {x y : A} → Some x ≡ Some y → x ≡ y
@@ -81,18 +82,13 @@ peer_read kind address peer is =
     let read = address_read address octets.x octets.is in
     subst IsNamed (some-is octets.then_y) (record { kind = kind_read kind type.x type.is; address = read.six; octets = read.small })
 
--- a handle
-front : (low high : Bool) → (low && high) ≡ true → low ≡ true
-front true high is = refl
-front false high is = is
-
 value_some : (word : Octets) → is_from_one (slice_index word 0) ≡ true → all_ascii_digits word ≡ true → digits_value 10 word < 65536 → 1 ≤ digits_value 10 word
 value_some [] first digits small = cc first
 value_some (digit ∷ word) first digits small = by (digits_value 10 (digit ∷ word)) refl
   where
     from_one : 49 ≤ digit
     from_one =
-        let least : nat_le 49 digit ≡ true = front (nat_le 49 digit) (nat_le digit 57) first in
+        let least : nat_le 49 digit ≡ true = and_true_left (nat_le 49 digit) (nat_le digit 57) first in
         grind (arith, nat_tests, least)
 
     by : (value : ℕ) → digits_value 10 (digit ∷ word) ≡ value → 1 ≤ digits_value 10 (digit ∷ word)

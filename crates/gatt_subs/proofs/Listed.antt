@@ -1,9 +1,9 @@
 -- Rows as a list, by the bond of each peer.
-use Rattle.std.proofs.Common.{◌≡◌, Bool, true, false, ◌||◌, if◌then◌else◌, List, [], ◌∷◌, length, map, slice_get, Option, Some, None, refl, sym, ap, subst, ◌∙◌, arith}
+use Rattle.std.proofs.Common.{◌≡◌, true, false, ◌||◌, if◌then◌else◌, List, [], ◌∷◌, length, map, slice_get, Option, Some, None, refl, sym, ap, subst, ◌∙◌, arith}
 use Rattle.std.specs.Prelude.{nat_lt}
 use Rattle.std.specs.Option.{option_and_then, unwrap_or}
 use Rattle.std.proofs.lemmas.Grind.{common_steps}
-use Rattle.std.proofs.lemmas.Bool.{false≢true}
+use Rattle.std.proofs.lemmas.Bool.{false≢true, or_parts}
 use Rattle.le_hci.specs.declared.peer.Peer.{Peer}
 use Rattle.le_security.specs.declared.entry.Entry.{Entry}
 use Rattle.le_security.specs.Entry.{same_peer}
@@ -22,10 +22,6 @@ abbrev IsEachOnce : List Peer → Type 0
 IsEachOnce [] = Unit
 IsEachOnce (peer ∷ peers) = (has_peer peers peer ≡ false) × IsEachOnce peers
 
-neither : (one other : Bool) → (one || other) ≡ false → (one ≡ false) × (other ≡ false)
-neither true other is = absurd (false≢true (sym is))
-neither false other is = (refl, is)
-
 swap-apart : (one other : Peer) → same_peer one other ≡ false → same_peer other one ≡ false
 swap-apart one other apart =
     elim (same_peer other one) as (λ same. same_peer other one ≡ same → same ≡ false) [
@@ -36,7 +32,7 @@ swap-apart one other apart =
 once-in-order : (peers : List Peer) (peer : Peer) → IsEachOnce peers → has_peer peers peer ≡ false → IsEachOnce (in_order rank_of peer peers)
 once-in-order [] peer once lacks = (refl, tt)
 once-in-order (first ∷ peers) peer once lacks =
-    let apart = neither (same_peer first peer) (has_peer peers peer) lacks in
+    let apart = or_parts (same_peer first peer) (has_peer peers peer) lacks in
     elim (nat_lt (rank_of peer) (rank_of first)) as (λ before. IsEachOnce (if before then peer ∷ first ∷ peers else first ∷ in_order rank_of peer peers)) [
       | true ↦ (lacks, once)
       | false ↦ (

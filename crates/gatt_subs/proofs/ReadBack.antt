@@ -7,8 +7,8 @@ use Rattle.std.proofs.lemmas.Bool.Decides.{nat_tests}
 use Rattle.std.proofs.lemmas.List.{append-nil, length-append}
 use Rattle.std.proofs.lemmas.List.Elements.{All-cons, All-head, All-nil, All-tail}
 use Rattle.std.proofs.lemmas.List.Splits.{slice_split_at}
-use Rattle.octets.specs.Number.{Octets}
-use Rattle.toml_tables.specs.Reading.{◌>>=◌}
+use Rattle.octet_io.specs.Number.{Octets}
+use Rattle.toml_schema.specs.Reading.{◌>>=◌}
 use Rattle.le_hci.specs.declared.peer.Peer.{Peer}
 use Rattle.le_security.specs.Entry.{same_peer}
 use Rattle.le_security.proofs.Peers.{equal_peers}

@@ -1,7 +1,7 @@
 -- What fitted rows say can be written as a rows file.
 use Rattle.std.proofs.Common.{◌≡◌, ◌≢◌, ℕ, suc, ◌+◌, ◌*◌, ◌<◌, ◌≤◌, ◌==◌, Bool, true, false, if◌then◌else◌, List, [], ◌∷◌, ◌++◌, length, refl, sym, ap, subst, ◌∙◌, arith}
 use Rattle.std.specs.List.{All}
-use Rattle.std.proofs.lemmas.Bool.{eq-eqb}
+use Rattle.std.proofs.lemmas.Bool.{eq-eqb, or_parts}
 use Rattle.std.proofs.lemmas.Bool.Decides.{nat_tests}
 use Rattle.std.proofs.lemmas.List.{append-nil, length-append}
 use Rattle.std.proofs.lemmas.List.Elements.{All-append, All-nil, All-cons, All-head, All-tail}
@@ -16,7 +16,7 @@ use Rattle.gatt_subs.specs.RowEntry.{order_of, rank_of}
 use Rattle.gatt_subs.specs.Rows.{Subscriptions}
 use Rattle.gatt_subs.specs.RowsText.{bond_entries, entries_of, entries_with, owed_peers}
 use Rattle.gatt_subs.specs.Unfitted.{WrittenRows}
-use Rattle.gatt_subs.proofs.RowsRead.{all_in_order, clash, climbs_in_order, length_in_order, neither, place_then}
+use Rattle.gatt_subs.proofs.RowsRead.{all_in_order, clash, climbs_in_order, length_in_order, place_then}
 
 -- entries of one peer, at other handles than those of a row that is to come
 record AreEntriesOf (peer : Peer) (row : Row) (entries : List RowEntry) : Type 0 where
@@ -30,7 +30,7 @@ later : (handle bits : ℕ) (row : Row) (entries : List RowEntry) → All (λ (e
 later handle bits row [] others = All-nil (λ (entry : RowEntry). has_entry row entry.handle ≡ false)
 later handle bits row (entry ∷ entries) others =
     All-cons (λ (entry : RowEntry). has_entry row entry.handle ≡ false) entry entries
-    (neither (handle == entry.handle) (has_entry row entry.handle) (All-head (λ (entry : RowEntry). has_entry ((handle, bits) ∷ row) entry.handle ≡ false) entry entries others)).1
+    (or_parts (handle == entry.handle) (has_entry row entry.handle) (All-head (λ (entry : RowEntry). has_entry ((handle, bits) ∷ row) entry.handle ≡ false) entry entries others)).1
     (later handle bits row entries (All-tail (λ (entry : RowEntry). has_entry ((handle, bits) ∷ row) entry.handle ≡ false) entry entries others))
 
 apart : (peer : Peer) (handle bits : ℕ) (row : Row) (entries : List RowEntry) → handle < 65536 → All IsConfigured entries
@@ -38,7 +38,7 @@ apart : (peer : Peer) (handle bits : ℕ) (row : Row) (entries : List RowEntry) 
     → All (λ (other : RowEntry). order_of other ≢ order_of (record { peer = peer; handle = handle; bits = bits })) entries
 apart peer handle bits row [] small good others = All-nil (λ (other : RowEntry). order_of other ≢ order_of (record { peer = peer; handle = handle; bits = bits }))
 apart peer handle bits row (entry ∷ entries) small good others =
-    let differs = neither (handle == entry.handle) (has_entry row entry.handle) (All-head (λ (entry : RowEntry). has_entry ((handle, bits) ∷ row) entry.handle ≡ false) entry entries others) in
+    let differs = or_parts (handle == entry.handle) (has_entry row entry.handle) (All-head (λ (entry : RowEntry). has_entry ((handle, bits) ∷ row) entry.handle ≡ false) entry entries others) in
     All-cons (λ (other : RowEntry). order_of other ≢ order_of (record { peer = peer; handle = handle; bits = bits })) entry entries
     (λ same.
     let parts = place_then (rank_of entry.peer) (rank_of peer) entry.handle handle (All-head IsConfigured entry entries good).handle small same in

@@ -1,12 +1,12 @@
 -- What a rows file says can be written as one.
-use Rattle.std.proofs.Common.{◌≡◌, ◌≢◌, ℕ, suc, ◌+◌, ◌*◌, ◌<◌, ◌≤◌, ◌==◌, Bool, true, false, ◌&&◌, ◌||◌, not, nat_lt, if◌then◌else◌, List, [], ◌∷◌, length, slice_index, Option, Some, None, refl, sym, ap, subst, ◌∙◌, arith}
+use Rattle.std.proofs.Common.{◌≡◌, ◌≢◌, ℕ, suc, ◌+◌, ◌*◌, ◌<◌, ◌≤◌, ◌==◌, Bool, true, false, ◌&&◌, not, nat_lt, if◌then◌else◌, List, [], ◌∷◌, length, slice_index, Option, Some, None, refl, sym, ap, subst, ◌∙◌, arith}
 use Rattle.std.specs.Prelude.{Result, Ok, Err, IfOk}
 use Rattle.std.specs.List.{All}
-use Rattle.std.proofs.lemmas.Bool.{eq-eqb}
+use Rattle.std.proofs.lemmas.Bool.{eq-eqb, or_parts}
 use Rattle.std.proofs.lemmas.Bool.Decides.{nat_tests}
 use Rattle.std.proofs.lemmas.List.Elements.{All-nil, All-cons, All-head, All-tail, All-get_or}
-use Rattle.octets.specs.Number.{Octets}
-use Rattle.toml_tables.specs.Reading.{◌>>=◌, unless, require}
+use Rattle.octet_io.specs.Number.{Octets}
+use Rattle.toml_schema.specs.Reading.{◌>>=◌, unless, require}
 use Rattle.le_hci.specs.declared.peer.Peer.{Peer}
 use Rattle.le_security.specs.Entry.{same_peer}
 use Rattle.le_security.proofs.Peers.{same_as_itself}
@@ -18,7 +18,7 @@ use Rattle.gatt_subs.specs.declared.rows_line.Line.TheVariants.{Entry, Owed}
 use Rattle.gatt_subs.specs.InOrder.{in_order}
 use Rattle.gatt_subs.specs.ReadBack.{Climbs, IsConfigured, IsNamed, IsOfAFile, written_by}
 use Rattle.gatt_subs.specs.Rows.{Subscriptions, subscriptions_read, unfitted_rows}
-use Rattle.octets.specs.Memory.{Gives}
+use Rattle.octet_io.specs.Memory.{Gives}
 use Rattle.gatt_subs.specs.RowEntry.{is_at, order_of, rank_of}
 use Rattle.gatt_subs.specs.RowsLine.{rows_line_of}
 use Rattle.gatt_subs.specs.Unfitted.{WrittenRows, has_row_entry, has_peer, lines_of_rows, nothing_written, rows_read, rows_with_line, rows_with_lines, rows_with_said}
@@ -123,16 +123,11 @@ is_there entry other good good' same =
 pub clash : true ≡ false → ⊥
 clash is = cc is
 
--- what is none of the elements of a list stands at none of their places
-pub neither : (x y : Bool) → (x || y) ≡ false → (x ≡ false) × (y ≡ false)
-neither false y is = (refl, is)
-neither true y is = cc is
-
 entries_apart : (entry : RowEntry) (entries : List RowEntry) → IsConfigured entry → All IsConfigured entries → has_row_entry entries entry.peer entry.handle ≡ false
     → All (λ other. order_of other ≢ order_of entry) entries
 entries_apart entry [] good all none = All-nil (λ other. order_of other ≢ order_of entry)
 entries_apart entry (other ∷ entries) good all none =
-    let apart = neither (is_at entry.peer entry.handle other) (has_row_entry entries entry.peer entry.handle) none in
+    let apart = or_parts (is_at entry.peer entry.handle other) (has_row_entry entries entry.peer entry.handle) none in
     All-cons (λ other. order_of other ≢ order_of entry) other entries
     (λ same. clash (sym (is_there entry other good (All-head IsConfigured other entries all) same) ∙ apart.0))
     (entries_apart entry entries good (All-tail IsConfigured other entries all) apart.1)
@@ -140,7 +135,7 @@ entries_apart entry (other ∷ entries) good all none =
 peers_apart : (peer : Peer) (peers : List Peer) → IsNamed peer → All IsNamed peers → has_peer peers peer ≡ false → All (λ other. rank_of other ≢ rank_of peer) peers
 peers_apart peer [] good all none = All-nil (λ other. rank_of other ≢ rank_of peer)
 peers_apart peer (other ∷ peers) good all none =
-    let apart = neither (same_peer other peer) (has_peer peers peer) none in
+    let apart = or_parts (same_peer other peer) (has_peer peers peer) none in
     All-cons (λ other. rank_of other ≢ rank_of peer) other peers
     (λ same. let one : other ≡ peer = one_peer other peer (All-head IsNamed other peers all) good same in
     clash (sym (subst (λ (peer : Peer). same_peer other peer ≡ true) one (same_as_itself other)) ∙ apart.0))

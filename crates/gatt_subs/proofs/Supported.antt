@@ -1,5 +1,5 @@
 -- What is fitted to a table.
-use Rattle.std.proofs.Common.{◌≡◌, ℕ, ◌+◌, ◌-◌, ◌<◌, ◌≤◌, Bool, true, false, ◌&&◌, if◌then◌else◌, List, [], ◌∷◌, ◌++◌, length, get_or, take, drop, map, filter, Option, Some, None, refl, ap, sym, ◌∙◌, arith}
+use Rattle.std.proofs.Common.{◌≡◌, ℕ, ◌+◌, ◌-◌, ◌<◌, ◌≤◌, true, false, if◌then◌else◌, List, [], ◌∷◌, ◌++◌, length, get_or, take, drop, map, filter, Option, Some, None, refl, ap, sym, ◌∙◌, arith}
 use Rattle.std.specs.Int.RustNames.{bit_and}
 use Rattle.std.proofs.lemmas.Nat.{and_le_r}
 use Rattle.std.proofs.lemmas.Bool.Decides.{nat_tests}
@@ -8,6 +8,7 @@ use Rattle.std.specs.Option.{option_map, option_map_or}
 use Rattle.std.proofs.lemmas.List.{at_drop_more, map_more}
 use Rattle.std.proofs.lemmas.Option.{slice_get-get_or, slice_get_within, get_or_from_slice_get}
 use Rattle.std.specs.Prelude.{slice_get}
+use Rattle.std.proofs.lemmas.Bool.{and_parts}
 use Rattle.att_numbers.specs.Types.{Handle, Row}
 use Rattle.att_policy.specs.declared.guard.Properties.{Properties}
 use Rattle.att_policy.specs.declared.guard.TheConstants.Properties.{NOTIFY, INDICATE}
@@ -24,13 +25,9 @@ use Rattle.gatt_subs.specs.declared.row_entry.RowEntry.{RowEntry}
 use Rattle.gatt_subs.specs.Fit.{peers_with, with_peer, with_entries}
 use Rattle.gatt_subs.specs.Rows.{row_in}
 
-both : (x y : Bool) → (x && y) ≡ true → (x ≡ true) × (y ≡ true)
-both true y e = (refl, e)
-both false y e = absurd (cc e)
-
 -- bits that are supported are bits of a configuration
 pub supported_configuration : (attributes : List Attr) (handle bits : ℕ) → is_supported attributes (handle, bits) ≡ true → is_configuration_at attributes handle ≡ true
-supported_configuration attributes handle bits is = (both (is_configuration_at attributes handle) _ is).0
+supported_configuration attributes handle bits is = (and_parts (is_configuration_at attributes handle) _ is).0
 
 configuration_handle : (attributes : List Attr) (handle : ℕ) → is_configuration_at attributes handle ≡ true → 0 < handle
 configuration_handle attributes handle is = grind (arith, common_steps, nat_tests)
@@ -54,7 +51,7 @@ few_bits attributes handle = few_of (attribute_at attributes (handle - 1))
 
 pub supported_bits : (attributes : List Attr) (handle bits : ℕ) → is_supported attributes (handle, bits) ≡ true → bits ≤ 3
 supported_bits attributes handle bits is =
-    let same : bit_and bits (configuration_bits_at attributes handle) ≡ bits = grind (arith, nat_tests, (both (is_configuration_at attributes handle) _ is).1) in
+    let same : bit_and bits (configuration_bits_at attributes handle) ≡ bits = grind (arith, nat_tests, (and_parts (is_configuration_at attributes handle) _ is).1) in
     omega (arith, and_le_r bits (configuration_bits_at attributes handle), few_bits attributes handle)
 
 pub ruleset supports = (supported_configuration, supported_handle, supported_bits)

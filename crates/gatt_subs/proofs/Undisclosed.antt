@@ -2,7 +2,8 @@
 use Rattle.std.proofs.Common.{◌≡◌, ◌-◌, Bool, true, false, ◌&&◌, if◌then◌else◌, List, take, Option, Some, None, refl, ap}
 use Rattle.std.specs.Prelude.{not, nat_lt}
 use Rattle.std.specs.Option.{option_map}
-use Rattle.octets.specs.Number.{Octets}
+use Rattle.std.proofs.lemmas.Bool.{and_parts}
+use Rattle.octet_io.specs.Number.{Octets}
 use Rattle.att_numbers.specs.Types.{Handle, Values}
 use Rattle.att_pdu.specs.Response.{Response}
 use Rattle.att_pdu.specs.Response.Response.{HandleValueNotification, HandleValueIndication}
@@ -11,7 +12,7 @@ use Rattle.gatt_subs.specs.declared.pending.TheConstants.{MAX_BACKLOG}
 use Rattle.gatt_subs.specs.Hearing.{may_hear_at, wants_indications}
 use Rattle.gatt_subs.specs.Indications.{hears, is_notified, indicated_handle}
 use Rattle.gatt_subs.specs.Told.{Hearer, notification_of, indication_of, AgreeWhereHeard, TellsOnlyWhatIsHeard}
-use Rattle.gatt_subs.proofs.Heard.{both, releases_only_what_is_heard}
+use Rattle.gatt_subs.proofs.Heard.{releases_only_what_is_heard}
 
 -- what is notified may be heard
 notified_is_heard : (attributes : List Attr) (hearer : Hearer) (handle : Handle)
@@ -20,9 +21,9 @@ notified_is_heard : (attributes : List Attr) (hearer : Hearer) (handle : Handle)
 notified_is_heard attributes hearer handle is =
     let heard = hears hearer.pending attributes hearer.row hearer.standing handle in
     let unwanted = not (wants_indications hearer.row handle) in
-    let notified = both hearer.live (is_notified hearer.pending attributes hearer.row hearer.standing handle hearer.backlog) is in
-    let asked = both (heard && unwanted) (nat_lt hearer.backlog MAX_BACKLOG) notified.1 in
-    (both (not hearer.pending.timed_out) (may_hear_at attributes hearer.row hearer.standing handle) (both heard unwanted asked.0).0).1
+    let notified = and_parts hearer.live (is_notified hearer.pending attributes hearer.row hearer.standing handle hearer.backlog) is in
+    let asked = and_parts (heard && unwanted) (nat_lt hearer.backlog MAX_BACKLOG) notified.1 in
+    (and_parts (not hearer.pending.timed_out) (may_hear_at attributes hearer.row hearer.standing handle) (and_parts heard unwanted asked.0).0).1
 
 raised_same : (attributes : List Attr) (hearer : Hearer) (one other : Values) (handle : Handle) (due : Bool) → AgreeWhereHeard attributes hearer one other
     → hearer.live && is_notified hearer.pending attributes hearer.row hearer.standing handle hearer.backlog ≡ due

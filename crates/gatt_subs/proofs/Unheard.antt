@@ -10,6 +10,7 @@ use Rattle.att_policy.specs.declared.policy.Rule.{Rule}
 use Rattle.att_policy.specs.declared.policy.Rule.TheVariants.{KeySize}
 use Rattle.att_policy.specs.declared.standing.Standing.{Standing}
 use Rattle.att_policy.specs.Policy.{configuration_bits_of, first_unmet_rule_of, may_hear_of, size_of_key}
+use Rattle.octet_io.proofs.Choices.{and_with_true}
 
 -- one whose properties allow no configuration
 pub unheard : (guard : Guard) (bits : ℕ) (standing : Standing) → configuration_bits_of guard.properties ≡ 0 → may_hear_of guard bits standing ≡ false
@@ -36,8 +37,4 @@ pub heard_by_all : (guard : Guard) (bits : ℕ) (standing : Standing) → first_
     → may_hear_of guard bits standing ≡ not (bit_and bits (configuration_bits_of guard.properties) == 0)
 heard_by_all guard bits standing met =
     ap (λ (unmet : Option Rule). not (bit_and bits (configuration_bits_of guard.properties) == 0) && is_none unmet) met
-    ∙ still (not (bit_and bits (configuration_bits_of guard.properties) == 0))
-  where
-    still : (test : Bool) → test && true ≡ test
-    still true = refl
-    still false = refl
+    ∙ and_with_true (not (bit_and bits (configuration_bits_of guard.properties) == 0))

@@ -5,9 +5,9 @@ use Rattle.std.specs.List.{flat_map}
 use Rattle.std.specs.Io.KnownBytes.{Appends}
 use Rattle.std.proofs.KnownBytes.{Appends-trans}
 use Rattle.std.proofs.lemmas.List.{append-nil, at_drop_more}
-use Rattle.octets.specs.Number.{Octets}
-use Rattle.octets.proofs.Writing.{HasWritten, breaks_off, written_more, written_none}
-use Rattle.octets.specs.Stream.{WritesFront}
+use Rattle.octet_io.specs.Number.{Octets}
+use Rattle.octet_io.proofs.Writing.{HasWritten, breaks_off, written_more, written_none}
+use Rattle.octet_io.specs.Stream.{WritesFront}
 use Rattle.std.proofs.lemmas.List.Concat.{flat_map-append}
 use Rattle.le_hci.specs.declared.peer.Peer.{Peer}
 use Rattle.gatt_subs.specs.declared.bond.Bond.{Bond}

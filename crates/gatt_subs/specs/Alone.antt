@@ -1,4 +1,4 @@
--- The only value that an event wrote: it is told at once, and need not wait for the end of the event, where nothing waits before it.
+-- The only value of an event, which is sent at once if nothing waits before it.
 use Rattle.std.specs.Prelude.{Bool, true, false, ◌&&◌, if◌then◌else◌, List, [], ◌∷◌, Option, Some, None}
 use Rattle.att_numbers.specs.Types.{Handle, Mtu, Row, Values}
 use Rattle.att_pdu.specs.Response.{Response}
@@ -14,23 +14,28 @@ abbrev pub none_waits : List Handle → Bool
 none_waits [] = true
 none_waits (handle ∷ handles) = false
 
--- whether it is indicated: the client has asked for indications, nothing waits before it, and an indication may be sent
+-- The client requested indications, nothing waits, and an indication may be sent.
 abbrev pub is_indicated_alone : Indications → List Attr → Row → Standing → Handle → Backlog → Bool
 is_indicated_alone pending attributes row standing handle backlog =
-    hears pending attributes row standing handle && wants_indications row handle && none_waits pending.waiting && may_indicate pending backlog
+    hears pending attributes row standing handle && wants_indications row handle
+    && none_waits pending.waiting && may_indicate pending backlog
 
--- how it is told, and what that leaves: else it waits
-abbrev pub telling_alone : Indications → List Attr → Row → Standing → Handle → Backlog → Option Telling
+-- How the value is sent at once, and the resulting state; otherwise it waits.
+abbrev pub telling_alone : Indications → List Attr → Row → Standing → Handle → Backlog
+    → Option Telling
 telling_alone pending attributes row standing handle backlog =
     if is_notified pending attributes row standing handle backlog then Some Notification else
-    (if is_indicated_alone pending attributes row standing handle backlog then Some Indication else None)
+    (if is_indicated_alone pending attributes row standing handle backlog then Some Indication
+    else None)
 
-abbrev pub after_notify_alone : Indications → List Attr → Row → Standing → Handle → Backlog → Milliseconds → Indications
+abbrev pub after_notify_alone : Indications → List Attr → Row → Standing → Handle → Backlog
+    → Milliseconds → Indications
 after_notify_alone pending attributes row standing handle backlog now =
     if is_indicated_alone pending attributes row standing handle backlog
-    then record pending { unconfirmed = Some (unconfirmed_since now handle) } else after_notify pending attributes row standing handle
+    then record pending { unconfirmed = Some (unconfirmed_since now handle) }
+    else after_notify pending attributes row standing handle
 
--- what a client is sent of a value, by how it is told
+-- The PDU of a notification or indication.
 abbrev pub telling_of : Values → Handle → Mtu → Telling → Response
 telling_of values handle mtu Notification = notification_of values handle mtu
 telling_of values handle mtu Indication = indication_of values handle mtu

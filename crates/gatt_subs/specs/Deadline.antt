@@ -1,4 +1,4 @@
--- When an indication is late that is not confirmed: this profile's own.
+-- The time of the confirmation timeout (this profile's own).
 use Rattle.std.specs.Prelude.{◌+◌, ◌^◌, nat_lt, if◌then◌else◌, Option, Some, None}
 use Rattle.std.specs.Option.{option_and_then}
 use Rattle.gatt_subs.specs.declared.pending.TheConstants.{CONFIRMATION_TIMEOUT}
@@ -8,9 +8,10 @@ use Rattle.gatt_subs.specs.Indications.{Indications, Milliseconds}
 abbrev pub late_at : Unconfirmed → Milliseconds
 late_at unconfirmed = unconfirmed.since + CONFIRMATION_TIMEOUT
 
--- a time is a number of 64 bits: what would be late after the last one never is
+-- A time has 64 bits; a later timeout never happens.
 abbrev pub late_from : Unconfirmed → Option Milliseconds
-late_from unconfirmed = if nat_lt (late_at unconfirmed) (2 ^ 64) then Some (late_at unconfirmed) else None
+late_from unconfirmed = if nat_lt (late_at unconfirmed) (2 ^ 64) then Some (late_at unconfirmed)
+    else None
 
 abbrev pub deadline_of : Indications → Option Milliseconds
 deadline_of pending = option_and_then late_from pending.unconfirmed

@@ -1,4 +1,4 @@
--- Rows that a rows file can have: this profile's own.
+-- Subscriptions that a file can contain (this profile's own).
 use Rattle.std.specs.Prelude.{◌≡◌, ℕ, ◌<◌, ◌≤◌, List, [], ◌∷◌, length, Ok}
 use Rattle.std.specs.List.{All}
 use Rattle.att_numbers.specs.Types.{Handle}
@@ -13,13 +13,13 @@ use Rattle.gatt_subs.specs.RowsText.{configured, owed_in, rows_text}
 use Rattle.gatt_subs.specs.Unfitted.{WrittenRows, nothing_written, rows_read}
 use Rattle.att_numbers.specs.declared.limit.TheConstants.{MAX_CONFIGURATIONS}
 
--- a peer that a line can name
+-- A peer that a line can contain.
 pub record IsNamed (peer : Peer) : Type 0 where
   pub kind : peer.kind ≤ 1
   pub address : length peer.address ≡ 6
   pub octets : All (λ octet. octet < 256) peer.address
 
--- what a line can have of it: at a handle some of the two bits
+-- An entry that a line can contain.
 pub record IsConfigured (entry : RowEntry) : Type 0 where
   pub peer : IsNamed entry.peer
   pub from_one : 1 ≤ entry.handle
@@ -27,12 +27,12 @@ pub record IsConfigured (entry : RowEntry) : Type 0 where
   pub some : 1 ≤ entry.bits
   pub bits : entry.bits ≤ 3
 
--- each element comes before all later ones
+-- Each element is less than all later ones.
 abbrev pub Climbs : {X : Type 0} → (X → ℕ) → List X → Type 0
 Climbs order [] = Unit
 Climbs order (x ∷ xs) = All (λ y. order x < order y) xs × Climbs order xs
 
--- what a rows file can say: each once, in its order, and no more than there may be
+-- A file's contents: each once, in file order, within the limits.
 pub record IsOfAFile (written : WrittenRows) : Type 0 where
   pub entries : All IsConfigured written.entries
   pub owed : All IsNamed written.owed
@@ -41,14 +41,14 @@ pub record IsOfAFile (written : WrittenRows) : Type 0 where
   pub few : length written.entries ≤ MAX_ENTRIES
   pub owed_few : length written.owed ≤ MAX_OWED
 
--- a bond whose row a rows file can have
+-- A bond whose row a file can contain.
 pub record IsBondOfAFile (bond : Bond) : Type 0 where
   pub entries : All IsEntry bond.row
   pub handles : All (λ (entry : Handle × ℕ). entry.0 < 65536) bond.row
   pub once : HasOneEntryEach bond.row
   pub few : length bond.row ≤ MAX_CONFIGURATIONS
 
--- fitted rows of peers that lines can name, each once and in order
+-- Fitted bonds of peers that lines can contain, each once and in order.
 pub record IsFitted (rows : Subscriptions) : Type 0 where
   pub peers : All IsNamed rows.peers
   pub climbs : Climbs rank_of rows.peers
@@ -56,14 +56,13 @@ pub record IsFitted (rows : Subscriptions) : Type 0 where
   pub bonds : All IsBondOfAFile rows.bonds
   pub unfitted : rows.unfitted ≡ nothing_written
 
--- all that rows say, whether they are fitted or not
 abbrev pub written_by : Subscriptions → WrittenRows
 written_by rows = record { entries = configured rows; owed = owed_in rows }
 
--- the text of rows is read as what they say
+-- The text reads back as the same subscriptions.
 abbrev pub ReadsBack : Subscriptions → Type 0
 ReadsBack rows = IsOfAFile (written_by rows) → rows_read (rows_text rows) ≡ Ok (written_by rows)
 
--- what fitted rows say can be written
+-- Fitted subscriptions can be written.
 abbrev pub FittedCanBeWritten : Subscriptions → Type 0
 FittedCanBeWritten rows = IsFitted rows → IsOfAFile (written_by rows)

@@ -1,4 +1,4 @@
--- The numbers of the faults of a rows file: this profile's own.
+-- The numbers of the faults of a subscriptions file (this profile's own).
 use Rattle.std.specs.Prelude.{ℕ}
 use Rattle.gatt_subs.specs.declared.rows_fault.RowsFault.{RowsFault}
 use Rattle.gatt_subs.specs.declared.rows_fault.RowsFault.TheVariants.{BadLine, Twice, TooMany, OutOfMemory}

@@ -1,8 +1,8 @@
--- What a rows file says: this profile's own.
+-- The contents of a subscriptions file (this profile's own).
 use Rattle.std.specs.Prelude.{ℕ, ◌+◌, ◌==◌, Bool, not, nat_lt, List, [], ◌∷◌, length, Result, Ok}
 use Rattle.std.specs.List.{list_any, slice_split}
-use Rattle.octets.specs.Number.{Octets}
-use Rattle.toml_tables.specs.Reading.{◌>>=◌, unless, require}
+use Rattle.octet_io.specs.Number.{Octets}
+use Rattle.toml_schema.specs.Reading.{◌>>=◌, unless, require}
 use Rattle.att_numbers.specs.Types.{Handle}
 use Rattle.le_hci.specs.declared.peer.Peer.{Peer}
 use Rattle.le_security.specs.Entry.{same_peer}
@@ -16,7 +16,7 @@ use Rattle.gatt_subs.specs.InOrder.{in_order}
 use Rattle.gatt_subs.specs.RowEntry.{is_at, order_of, rank_of}
 use Rattle.gatt_subs.specs.RowsLine.{rows_line_of}
 
--- what peers have configured, and which peers are owed an indication of a changed table, both in the order of a rows file
+-- The entries, and the peers with a pending Service Changed indication, both in file order.
 pub record WrittenRows : Type 0 where
   pub entries : List RowEntry
   pub owed : List Peer
@@ -30,7 +30,6 @@ has_row_entry entries peer handle = list_any (is_at peer handle) entries
 abbrev pub has_peer : List Peer → Peer → Bool
 has_peer peers peer = list_any (λ other. same_peer other peer) peers
 
--- what one line adds to the lines before it
 abbrev pub rows_with_said : ℕ → WrittenRows → Line → Result WrittenRows RowsFault
 rows_with_said number written (Entry entry) = do
   _ ← unless (not (has_row_entry written.entries entry.peer entry.handle)) (Twice number)
@@ -41,19 +40,19 @@ rows_with_said number written (Owed peer) = do
   _ ← unless (nat_lt (length written.owed) MAX_OWED) TooMany
   Ok (record written { owed = in_order rank_of peer written.owed })
 
--- a blank line adds nothing
+-- A blank line adds nothing.
 abbrev pub rows_with_line : ℕ → WrittenRows → Octets → Result WrittenRows RowsFault
 rows_with_line number written [] = Ok written
 rows_with_line number written (octet ∷ octets) = do
   said ← require (rows_line_of (octet ∷ octets)) (BadLine number)
   rows_with_said number written said
 
--- lines that are counted from a number, behind others
 abbrev pub rows_with_lines : ℕ → WrittenRows → List Octets → Result WrittenRows RowsFault
 rows_with_lines number written [] = Ok written
-rows_with_lines number written (line ∷ lines) = rows_with_line number written line >>= (λ next. rows_with_lines (number + 1) next lines)
+rows_with_lines number written (line ∷ lines) =
+    rows_with_line number written line >>= (λ next. rows_with_lines (number + 1) next lines)
 
--- a text, whose lines end with line feeds: what stands behind the last one is a line too, which may be blank
+-- Lines end with line feeds; the text after the last is also a line, possibly blank.
 abbrev pub lines_of_rows : Octets → List Octets
 lines_of_rows text = slice_split (λ octet. octet == 10) text
 

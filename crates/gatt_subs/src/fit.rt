@@ -1,4 +1,4 @@
-//! Rows fitted to keys and a table.
+//! Fits subscriptions to keys and a table.
 
 ghost use Rattle.std.specs.Prelude.{◌≡◌, ◌≤◌, if◌then◌else◌, OnOk, IfOk, IfSome};
 ghost use Rattle.att_table.specs.ConfigRow.{with_bits, is_supported, IsRowOf};
@@ -14,7 +14,7 @@ use le_hci::Peer;
 use le_security::Keys;
 use std::alloc::{AllocError, Global};
 
-/// The peers of keys, each once, in the order of a rows file.
+/// Returns the peers of the keys, each once, in file order.
 pub fn peers_of(alloc: Global, keys: &Keys) -> Result<Vec<Peer>, AllocError>
     ensures { IfOk result (λ peers. peers.items ≡ peers_of keys.now) }
 {
@@ -27,7 +27,6 @@ pub fn peers_of(alloc: Global, keys: &Keys) -> Result<Vec<Peer>, AllocError>
     Ok(peers)
 }
 
-/// Adds a peer in its place, unless it is there.
 fn add_peer(peers: &mut Vec<Peer>, peer: Peer) -> Result<(), AllocError>
     ensures { OnOk result (peers.new.items ≡ with_peer peers.old.items peer) }
 {
@@ -37,7 +36,7 @@ fn add_peer(peers: &mut Vec<Peer>, peer: Peer) -> Result<(), AllocError>
     Ok(())
 }
 
-/// A row of those entries of another that a table supports.
+/// Returns the entries that the table supports.
 pub fn fit_row(other: &ConfigRow, table: &Table) -> ConfigRow
     ensures { result ≡ row_fitted table.now.attributes other.now }
 {
@@ -49,7 +48,7 @@ pub fn fit_row(other: &ConfigRow, table: &Table) -> ConfigRow
     row
 }
 
-/// A row of what was read of a peer and a table supports.
+/// Returns a peer's entries that the table supports.
 pub fn fit_entries(entries: &[RowEntry], peer: &Peer, table: &Table) -> ConfigRow
     ensures { result ≡ row_fitted table.now.attributes (row_in entries.now peer.now) }
 {
@@ -62,7 +61,7 @@ pub fn fit_entries(entries: &[RowEntry], peer: &Peer, table: &Table) -> ConfigRo
     row
 }
 
-/// Sets bits in a row of a table, if the table supports them.
+/// Sets the bits if the table supports them.
 #[tactic(auto, using(crate::proofs::Supported::supports))]
 fn set_supported(row: &mut ConfigRow, table: &Table, handle: u16, bits: u8)
     requires { IsRowOf table.now.attributes row.old }
@@ -75,7 +74,7 @@ fn set_supported(row: &mut ConfigRow, table: &Table, handle: u16, bits: u8)
     }
 }
 
-/// Whether a row asks for indications of the changer of a table, if that has one.
+/// Returns true if the row requests Service Changed indications.
 pub fn wants_changes(changer: Option<u16>, row: &ConfigRow) -> bool
     requires { IfSome changer (λ handle. handle ≤ MAX_ATTRIBUTES) }
     ensures { result ≡ wants_changes changer row.now }

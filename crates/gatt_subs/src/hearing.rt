@@ -1,4 +1,4 @@
-//! Of which values a connection hears unasked.
+//! Decides which values a connection is notified of.
 
 ghost use Rattle.std.specs.Prelude.{◌≡◌, ◌<◌, ◌≤◌, true, false, is_some, None, IfSome, IsNone};
 ghost use Rattle.std.specs.Bool.{OnTrue};
@@ -14,22 +14,22 @@ use att_policy::{Guard, INDICATION, Need, Standing, may_hear};
 use att_table::{ConfigRow, Role, Table};
 use std::marker::Model;
 
-/// How a connection is told of a value: by an indication where the client has asked for both.
+/// Notification or indication; a client that requested both gets indications.
 #[derive(Clone, Copy)]
 pub enum Telling {
     Notification,
     Indication,
 }
 
-/// A value that was written and that some may hear of, looked up once for all connections.
+/// A written value, looked up once for all connections.
 #[derive(Drop)]
 pub struct Raised<'a> {
     table: &'a Table,
     handle: u16,
     guard: &'a Guard,
-    /// Reading it needs nothing, so that each connection may hear of it.
+    /// Reading requires nothing, so every connection may be notified.
     unguarded: bool,
-    /// The bits that its properties allow in a configuration.
+    /// The configuration bits that its properties allow.
     allowed: u8,
     octets: &'a [u8],
 }
@@ -46,8 +46,9 @@ impl<'a> Model for Raised<'a> {
 }
 
 impl<'a> Raised<'a> {
-    /// The value at a handle. There is none where nobody may hear of it: it is not that of a
-    /// characteristic, or of one that is neither notified nor indicated.
+    /// Looks up the value at a handle.
+    ///
+    /// `None`: not a characteristic value, or one that neither notifies nor indicates.
     #[inline(always)]
     #[tactic(auto, using(crate::proofs::Unheard::unheard))]
     pub fn of(table: &'a Table, handle: u16) -> Option<Raised<'a>>
@@ -78,7 +79,7 @@ impl<'a> Raised<'a> {
         })
     }
 
-    /// Its handle: 1 to 1,024.
+    /// Returns the handle, 1 to 1,024.
     #[inline(always)]
     pub fn handle(&self) -> u16
         ensures handle { result ≡ self.now.handle }
@@ -88,7 +89,7 @@ impl<'a> Raised<'a> {
         self.handle
     }
 
-    /// The octets of the value.
+    /// Returns the value.
     #[inline(always)]
     pub fn octets(&self) -> &'a [u8]
         ensures { result.now ≡ value_at self.now.table.values self.now.handle }
@@ -96,7 +97,7 @@ impl<'a> Raised<'a> {
         self.octets
     }
 
-    /// How a connection is told of it, if it may hear of it.
+    /// Returns how the connection is notified, if it may be.
     #[inline(always)]
     pub(crate) fn telling(&self, row: &ConfigRow, standing: &Standing) -> Option<Telling>
         ensures may { is_some result
@@ -116,7 +117,7 @@ impl<'a> Raised<'a> {
     }
 }
 
-/// Whether each connection meets what is needed.
+/// Returns true if every connection meets the requirements.
 #[tactic(auto, using(crate::proofs::Unheard::met_by_all))]
 fn needs_nothing(need: &Need) -> bool
     ensures { OnTrue result
@@ -125,8 +126,7 @@ fn needs_nothing(need: &Need) -> bool
     *need == Need::NONE
 }
 
-/// Whether a client that has configured these bits may hear of a value: what reading it needs is not
-/// judged where that is nothing.
+/// Returns true if a client with these bits may be notified.
 #[inline(always)]
 #[tactic(auto, using(crate::proofs::Unheard::heard_by_all))]
 fn is_heard(guard: &Guard, unguarded: bool, allowed: u8, bits: u8, standing: &Standing) -> bool
@@ -142,7 +142,7 @@ fn is_heard(guard: &Guard, unguarded: bool, allowed: u8, bits: u8, standing: &St
     }
 }
 
-/// What a client has configured for the value at a handle: its configuration stands behind it.
+/// Returns the bits of the value's CCCD, which is the next handle.
 #[inline(always)]
 fn bits_for(row: &ConfigRow, handle: u16) -> u8
     requires { handle ≤ MAX_ATTRIBUTES }
@@ -151,7 +151,7 @@ fn bits_for(row: &ConfigRow, handle: u16) -> u8
     row.get(handle + 1)
 }
 
-/// Whether a client has asked for indications of the value at a handle.
+/// Returns true if the client requested indications of the value.
 pub fn wants_indications(row: &ConfigRow, handle: u16) -> bool
     requires { handle ≤ MAX_ATTRIBUTES }
     ensures { result ≡ wants_indications row.now handle }
@@ -159,8 +159,9 @@ pub fn wants_indications(row: &ConfigRow, handle: u16) -> bool
     bits_for(row, handle) & INDICATION != 0
 }
 
-/// Whether an indication of the value at a handle is due: the connection may hear of it, and has
-/// asked for indications.
+/// Returns true if the value must be indicated.
+///
+/// The connection may be notified of it and requested indications.
 #[inline(always)]
 pub fn is_indicated(table: &Table, row: &ConfigRow, standing: &Standing, handle: u16) -> bool
     ensures due { result ≡ is_indicated table.now.attributes row.now standing.entry.now handle }

@@ -1,5 +1,4 @@
-//! Subscriptions: what peers have configured, what a connection is told unasked, and what of it
-//! waits.
+//! Subscriptions, notifications and indications, and the queues of pending ones.
 #![tactic(auto)]
 
 mod bond;

@@ -17,25 +17,24 @@ use att_policy::Standing;
 use att_table::{ConfigRow, Table};
 use std::marker::Model;
 
-/// Notifications and indications are queued only while fewer PDUs than this are: this profile's own.
+/// The backlog limit: below it, notifications and indications are queued (this profile's own).
 pub const MAX_BACKLOG: usize = 8;
 
-/// How long an indication may be unconfirmed, in milliseconds: Core 5.0, Vol 3 Part F, 3.3.3.
+/// The confirmation timeout in milliseconds (Core 5.0, Vol 3 Part F, 3.3.3).
 const CONFIRMATION_TIMEOUT: u64 = 30_000;
 
-/// An indication that was sent and is not confirmed.
+/// An unconfirmed indication.
 #[derive(Clone, Copy)]
 struct Unconfirmed {
     handle: u16,
-    /// When it was queued, in milliseconds.
+    /// The time of queueing in milliseconds.
     since: u64,
-    /// The table was replaced since then.
+    /// The table was replaced since.
     outdated: bool,
 }
 
-/// What one connection is still to be told by indications: the handles of values that wait, each
-/// once, and the indication that is not confirmed. At most `ROOM` values wait. (Core 5.0, Vol 3 Part
-/// F, 3.4.7.2)
+/// The indications of one connection: handles of up to `ROOM` waiting values, each once, and the
+/// unconfirmed indication (Core 5.0, Vol 3 Part F, 3.4.7.2).
 #[derive(Drop)]
 pub struct PendingOf<const ROOM: usize> {
     waiting: ArrayVec<u16, ROOM>,
@@ -43,11 +42,10 @@ pub struct PendingOf<const ROOM: usize> {
     timed_out: bool,
 }
 
-/// What one connection is still to be told of any values: there are no more handles than attributes.
+/// The indications of any values: no more handles than attributes.
 pub type Pending = PendingOf<MAX_ATTRIBUTES>;
 
-/// What one connection is still to be told of values that have a configuration in one table: there are
-/// no more than configurations.
+/// The indications of values with a CCCD in one table: no more handles than CCCDs.
 pub type PendingOfTable = PendingOf<MAX_CONFIGURATIONS>;
 
 impl<const ROOM: usize> Model for PendingOf<ROOM> {
@@ -66,11 +64,11 @@ impl<const ROOM: usize> Model for PendingOf<ROOM> {
 }
 
 impl<const ROOM: usize> PendingOf<ROOM> {
-    /// Nothing waits, and nothing is unconfirmed.
+    /// Creates a state in which nothing waits and nothing is unconfirmed.
     #[tactic(auto, using(crate::proofs::Heard::only_what_is_heard))]
     pub fn new() -> Self
         ensures pending { result ≡ no_indications }
-        // Whatever the table and its values are by then, nothing is told that may not be heard.
+        // For every table and its values, a client learns only what it may be notified of.
         ensures raised { NotifiesOnlyWhatIsHeard }
         ensures released { IndicatesOnlyWhatIsHeard }
         ensures idle { IndicatesOnlyWhatWaits }
@@ -83,8 +81,9 @@ impl<const ROOM: usize> PendingOf<ROOM> {
         }
     }
 
-    /// Takes in that a value, which was looked up, was written: `true` where a notification of it is
-    /// due. With the indication bit it waits instead, once and at the end; there is room for it.
+    /// Processes a written value; returns true if it must be notified.
+    ///
+    /// A value to indicate waits instead, once and last; there must be space.
     #[inline(always)]
     pub fn raise_value(
         &mut self,
@@ -117,8 +116,9 @@ impl<const ROOM: usize> PendingOf<ROOM> {
         }
     }
 
-    /// Returns whether a notification of a value, which was looked up, is to be sent to the connection:
-    /// it is sent if fewer than `MAX_BACKLOG` PDUs are queued, and is skipped otherwise.
+    /// Returns true if the value must be notified.
+    ///
+    /// Send the notification only below `MAX_BACKLOG` queued PDUs; otherwise skip it.
     #[inline(always)]
     pub fn wants_notification(
         &self,
@@ -133,10 +133,10 @@ impl<const ROOM: usize> PendingOf<ROOM> {
         !self.timed_out && matches!(raised.telling(row, standing), Some(Telling::Notification))
     }
 
-    /// Takes in that a value, which was looked up and is the only one of an event, was written, and says
-    /// how it is told at once, if it is. One that is to be indicated waits, once and at the end, where
-    /// something waits before it or is unconfirmed, or `MAX_BACKLOG` PDUs or more are queued; else it is
-    /// unconfirmed from then on. There is room for it, if it is to wait.
+    /// Processes the only value of an event; returns how to send it now, if at all.
+    ///
+    /// A value to indicate becomes unconfirmed if nothing waits, nothing is unconfirmed and fewer
+    /// than `MAX_BACKLOG` PDUs are queued. Otherwise it waits, once and last; there must be space.
     #[inline(always)]
     pub fn raise_alone(
         &mut self,
@@ -179,8 +179,10 @@ impl<const ROOM: usize> PendingOf<ROOM> {
         }
     }
 
-    /// The handle of the value of which an indication is due now, if one is: the first that waits
-    /// and that the connection may still hear. It is unconfirmed from then on.
+    /// Removes and returns the first waiting value that must be indicated now, if any.
+    ///
+    /// The value becomes unconfirmed. Waiting values before it, of which the connection may no
+    /// longer be notified, are dropped.
     #[inline(always)]
     pub fn release(
         &mut self,
@@ -211,7 +213,7 @@ impl<const ROOM: usize> PendingOf<ROOM> {
         Some(handle)
     }
 
-    /// Whether a value waits to be indicated.
+    /// Returns true if a value waits.
     #[inline(always)]
     pub fn waits(&self) -> bool
         ensures some { OnTrue result (self.now.waiting ≢ []) }
@@ -220,9 +222,9 @@ impl<const ROOM: usize> PendingOf<ROOM> {
         !self.waiting.is_empty()
     }
 
-    /// Takes in a confirmation, and gives the handle of the value that it confirms. One with nothing
-    /// unconfirmed confirms none and changes nothing; one of an indication from before a replacement
-    /// confirms none.
+    /// Processes a confirmation and returns the confirmed handle.
+    ///
+    /// `None`: nothing was unconfirmed, or the indication was from before a replacement.
     pub fn confirm(&mut self) -> Option<u16>
         ensures pending { self.new ≡ after_confirmation self.old }
         ensures confirmed { result ≡ confirmed_handle self.old }
@@ -233,8 +235,9 @@ impl<const ROOM: usize> PendingOf<ROOM> {
         }
     }
 
-    /// Takes in the time, in milliseconds. A connection that did not confirm an indication within
-    /// 30,000 is told nothing more unasked: `true` where that begins now.
+    /// Checks the confirmation timeout at `now`, in milliseconds.
+    ///
+    /// Returns true when it expires; from then on nothing is notified or indicated.
     pub fn tick(&mut self, now: u64) -> bool
         ensures pending { self.new ≡ after_tick self.old now }
         ensures late { result ≡ times_out self.old now }
@@ -248,16 +251,16 @@ impl<const ROOM: usize> PendingOf<ROOM> {
         is_late
     }
 
-    /// When the indication that is not confirmed is late, in milliseconds; none where nothing is
-    /// unconfirmed, and where no time of 64 bits is so late.
+    /// Returns the time of the confirmation timeout in milliseconds.
+    ///
+    /// `None`: nothing is unconfirmed, or the time exceeds 64 bits.
     pub fn deadline(&self) -> Option<u64>
         ensures deadline { result ≡ deadline_of self.now }
     {
         self.unconfirmed?.since.checked_add(CONFIRMATION_TIMEOUT)
     }
 
-    /// Takes in that the table was replaced: nothing waits any more, and an indication that is not
-    /// confirmed is one from before.
+    /// Adapts to a replaced table: nothing waits, and the unconfirmed indication is outdated.
     pub fn replaced(&mut self)
         ensures { self.new ≡ after_replacement self.old }
     {
@@ -267,9 +270,10 @@ impl<const ROOM: usize> PendingOf<ROOM> {
         }
     }
 
-    /// Whether a confirmation, if it came now, would tell that the client knows the value at a
-    /// handle: the indication that it confirms is of that value and not from before a replacement,
-    /// and no later one waits.
+    /// Returns true if a confirmation now would show that the client knows the value.
+    ///
+    /// The unconfirmed indication must be of that value and current, and the value must not wait
+    /// again.
     #[cold]
     #[inline(never)]
     pub fn told(&self, handle: u16) -> bool
@@ -280,7 +284,7 @@ impl<const ROOM: usize> PendingOf<ROOM> {
             && !is_waiting(self.waiting.as_slice(), handle)
     }
 
-    /// Takes in that the connection is ended: nothing waits, and nothing is unconfirmed.
+    /// Clears waiting and unconfirmed indications when the connection ends.
     pub fn end(&mut self)
         ensures { self.new ≡ after_end self.old }
     {
@@ -290,9 +294,10 @@ impl<const ROOM: usize> PendingOf<ROOM> {
 }
 
 impl PendingOf<MAX_ATTRIBUTES> {
-    /// Tells the connection that a value was written: `true` where a notification of it is due. With the
-    /// indication bit the value waits instead, once and at the end. `row` is what the client has
-    /// configured, and `backlog` how many PDUs are queued for the connection.
+    /// Processes a written value; returns true if it must be notified.
+    ///
+    /// A value to indicate waits instead, once and last. `backlog` counts the queued PDUs of the
+    /// connection.
     #[tactic(auto, using(crate::proofs::Places::room_for_any))]
     pub fn raise(
         &mut self,
@@ -317,7 +322,6 @@ impl PendingOf<MAX_ATTRIBUTES> {
     }
 }
 
-/// Puts a handle at the end, if it does not wait yet.
 #[inline(always)]
 #[tactic(auto, using(crate::proofs::Places::places))]
 fn wait_once<const ROOM: usize>(waiting: &mut ArrayVec<u16, ROOM>, handle: u16)
@@ -333,14 +337,13 @@ fn wait_once<const ROOM: usize>(waiting: &mut ArrayVec<u16, ROOM>, handle: u16)
     }
 }
 
-/// Whether a handle is among those that wait.
 fn is_waiting(waiting: &[u16], handle: u16) -> bool
     ensures { result ≡ is_waiting waiting.now handle }
 {
     waiting.iter().any(|other| *other == handle)
 }
 
-/// Takes out the handles up to the first of which an indication is due, and gives that one.
+/// Removes handles up to the first that must be indicated, and returns that one.
 #[inline(always)]
 fn take_due<const ROOM: usize>(
     waiting: &mut ArrayVec<u16, ROOM>,

@@ -3,13 +3,13 @@ ghost use Rattle.gatt_subs.specs.RowEntry.{rank_of, order_of, is_at};
 
 use le_hci::Peer;
 
-/// What a peer has configured at a handle.
+/// A peer's configuration at a handle.
 #[derive(Clone, Copy)]
 pub struct RowEntry {
     pub peer: Peer,
-    /// The handle of a client characteristic configuration.
+    /// The CCCD's handle.
     pub handle: u16,
-    /// The bits: 1 for notifications, 2 for indications.
+    /// 1 for notifications, 2 for indications.
     pub bits: u8,
 }
 
@@ -27,14 +27,14 @@ impl Default for RowEntry {
 }
 
 impl RowEntry {
-    /// Whether this is what a peer has configured at a handle.
+    /// Returns true if the entry is the peer's at this handle.
     pub fn is_at(&self, peer: &Peer, handle: u16) -> bool
         ensures { result ≡ is_at peer.now handle self.now }
     {
         self.peer == *peer && self.handle == handle
     }
 
-    /// The place of the entry in the order of a rows file: peers by `rank`, and then handles.
+    /// Returns the sort key in the file: `rank`, then handle.
     pub fn order(&self) -> u128
         ensures { result ≡ order_of self.now }
     {
@@ -43,8 +43,7 @@ impl RowEntry {
     }
 }
 
-/// The place of a peer in the order of a rows file: the number whose octets are its address, and
-/// above them the type of it.
+/// Returns the sort key of a peer: the address as a number, with its type above.
 #[tactic(auto, unfolding(crate::specs::RowEntry::rank_of))]
 pub fn rank(peer: &Peer) -> u64
     ensures { result ≡ rank_of peer.now }

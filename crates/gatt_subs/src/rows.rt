@@ -1,4 +1,4 @@
-//! What the peers that have keys have configured.
+//! The subscriptions of bonded peers.
 
 ghost use Rattle.std.specs.Prelude.{◌≡◌, ◌<◌, ◌≤◌, length, slice_get, Some, IsTrue, IsNone, IfSome, IfOk, IfErr, OnOk, OnErr, map};
 ghost use Rattle.std.specs.Borrow.{sem};
@@ -6,8 +6,8 @@ ghost use Rattle.std.specs.Io.KnownBytes.{Appends};
 ghost use Rattle.std.specs.List.{find};
 ghost use Rattle.std.specs.Option.{option_copied, option_map};
 ghost use Rattle.le_hci.specs.declared.peer.Peer.{Peer};
-ghost use Rattle.octets.specs.Memory.{Gives};
-ghost use Rattle.octets.specs.Stream.{CountsFailure, WritesFront};
+ghost use Rattle.octet_io.specs.Memory.{Gives};
+ghost use Rattle.octet_io.specs.Stream.{CountsFailure, WritesFront};
 ghost use Rattle.att_numbers.specs.Types.{Row};
 ghost use Rattle.att_table.specs.Changer.{changer_of};
 ghost use Rattle.att_table.specs.ConfigRow.{bits_at, has_room, HasOneEntryEach};
@@ -16,7 +16,7 @@ ghost use Rattle.gatt_subs.specs.Fit.{fitted_bond, fitted_rows, row_fitted, HasF
 ghost use Rattle.gatt_subs.specs.InOrder.{Ascends};
 ghost use Rattle.gatt_subs.specs.ReadBack.{written_by, FittedCanBeWritten, IsOfAFile, ReadsBack};
 ghost use Rattle.gatt_subs.specs.RowEntry.{is_at, rank_of};
-ghost use Rattle.gatt_subs.specs.Rows.{peer_place, bond_of, row_of, row_in, row_read, owes, bonds_with, with_bond, with_row, with_set, with_owed, kept_bond, subscriptions_read, ChangesBond};
+ghost use Rattle.gatt_subs.specs.Rows.{peer_place, bond_of, row_of, row_in, rows_in, row_read, owes, bonds_with, with_bond, with_row, with_set, with_owed, kept_bond, subscriptions_read, ChangesBond};
 ghost use Rattle.gatt_subs.specs.Changes.{with_changes_owed};
 ghost use Rattle.gatt_subs.specs.RowsText.{rows_text};
 ghost use Rattle.att_numbers.specs.declared.limit.TheConstants.{MAX_ATTRIBUTES};
@@ -29,18 +29,18 @@ use crate::{fit, rows_text};
 use att_table::{ConfigRow, Table};
 use le_hci::Peer;
 use le_security::Keys;
-use octets::{Failed, Sink};
+use octet_io::{Failed, Sink};
 use std::alloc::{AllocError, Global};
 use std::marker::Model;
+use std::str;
 
-/// What each peer that has a key has configured, and whether it is owed an indication of a changed
-/// table: at most 64 peers. What was read of a rows file is shown until it is fitted, and no peer
-/// has a row before that.
+/// The subscriptions of at most 64 peers with keys.
+///
+/// A file that was read is visible, but no peer has a row until `fit`.
 #[derive(Drop)]
 pub struct Rows {
-    /// In the order of a rows file.
+    /// In file order.
     peers: Vec<Peer>,
-    /// The bond of each of the peers.
     bonds: Vec<Bond>,
     unfitted: Unfitted,
 }
@@ -60,18 +60,31 @@ impl Model for Rows {
 impl Rows {
     ghost use Rattle.gatt_subs.specs.RowsLends.{LendsRow};
 
-    /// Reads a rows file, and gives what it says or its first fault. Memory may be refused at any
-    /// point.
+    /// Reads a subscriptions file, or returns its first fault.
+    ///
+    /// `OutOfMemory` may occur at any point.
     #[tactic(auto, using(crate::proofs::RowsRead::read_can_be_written))]
     pub fn read(alloc: Global, text: &str) -> Result<Rows, RowsFault>
         ensures rows { Gives OutOfMemory (subscriptions_read text.now) result }
-        // So their text can be read again.
+        // The text can be read again.
         ensures of_a_file { IfOk result (λ rows. IsOfAFile (written_by rows)) }
     {
         Rows::read_unfitted(alloc, text)
     }
 
-    /// Reads a rows file. No peer has a bond yet. It stands apart for its proof.
+    /// Reads the bytes of a subscriptions file; its first fault is `BadLine(1)` if not UTF-8.
+    ///
+    /// `OutOfMemory` may occur at any point.
+    #[tactic(auto, using(octet_io::proofs::Texts::of_text, octet_io::proofs::Texts::of_no_text), unfolding(crate::specs::Rows::rows_in))]
+    pub fn from_bytes(alloc: Global, bytes: &[u8]) -> Result<Rows, RowsFault>
+        ensures rows { Gives OutOfMemory (rows_in bytes.now) result }
+    {
+        match str::from_utf8(bytes) {
+            Ok(text) => Rows::read(alloc, text),
+            Err(_) => Err(RowsFault::BadLine(1)),
+        }
+    }
+
     fn read_unfitted(alloc: Global, text: &str) -> Result<Rows, RowsFault>
         ensures { Gives OutOfMemory (subscriptions_read text.now) result }
     {
@@ -82,9 +95,9 @@ impl Rows {
         })
     }
 
-    /// Gives each peer of the keys a row, with what the table supports of what it has configured, and
-    /// drops all else. A peer stays owed if its row asks for indications of the table's changer. Where
-    /// memory is refused nothing changes.
+    /// Gives each peer of the keys a row with its supported entries, and drops all others.
+    ///
+    /// A Service Changed indication stays pending if the row requests it. On error nothing changes.
     pub fn fit(&mut self, alloc: Global, keys: &Keys, table: &Table) -> Result<(), RowsFault>
         ensures fitted { OnOk result (self.new ≡ fitted_rows keys.now table.now self.old) }
         ensures each { OnOk result (HasFittedBonds keys.now table.now self.old self.new) }
@@ -95,8 +108,6 @@ impl Rows {
         self.replace_bonds(alloc, keys, table)
     }
 
-    /// Makes the bonds of the peers of the keys, in place of all that is kept. It stands apart for its
-    /// proof.
     fn replace_bonds(&mut self, alloc: Global, keys: &Keys, table: &Table) -> Result<(), RowsFault>
         ensures fitted { OnOk result (self.new ≡ fitted_rows keys.now table.now self.old) }
         ensures unchanged { OnErr result (self.new ≡ self.old) }
@@ -110,7 +121,6 @@ impl Rows {
         Ok(())
     }
 
-    /// The bond of each of these peers, fitted to a table.
     fn fitted_bonds(
         &self,
         alloc: Global,
@@ -128,7 +138,6 @@ impl Rows {
         Ok(bonds)
     }
 
-    /// The bond of a peer, fitted to a table that has this changer.
     fn fitted_bond(&self, peer: &Peer, table: &Table, changer: Option<u16>) -> Bond
         requires changer { changer ≡ changer_of table.now }
         requires most { IfSome changer (λ handle. handle ≤ MAX_ATTRIBUTES) }
@@ -139,7 +148,6 @@ impl Rows {
         Bond { row, owed }
     }
 
-    /// The row of a peer, fitted to a table.
     fn fitted_row(&self, peer: &Peer, table: &Table) -> ConfigRow
         ensures { result ≡ row_fitted table.now.attributes (row_read self.now peer.now) }
     {
@@ -149,8 +157,10 @@ impl Rows {
         }
     }
 
-    /// Writes the rows as a rows file: what is configured, in ascending order of peers and handles, and
-    /// then the peers that are owed. Where the sink fails, the front of that is written.
+    /// Writes the subscriptions file.
+    ///
+    /// Entries come first, in ascending order of peers and handles, then peers with a pending
+    /// Service Changed indication. If the sink fails, a prefix is written.
     #[tactic(auto, using(crate::proofs::ReadBack::reads_back, crate::proofs::RowsFitted::fitted_can_be_written))]
     pub fn text<W: Sink>(&self, sink: &mut W) -> Result<(), Failed>
         ensures ok { OnOk result
@@ -158,14 +168,14 @@ impl Rows {
         ensures front { OnErr result
             (WritesFront (rows_text self.now) (W.contents sink.old) (W.contents sink.new)) }
         ensures failures { CountsFailure (W.failures sink.old) (W.failures sink.new) result }
-        // And it is read as what the rows say, as fitted rows can be written.
+        // The text reads back as the same subscriptions.
         ensures read_back { ReadsBack self.now }
         ensures fitted { FittedCanBeWritten self.now }
     {
         rows_text::write_rows(&self.peers, &self.bonds, &self.unfitted, sink)
     }
 
-    /// What a peer has configured at a handle: 0 where it has configured nothing.
+    /// Returns a peer's bits at a handle, 0 without an entry.
     pub fn get(&self, peer: &Peer, handle: u16) -> u8
         ensures { result ≡ bits_at (row_read self.now peer.now) handle }
     {
@@ -175,7 +185,7 @@ impl Rows {
         }
     }
 
-    /// Whether a peer is owed an indication of a changed table.
+    /// Returns true if a Service Changed indication is pending for the peer.
     pub fn owed(&self, peer: &Peer) -> bool
         ensures { result ≡ owes self.now peer.now }
     {
@@ -185,7 +195,7 @@ impl Rows {
         }
     }
 
-    /// The row of a peer, if it has one.
+    /// Returns the peer's row, if it has one.
     pub fn row(&self, peer: &Peer) -> Option<&ConfigRow>
         ensures { option_copied result ≡ row_of self.now peer.now }
     {
@@ -193,7 +203,7 @@ impl Rows {
         Some(&self.bonds[place].row)
     }
 
-    /// Lends the row of a peer, if it has one.
+    /// Lends the peer's row, if it has one.
     pub fn of(&mut self, peer: &Peer) -> Option<&mut ConfigRow>
         ensures* writes_back { sem 𝓛 (LendsRow self.entry peer.now result) }
         ensures row { IfSome result (λ row. row_of self.old peer.now ≡ Some row.now) }
@@ -206,8 +216,7 @@ impl Rows {
         Some(&mut self.bonds[place].row)
     }
 
-    /// Sets what a peer has configured at a handle, if the peer has a row: then there is an entry of
-    /// the handle in it, or room for one.
+    /// Sets a peer's bits at a handle if it has a row, which must have space.
     pub fn set(&mut self, peer: &Peer, handle: u16, bits: u8)
         requires handle { 0 < handle }
         requires bits { bits ≤ 3 }
@@ -220,7 +229,7 @@ impl Rows {
         }
     }
 
-    /// Sets whether a peer is owed an indication of a changed table, if it has a row.
+    /// Sets whether a Service Changed indication is pending, if the peer has a row.
     pub fn owe(&mut self, peer: &Peer, owed: bool)
         ensures { ChangesBond (with_owed owed) peer.now self.old self.new }
     {
@@ -229,7 +238,7 @@ impl Rows {
         }
     }
 
-    /// Keeps of each row what has its meaning in the table that replaces another.
+    /// Adapts each row to a replaced table.
     pub fn keep(&mut self, old: &Table, new: &Table)
         ensures kept { self.new ≡ record self.old {
           bonds = map
@@ -243,7 +252,7 @@ impl Rows {
         keep_rows(&mut self.bonds, old, new);
     }
 
-    /// Sets that each peer whose row asks for indications of this changer is owed one, and no other.
+    /// Makes a Service Changed indication pending for just the peers whose row requests it.
     pub fn owe_changes(&mut self, changer: Option<u16>)
         requires most { IfSome changer (λ handle. handle ≤ MAX_ATTRIBUTES) }
         ensures owed { self.new
@@ -256,7 +265,6 @@ impl Rows {
     }
 }
 
-/// Sets of each bond that it is owed where its row asks for indications of this changer.
 fn owe_where_wanted(bonds: &mut Vec<Bond>, changer: Option<u16>)
     requires { IfSome changer (λ handle. handle ≤ MAX_ATTRIBUTES) }
     ensures { bonds.new.items ≡ map (with_changes_owed changer) bonds.old.items }
@@ -266,7 +274,6 @@ fn owe_where_wanted(bonds: &mut Vec<Bond>, changer: Option<u16>)
     }
 }
 
-/// Keeps of the row of each bond what has its meaning in the table that replaces another.
 fn keep_rows(bonds: &mut Vec<Bond>, old: &Table, new: &Table)
     ensures { bonds.new.items
         ≡ map (kept_bond old.now.attributes new.now.attributes) bonds.old.items }
@@ -276,14 +283,12 @@ fn keep_rows(bonds: &mut Vec<Bond>, old: &Table, new: &Table)
     }
 }
 
-/// Where a peer is among others.
 fn place_of(peers: &[Peer], peer: &Peer) -> Option<usize>
     ensures { result ≡ peer_place peers.now peer.now }
 {
     peers.iter().position(|other| *other == *peer)
 }
 
-/// What was read of a peer at a handle: 0 where nothing was.
 fn bits_in(entries: &[RowEntry], peer: &Peer, handle: u16) -> u8
     ensures { result ≡ bits_at (row_in entries.now peer.now) handle }
 {
@@ -293,14 +298,12 @@ fn bits_in(entries: &[RowEntry], peer: &Peer, handle: u16) -> u8
     }
 }
 
-/// What was read of a peer at a handle, if anything was.
 fn find_entry<'a>(entries: &'a [RowEntry], peer: &Peer, handle: u16) -> Option<&'a RowEntry>
     ensures { option_copied result ≡ find (is_at peer.now handle) entries.now }
 {
     entries.iter().find(|entry| entry.is_at(peer, handle))
 }
 
-/// Sets bits in the row of the bond at a place. It stands apart for its proof.
 fn set_bits(bonds: &mut Vec<Bond>, place: usize, handle: u16, bits: u8)
     requires place { place < length bonds.old.items }
     requires handle { 0 < handle }
@@ -312,7 +315,6 @@ fn set_bits(bonds: &mut Vec<Bond>, place: usize, handle: u16, bits: u8)
     bonds[place].row.set(handle, bits);
 }
 
-/// Sets whether the peer of the bond at a place is owed. It stands apart for its proof.
 fn set_owed(bonds: &mut Vec<Bond>, place: usize, owed: bool)
     requires { place < length bonds.old.items }
     ensures { bonds.new.items ≡ bonds_with bonds.old.items place (with_owed owed) }

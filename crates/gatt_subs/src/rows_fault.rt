@@ -6,21 +6,20 @@ use std::alloc::AllocError;
 use std::error::Error;
 use std::fmt;
 
-/// Why a rows file is refused: its first line with a fault. Lines count from 1, blank ones too.
+/// The first fault in a subscriptions file. Lines count from 1, blank ones too.
 #[derive(Clone, Copy, Debug, PartialEq, Eq)]
 pub enum RowsFault {
-    /// The line of this number says nothing that a rows file may say.
+    /// The line is malformed.
     BadLine(u64),
-    /// The line of this number repeats what an earlier one is of.
+    /// The line repeats the peer and handle, or the pending peer, of an earlier one.
     Twice(u64),
-    /// There are more than 4,096 configurations, or more than 64 peers that are owed.
+    /// More than 4,096 entries, or 64 peers with a pending indication.
     TooMany,
-    /// Memory was refused.
     OutOfMemory,
 }
 
 impl RowsFault {
-    /// The number by which the fault is told, from 1.
+    /// Returns the fault's number, from 1.
     pub fn number(self) -> u8
         ensures { result ≡ rows_fault_number self }
     {

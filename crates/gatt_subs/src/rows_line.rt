@@ -1,4 +1,4 @@
-//! The lines of a rows file.
+//! The lines of a subscriptions file.
 
 ghost use Rattle.std.specs.Prelude.{◌≡◌, None};
 ghost use Rattle.std.specs.Option.{option_map};
@@ -8,16 +8,16 @@ use crate::row_entry::RowEntry;
 use le_hci::Peer;
 use le_security::read_peer;
 
-/// What a line says.
+/// The content of a line.
 #[derive(Clone, Copy)]
 pub enum Line {
-    /// What a peer has configured.
+    /// A peer's configuration.
     Entry(RowEntry),
-    /// A peer is owed an indication of a changed table.
+    /// A Service Changed indication is pending for a peer.
     Owed(Peer),
 }
 
-/// What a line says, if it is `kind address handle value` or `! kind address`.
+/// Reads a line `kind address handle value` or `! kind address`.
 #[tactic(auto, unfolding(crate::specs::RowsLine::rows_line_of))]
 pub fn read_line(line: &str) -> Option<Line>
     ensures { result ≡ rows_line_of line.now }
@@ -30,7 +30,6 @@ pub fn read_line(line: &str) -> Option<Line>
     }
 }
 
-/// What a peer has configured at a handle.
 fn read_entry(kind: &str, address: &str, handle: &str, bits: &str) -> Option<Line>
     ensures { result ≡ entry_of kind.now address.now handle.now bits.now }
 {
@@ -41,7 +40,7 @@ fn read_entry(kind: &str, address: &str, handle: &str, bits: &str) -> Option<Lin
     }))
 }
 
-/// What stands before the first space of a text, and behind it.
+/// Splits a text at its first space.
 #[tactic(auto, unfolding(crate::specs::RowsLine::parts_of))]
 fn parts(text: &str) -> Option<(&str, &str)>
     ensures { option_map parts_view result ≡ parts_of text.now }
@@ -49,7 +48,6 @@ fn parts(text: &str) -> Option<(&str, &str)>
     text.split_once(' ')
 }
 
-/// The peer that is owed, behind the mark.
 fn read_owed(mark: &str, kind: &str, address: &str) -> Option<Line>
     ensures { result ≡ line_behind mark.now kind.now address.now None }
 {
@@ -59,7 +57,7 @@ fn read_owed(mark: &str, kind: &str, address: &str) -> Option<Line>
     Some(Line::Owed(read_peer(kind, address)?))
 }
 
-/// The handle that decimal digits write, without leading zeros.
+/// Reads a decimal handle without leading zeros.
 #[tactic(auto, unfolding(crate::specs::RowsLine::handle_of_row))]
 fn read_handle(word: &str) -> Option<u16>
     ensures { result ≡ handle_of_row word.now }
@@ -70,7 +68,7 @@ fn read_handle(word: &str) -> Option<u16>
     }
 }
 
-/// The bits that a digit writes: some are set.
+/// Reads nonzero bits.
 #[tactic(auto, unfolding(crate::specs::RowsLine::bits_of))]
 fn read_bits(word: &str) -> Option<u8>
     ensures { result ≡ bits_of word.now }

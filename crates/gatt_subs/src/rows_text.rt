@@ -1,11 +1,11 @@
-//! The text of rows.
+//! Writes a subscriptions file.
 
 ghost use Rattle.std.specs.Prelude.{◌≡◌, ◌+◌, ◌≤◌, ◌<◌, ◌==◌, ◌++◌, [], if◌then◌else◌, length, OnOk, OnErr};
 ghost use Rattle.std.specs.Fmt.{decimal};
 ghost use Rattle.std.specs.Io.KnownBytes.{Appends};
 ghost use Rattle.std.specs.List.{flat_map};
 ghost use Rattle.arrayvec.specs.ArrayVec.{array_vec_len};
-ghost use Rattle.octets.specs.Stream.{CountsFailure, WritesFront};
+ghost use Rattle.octet_io.specs.Stream.{CountsFailure, WritesFront};
 ghost use Rattle.gatt_subs.specs.InOrder.{in_order};
 ghost use Rattle.gatt_subs.specs.RowEntry.{order_of};
 ghost use Rattle.gatt_subs.specs.RowsText.{address_text, peer_text, entry_line, owed_line, owed_peers, bond_entries, entries_of, text_by_parts};
@@ -18,12 +18,12 @@ use att_numbers::limit::MAX_CONFIGURATIONS;
 use att_table::ConfigRow;
 use itoa::Buffer;
 use le_hci::Peer;
-use octets::{Failed, Sink, write_all};
+use octet_io::{Failed, Sink, write_all};
 
-/// Room for a line.
+/// The buffer size of a line.
 const LINE: usize = 96;
 
-/// Writes rows, by their parts: the peers that have bonds, and what is unfitted.
+/// Writes the bonds of `peers` and the unfitted entries.
 pub fn write_rows<W: Sink>(
     peers: &[Peer],
     bonds: &[Bond],
@@ -41,7 +41,7 @@ pub fn write_rows<W: Sink>(
     write_owed_in(peers, bonds, unfitted.owed(), sink)
 }
 
-/// Writes the lines of what is configured, by bonds and behind them by others.
+/// Writes the lines of entries.
 fn write_configured<W: Sink>(
     peers: &[Peer],
     bonds: &[Bond],
@@ -60,7 +60,7 @@ fn write_configured<W: Sink>(
     write_entries(others, sink)
 }
 
-/// Writes the lines of who is owed, of the peers of bonds and behind them of others.
+/// Writes the lines of peers with a pending indication.
 fn write_owed_in<W: Sink>(
     peers: &[Peer],
     bonds: &[Bond],
@@ -79,7 +79,6 @@ fn write_owed_in<W: Sink>(
     write_owed(others, sink)
 }
 
-/// Writes the lines of what bonds have configured.
 fn write_bonds<W: Sink>(peers: &[Peer], bonds: &[Bond], sink: &mut W) -> Result<(), Failed>
     requires { length bonds.now ≡ length peers.now }
     ensures ok { OnOk result (Appends (W.contents sink.old) (W.contents sink.new)
@@ -95,7 +94,6 @@ fn write_bonds<W: Sink>(peers: &[Peer], bonds: &[Bond], sink: &mut W) -> Result<
     Ok(())
 }
 
-/// Writes the lines of peers whose bonds are owed.
 fn write_owed_bonds<W: Sink>(peers: &[Peer], bonds: &[Bond], sink: &mut W) -> Result<(), Failed>
     requires { length bonds.now ≡ length peers.now }
     ensures ok { OnOk result (Appends (W.contents sink.old) (W.contents sink.new)
@@ -110,7 +108,6 @@ fn write_owed_bonds<W: Sink>(peers: &[Peer], bonds: &[Bond], sink: &mut W) -> Re
     Ok(())
 }
 
-/// Writes the line of a peer if it is owed.
 fn write_if<W: Sink>(owed: bool, peer: &Peer, sink: &mut W) -> Result<(), Failed>
     ensures ok { OnOk result (Appends (W.contents sink.old) (W.contents sink.new)
         (if owed then owed_line peer.now else [])) }
@@ -125,7 +122,6 @@ fn write_if<W: Sink>(owed: bool, peer: &Peer, sink: &mut W) -> Result<(), Failed
     }
 }
 
-/// Writes the lines of entries.
 fn write_entries<W: Sink>(entries: &[RowEntry], sink: &mut W) -> Result<(), Failed>
     ensures ok { OnOk result
         (Appends (W.contents sink.old) (W.contents sink.new) (flat_map entry_line entries.now)) }
@@ -139,7 +135,6 @@ fn write_entries<W: Sink>(entries: &[RowEntry], sink: &mut W) -> Result<(), Fail
     Ok(())
 }
 
-/// Writes the lines of peers that are owed.
 fn write_owed<W: Sink>(peers: &[Peer], sink: &mut W) -> Result<(), Failed>
     ensures ok { OnOk result
         (Appends (W.contents sink.old) (W.contents sink.new) (flat_map owed_line peers.now)) }
@@ -153,7 +148,7 @@ fn write_owed<W: Sink>(peers: &[Peer], sink: &mut W) -> Result<(), Failed>
     Ok(())
 }
 
-/// The entries of a row that have bits, in the order of a rows file.
+/// Returns a row's entries with nonzero bits in file order.
 fn entries_of(peer: &Peer, row: &ConfigRow) -> ArrayVec<RowEntry, MAX_CONFIGURATIONS>
     ensures { result.items ≡ entries_of peer.now row.now }
 {
@@ -166,7 +161,7 @@ fn entries_of(peer: &Peer, row: &ConfigRow) -> ArrayVec<RowEntry, MAX_CONFIGURAT
     entries
 }
 
-/// Puts an entry in its place in the order of a rows file, if it has bits.
+/// Inserts an entry in file order if its bits are nonzero.
 fn insert_configured(entries: &mut ArrayVec<RowEntry, MAX_CONFIGURATIONS>, entry: RowEntry)
     requires { array_vec_len entries.old < MAX_CONFIGURATIONS }
     ensures items { entries.new.items ≡ (if entry.bits == 0 then entries.old.items
@@ -178,7 +173,6 @@ fn insert_configured(entries: &mut ArrayVec<RowEntry, MAX_CONFIGURATIONS>, entry
     }
 }
 
-/// Puts an entry in its place in the order of a rows file.
 #[tactic(auto, using(crate::proofs::InOrder::inserts))]
 fn insert_in_order(entries: &mut ArrayVec<RowEntry, MAX_CONFIGURATIONS>, entry: RowEntry)
     requires { array_vec_len entries.old < MAX_CONFIGURATIONS }
@@ -189,7 +183,7 @@ fn insert_in_order(entries: &mut ArrayVec<RowEntry, MAX_CONFIGURATIONS>, entry: 
     entries.insert(place, entry);
 }
 
-/// What a peer has configured, in a line.
+/// Returns an entry's line.
 #[tactic(auto, unfolding(crate::specs::RowsText::entry_line))]
 fn entry_line(entry: &RowEntry) -> ArrayVec<u8, LINE>
     ensures { result.items ≡ entry_line entry.now }
@@ -204,7 +198,7 @@ fn entry_line(entry: &RowEntry) -> ArrayVec<u8, LINE>
     line
 }
 
-/// A peer that is owed, in a line.
+/// Returns the line of a peer with a pending indication.
 #[tactic(auto, unfolding(crate::specs::RowsText::owed_line))]
 fn owed_line(peer: &Peer) -> ArrayVec<u8, LINE>
     ensures { result.items ≡ owed_line peer.now }
@@ -216,7 +210,7 @@ fn owed_line(peer: &Peer) -> ArrayVec<u8, LINE>
     line
 }
 
-/// Appends the type of a peer's address, and the address.
+/// Appends address type and address.
 fn push_peer(line: &mut ArrayVec<u8, LINE>, peer: &Peer)
     requires { array_vec_len line.old ≤ 2 }
     ensures items { line.new.items ≡ line.old.items ++ peer_text peer.now }
@@ -227,8 +221,7 @@ fn push_peer(line: &mut ArrayVec<u8, LINE>, peer: &Peer)
     push(line, &address_text(peer.address));
 }
 
-/// An address as people write it: six octets in hexadecimal, the most significant first, with colons
-/// between them.
+/// Formats an address as six colon-separated hexadecimal octets, most significant first.
 #[tactic(auto, unfolding(crate::specs::RowsText::address_text))]
 pub fn address_text(address: [u8; 6]) -> [u8; 17]
     ensures { result ≡ address_text address }
@@ -242,7 +235,6 @@ pub fn address_text(address: [u8; 6]) -> [u8; 17]
     ]
 }
 
-/// Appends a number in decimal digits.
 fn push_number(line: &mut ArrayVec<u8, LINE>, number: u64)
     requires { array_vec_len line.old + 20 ≤ LINE }
     ensures items { line.new.items ≡ line.old.items ++ decimal number }
@@ -252,7 +244,7 @@ fn push_number(line: &mut ArrayVec<u8, LINE>, number: u64)
     push(line, digits.format(number).as_bytes());
 }
 
-/// Appends octets that fit, so the `unwrap` is proved and tests nothing.
+/// Appends octets that fit; the precondition makes `unwrap` free.
 fn push(line: &mut ArrayVec<u8, LINE>, octets: &[u8])
     requires { array_vec_len line.old + length octets.now ≤ LINE }
     ensures items { line.new.items ≡ line.old.items ++ octets.now }

@@ -1,8 +1,8 @@
-//! The rows file: lines that say what peers have configured, and which are owed.
+//! The contents of a subscriptions file.
 
 ghost use Rattle.std.specs.Prelude.{◌≡◌, ◌+◌, ◌<◌, [], ◌∷◌, length, nat_lt, Ok, OnOk, OnErr, IfSome, IfNone};
 ghost use Rattle.std.specs.List.{position};
-ghost use Rattle.octets.specs.Memory.{Gives, Leaves};
+ghost use Rattle.octet_io.specs.Memory.{Gives, Leaves};
 ghost use Rattle.gatt_subs.specs.declared.rows_fault.RowsFault.TheVariants.{OutOfMemory};
 ghost use Rattle.gatt_subs.specs.InOrder.{in_order};
 ghost use Rattle.gatt_subs.specs.RowEntry.{order_of, rank_of};
@@ -15,15 +15,15 @@ use le_hci::Peer;
 use std::alloc::{AllocError, Global};
 use std::marker::Model;
 
-/// The most configurations that a rows file may have.
+/// The most entries in a file.
 const MAX_ENTRIES: usize = 4096;
-/// The most peers that a rows file may say are owed.
+/// The most peers with a pending indication in a file.
 const MAX_OWED: usize = 64;
 
-/// What a rows file says, before it is fitted to keys and a table.
+/// A file's contents before they are fitted to keys and a table.
 #[derive(Drop)]
 pub struct Unfitted {
-    /// In the order of a rows file, as the peers.
+    /// In file order, like `owed`.
     entries: Vec<RowEntry>,
     owed: Vec<Peer>,
 }
@@ -38,7 +38,6 @@ impl Model for Unfitted {
 }
 
 impl Unfitted {
-    /// Nothing.
     pub fn new(alloc: Global) -> Self
         ensures { result ≡ nothing_written }
     {
@@ -48,8 +47,9 @@ impl Unfitted {
         }
     }
 
-    /// Reads a rows file, and gives what it says or its first fault. Memory may be refused at any
-    /// point.
+    /// Reads a subscriptions file, or returns its first fault.
+    ///
+    /// `OutOfMemory` may occur at any point.
     #[tactic(auto, unfolding(crate::specs::Unfitted::rows_read))]
     pub fn read(alloc: Global, text: &str) -> Result<Unfitted, RowsFault>
         ensures { Gives OutOfMemory (rows_read text.now) result }
@@ -66,21 +66,20 @@ impl Unfitted {
         Ok(unfitted)
     }
 
-    /// What was read, in the order of a rows file.
+    /// Returns the entries in file order.
     pub fn entries(&self) -> &[RowEntry]
         ensures { result.now ≡ self.now.entries }
     {
         &self.entries
     }
 
-    /// The peers that are owed, in the order of a rows file.
+    /// Returns the peers with a pending indication, in file order.
     pub fn owed(&self) -> &[Peer]
         ensures { result.now ≡ self.now.owed }
     {
         &self.owed
     }
 
-    /// Takes in the line of a number.
     fn take_line(&mut self, number: u64, line: &str) -> Result<(), RowsFault>
         ensures { Leaves OutOfMemory (rows_with_line number self.old line.now) result self.new }
     {
@@ -91,7 +90,6 @@ impl Unfitted {
         self.take(number, said)
     }
 
-    /// Takes in what the line of a number says.
     fn take(&mut self, number: u64, said: Line) -> Result<(), RowsFault>
         ensures { Leaves OutOfMemory (rows_with_said number self.old said) result self.new }
     {
@@ -119,7 +117,7 @@ impl Unfitted {
     }
 }
 
-/// The first line of a text that has another one, and what stands behind its line feed.
+/// Splits a text at its first line feed.
 fn first_line(text: &str) -> Option<(&str, &str)>
     ensures first { IfSome result
         (λ parts. lines_of_rows text.now ≡ parts.0.now ∷ lines_of_rows parts.1.now) }
@@ -129,21 +127,19 @@ fn first_line(text: &str) -> Option<(&str, &str)>
     text.split_once('\n')
 }
 
-/// Whether one of the entries is what a peer has configured at a handle.
 fn has_entry(entries: &[RowEntry], peer: &Peer, handle: u16) -> bool
     ensures { result ≡ has_row_entry entries.now peer.now handle }
 {
     entries.iter().any(|entry| entry.is_at(peer, handle))
 }
 
-/// Whether a peer is one of these.
+/// Returns true if the peer is in the list.
 pub fn has_peer(peers: &[Peer], peer: &Peer) -> bool
     ensures { result ≡ has_peer peers.now peer.now }
 {
     peers.iter().any(|other| *other == *peer)
 }
 
-/// Puts an entry in its place in the order of a rows file.
 #[tactic(auto, using(crate::proofs::InOrder::inserts))]
 fn insert_entry(entries: &mut Vec<RowEntry>, entry: RowEntry) -> Result<(), AllocError>
     ensures ok { OnOk result (entries.new.items ≡ in_order order_of entry entries.old.items) }
@@ -154,14 +150,14 @@ fn insert_entry(entries: &mut Vec<RowEntry>, entry: RowEntry) -> Result<(), Allo
     Ok(())
 }
 
-/// Where the first entry is that comes behind this place in the order.
+/// Returns the index of the first entry after this sort key.
 pub fn first_entry_behind(entries: &[RowEntry], order: u128) -> Option<usize>
     ensures { result ≡ position (λ other. nat_lt order (order_of other)) entries.now }
 {
     entries.iter().position(|other| order < other.order())
 }
 
-/// Puts a peer in its place in the order of a rows file.
+/// Inserts a peer in file order.
 #[tactic(auto, using(crate::proofs::InOrder::inserts))]
 pub fn insert_peer(peers: &mut Vec<Peer>, peer: Peer) -> Result<(), AllocError>
     ensures ok { OnOk result (peers.new.items ≡ in_order rank_of peer peers.old.items) }
@@ -172,7 +168,6 @@ pub fn insert_peer(peers: &mut Vec<Peer>, peer: Peer) -> Result<(), AllocError>
     Ok(())
 }
 
-/// Where the first peer is that comes behind this rank.
 fn first_peer_behind(peers: &[Peer], order: u64) -> Option<usize>
     ensures { result ≡ position (λ other. nat_lt order (rank_of other)) peers.now }
 {

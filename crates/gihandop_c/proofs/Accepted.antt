@@ -14,10 +14,12 @@ use Rattle.gihandop_c.specs.Files.{keys_status, rows_status, table_status, value
 use Rattle.gihandop_c.specs.Opening.{config_given, config_status, open_status, IsOpenedWith}
 use Rattle.gihandop_c.specs.Values.{values_in}
 use Rattle.gihandop_c.proofs.Carried.{same_ok}
-use Rattle.host_files.specs.Files.{keys_in, rows_in, table_in}
+use Rattle.le_security.specs.KeyFile.{keys_in}
+use Rattle.gatt_subs.specs.Rows.{rows_in}
+use Rattle.att_table.specs.file.TableFile.{table_in}
 use Rattle.le_security.specs.declared.entry.Entry.{Entry}
 use Rattle.le_security.specs.declared.key_fault.KeyFault.{KeyFault}
-use Rattle.octets.specs.Number.{Octets}
+use Rattle.octet_io.specs.Number.{Octets}
 use Rattle.saved_values.specs.declared.restoring.BadLine.{BadLine}
 
 module _ (table keys rows values : Octets) (config : HostConfig) (served restored : Contents) (entries : List Entry) (said : Subscriptions)

@@ -12,12 +12,14 @@ use Rattle.gihandop_c.specs.declared.config.HostConfig.{HostConfig}
 use Rattle.gihandop_c.specs.declared.status.TheConstants.{BAD_CONFIG, BAD_KEYS, BAD_ROWS, BAD_TABLE, DONE}
 use Rattle.gihandop_c.specs.Files.{keys_status, rows_status, table_status}
 use Rattle.gihandop_c.specs.Opening.{config_given, config_status, is_unreadable, IsNotOfMemory, IsStatusOf}
-use Rattle.host_files.specs.Files.{keys_in, rows_in, table_in}
+use Rattle.le_security.specs.KeyFile.{keys_in}
+use Rattle.gatt_subs.specs.Rows.{rows_in}
+use Rattle.att_table.specs.file.TableFile.{table_in}
 use Rattle.le_security.specs.declared.key_fault.KeyFault.{KeyFault}
 use Rattle.le_security.specs.declared.key_fault.KeyFault.TheVariants.{OutOfMemory as NoMemoryForTheKeys}
 use Rattle.le_security.specs.KeyFault.{key_fault_number}
-use Rattle.octets.specs.Memory.{Gives}
-use Rattle.octets.specs.Number.{Octets}
+use Rattle.octet_io.specs.Memory.{Gives}
+use Rattle.octet_io.specs.Number.{Octets}
 
 pub table_refused : (octets : Octets) (fault : TableFault) (status : ℕ) → Gives NoMemoryForTheTable (table_in octets) (Err fault)
     → status ≡ BAD_TABLE + table_fault_number fault → IsStatusOf (table_status (table_in octets)) status

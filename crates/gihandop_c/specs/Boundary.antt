@@ -1,4 +1,4 @@
--- What a function does to the host behind a pointer.
+-- The effects of a function on the host behind a pointer.
 use Rattle.std.specs.Prelude.{◌≡◌, ℕ, ◌+◌, List, drop, Option, Some, None, IsSome}
 use Rattle.att_table.specs.Table.{Contents}
 use Rattle.gatt_host.specs.declared.host_fault.HostFault.{HostFault}
@@ -12,33 +12,38 @@ use Rattle.gatt_laws.specs.machine.Notice.{Notice, notices_in, notices_of}
 use Rattle.gatt_laws.specs.machine.Start.{Start}
 use Rattle.gihandop_c.specs.declared.opened.Opened.{Opened}
 use Rattle.gihandop_c.specs.declared.status.TheConstants.{DONE, REFUSED, STOPPED}
-use Rattle.octets.specs.Number.{Octets}
+use Rattle.octet_io.specs.Number.{Octets}
 
--- it holds of the host before and after: where none is open, none is afterwards
+-- The relation holds of the host before and after, or no host is open before or after.
 abbrev pub OfTheHost : (Opened → Opened → Type 0) → Option Opened → Option Opened → Type 0
 OfTheHost Holds (Some old) (Some new) = Holds old new
 OfTheHost Holds None None = Unit
 OfTheHost Holds old new = ⊥
 
--- a host that goes on takes in these items, and gives out these packets
+-- A host without a fault accepts these items and sends these packets.
 abbrev pub OpenedRefines : List Item → List Octets → Opened → Opened → Type 0
-OpenedRefines items packets old new = old.host.fault ≡ None → Refines items packets old.host new.host
+OpenedRefines items packets old new =
+    old.host.fault ≡ None → Refines items packets old.host new.host
 
 abbrev pub HostRefines : List Item → List Octets → Option Opened → Option Opened → Type 0
 HostRefines items packets = OfTheHost (OpenedRefines items packets)
 
--- the notices that the host tells and that have not been handed out
+-- The notices that the program has not fetched.
 abbrev pub untold : Opened → List Notice
 untold opened = drop opened.told (notices_told opened.host)
 
--- wherever the host was, what is told is what the state machine tells of these items: nothing, where the host stops at them
+-- In every run, the state machine has these notices for the items: none if the host stops at them.
 abbrev pub TellsItems : List Item → Opened → Opened → Type 0
-TellsItems items old new = (start : Start) (input : List Item) (sent : List Octets) → RefinesRun (run start input) sent old.host
+TellsItems items old new =
+    (start : Start) (input : List Item) (sent : List Octets)
+    → RefinesRun (run start input) sent old.host
     → old.host.fault ≡ None → untold new ≡ notices_in (run start input) items
 
--- and of one item
+-- In every run, the state machine has these notices for the item, if the host goes on.
 abbrev pub TellsItem : Item → Opened → Opened → Type 0
-TellsItem item old new = (start : Start) (input : List Item) (sent : List Octets) → RefinesRun (run start input) sent old.host
+TellsItem item old new =
+    (start : Start) (input : List Item) (sent : List Octets)
+    → RefinesRun (run start input) sent old.host
     → old.host.fault ≡ None → new.host.fault ≡ None → untold new ≡ notices_of (run start input) item
 
 abbrev pub HostTellsItems : List Item → Option Opened → Option Opened → Type 0
@@ -47,20 +52,18 @@ HostTellsItems items = OfTheHost (TellsItems items)
 abbrev pub HostTellsItem : Item → Option Opened → Option Opened → Type 0
 HostTellsItem item = OfTheHost (TellsItem item)
 
--- the table of the table file stays
 abbrev pub KeepsInitial : Opened → Opened → Type 0
 KeepsInitial old new = new.initial ≡ old.initial
 
 abbrev pub HostKeepsInitial : Option Opened → Option Opened → Type 0
 HostKeepsInitial = OfTheHost KeepsInitial
 
--- the notices that have not been handed out stay, and so do the table with their values and that of the table file
+-- Notices and tables do not change.
 pub record KeepsNotices (old new : Opened) : Type 0 where
   pub notices : untold new ≡ untold old
   pub table : new.host.server.table ≡ old.host.server.table
   pub initial : new.initial ≡ old.initial
 
--- the host stays as it is, and so does how many notices were handed out
 pub record Stays (old new : Opened) : Type 0 where
   pub host : new.host ≡ old.host
   pub told : new.told ≡ old.told
@@ -68,32 +71,31 @@ pub record Stays (old new : Opened) : Type 0 where
 abbrev pub HostStays : Option Opened → Option Opened → Type 0
 HostStays = OfTheHost Stays
 
--- a host that has stopped stays as it is
 abbrev pub StaysIfStopped : Opened → Opened → Type 0
 StaysIfStopped old new = IsSome old.host.fault → new.host ≡ old.host
 
 abbrev pub HostStaysIfStopped : Option Opened → Option Opened → Type 0
 HostStaysIfStopped = OfTheHost StaysIfStopped
 
--- nothing changes but that no notice is there any more
+-- The host only loses its notices.
 abbrev pub FallsSilent : Opened → Opened → Type 0
 FallsSilent old new = new.host ≡ silent old.host
 
 abbrev pub HostFallsSilent : Option Opened → Option Opened → Type 0
 HostFallsSilent = OfTheHost FallsSilent
 
--- the status of a host that has stopped
 abbrev pub fault_status : HostFault → ℕ
 fault_status fault = STOPPED + number_of_fault fault
 
--- the status of a call: by why it is refused, if it is
 abbrev pub call_status : Option Refused → ℕ
 call_status None = DONE
 call_status (Some refused) = REFUSED + number_of_refused refused
 
--- wherever the host was, it refuses what the state machine refuses there, and for that
+-- In every run, the status is that of the state machine's refusal.
 abbrev pub AnswersBy : (Run → Option Refused) → ℕ → Opened → Type 0
-AnswersBy refusal status opened = (start : Start) (input : List Item) (sent : List Octets) → RefinesRun (run start input) sent opened.host
+AnswersBy refusal status opened =
+    (start : Start) (input : List Item) (sent : List Octets)
+    → RefinesRun (run start input) sent opened.host
     → opened.host.fault ≡ None → status ≡ call_status (refusal (run start input))
 
 abbrev pub AnswersCall : Call → ℕ → Opened → Type 0

@@ -1,4 +1,4 @@
--- The text that has the first fault of those that a host is opened with: this library's own.
+-- The text with the first fault: a choice of this library.
 use Rattle.std.specs.Prelude.{◌≡◌, ℕ, List, length, take, codes, Option, Some, None, Result, Ok, Err}
 use Rattle.att_table.specs.declared.table_fault.TableFault.{TableFault}
 use Rattle.att_table.specs.Table.{Contents}
@@ -7,13 +7,15 @@ use Rattle.gatt_subs.specs.Rows.{Subscriptions}
 use Rattle.gihandop_c.specs.declared.faulty_text.FaultyText.{FaultyText}
 use Rattle.gihandop_c.specs.declared.faulty_text.FaultyText.TheVariants.{Table, Keys, Rows, Values}
 use Rattle.gihandop_c.specs.Values.{values_in}
-use Rattle.host_files.specs.Files.{keys_in, rows_in, table_in}
+use Rattle.le_security.specs.KeyFile.{keys_in}
+use Rattle.gatt_subs.specs.Rows.{rows_in}
+use Rattle.att_table.specs.file.TableFile.{table_in}
 use Rattle.le_security.specs.declared.entry.Entry.{Entry}
 use Rattle.le_security.specs.declared.key_fault.KeyFault.{KeyFault}
-use Rattle.octets.specs.Number.{Octets}
+use Rattle.octet_io.specs.Number.{Octets}
 use Rattle.saved_values.specs.declared.restoring.BadLine.{BadLine}
 
--- each text that is accepted leaves the fault to those behind it
+-- An accepted text leaves the fault to the next ones.
 abbrev pub faulty_values : Result (Contents × ℕ) BadLine → Option FaultyText
 faulty_values (Ok restored) = None
 faulty_values (Err line) = Some (Values line.0)
@@ -26,16 +28,18 @@ abbrev pub faulty_keys : Result (List Entry) KeyFault → Option FaultyText → 
 faulty_keys (Ok keys) behind = behind
 faulty_keys (Err fault) behind = Some Keys
 
-abbrev pub faulty_table : Result Contents TableFault → (Contents → Option FaultyText) → Option FaultyText
+abbrev pub faulty_table : Result Contents TableFault → (Contents → Option FaultyText)
+    → Option FaultyText
 faulty_table (Ok contents) behind = behind contents
 faulty_table (Err fault) behind = Some Table
 
--- of a table file, a key file, a rows file and a values text
 abbrev pub first_faulty : Octets → Octets → Octets → Octets → Option FaultyText
 first_faulty table keys rows values = faulty_table (table_in table)
-    (λ contents. faulty_keys (keys_in keys) (faulty_rows (rows_in rows) (faulty_values (values_in values contents))))
+    (λ contents.
+    faulty_keys (keys_in keys)
+    (faulty_rows (rows_in rows) (faulty_values (values_in values contents))))
 
--- the name of the text, with which the words for its fault begin
+-- The name with which the words for a fault begin.
 abbrev pub name_of : FaultyText → Octets
 name_of Table = codes "table: "
 name_of Keys = codes "keys: "

@@ -1,4 +1,4 @@
--- The statuses of the faults of files: this library's own.
+-- The statuses of faulty files: a choice of this library.
 use Rattle.std.specs.Prelude.{ℕ, ◌+◌, List, Result, Ok, Err}
 use Rattle.att_table.specs.declared.table_fault.TableFault.{TableFault}
 use Rattle.att_table.specs.Table.{Contents}
@@ -11,10 +11,10 @@ use Rattle.gihandop_c.specs.Values.{values_in}
 use Rattle.le_security.specs.declared.entry.Entry.{Entry}
 use Rattle.le_security.specs.declared.key_fault.KeyFault.{KeyFault}
 use Rattle.le_security.specs.KeyFault.{key_fault_number}
-use Rattle.octets.specs.Number.{Octets}
+use Rattle.octet_io.specs.Number.{Octets}
 use Rattle.saved_values.specs.declared.restoring.BadLine.{BadLine}
 
--- the status of a file: that of its first fault, and else what comes behind it
+-- The status of a file is that of its first fault, or else of the next file.
 abbrev pub table_status : Result Contents TableFault → ℕ → ℕ
 table_status (Ok table) behind = behind
 table_status (Err fault) behind = BAD_TABLE + table_fault_number fault
@@ -31,7 +31,6 @@ abbrev pub values_status : Result (Contents × ℕ) BadLine → ℕ → ℕ
 values_status (Ok restored) behind = behind
 values_status (Err line) behind = VALUES_BAD_LINE
 
--- that of a values text for a table, if there is one
 abbrev pub values_status_for : Result Contents TableFault → Octets → ℕ → ℕ
 values_status_for (Ok contents) values behind = values_status (values_in values contents) behind
 values_status_for (Err fault) values behind = behind

@@ -1,4 +1,4 @@
--- What the contracts of this crate cite.
+-- The definitions that contracts cite.
 pub mod Boundary
 pub mod Explaining
 pub mod Files

@@ -1,4 +1,4 @@
--- What the pointer to a host owns: nothing where it is null, and else the box in which the host lies. Of the code alone.
+-- The memory that the pointer owns: the box of the host, or none if it is null (code only).
 use Rattle.std.specs.declared.option.Option.{Option}
 use Rattle.std.specs.declared.option.Option.TheVariants.{None, Some}
 use Rattle.std.specs.contracts.impls.GlobalAllocator.TheImpl.{ghosts}
@@ -8,7 +8,7 @@ use denote.RattleType.{RattleType}
 use denote.RawPtr.{Ptr, null_ptr}
 use mir.Syntax.{Ty}
 
--- the right to give a block back to the global allocator
+-- The right to return a block to the global allocator.
 abbrev pub may_give_back : Ty → Ptr → Fml
 may_give_back = ghosts.dealloc_token (record { memory = record { seal = tt } })
 

@@ -1,4 +1,4 @@
--- What the program is told, as C reads it: this library's own.
+-- Notices as C reads them: a choice of this library.
 use Rattle.std.specs.Prelude.{◌≡◌, ℕ, ◌+◌, ◌-◌, ◌^◌, nat_lt, if◌then◌else◌, false, replicate, slice_get, Option, Some, None}
 use Rattle.std.specs.Option.{option_map}
 use Rattle.gatt_host.specs.Telling.{notices_told}
@@ -6,7 +6,7 @@ use Rattle.gatt_laws.specs.machine.Notice.{Notice, Connected, Disconnected, Secu
 use Rattle.gihandop_c.specs.declared.notices.NoticeFields.{NoticeFields}
 use Rattle.gihandop_c.specs.declared.opened.Opened.{Opened}
 
--- a kind, and a connection, in a structure of some size; and nothing else
+-- A notice with only a kind and a connection, in a structure of this size.
 abbrev pub fields_of_connection : ℕ → ℕ → ℕ → NoticeFields
 fields_of_connection size kind handle = record {
   size = size;
@@ -22,30 +22,34 @@ fields_of_connection size kind handle = record {
   attribute = 0;
 }
 
--- and an attribute, with bits
 abbrev pub fields_of_attribute : ℕ → ℕ → ℕ → ℕ → ℕ → NoticeFields
-fields_of_attribute size kind handle attribute bits = record (fields_of_connection size kind handle) { attribute = attribute; bits = bits }
+fields_of_attribute size kind handle attribute bits =
+    record (fields_of_connection size kind handle) { attribute = attribute; bits = bits }
 
 abbrev pub notice_fields : ℕ → Notice → NoticeFields
 notice_fields size (Connected handle peer) =
     record (fields_of_connection size 1 handle) { address_kind = peer.kind; address = peer.address }
 notice_fields size (Disconnected handle) = fields_of_connection size 2 handle
 notice_fields size (Secured handle facts) =
-    record (fields_of_connection size 3 handle) { key_size = facts.size; authenticated = facts.authenticated; secure = facts.secure }
+    record (fields_of_connection size 3 handle)
+    { key_size = facts.size; authenticated = facts.authenticated; secure = facts.secure }
 notice_fields size (Unsecured handle) = fields_of_connection size 4 handle
 notice_fields size (Written handle attribute) = fields_of_attribute size 5 handle attribute 0
-notice_fields size (Configured handle attribute bits) = fields_of_attribute size 6 handle attribute bits
+notice_fields size (Configured handle attribute bits) =
+    fields_of_attribute size 6 handle attribute bits
 notice_fields size (Confirmed handle attribute) = fields_of_attribute size 7 handle attribute 0
 notice_fields size (TimedOut handle) = fields_of_connection size 8 handle
-notice_fields size (Ending handle reason) = record (fields_of_connection size 9 handle) { reason = reason }
+notice_fields size (Ending handle reason) =
+    record (fields_of_connection size 9 handle) { reason = reason }
 notice_fields size (Skipped handle attribute) = fields_of_attribute size 10 handle attribute 0
 
--- the first notice that has not been handed out, of as many as can be counted
+-- The first notice that the program has not fetched, as far as these can be counted.
 abbrev pub next_notice : ℕ → Opened → Option NoticeFields
 next_notice size opened =
-    if nat_lt opened.told (2 ^ 64 - 1) then option_map (notice_fields size) (slice_get (notices_told opened.host) opened.told) else None
+    if nat_lt opened.told (2 ^ 64 - 1)
+    then option_map (notice_fields size) (slice_get (notices_told opened.host) opened.told)
+    else None
 
--- it is handed out, and counted
 pub record HandsOut (size : ℕ) (fields : NoticeFields) (old new : Opened) : Type 0 where
   pub gives : next_notice size old ≡ Some fields
   pub counts : new.told ≡ old.told + 1

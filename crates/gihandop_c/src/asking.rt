@@ -1,4 +1,4 @@
-//! What the program asks of its host.
+//! Calls of the application.
 
 ghost use Rattle.std.specs.Prelude.{◌≡◌, ◌≢◌, ◌+◌, ◌<◌, ◌∷◌, [], IsSome, Ok, Err};
 ghost use Rattle.att_table.specs.declared.table_fault.TableFault.{TableFault};
@@ -10,14 +10,14 @@ ghost use Rattle.gihandop_c.specs.Boundary.{AnswersCall, AnswersTable, FallsSile
 ghost use Rattle.gihandop_c.specs.Opening.{IsNotOfMemory};
 ghost use Rattle.gihandop_c.specs.Statuses.{WaitsForOutput};
 ghost use Rattle.gihandop_c.specs.declared.status.TheConstants.{BAD_TABLE, DONE, HAS_STOPPED, OUTPUT_OWED};
-ghost use Rattle.host_files.specs.Files.{table_in};
+ghost use Rattle.att_table.specs.file.TableFile.{table_in};
 
 use crate::opened::Opened;
 use crate::{opening, status};
 use gatt_host::{App, Table};
 use std::alloc::Global;
 
-/// Makes a call of the application, once all is out.
+/// Makes a call, if no output is pending.
 pub(crate) fn call(opened: &mut Opened, call: App<'_>) -> u32
     ensures takes { result ≢ OUTPUT_OWED
         → OpenedRefines (ACall (call_of call.entry) ∷ []) [] opened.old opened.new }
@@ -43,8 +43,7 @@ pub(crate) fn call(opened: &mut Opened, call: App<'_>) -> u32
     }
 }
 
-/// Replaces the table by that of a table file, once all is out. A file is not read as long as a
-/// packet is owed.
+/// Replaces the table by that of a file, which is read only if no output is pending.
 pub(crate) fn replace_by(alloc: Global, opened: &mut Opened, file: &[u8]) -> u32
     ensures takes { (contents : Contents) → table_in file.now ≡ Ok contents
         → result < BAD_TABLE → result ≢ OUTPUT_OWED
@@ -78,8 +77,7 @@ pub(crate) fn replace_by(alloc: Global, opened: &mut Opened, file: &[u8]) -> u32
     }
 }
 
-/// Replaces the table, once all is out. There are two, of one file: the first is served, and the second
-/// stays as the file has it.
+/// Replaces the table, given twice: one to serve, and one to keep as the file has it.
 fn replace(opened: &mut Opened, tables: (Table, Table)) -> u32
     ensures takes { result ≢ OUTPUT_OWED
         → OpenedRefines (ATable tables.0 ∷ []) [] opened.old opened.new }

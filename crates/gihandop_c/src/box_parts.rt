@@ -1,4 +1,4 @@
-//! A box as the pointer and the allocator that it has.
+//! A box as a pointer and an allocator.
 
 ghost use Rattle.std.specs.Prelude.{◌≡◌};
 ghost use Rattle.std_alloc.specs.Box.Ownership.{box_owns};
@@ -6,7 +6,7 @@ ghost use Rattle.std_alloc.specs.Box.Ownership.{box_owns};
 use std::alloc::Allocator;
 use std::marker::Model;
 
-/// The parts of a box, which own what it owned.
+/// The parts of a box, with the box's ownership.
 pub(crate) struct BoxParts<T, A: Allocator> {
     pub(crate) at: *mut T,
     pub(crate) alloc: A,
@@ -18,7 +18,6 @@ impl<T, A: Allocator> Model for BoxParts<T, A> {
 }
 
 impl<T, A: Allocator> BoxParts<T, A> {
-    /// Of a box.
     pub(crate) fn of(owned: Box<T, A>) -> BoxParts<T, A>
     where
         T: Drop,
@@ -28,7 +27,6 @@ impl<T, A: Allocator> BoxParts<T, A> {
         BoxParts { at, alloc }
     }
 
-    /// The box of these parts.
     pub(crate) fn into_box(self) -> Box<T, A>
         ensures { result.value ≡ self.value }
     {

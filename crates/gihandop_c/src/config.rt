@@ -1,4 +1,4 @@
-//! What a host is opened with, as a program in C gives it.
+//! The configuration of a host, as C gives it.
 
 ghost use Rattle.std.specs.Prelude.{◌≡◌, false, true, IfSome, IsNone, IsSome};
 ghost use Rattle.gihandop_c.specs.Opening.{config_given, is_unreadable};
@@ -6,31 +6,29 @@ ghost use Rattle.gihandop_c.specs.Opening.{config_given, is_unreadable};
 use arrayvec::ArrayVec;
 use gatt_host::{Config, MAX_ADVERTISING_DATA};
 
-/// How many connections a host may have, what it receives, and how it advertises.
+/// The connections, the largest PDU, and the advertising of a host.
 #[repr(C)]
 pub struct HostConfig {
-    /// The size of the structure that the program has, in octets: at least `CONFIG_SIZE`.
+    /// The size of the caller's structure, in bytes: at least `CONFIG_SIZE`.
     pub size: usize,
-    /// As many connections as there may be at once: 1 to 8.
+    /// The largest number of connections at once: 1 to 8.
     pub slots: usize,
-    /// The largest PDU of the Attribute Protocol that is received, in octets: 23 to 517.
+    /// The largest ATT PDU that is received, in octets: 23 to 517.
     pub rx_mtu: u16,
-    /// 0 for the public address of the controller, and any other number for `address`.
+    /// 0 for the public address of the controller, any other number for `address`.
     pub is_random: u8,
-    /// A static random address as octets on the wire, the least significant first, whose two most
-    /// significant bits are set (Core 5.0, Vol 6 Part B, 1.3.2.1).
+    /// A static random address, least significant octet first, whose two highest bits are set (Core
+    /// 5.0, Vol 6 Part B, 1.3.2.1).
     pub address: [u8; 6],
-    /// How many octets of advertising data there are: 0 to 31.
+    /// The length of the advertising data, in octets: 0 to 31.
     pub advertising_length: u8,
-    /// Advertising data: Core 5.0, Vol 3 Part C, 11. Octets past the length are not read.
+    /// Advertising data (Core 5.0, Vol 3 Part C, 11). Octets past the length are not read.
     pub advertising: [u8; MAX_ADVERTISING_DATA],
 }
 
-/// The size of a configuration in this version, in octets.
 const CONFIG_SIZE: usize = size_of::<HostConfig>();
 
-/// The configuration as a host takes it; none where the structure is too small for it, or the
-/// advertising data is too long.
+/// Converts a configuration. Returns `None` if the structure is too small or the data too long.
 pub(crate) fn to_config(config: &HostConfig) -> Option<Config>
     ensures config { IfSome result (λ given. given ≡ config_given config.now) }
     ensures readable { IsSome result → is_unreadable config.now ≡ false }
@@ -52,7 +50,6 @@ pub(crate) fn to_config(config: &HostConfig) -> Option<Config>
     })
 }
 
-/// The random address, if it is to be used.
 fn address(config: &HostConfig) -> Option<[u8; 6]>
     ensures { result ≡ (config_given config.now).address }
 {

@@ -1,4 +1,4 @@
-//! Who is connected, as C reads it.
+//! Connections as C reads them.
 
 ghost use Rattle.std.specs.Prelude.{◌≡◌, ◌≢◌, slice_get, Some};
 ghost use Rattle.std.specs.Option.{option_map};
@@ -11,42 +11,39 @@ use crate::opened::Opened;
 use crate::status;
 use gatt_host::{Connection, Host, KeyFacts};
 
-/// A connection as it stands.
+/// A connection.
 #[repr(C)]
 #[derive(Clone, Copy)]
 pub struct ConnectionFields {
-    /// The size of the structure that the program has, in octets: at least `CONNECTION_SIZE`.
+    /// The size of the caller's structure, in bytes: at least `CONNECTION_SIZE`.
     pub size: usize,
-    /// As it has it in HCI.
+    /// Its handle in HCI.
     pub handle: u16,
     /// The ATT_MTU, in octets.
     pub mtu: u16,
-    /// The type of the peer's address, 0 public or 1 random, and its octets as on the wire.
+    /// The type of the peer's address, 0 public or 1 random, and the address as on the wire.
     pub address_kind: u8,
     pub address: [u8; 6],
-    /// The size of the key of its link, in octets: 0 where that has none.
+    /// The size of the link's key, in octets, or 0 without a key.
     pub key_size: u8,
-    /// Whether the key was exchanged with protection against a man in the middle, and made by LE
-    /// Secure Connections.
+    /// `authenticated`: the key was exchanged with protection against a man in the middle.
+    /// `secure`: LE Secure Connections made it.
     pub authenticated: bool,
     pub secure: bool,
-    /// The host ends it: it is served no more, and is not gone yet.
+    /// Set while the host is ending it: it is no longer served.
     pub ending: bool,
-    /// It is authorized while the time is below this, in milliseconds.
+    /// The end of its authorization, in milliseconds.
     pub authorized_until: u64,
-    /// Its number among the connections of the host, from 1. No number is used again.
+    /// Its number among all connections of the host, from 1. No number is used again.
     pub ordinal: u64,
-    /// The time of the last ACL data packet that arrived on it, in milliseconds: at first that at
-    /// which it was accepted.
+    /// When its last ACL data packet arrived, in milliseconds; at first, when it was accepted.
     pub heard: u64,
-    /// The place of its slot, from 0.
+    /// The index of its slot, from 0.
     pub slot: u8,
 }
 
-/// The size of a connection in this version, in octets.
 const CONNECTION_SIZE: usize = size_of::<ConnectionFields>();
 
-/// Puts the connection at a place into `connection`, if there are so many and it has the size for it.
 pub(crate) fn connection(opened: &Opened, place: usize, connection: &mut ConnectionFields) -> u32
     ensures status { result ≡ connection_status connection.old.size place opened.now }
     ensures there { result ≡ DONE
@@ -65,7 +62,6 @@ pub(crate) fn connection(opened: &Opened, place: usize, connection: &mut Connect
     }
 }
 
-/// The connection at a place, counted from 0, in the order of the slots.
 fn at(host: &Host, place: usize, size: usize) -> Option<ConnectionFields>
     ensures { result ≡ option_map (connection_fields size)
         (slice_get (connections_in host.now) place) }
@@ -80,14 +76,12 @@ fn at(host: &Host, place: usize, size: usize) -> Option<ConnectionFields>
     None
 }
 
-/// The fields of a connection.
 fn fields(connection: Connection, size: usize) -> ConnectionFields
     ensures { result ≡ connection_fields size connection }
 {
     keyed(connection.key, without_key(connection, size))
 }
 
-/// All but those of its key.
 fn without_key(connection: Connection, size: usize) -> ConnectionFields
     ensures { result ≡ without_a_key size connection }
 {
@@ -109,7 +103,6 @@ fn without_key(connection: Connection, size: usize) -> ConnectionFields
     }
 }
 
-/// And those of its key.
 fn keyed(key: Option<KeyFacts>, fields: ConnectionFields) -> ConnectionFields
     ensures { result ≡ with_the_key key fields }
 {

@@ -1,4 +1,4 @@
-//! The words for a fault of the texts that a host is opened with, and for its place.
+//! The words for a fault in the texts that a host is opened with.
 
 ghost use Rattle.std.specs.Prelude.{◌≡◌, ◌≢◌, ◌≤◌, length, take, IfOk, IfSome};
 ghost use Rattle.gihandop_c.specs.Explaining.{first_faulty, name_of, BeginsWith};
@@ -11,8 +11,6 @@ use saved_values::BadLine;
 use std::alloc::{AllocError, Global};
 use std::str;
 
-/// Puts the words for the first fault of a table file, a key file, a rows file and a values text at
-/// the front of `out`, where they fit, and their length into `count`.
 pub(crate) fn explain(
     alloc: Global,
     table: &[u8],
@@ -46,8 +44,6 @@ pub(crate) fn explain(
     }
 }
 
-/// Puts the words for the fault of a text with these octets at the front of `out`, where they fit,
-/// and their length into `count`.
 fn put_words(
     alloc: Global,
     faulty: FaultyText,
@@ -68,7 +64,6 @@ fn put_words(
     }
 }
 
-/// Returns the words for the fault of a text with these octets. Fails if memory is refused.
 fn words(alloc: Global, faulty: FaultyText, octets: &[u8]) -> Result<Vec<u8>, AllocError>
     ensures { IfOk result (λ words. BeginsWith (name_of faulty) words.items) }
 {
@@ -79,7 +74,7 @@ fn words(alloc: Global, faulty: FaultyText, octets: &[u8]) -> Result<Vec<u8>, Al
     Ok(words)
 }
 
-/// Returns where a text with these octets has its fault, and what it is. Fails if memory is refused.
+/// Returns the place and the kind of a fault. Fails if memory is refused.
 fn place(alloc: Global, faulty: FaultyText, octets: &[u8]) -> Result<Vec<u8>, AllocError> {
     let mut text = Vec::new(alloc);
     match faulty {
@@ -88,7 +83,7 @@ fn place(alloc: Global, faulty: FaultyText, octets: &[u8]) -> Result<Vec<u8>, Al
         FaultyText::Values(line) if str::from_utf8(octets).is_ok() => {
             text.extend_from_slice(format!(in alloc; "{}", BadLine(line))?.as_bytes())?;
         }
-        // Of a text that is not UTF-8 the place is told as in a rows file.
+        // For a text that is not UTF-8, the place is that of a subscriptions file.
         FaultyText::Rows | FaultyText::Values(_) => {
             gatt_show::add_rows_fault(alloc, &mut text, octets)?;
         }

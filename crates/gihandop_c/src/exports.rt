@@ -1,5 +1,8 @@
-//! The functions that C calls. None of them wants anything of its arguments beside what their types
-//! say: what may be wrong is tested, and answered by a status.
+//! The functions that C calls.
+//!
+//! They require nothing of their arguments except their types: a status reports everything that is
+//! wrong. If `out` is too short, they return `SHORT_BUFFER`, and `count` has the length that is
+//! needed.
 
 pub mod asking;
 pub mod opening;

@@ -13,7 +13,7 @@ use std::alloc::Global;
 use std::marker::Model;
 use std::{mem, ptr};
 
-/// The pointer to a host, or null where none is open.
+/// The pointer to a host, or null if none is open.
 #[repr(C)]
 pub struct HostPointer {
     at: *mut u8,
@@ -30,7 +30,6 @@ impl Model for HostPointer {
 impl HostPointer {
     ghost use Rattle.gihandop_c.specs.Lending.{LendsTheHost};
 
-    /// Lends the host, if one is open.
     #[inline(always)]
     pub(crate) fn as_mut(&mut self) -> Option<&mut Opened>
         ensures* writes_back { sem 𝓛 (LendsTheHost self.entry result) }
@@ -43,7 +42,6 @@ impl HostPointer {
         unsafe { Some(&mut *at) }
     }
 
-    /// To no host.
     fn null() -> HostPointer
         ensures { result.host ≡ None }
     {
@@ -52,7 +50,6 @@ impl HostPointer {
         }
     }
 
-    /// To the host of a box.
     fn of(parts: BoxParts<Opened, Global>) -> HostPointer
         ensures { result.host ≡ Some parts.value }
     {
@@ -60,7 +57,6 @@ impl HostPointer {
         HostPointer { at: at as *mut u8 }
     }
 
-    /// The parts of the box of the host, if there is one.
     fn into_parts(self, alloc: Global) -> Option<BoxParts<Opened, Global>>
         ensures { option_map (λ p. p.value) result ≡ self.host }
     {
@@ -73,7 +69,7 @@ impl HostPointer {
         }
     }
 
-    /// Takes the host out, if there is one, and leaves none.
+    /// Removes and returns the host, if one is open.
     pub(crate) fn take(&mut self, alloc: Global) -> Option<Box<Opened, Global>>
         ensures taken { option_map (λ b. b.value) result ≡ self.old.host }
         ensures none { self.new.host ≡ None }
@@ -82,7 +78,6 @@ impl HostPointer {
         Some(parts.into_box())
     }
 
-    /// Puts a host where none is.
     #[inline(always)]
     pub(crate) fn put(&mut self, host: Box<Opened, Global>)
         requires { self.old.host ≡ None }

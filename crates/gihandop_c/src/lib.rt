@@ -1,5 +1,4 @@
-//! The host for programs in C: one function for each thing that a program does with a host, over
-//! memory that the program keeps. `include/gihandop.h` declares them.
+//! The host for programs in C, declared in `include/gihandop.h`.
 #![tactic(auto)]
 
 mod asking;

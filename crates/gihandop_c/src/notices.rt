@@ -1,4 +1,4 @@
-//! What the application is told, as C reads it.
+//! Notices as C reads them.
 
 ghost use Rattle.std.specs.Prelude.{◌≡◌, ◌≢◌, slice_get};
 ghost use Rattle.std.specs.Option.{option_map};
@@ -13,37 +13,36 @@ use crate::opened::Opened;
 use crate::status;
 use gatt_host::{Host, KeyFacts, Notice, Peer};
 
-/// What a notice says of a connection. What its kind has no word of is 0.
+/// A notice of a connection. Fields that its kind does not have are 0.
 #[repr(C)]
 #[derive(Clone, Copy)]
 pub struct NoticeFields {
-    /// The size of the structure that the program has, in octets: at least `NOTICE_SIZE`.
+    /// The size of the caller's structure, in bytes: at least `NOTICE_SIZE`.
     pub size: usize,
-    /// 1 connected, 2 disconnected, 3 secured, 4 unsecured, 5 written, 6 configured, 7 confirmed,
-    /// 8 timed out, 9 ending, 10 skipped.
+    /// 1 connected, 2 disconnected, 3 secured, 4 unsecured, 5 written, 6 configured, 7 confirmed, 8
+    /// timed out, 9 ending, 10 skipped.
     pub kind: u8,
-    /// Of 6: the bits of the client characteristic configuration.
+    /// Kind 6: the bits of the client characteristic configuration.
     pub bits: u8,
-    /// Of 9: why, as Core 5.0, Vol 2 Part D, 2 has it.
+    /// Kind 9: the reason (Core 5.0, Vol 2 Part D, 2).
     pub reason: u8,
-    /// Of 3: the size of the key, in octets, and whether it was exchanged with protection against
-    /// a man in the middle, and made by LE Secure Connections.
+    /// Kind 3: the size of the key, in octets. `authenticated`: it was exchanged with protection
+    /// against a man in the middle. `secure`: LE Secure Connections made it.
     pub key_size: u8,
     pub authenticated: bool,
     pub secure: bool,
-    /// Of 1: the type of the peer's address, 0 public or 1 random, and its octets as on the wire.
+    /// Kind 1: the type of the peer's address, 0 public or 1 random, and the address as on the
+    /// wire.
     pub address_kind: u8,
     pub address: [u8; 6],
-    /// The handle of the connection, as it has it in HCI.
+    /// The handle of the connection in HCI.
     pub connection: u16,
-    /// Of 5, 6, 7 and 10: the handle of the attribute.
+    /// Kinds 5, 6, 7 and 10: the handle of the attribute.
     pub attribute: u16,
 }
 
-/// The size of a notice in this version, in octets.
 const NOTICE_SIZE: usize = size_of::<NoticeFields>();
 
-/// Puts the next notice into `notice`, if there is one and it has the size for it.
 pub(crate) fn next(opened: &mut Opened, notice: &mut NoticeFields) -> u32
     ensures status { result ≡ notice_status notice.old.size opened.old }
     ensures gives { result ≡ DONE
@@ -67,7 +66,6 @@ pub(crate) fn next(opened: &mut Opened, notice: &mut NoticeFields) -> u32
     }
 }
 
-/// The notice at a place, counted from 0.
 fn at(host: &Host, place: usize, size: usize) -> Option<NoticeFields>
     ensures { result
         ≡ option_map (notice_fields size) (slice_get (notices_told host.now) place) }
@@ -82,7 +80,6 @@ fn at(host: &Host, place: usize, size: usize) -> Option<NoticeFields>
     None
 }
 
-/// What a notice says.
 fn fields(notice: Notice<'_>, size: usize) -> NoticeFields
     ensures { result ≡ notice_fields size (notice_of notice.entry) }
 {
@@ -108,7 +105,6 @@ fn fields(notice: Notice<'_>, size: usize) -> NoticeFields
     }
 }
 
-/// Of a notice with nothing but its connection.
 fn of_connection(size: usize, kind: u8, handle: u16) -> NoticeFields
     ensures { result ≡ fields_of_connection size kind handle }
 {
@@ -127,7 +123,6 @@ fn of_connection(size: usize, kind: u8, handle: u16) -> NoticeFields
     }
 }
 
-/// Of a notice of an attribute.
 fn of_attribute(size: usize, kind: u8, handle: u16, attribute: u16, bits: u8) -> NoticeFields
     ensures { result ≡ fields_of_attribute size kind handle attribute bits }
 {
@@ -137,7 +132,6 @@ fn of_attribute(size: usize, kind: u8, handle: u16, attribute: u16, bits: u8) ->
     said
 }
 
-/// A client has connected.
 fn connected(size: usize, handle: u16, peer: Peer) -> NoticeFields
     ensures { result ≡ notice_fields size (Connected handle peer) }
 {
@@ -148,7 +142,6 @@ fn connected(size: usize, handle: u16, peer: Peer) -> NoticeFields
     said
 }
 
-/// A connection was encrypted with a key.
 fn secured(size: usize, handle: u16, facts: KeyFacts) -> NoticeFields
     ensures { result ≡ notice_fields size (Secured handle facts) }
 {
@@ -159,7 +152,6 @@ fn secured(size: usize, handle: u16, facts: KeyFacts) -> NoticeFields
     said
 }
 
-/// A connection is to end.
 fn ending(size: usize, handle: u16, reason: u8) -> NoticeFields
     ensures { result ≡ notice_fields size (Ending handle reason) }
 {

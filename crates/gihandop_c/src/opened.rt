@@ -1,25 +1,24 @@
-//! A host, the table as its file has it, and what has been handed out.
+//! An open host, with the data that C calls need.
 
 ghost use Rattle.std.specs.Prelude.{◌≡◌, ◌||◌, not, true};
 ghost use Rattle.gatt_host.specs.HostModel.{all_out};
 
 use gatt_host::{Host, Table};
 
-/// What lies behind the pointer that a program in C keeps.
+/// The target of the pointer that a program in C keeps.
 #[derive(Drop)]
 pub struct Opened {
     pub(crate) host: Host,
-    /// The table as its file has it.
+    /// The table of the table file.
     pub(crate) initial: Table,
-    /// How many of the notices that the host tells now have been handed out.
+    /// The number of current notices already returned.
     pub(crate) told: usize,
-    /// The host was asked for a packet, and owes none.
+    /// Set if the host is known to have no pending packet.
     pub(crate) drained: bool,
     pub ghost out: { (not drained || all_out host) ≡ true },
 }
 
 impl Opened {
-    /// With a host that nothing was asked of yet.
     pub(crate) fn new(host: Host, initial: Table) -> Opened
         ensures host { result.host ≡ host }
         ensures initial { result.initial ≡ initial }
@@ -32,7 +31,6 @@ impl Opened {
         }
     }
 
-    /// Whether no packet is owed.
     #[inline(always)]
     pub(crate) fn is_drained(&self) -> bool
         ensures { result ≡ all_out self.now.host }

@@ -1,4 +1,4 @@
-//! A host is opened with the octets of its files.
+//! Opens a host with the contents of its files.
 
 ghost use Rattle.std.specs.Prelude.{◌≡◌, ◌<◌, ℕ, [], IfOk, IfErr, IsOk, Ok};
 ghost use Rattle.gatt_host.specs.Opening.{start_of};
@@ -8,20 +8,21 @@ ghost use Rattle.gihandop_c.specs.Files.{keys_status, rows_status, table_status,
 ghost use Rattle.gihandop_c.specs.Opening.{config_given, config_status, open_status, IsNotOfMemory, IsOpenedWith, IsStatusOf};
 ghost use Rattle.gihandop_c.specs.Values.{values_in};
 ghost use Rattle.gihandop_c.specs.declared.status.TheConstants.{BAD_TABLE, DONE};
-ghost use Rattle.host_files.specs.Files.{keys_in, rows_in, table_in};
+ghost use Rattle.le_security.specs.KeyFile.{keys_in};
+ghost use Rattle.gatt_subs.specs.Rows.{rows_in};
+ghost use Rattle.att_table.specs.file.TableFile.{table_in};
 
 use crate::config::{HostConfig, to_config};
 use crate::opened::Opened;
 use crate::status;
 use gatt_host::{Host, Keys, OpenFault, Rows, Table};
-use host_files::{keys_in, rows_in, table_in};
 use saved_values::restore_lines;
 use std::alloc::Global;
 use std::str;
 
-/// A host that serves a table with these values to peers with these keys, and what they have
-/// configured; or the status of the first text with a fault, and of the first fault there. How many
-/// values do not fit the table goes into `left_out`, which is 0 where no host is opened.
+/// Opens a host, or returns the status of the first fault of the first faulty text.
+///
+/// Writes the number of values that do not fit the table to `left_out`, or 0 on an error.
 pub(crate) fn open(
     alloc: Global,
     table: &[u8],
@@ -50,7 +51,7 @@ pub(crate) fn open(
     Ok(Opened::new(host, initial))
 }
 
-/// The table of a table file, twice, or the status of its first fault.
+/// Reads a table file into two tables.
 pub(crate) fn read_twice(alloc: Global, octets: &[u8]) -> Result<(Table, Table), u32>
     ensures first { IfOk result (λ tables. table_in octets.now ≡ Ok tables.0) }
     ensures second { IfOk result (λ tables. table_in octets.now ≡ Ok tables.1) }
@@ -62,9 +63,8 @@ pub(crate) fn read_twice(alloc: Global, octets: &[u8]) -> Result<(Table, Table),
     Ok((first, second))
 }
 
-/// Restores the values of a text into a table, and says how many do not fit; or the status of its
-/// first fault.
-#[tactic(auto, using(host_files::proofs::Texts::of_text, host_files::proofs::Texts::of_no_text))]
+/// Restores the values of a text into a table, and returns how many do not fit.
+#[tactic(auto, using(octet_io::proofs::Texts::of_text, octet_io::proofs::Texts::of_no_text))]
 fn restore_values(table: &mut Table, octets: &[u8]) -> Result<usize, u32>
     ensures restored { IfOk result (λ left_out.
         values_in octets.now table.old ≡ Ok (table.new, left_out)) }
@@ -81,7 +81,6 @@ fn restore_values(table: &mut Table, octets: &[u8]) -> Result<usize, u32>
     }
 }
 
-/// A host of what the files have, or the status of the configuration.
 #[tactic(auto, using(crate::proofs::Refusals::config_refused, crate::proofs::Refusals::config_unreadable))]
 fn open_with(
     alloc: Global,
@@ -107,40 +106,37 @@ fn open_with(
     }
 }
 
-/// The table of a table file, or the status of its first fault.
 #[tactic(auto, using(crate::proofs::Refusals::table_refused))]
 fn read_table(alloc: Global, octets: &[u8]) -> Result<Table, u32>
     ensures table { IfOk result (λ table. table_in octets.now ≡ Ok table) }
     ensures refused { IfErr result (λ status. BAD_TABLE < status) }
     ensures status { IfErr result (IsStatusOf (table_status (table_in octets.now))) }
 {
-    match table_in(alloc, octets) {
+    match Table::from_bytes(alloc, octets) {
         Ok(table) => Ok(table),
         Err(fault) => Err(status::of_table_fault(fault)),
     }
 }
 
-/// The keys of a key file, or the status of its first fault.
 #[tactic(auto, using(crate::proofs::Refusals::keys_refused))]
 fn read_keys(alloc: Global, octets: &[u8]) -> Result<Keys, u32>
     ensures keys { IfOk result (λ keys. keys_in octets.now ≡ Ok keys) }
     ensures refused { IfErr result (λ status. 0 < status) }
     ensures status { IfErr result (IsStatusOf (keys_status (keys_in octets.now))) }
 {
-    match keys_in(alloc, octets) {
+    match Keys::from_bytes(alloc, octets) {
         Ok(keys) => Ok(keys),
         Err(fault) => Err(status::of_key_fault(fault)),
     }
 }
 
-/// What a rows file says, or the status of its first fault.
 #[tactic(auto, using(crate::proofs::Refusals::rows_refused))]
 fn read_rows(alloc: Global, octets: &[u8]) -> Result<Rows, u32>
     ensures rows { IfOk result (λ rows. rows_in octets.now ≡ Ok rows) }
     ensures refused { IfErr result (λ status. 0 < status) }
     ensures status { IfErr result (IsStatusOf (rows_status (rows_in octets.now))) }
 {
-    match rows_in(alloc, octets) {
+    match Rows::from_bytes(alloc, octets) {
         Ok(rows) => Ok(rows),
         Err(fault) => Err(status::of_rows_fault(fault)),
     }

@@ -1,8 +1,8 @@
-//! What the program reads of its host.
+//! Queries of an open host.
 
 ghost use Rattle.std.specs.Prelude.{◌≡◌, ◌≢◌, ◌≤◌, length, take, Some};
 ghost use Rattle.att_table.specs.Table.{value_at};
-ghost use Rattle.gatt_slots.specs.Slots.{slots_deadline};
+ghost use Rattle.host_connections.specs.Slots.{slots_deadline};
 ghost use Rattle.gatt_subs.specs.RowsText.{rows_text};
 ghost use Rattle.gihandop_c.specs.Seeing.{found_by, uuid_of};
 ghost use Rattle.gihandop_c.specs.Statuses.{deadline_status, find_status, rows_text_status, value_status, values_text_status};
@@ -16,7 +16,6 @@ use gatt_host::from_16_bits;
 use saved_values::{Saves, values_text as saved_text};
 use std::alloc::Global;
 
-/// Puts the value at a handle at the front of `out`, where it fits, and its length into `count`.
 pub(crate) fn value(opened: &Opened, handle: u16, out: &mut [u8], count: &mut usize) -> u32
     ensures status { result ≡ value_status handle (length out.old) opened.now }
     ensures value { result ≡ DONE
@@ -35,7 +34,6 @@ pub(crate) fn value(opened: &Opened, handle: u16, out: &mut [u8], count: &mut us
     stream::copy(table.value(handle), out, count)
 }
 
-/// Puts the time before which no tick is needed into `time`.
 pub(crate) fn deadline(opened: &Opened, time: &mut u64) -> u32
     ensures status { result ≡ deadline_status opened.now }
     ensures deadline { result ≡ DONE → slots_deadline opened.now.host.server.time
@@ -53,8 +51,6 @@ pub(crate) fn deadline(opened: &Opened, time: &mut u64) -> u32
     }
 }
 
-/// Puts what peers have configured, as a rows file, at the front of `out`, where it fits, and its
-/// length into `count`.
 pub(crate) fn rows_text(alloc: Global, opened: &Opened, out: &mut [u8], count: &mut usize) -> u32
     ensures status { result ≢ OUT_OF_MEMORY
         → result ≡ rows_text_status (length out.old) opened.now }
@@ -76,8 +72,6 @@ pub(crate) fn rows_text(alloc: Global, opened: &Opened, out: &mut [u8], count: &
     stream::copy(text.octets.as_slice(), out, count)
 }
 
-/// Puts the values that differ from those of the table file, as a values text, at the front of `out`,
-/// where it fits, and its length into `count`: those that a peer may write, or, if `all` is not 0, all.
 pub(crate) fn values_text(
     alloc: Global,
     opened: &Opened,
@@ -100,7 +94,6 @@ pub(crate) fn values_text(
     }
 }
 
-/// Which values are saved.
 fn saves(all: u8) -> Saves
     ensures { result ≡ saves_of all }
 {
@@ -111,8 +104,6 @@ fn saves(all: u8) -> Saves
     }
 }
 
-/// Puts the handle of a value into `handle`: of those of a characteristic's type in services of a
-/// type, in the order of their handles, the one with this number, from 1.
 pub(crate) fn find(
     opened: &Opened,
     service: &[u8],
@@ -142,7 +133,7 @@ pub(crate) fn find(
     }
 }
 
-/// The UUID of 2 or 16 octets, the lowest first.
+/// Reads a UUID of 2 or 16 octets, least significant first.
 fn uuid(octets: &[u8]) -> Option<u128>
     ensures { result ≡ uuid_of octets.now }
 {

@@ -1,10 +1,10 @@
-//! A rows file that is put together in memory.
+//! A subscriptions file in memory.
 
 ghost use Rattle.std.specs.Prelude.{Some, None};
 
-use octets::{Failed, Sink};
+use octet_io::{Failed, Sink};
 
-/// The octets that were written so far. It fails where memory is refused.
+/// The bytes written so far. Writing fails if memory is refused.
 #[derive(Drop)]
 pub(crate) struct RowsText {
     pub(crate) octets: Vec<u8>,

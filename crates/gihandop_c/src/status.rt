@@ -1,8 +1,8 @@
-//! What a function answers, as one number.
+//! The numbers that functions return.
 
 ghost use Rattle.std.specs.Prelude.{◌≡◌, ◌+◌, Some};
 ghost use Rattle.att_table.specs.TableFault.{table_fault_number};
-ghost use Rattle.gatt_app.specs.Refusals.{number_of_refusal};
+ghost use Rattle.host_api.specs.Refusals.{number_of_refusal};
 ghost use Rattle.gatt_host.specs.Calls.{refused_of};
 ghost use Rattle.gatt_host.specs.Numbers.{number_of_fault};
 ghost use Rattle.gatt_subs.specs.RowsFault.{rows_fault_number};
@@ -12,57 +12,54 @@ ghost use Rattle.le_security.specs.KeyFault.{key_fault_number};
 
 use gatt_host::{AppFault, HostFault, KeyFault, RowsFault, TableFault};
 
-/// It is done.
 pub(crate) const DONE: u32 = 0;
-/// There is nothing to hand out.
+/// There is nothing to return.
 pub(crate) const NOTHING: u32 = 1;
-/// No host is open.
+
 pub(crate) const CLOSED: u32 = 2;
-/// A host is open already.
+
 pub(crate) const ALREADY_OPEN: u32 = 3;
-/// Packets have to go out first.
+/// Packets have to be sent first.
 pub(crate) const OUTPUT_OWED: u32 = 4;
-/// The buffer is too short.
+
 pub(crate) const SHORT_BUFFER: u32 = 5;
-/// Memory was refused.
+
 pub(crate) const OUT_OF_MEMORY: u32 = 6;
-/// The configuration is out of its limits.
+
 pub(crate) const BAD_CONFIG: u32 = 7;
-/// A structure of the program is smaller than the library's.
+
 pub(crate) const BAD_SIZE: u32 = 8;
 
-/// The host has stopped for good: this and the number of its fault, 1 to 7.
+/// The host has stopped: this plus the number of its fault, 1 to 4.
 pub(crate) const STOPPED: u32 = 20;
 
-/// The host refuses the call: this and the number of why, 1 to 7.
+/// The host refuses the call: this plus the number of the reason, 1 to 7.
 pub(crate) const REFUSED: u32 = 40;
 
 /// The host had stopped before the call.
 pub(crate) const HAS_STOPPED: u32 = 46;
 
-/// The table file is refused: this and the number of its first fault, 1 to 11.
+/// The table file is refused: this plus the number of its first fault, 1 to 11.
 pub(crate) const BAD_TABLE: u32 = 100;
 
-/// The key file is refused: this and the number of its first fault, 1 to 10.
+/// The key file is refused: this plus the number of its first fault, 1 to 10.
 pub(crate) const BAD_KEYS: u32 = 200;
 
-/// The rows file is refused: this and the number of its first fault, 1 to 4.
+/// The subscriptions file is refused: this plus the number of its first fault, 1 to 4.
 pub(crate) const BAD_ROWS: u32 = 300;
 
-/// The values text is refused: this and the number of its first fault, which is 1.
+/// The values text is refused: this plus the number of its first fault, 1.
 pub(crate) const BAD_VALUES: u32 = 400;
 
 /// A line of the values text is not a value.
 pub(crate) const VALUES_BAD_LINE: u32 = 401;
 
-/// The status of a host that a fault has stopped.
 pub(crate) fn of_host_fault(fault: HostFault) -> u32
     ensures { result ≡ STOPPED + number_of_fault fault }
 {
     STOPPED + u32::from(fault.number())
 }
 
-/// The status of a call that was refused.
 pub(crate) fn of_refusal(fault: AppFault) -> u32
     ensures number { result ≡ REFUSED + number_of_refusal fault }
     ensures status { result ≡ call_status (Some (refused_of fault)) }
@@ -78,21 +75,18 @@ pub(crate) fn of_refusal(fault: AppFault) -> u32
     }
 }
 
-/// The status of a table file that is refused.
 pub(crate) fn of_table_fault(fault: TableFault) -> u32
     ensures { result ≡ BAD_TABLE + table_fault_number fault }
 {
     BAD_TABLE + u32::from(fault.number())
 }
 
-/// The status of a key file that is refused.
 pub(crate) fn of_key_fault(fault: KeyFault) -> u32
     ensures { result ≡ BAD_KEYS + key_fault_number fault }
 {
     BAD_KEYS + u32::from(fault.number())
 }
 
-/// The status of a rows file that is refused.
 pub(crate) fn of_rows_fault(fault: RowsFault) -> u32
     ensures { result ≡ BAD_ROWS + rows_fault_number fault }
 {

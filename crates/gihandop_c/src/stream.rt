@@ -1,4 +1,4 @@
-//! The stream from the controller, and the packets that go back.
+//! The input from the controller, and the packets for it.
 
 ghost use Rattle.std.specs.Prelude.{◌≡◌, ◌≢◌, ◌<◌, ◌≤◌, ◌∷◌, [], length, take, true, if◌then◌else◌};
 ghost use Rattle.gatt_host.specs.Feeding.{octet_items, TakesUpToAPacket};
@@ -11,12 +11,12 @@ use crate::opened::Opened;
 use crate::status;
 use gatt_host::MAX_PACKET_OUT;
 
-/// The longest packet that goes out, in octets.
+/// The longest packet for the controller, in octets.
 const LONGEST_PACKET: usize = MAX_PACKET_OUT;
 
-/// Takes in octets up to the end of the next packet, or all of them where none ends in them, and
-/// says how many. Where the host stops, or had stopped, no more are to be taken in, and it says
-/// all.
+/// Takes bytes up to the end of the next packet, or all if none ends in them.
+///
+/// Writes their number to `used`. If the host stops or has stopped, all count as taken.
 pub(crate) fn take(opened: &mut Opened, octets: &[u8], used: &mut usize) -> u32
     ensures takes { OpenedRefines (octet_items (take used.new octets.now)) [] opened.old
         opened.new }
@@ -50,7 +50,6 @@ pub(crate) fn take(opened: &mut Opened, octets: &[u8], used: &mut usize) -> u32
     }
 }
 
-/// Takes in that nothing is owed.
 #[inline(always)]
 pub(crate) fn nothing(opened: &mut Opened, count: &mut usize) -> u32
     requires { all_out opened.old.host ≡ true }
@@ -65,8 +64,7 @@ pub(crate) fn nothing(opened: &mut Opened, count: &mut usize) -> u32
     status::NOTHING
 }
 
-/// Puts the next packet that is to go out at the front of `out`, and its length into `count`. It
-/// stands apart, so that a call of C that finds nothing owed saves no register.
+/// Writes the next packet. Not inlined, so that a call without a pending packet saves no registers.
 #[inline(never)]
 pub(crate) fn next_out(opened: &mut Opened, out: &mut [u8], count: &mut usize) -> u32
     ensures status { result ≡ out_status (length out.old) opened.old }
@@ -84,7 +82,7 @@ pub(crate) fn next_out(opened: &mut Opened, out: &mut [u8], count: &mut usize) -
         return too_short(opened, count);
     }
     match opened.host.next_into(out) {
-        // One was owed, so that nothing was noted as drained.
+        // A packet was pending, so `drained` is not set.
         Some(length) => {
             *count = length;
             status::DONE
@@ -93,7 +91,6 @@ pub(crate) fn next_out(opened: &mut Opened, out: &mut [u8], count: &mut usize) -
     }
 }
 
-/// Says how long a buffer has to be, where a packet is owed.
 #[cold]
 fn too_short(opened: &Opened, count: &mut usize) -> u32
     ensures status { result ≡ (if all_out opened.now.host then NOTHING else SHORT_BUFFER) }
@@ -108,7 +105,7 @@ fn too_short(opened: &Opened, count: &mut usize) -> u32
     status::SHORT_BUFFER
 }
 
-/// Copies octets to the front of `out`, where they fit, and says how many there are in any case.
+/// Copies bytes to a prefix of `out` if they fit. `count` always receives their number.
 pub(crate) fn copy(octets: &[u8], out: &mut [u8], count: &mut usize) -> u32
     ensures done { result ≡ DONE → take count.new out.new ≡ octets.now }
     ensures status { result ≡ room_status (length octets.now) (length out.old) }

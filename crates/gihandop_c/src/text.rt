@@ -1,9 +1,9 @@
-//! Each status in words.
+//! The texts of statuses.
 
 ghost use Rattle.std.specs.Prelude.{◌≡◌, is_some};
 ghost use Rattle.gihandop_c.specs.Statuses.{is_status};
 
-/// What the library itself answers, from 0.
+/// Statuses of the library itself, from 0.
 const LIBRARY: &[&str] = &[
     "done",
     "there is nothing to hand out",
@@ -16,7 +16,7 @@ const LIBRARY: &[&str] = &[
     "a structure is smaller than that of the library",
 ];
 
-/// Why a host has stopped, from 21.
+/// Faults of a stopped host, from 21.
 const HOST: &[&str] = &[
     "host: an octet stands where a packet begins, and begins none",
     "host: an event is too short for its fields, or has another length than it states",
@@ -24,7 +24,7 @@ const HOST: &[&str] = &[
     "host: the controller reports an error of its own",
 ];
 
-/// Why a call is refused, from 41.
+/// Reasons for a refused call, from 41.
 const CALLS: &[&str] = &[
     "there is no attribute with the handle",
     "it is no characteristic value",
@@ -35,7 +35,7 @@ const CALLS: &[&str] = &[
     "a table has no value that tells of changes, or they have it at different handles",
 ];
 
-/// The faults of a table file, from 101.
+/// Faults of a table file, from 101.
 const TABLE: &[&str] = &[
     "table: it is not TOML",
     "table: a key that has to be there is not",
@@ -50,7 +50,7 @@ const TABLE: &[&str] = &[
     "table: a key that is unknown, or of another TOML type than its own",
 ];
 
-/// The faults of a key file, from 201.
+/// Faults of a key file, from 201.
 const KEYS: &[&str] = &[
     "keys: it is not TOML",
     "keys: a key that each entry has to have is not there",
@@ -64,7 +64,7 @@ const KEYS: &[&str] = &[
     "keys: a secure key with another rand or ediv than 0",
 ];
 
-/// The faults of a rows file, from 301.
+/// Faults of a subscriptions file, from 301.
 const ROWS: &[&str] = &[
     "rows: a line says nothing that a rows file may say",
     "rows: a line says what an earlier one has said",
@@ -72,12 +72,12 @@ const ROWS: &[&str] = &[
     "rows: memory was refused",
 ];
 
-/// The faults of a values text, from 401.
+/// Faults of a values text, from 401.
 const VALUES: &[&str] = &[
     "values: a line is not a handle, a type, and octets in hexadecimal or `-`",
 ];
 
-/// What a status says, in ASCII; none of a number that no function answers.
+/// Returns the meaning of a status in ASCII, or `None` if no function returns it.
 pub(crate) fn text(status: u32) -> Option<&'static str>
     ensures { is_some result ≡ is_status status }
 {

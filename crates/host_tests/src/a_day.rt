@@ -1,5 +1,4 @@
-//! A day of two phones, heard by somebody who keeps a copy of the values: at its end the copy is what
-//! the table has.
+//! A listener's copy of the values equals the table at the end of a day.
 
 use crate::player::{Setting, ready};
 use crate::tables::File::Door;
@@ -18,21 +17,20 @@ const SETTING: &Setting<'static> = &Setting {
     packets: 8,
 };
 
-/// A value, by the handle of its attribute.
 #[derive(Default, Drop)]
 struct Known {
     attribute: u16,
     value: ArrayVec<u8, 64>,
 }
 
-/// The values that were heard of, or set: all others are those of the table at first.
+/// The values that were notified or set.
 #[derive(Drop)]
 struct Kept {
     values: ArrayVec<Known, 8>,
 }
 
 impl Kept {
-    /// A value is this now. What has no room is not kept, and fails the comparison.
+    /// Stores a value. Without space the comparison fails.
     fn keep(&mut self, attribute: u16, octets: &[u8]) {
         let mut value = ArrayVec::new();
         let _ = value.try_extend_from_slice(octets);
@@ -45,7 +43,6 @@ impl Kept {
         let _ = self.values.try_push(Known { attribute, value });
     }
 
-    /// The value of an attribute, where it is another than at first.
     fn value(&self, attribute: u16) -> Option<&[u8]> {
         for known in self.values.as_slice() {
             if known.attribute == attribute {
@@ -69,20 +66,16 @@ impl Listener for Kept {
     }
 }
 
-/// What happens.
 #[derive(Clone, Copy)]
 enum Event {
-    /// The controller sends this.
     Sends(&'static str),
-    /// A connection sends a PDU, and what goes out for it is completed.
+    /// A PDU of a connection; its answer is completed.
     Asks(u16, &'static str),
-    /// The application sets a value.
     Sets(u16, &'static [u8]),
-    /// It makes another call.
     Calls(App<'static>),
 }
 
-/// The tablet comes, which has a key, and a stranger; both go, and the tablet comes again.
+/// A tablet with a key and a stranger connect and disconnect; the tablet returns.
 const DAY: &[Event] = &[
     Event::Sends("043e1301004000010055443322110018000000480000"),
     Event::Sends("040e04010a2000"),
@@ -135,12 +128,11 @@ fn hears(host: &mut Host, kept: &mut Kept, octets: &[u8]) -> bool {
     drive_to(host, &[Input::Bytes(octets)], &mut Written::new(), kept).is_ok()
 }
 
-/// Makes a call, which is not refused.
+/// Makes a call that must not be refused.
 fn calls(host: &mut Host, kept: &mut Kept, call: App<'_>) -> bool {
     drive_to(host, &[Input::Call(call)], &mut Written::new(), kept) == Ok(0)
 }
 
-/// Whether a table has the values that are known, and else those that it had at first.
 fn is_known(kept: &Kept, first: &Table, table: &Table) -> bool {
     for attribute in 1..=21 {
         if value_of(table, attribute)

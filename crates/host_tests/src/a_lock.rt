@@ -1,4 +1,4 @@
-//! The lock of the example at a door: its motor, its button and its strangers.
+//! The example lock: its motor, its button and strangers.
 
 use crate::player::{Setting, ready};
 use crate::tables::File::Door;
@@ -16,29 +16,26 @@ const SETTING: &Setting<'static> = &Setting {
     packets: 4,
 };
 
-/// A motor that keeps how it was turned.
 #[derive(Drop)]
 struct Turns(ArrayVec<bool, 8>);
 
 impl Motor for Turns {
     fn turn(&mut self, open: bool) {
-        // What has no room is not kept, and fails the comparison.
+        // Without space the comparison fails.
         let _ = self.0.try_push(open);
     }
 }
 
-/// What happens at the door.
 #[derive(Clone, Copy)]
 enum Happens {
-    /// The controller sends this by a moment, and this goes back.
+    /// Time, packets of the controller, and the answer.
     Sends(u64, &'static str, &'static str),
-    /// A PDU of the connection 0040 comes by a moment, and is answered so. The answer is completed.
+    /// Time, PDU of connection 0040, and its answer, which is completed.
     Asks(u64, &'static str, &'static str),
-    /// The button is pressed.
     Presses,
 }
 
-/// A phone with a key opens and shuts, and reads the code while it may.
+/// A phone with a key opens, shuts, and reads the code in time.
 const KNOWN: &[Happens] = &[
     Happens::Sends(
         1_000,
@@ -62,7 +59,7 @@ const KNOWN: &[Happens] = &[
     Happens::Asks(60_000, "120a0000", "13"),
 ];
 
-/// One without a key is sent away once it has stayed for half a minute.
+/// A phone without a key is disconnected after half a minute.
 const STRANGER: &[Happens] = &[
     Happens::Sends(
         1_000,
@@ -75,7 +72,6 @@ const STRANGER: &[Happens] = &[
     Happens::Sends(31_002, "", ""),
 ];
 
-/// Makes it happen, and says whether all goes back that is to go.
 fn step(rt: &impl Abort, lock: &mut Lock<Turns>, host: &mut Host, happens: Happens) -> bool {
     let mut written = Written::new();
     match happens {
@@ -104,7 +100,6 @@ fn asks(
     served && written.octets().ends_with(wanted.as_slice())
 }
 
-/// Plays a day at the door, and says whether the motor was turned so.
 fn plays(rt: &impl Abort, alloc: Global, day: &[Happens], turned: &[bool]) -> bool {
     let mut host = ready(rt, alloc, SETTING);
     let mut lock = Lock::new(Turns(ArrayVec::new()));

@@ -1,4 +1,4 @@
-//! Calls of the application one after another, each with what is written for it.
+//! Calls in sequence, each with its packets.
 
 use crate::player::{Setting, ready};
 use crate::tables::File::Bell;
@@ -15,17 +15,16 @@ const SETTING: &Setting<'static> = &Setting {
     packets: 4,
 };
 
-/// A call, what is answered, and what is written.
+/// A call, its result and its packets.
 type Case = (App<'static>, Result<(), Fault>, &'static str);
 
-/// A peer wants indications, and confirms none.
+/// A peer configures indications and confirms none.
 const SUBSCRIBED: &[Taken] = &[
     Taken::Packet("043e130100400001010a00000000c018000000480000"),
     Taken::Packet("040e04010a2000"),
     Taken::Pdu("1204000200"),
 ];
 
-/// Nobody has to let go out what a call brings before the next is made.
 const IN_A_ROW: &[Case] = &[
     (
         App::Update(3, &[0x01]),
@@ -48,13 +47,13 @@ const IN_A_ROW: &[Case] = &[
     ),
 ];
 
-/// What an earlier call brings goes out with the next.
+/// The packets of an earlier call are written with the next.
 const BEHIND_ANOTHER: &[Case] = &[
     (App::Tick(7), Ok(()), "0240000800040004001d030001"),
     (App::Tick(8), Ok(()), ""),
 ];
 
-/// Why a stopped host makes no call.
+/// A stopped host makes no call.
 const STOPPED: &[Case] = &[(App::Tick(7), Err(Fault::Host(HostFault::Desync(0x07))), "")];
 
 fn subscribed(rt: &impl Abort, alloc: Global) -> Host {

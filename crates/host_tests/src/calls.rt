@@ -1,4 +1,4 @@
-//! What the application asks of a host, step by step.
+//! Steps of the application.
 
 use crate::controller::take;
 use crate::player::Step;
@@ -10,7 +10,6 @@ use gatt_host::{App, AppFault, Host, Input, drive};
 use std::alloc::Global;
 use std::process::Abort;
 
-/// What the application asks, and what is to go out then.
 pub fn ask(
     rt: &impl Abort,
     alloc: Global,
@@ -33,7 +32,6 @@ pub fn ask(
     }
 }
 
-/// Another table, and what is to go out then.
 fn ask_for_table(
     rt: &impl Abort,
     alloc: Global,
@@ -54,7 +52,7 @@ fn ask_for_table(
 }
 
 fn make_call(rt: &impl Abort, host: &mut Host, call: App<'_>, written: &mut Written) {
-    // A call takes in no octet.
+    // A call processes no octets.
     assert!(rt; drive(host, &[Input::Call(call)], written) == Ok(0));
 }
 
@@ -63,7 +61,6 @@ fn refuse(rt: &impl Abort, host: &mut Host, call: App<'_>, fault: AppFault) {
     assert!(rt; host.app(call) == Err(fault));
 }
 
-/// Replaces the table of a host, which gives the old one back; or hands the new one back, for a fault.
 fn replace(
     rt: &impl Abort,
     alloc: Global,
@@ -79,12 +76,11 @@ fn replace(
     assert!(rt; replaced(rt, alloc, host, file) == (back, fault));
 }
 
-/// How many attributes a table has, which is not needed any more.
 fn len(table: Table) -> usize {
     table.len()
 }
 
-/// How many attributes the table has that comes back, and the fault.
+/// Returns the length of the returned table, and the fault.
 pub fn replaced(
     rt: &impl Abort,
     alloc: Global,

@@ -1,4 +1,4 @@
-//! A table that is replaced while peers are connected.
+//! A table is replaced while peers are connected.
 
 use crate::peers::Who::{Phone, Stranger};
 use crate::player::{Play, Setting, Step, play_each};
@@ -19,7 +19,7 @@ const AT_THE_DOOR: &Setting<'static> = &Setting {
     packets: 4,
 };
 
-/// What is prepared, and what is configured for a value of another type, goes with the old table.
+/// Prepared writes and configurations of values of another type are dropped.
 const CONNECTED: &[Step] = &[
     Step::Connects(0x40, Stranger, "010a200101"),
     Step::Asks(0x40, "1204000200", "13"),
@@ -35,7 +35,7 @@ const CONNECTED: &[Step] = &[
     Step::Asks(0x40, "0a0400", "0b0200"),
 ];
 
-/// A peer that is away is owed the indication until it has confirmed it.
+/// An absent bonded peer gets the indication until it confirms it.
 const AWAY: &[Step] = &[
     Step::Connects(0x40, Phone, "010a200101"),
     Step::Encrypts(0x40, Phone, &[]),
@@ -55,7 +55,7 @@ const AWAY: &[Step] = &[
     Step::Rows("1 c0:00:00:00:00:01 4 2\n"),
 ];
 
-/// A table that tells of no changes neither replaces another nor is replaced.
+/// A table without Service Changed neither replaces another nor is replaced.
 const WITHOUT_A_CHANGER: &[Step] = &[
     Step::Keeps(Porch, AppFault::NoServiceChanged),
     Step::Value(3, "4c6f636b"),

@@ -4,16 +4,13 @@ use crate::wire::{Octets, Written, put, spell};
 use gatt_host::{Host, feed};
 use std::process::Abort;
 
-/// How a controller answers.
 #[derive(Clone, Copy)]
 pub struct Controller {
-    /// It tells that it takes so many ACL packets, of 27 octets each.
+    /// Number of ACL packets that it accepts, of 27 octets each.
     pub packets: u8,
-    /// It completes each ACL packet.
     pub completes: bool,
 }
 
-/// Answers a packet that the host has written, and says how long that is.
 fn answer(rt: &impl Abort, controller: Controller, written: &[u8], answer: &mut Octets) -> usize {
     match written {
         [0x01, low, high, length, ..] => {
@@ -28,7 +25,6 @@ fn answer(rt: &impl Abort, controller: Controller, written: &[u8], answer: &mut 
     }
 }
 
-/// Completes an ACL packet, where the controller completes any.
 fn complete(rt: &impl Abort, controller: Controller, handle: u8, flags: u8, answer: &mut Octets) {
     if controller.completes {
         spell(rt, answer, "04130501");
@@ -36,7 +32,6 @@ fn complete(rt: &impl Abort, controller: Controller, handle: u8, flags: u8, answ
     }
 }
 
-/// A Disconnect is answered by its Command Status, and each other command by its Command Complete.
 fn answer_command(rt: &impl Abort, controller: Controller, low: u8, high: u8, answer: &mut Octets) {
     match [high, low] {
         [0x04, 0x06] => spell(rt, answer, "040f0400010604"),
@@ -51,7 +46,7 @@ fn answer_command(rt: &impl Abort, controller: Controller, low: u8, high: u8, an
     }
 }
 
-/// Answers all that the host has written, and what it then writes.
+/// Answers the host until it writes nothing more.
 pub fn answer_all(rt: &impl Abort, controller: Controller, host: &mut Host, written: &mut Written) {
     let mut answered = 0;
     for _ in 0..256 {
@@ -63,7 +58,6 @@ pub fn answer_all(rt: &impl Abort, controller: Controller, host: &mut Host, writ
     panic!(rt; "the host does not come to rest");
 }
 
-/// Answers the packet behind so many octets that are answered, and says how many are then.
 fn answer_next(
     rt: &impl Abort,
     controller: Controller,
@@ -78,7 +72,6 @@ fn answer_next(
     answered.checked_add(length).expect(rt, "a length")
 }
 
-/// Takes in octets from the controller.
 pub fn take(rt: &impl Abort, host: &mut Host, octets: &[u8], written: &mut Written) {
     assert!(rt; feed(host, octets, written).is_ok());
 }

@@ -1,4 +1,4 @@
-//! A stream that is cut at each place, and one that ends there.
+//! A stream cut at each place, and one that ends there.
 
 use crate::player::{Setting, feed_pieces, opened};
 use crate::tables::File::Door;
@@ -14,8 +14,8 @@ pub const SETTING: &Setting<'static> = &Setting {
     packets: 4,
 };
 
-/// What a controller sends, and what the host then writes, at first unasked: the answers to the commands
-/// of initialisation, a connection, and a Read in three fragments.
+/// Packets of the controller and the answers: initialisation, a connection, and a Read in three
+/// fragments.
 const EXCHANGES: &[(&str, &str)] = &[
     ("", "01030c00"),
     ("040e0401030c00", "01010c08ffffffffff9f0020"),
@@ -37,7 +37,6 @@ const EXCHANGES: &[(&str, &str)] = &[
     ("02401003000a0300", "0240000900050004000b4c6f636b"),
 ];
 
-/// All that the controller sends.
 pub fn all_told(rt: &impl Abort) -> Octets {
     let mut told = Octets::new();
     for (octets, _) in EXCHANGES {
@@ -46,8 +45,7 @@ pub fn all_told(rt: &impl Abort) -> Octets {
     told
 }
 
-/// What the host writes once so many octets of that are taken in: what each packet brings that ends in
-/// them.
+/// Returns the output of all packets that end in the first `count` octets.
 pub fn due_after(rt: &impl Abort, count: usize) -> Octets {
     let mut told = Octets::new();
     let mut due = Octets::new();
@@ -60,7 +58,6 @@ pub fn due_after(rt: &impl Abort, count: usize) -> Octets {
     due
 }
 
-/// Cuts the stream at every place.
 fn cut_everywhere(rt: &impl Abort, alloc: Global, told: &[u8], wanted: &[u8]) {
     for place in 0..told.len() {
         let pieces = told.split_at(place);
@@ -68,7 +65,6 @@ fn cut_everywhere(rt: &impl Abort, alloc: Global, told: &[u8], wanted: &[u8]) {
     }
 }
 
-/// Whether just this is written where a host takes in two pieces.
 fn is_all(rt: &impl Abort, alloc: Global, pieces: (&[u8], &[u8]), wanted: &[u8]) -> bool {
     let mut host = opened(rt, alloc, SETTING);
     let mut written = Written::new();
@@ -78,7 +74,6 @@ fn is_all(rt: &impl Abort, alloc: Global, pieces: (&[u8], &[u8]), wanted: &[u8])
     are_taken && written.octets() == wanted
 }
 
-/// Ends the stream at every place: all is written that is due there.
 fn end_everywhere(rt: &impl Abort, alloc: Global, told: &[u8]) {
     for place in 0..told.len() {
         let (front, _) = told.split_at(place);
@@ -89,7 +84,6 @@ fn end_everywhere(rt: &impl Abort, alloc: Global, told: &[u8]) {
     }
 }
 
-/// Takes in octet by octet.
 fn feed_each(rt: &impl Abort, alloc: Global, told: &[u8], wanted: &[u8]) {
     let mut host = opened(rt, alloc, SETTING);
     let mut written = Written::new();

@@ -1,20 +1,20 @@
-//! A reader that fails, and a writer that does.
+//! A failing reader and a failing writer.
 
 use crate::cut_streams::{SETTING, all_told, due_after};
 use crate::player::opened;
 use crate::wire::Written;
 use arrayvec::ArrayVec;
 use gatt_host::{App, End, Host, HostFault, Input, PacketRef, drive, feed, serve};
-use octets::{Reader, SliceSource, Source, Writer};
+use octet_io::{Reader, SliceSource, Source, Writer};
 use std::alloc::Global;
 use std::io;
 use std::io::{ErrorKind, Read, Write};
 use std::process::Abort;
 
-/// A command is complete: the controller takes one more.
+/// Command Complete, which allows another command.
 const READY: &[u8] = &[0x0E, 0x03, 0x01, 0x00, 0x00];
 
-/// A reader in memory that gives 16 octets at a time, and fails after so many reads.
+/// Returns 16 octets at a time and then fails.
 #[derive(Drop)]
 struct Pieces<'a> {
     octets: &'a [u8],
@@ -35,7 +35,7 @@ impl Read for Pieces<'_> {
     }
 }
 
-/// A writer in memory that takes so many octets, and then fails or takes none.
+/// Accepts some octets, and then fails or accepts none.
 #[derive(Drop)]
 struct Room {
     taken: ArrayVec<u8, 256>,
@@ -62,7 +62,7 @@ impl Write for Room {
     }
 }
 
-/// Whether a host has stopped for good, for this fault: each later call answers it and writes nothing.
+/// Each call returns the fault and writes nothing.
 fn has_stopped(host: &mut Host, fault: HostFault) -> bool {
     let mut written = Written::new();
     feed(host, &[0x04], &mut written) == Err(fault)
@@ -72,13 +72,11 @@ fn has_stopped(host: &mut Host, fault: HostFault) -> bool {
         && gives_no_more(host, fault)
 }
 
-/// Whether a host that is to serve a reader answers this fault before it reads.
 fn serves_no_more(host: &mut Host, fault: HostFault, written: &mut Written) -> bool {
     let mut source = SliceSource::new(&[0x04]);
     serve(host, &mut source, written, 1) == Err(fault) && source.read(&mut [0; 2]).ok() == Some(1)
 }
 
-/// Whether a host takes no packet and has nothing to send.
 fn gives_no_more(host: &mut Host, fault: HostFault) -> bool {
     host.drained()
         && host.packet(PacketRef::Event(READY)) == Err(fault)
@@ -86,7 +84,6 @@ fn gives_no_more(host: &mut Host, fault: HostFault) -> bool {
         && !host.next_out(&mut ArrayVec::new())
 }
 
-/// Serves a reader that fails after so many reads.
 fn serve_failing(
     host: &mut Host,
     told: &[u8],
@@ -100,8 +97,8 @@ fn serve_failing(
     serve(host, &mut reader, written, 1_000)
 }
 
-/// Whether the input comes to its end, or reading fails after so many reads and the host stops for that.
-/// None where neither is so, or where not just this is written.
+/// Returns true at the end of the input, and false if a failed read stopped the host; `None` for
+/// another outcome or output.
 fn is_whole(host: &mut Host, told: &[u8], wanted: &[u8], reads: usize) -> Option<bool> {
     let mut written = Written::new();
     let served = serve_failing(host, told, reads, &mut written);
@@ -115,7 +112,6 @@ fn is_whole(host: &mut Host, told: &[u8], wanted: &[u8], reads: usize) -> Option
     }
 }
 
-/// Whether it is so of a new host.
 fn is_whole_of_new(
     rt: &impl Abort,
     alloc: Global,
@@ -129,7 +125,6 @@ fn is_whole_of_new(
     whole
 }
 
-/// All that was due before the read that fails is written.
 #[test]
 fn readers_that_fail(rt: HostRuntime) {
     let told = all_told(&rt);
@@ -141,7 +136,6 @@ fn readers_that_fail(rt: HostRuntime) {
     }
 }
 
-/// Serves a writer that takes so many octets, and then fails or takes none.
 fn serve_full(host: &mut Host, told: &[u8], taken: &mut Room) -> Result<End, HostFault> {
     let mut reader = Reader::new(Pieces {
         octets: told,
@@ -150,7 +144,6 @@ fn serve_full(host: &mut Host, told: &[u8], taken: &mut Room) -> Result<End, Hos
     serve(host, &mut reader, &mut Writer::new(taken), 1_000)
 }
 
-/// Whether a host ends its work, or stops for good where writing fails.
 fn has_ended(
     host: &mut Host,
     served: Result<End, HostFault>,
@@ -167,8 +160,7 @@ fn has_ended(
     }
 }
 
-/// Whether a room of so many octets is filled with the front of what is to be written, and the host
-/// ends or stops.
+/// Returns true if a prefix of the output fills the writer.
 fn fills(host: &mut Host, told: &[u8], wanted: &[u8], room: usize, fails: bool) -> bool {
     let mut taken = Room {
         taken: ArrayVec::new(),
@@ -180,7 +172,6 @@ fn fills(host: &mut Host, told: &[u8], wanted: &[u8], room: usize, fails: bool) 
     taken.taken.as_slice() == front && has_ended(host, served, told, rest.is_empty())
 }
 
-/// Whether it is so of a new host.
 fn fills_by_new(
     rt: &impl Abort,
     alloc: Global,

@@ -1,4 +1,4 @@
-//! The faults of calls, and those at which a host stops.
+//! Faults of calls, and faults that stop a host.
 
 use crate::peers::Who::Stranger;
 use crate::player::{Play, Setting, Step, play_each};
@@ -25,7 +25,7 @@ const REFUSED: &[Step] = &[
     Step::Calls(App::Tick(5), &[]),
 ];
 
-/// After a fault nothing is taken any more.
+/// A host accepts nothing after a fault.
 const LOST: &[Step] = &[
     Step::Connects(0x40, Stranger, "010a200101"),
     Step::Stops("07", HostFault::Desync(0x07)),

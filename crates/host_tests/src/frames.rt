@@ -1,4 +1,4 @@
-//! Frames of peers, in fragments and on other channels.
+//! Frames in fragments and on other channels.
 
 use crate::peers::Who::Stranger;
 use crate::player::{Play, Setting, Step, play_each};
@@ -11,7 +11,6 @@ const SETTING: &Setting<'static> = &Setting {
     packets: 4,
 };
 
-/// A read of the name of the lock, in three fragments, and its answer.
 const FIRST: &str = "024020010003";
 
 const SECOND: &str = "0240100300000400";
@@ -32,8 +31,8 @@ const IN_FRAGMENTS: &[Step] = &[
     Step::Octets(THIRD, ANSWER),
 ];
 
-/// A continuation without a beginning, a packet that is too long, one of another connection, and the
-/// event of a disconnection that failed are passed over.
+/// A stray continuation, a long packet, one of another connection, and a failed disconnection are
+/// ignored.
 const PASSED_OVER: &[Step] = &[
     Step::Connects(0x40, Stranger, "010a200101"),
     Step::Octets("0240100700030004000a0300", ""),
@@ -45,7 +44,7 @@ const PASSED_OVER: &[Step] = &[
     Step::Octets(THIRD, ANSWER),
 ];
 
-/// Packets that are handed in whole: one that is too long is as if it were not there.
+/// A whole packet that is too long is ignored.
 const HANDED_IN: &[Step] = &[
     Step::Connects(0x40, Stranger, "010a200101"),
     Step::Hands(0x40, 2, "030004000a", 0, &[]),
@@ -56,7 +55,7 @@ const HANDED_IN: &[Step] = &[
     Step::Hands(0x40, 1, "0a0300", 0, &[(0x40, "0b4c6f636b")]),
 ];
 
-/// Pairing is refused, and a signalling command is not understood.
+/// Pairing is refused, and signalling commands are not understood.
 const OTHER_CHANNELS: &[Step] = &[
     Step::Connects(0x40, Stranger, "010a200101"),
     Step::AsksOn(0x40, 6, "01030001100000", "0505"),

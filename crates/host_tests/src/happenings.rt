@@ -1,4 +1,4 @@
-//! A host is served by what happens, at its controller and at its application.
+//! A host is served events.
 
 ghost use Rattle.std.specs.Prelude.{None};
 
@@ -8,7 +8,7 @@ use crate::tables::File::Bell;
 use crate::wire::spelled;
 use device_loop::{End, Happenings, Next, serve_happenings};
 use gatt_host::{App, AppFault, HostFault, Notice, Peer};
-use octets::{ArraySink, Sink};
+use octet_io::{ArraySink, Sink};
 use std::alloc::Global;
 use std::process::Abort;
 
@@ -19,19 +19,14 @@ const SETTING: &Setting<'static> = &Setting {
     packets: 4,
 };
 
-/// What happens in a turn: up to which deadline it is waited, in milliseconds, what is given, and what
-/// it is answered, if it is a call.
+/// The expected deadline, the event, and the expected answer to a call.
 type Turn = (Option<u64>, Next<'static>, Option<Result<(), AppFault>>);
 
-/// Happens as it is listed, and then no more can be read.
 #[derive(Drop)]
 struct Listed {
     turns: &'static [Turn],
-    /// How many were asked for.
     asked: usize,
-    /// What is to be answered, before the next is asked for.
     awaited: Option<Result<(), AppFault>>,
-    /// Whether there was another deadline, or another answer.
     differs: bool,
 }
 
@@ -62,8 +57,8 @@ impl Happenings for Listed {
     }
 }
 
-/// A phone connects, and a tick comes amid its event. It asks for indications of the bell, is given
-/// one and confirms it, and is sent away.
+/// A phone connects, with a tick in the middle of that event, confirms an indication, and is
+/// disconnected.
 const DAY: &[Turn] = &[
     (
         None,
@@ -124,17 +119,14 @@ const TOLD: &[Notice<'static>] = &[
     },
 ];
 
-/// A response, an indication, and a command.
 const WRITTEN: &str = "024000050001000400130240000800040004001d03000101060403400013";
 
-/// An octet that begins no packet.
 const DESYNC: &[Turn] = &[
     (None, Next::Octets(b"\x07"), None),
     (None, Next::Ended, None),
 ];
 
-/// So many turns at most, what happens, why it is over, how many turns were asked for, what is
-/// written, and what is told.
+/// Turns, events, result, events used, output and notices.
 type Case = (
     u64,
     &'static [Turn],
@@ -152,7 +144,6 @@ const CASES: &[Case] = &[
     (100, DESYNC, Err(HostFault::Desync(0x07)), 1, "", &[]),
 ];
 
-/// Serves a new host by what is listed, and says whether all is as it is to be but what is written.
 fn serves<W: Sink>(rt: &impl Abort, alloc: Global, case: Case, out: &mut W) -> bool {
     let (turns, listed, end, asked, _, told) = case;
     let mut host = ready(rt, alloc, SETTING);
@@ -182,8 +173,7 @@ fn as_listed(rt: HostRuntime) {
     }
 }
 
-/// The writer has room for the response, and not for the indication: the call that brings it is
-/// answered all the same.
+/// The writer has no space for the indication; its call is still answered.
 #[test]
 fn where_the_writer_fails(rt: HostRuntime) {
     let told = TOLD.get(..2).unwrap_or(&[]);

@@ -17,8 +17,8 @@ const SETTING: &Setting<'static> = &Setting {
     packets: 4,
 };
 
-/// What the controller sends, and what the host then writes, at first unasked. The controller tells 4
-/// packets of 27 octets. The last packet is a connection, beside which the host advertises for another.
+/// Packets of the controller, which has 4 packets of 27 octets, and the answers. After the
+/// connection the host advertises for another.
 const EXCHANGES: &[(&str, &str)] = &[
     ("", "01030c00"),
     ("040e0401030c00", "01010c08ffffffffff9f0020"),
@@ -37,8 +37,6 @@ const EXCHANGES: &[(&str, &str)] = &[
     ("043e130100400001010a00000000c018000000480000", "010a200101"),
 ];
 
-/// Takes in what the controller sends, in pieces of at most `size` octets, behind what the host has to
-/// say unasked.
 fn exchange(rt: &impl Abort, host: &mut Host, size: usize, octets: &str, wanted: &str)
     requires { 0 < size }
 {
@@ -53,7 +51,6 @@ fn compare(rt: &impl Abort, octets: &str, written: &[u8], wanted: &str) {
     assert!(rt; written == spelled(rt, wanted, 0).as_slice(), "{octets}");
 }
 
-/// Makes these exchanges, one behind the other.
 fn exchange_all(rt: &impl Abort, host: &mut Host, size: usize, exchanges: &[(&str, &str)])
     requires { 0 < size }
 {
@@ -62,7 +59,6 @@ fn exchange_all(rt: &impl Abort, host: &mut Host, size: usize, exchanges: &[(&st
     }
 }
 
-/// The whole initialisation, where packets come in pieces of at most `size` octets.
 fn initialise(rt: &impl Abort, alloc: Global, size: usize)
     requires { 0 < size }
 {
@@ -77,8 +73,7 @@ fn initialisation_and_a_connection(rt: HostRuntime) {
     initialise(&rt, rt.alloc(), 1);
 }
 
-/// What the controller sends instead, after so many of those exchanges, what the host writes before it
-/// stops, and its fault.
+/// Number of exchanges, then faulty packets, the output before the stop, and the fault.
 const FAULTS: &[(usize, &str, &str, HostFault)] = &[
     (
         1,
@@ -132,7 +127,6 @@ const FAULTS: &[(usize, &str, &str, HostFault)] = &[
     ),
 ];
 
-/// What has no fault, and the octets that go out.
 const WITHOUT_A_FAULT: &[(usize, &str, &str)] = &[
     (1, "040f040001030c", ""),
     (4, "040e0701022000000000", "01051000"),
@@ -142,15 +136,12 @@ const WITHOUT_A_FAULT: &[(usize, &str, &str)] = &[
     (1, "0240200700030004000a0300", ""),
 ];
 
-/// What comes after so many exchanges: octets that have a fault, with what is written before, or a
-/// further exchange.
 #[derive(Clone, Copy)]
 enum Last<'a> {
     Fault(&'a str, &'a str, HostFault),
     Exchange(&'a str, &'a str),
 }
 
-/// Makes so many exchanges with a new host, and then the last one.
 fn exchange_with_new(rt: &impl Abort, alloc: Global, count: usize, last: Last<'_>) {
     let mut host = opened(rt, alloc, SETTING);
     let first = EXCHANGES.get(..count).expect(rt, "exchanges");
@@ -162,7 +153,6 @@ fn exchange_with_new(rt: &impl Abort, alloc: Global, count: usize, last: Last<'_
     drop(host);
 }
 
-/// Takes in octets that have a fault, in one piece. What is due before it is written.
 fn stop(rt: &impl Abort, host: &mut Host, octets: &str, wanted: &str, fault: HostFault) {
     let mut written = Written::new();
     let told = spelled(rt, octets, 0);

@@ -1,12 +1,11 @@
-//! What one connection is sent does not tell what is hidden from it, and nothing that another does
-//! holds it up.
+//! A connection learns nothing hidden from it, and no other delays it.
 
 use crate::peers::Who::{Phone, Stranger, Tablet};
 use crate::player::{Play, Setting, Step, play_each};
 use crate::tables::File::{Door, Other};
 use gatt_host::App;
 
-/// The table of the door, but for one value that needs an encrypted link.
+/// The table of the door with another value that needs encryption.
 const OTHER_DOOR: &str = r#"# The table of another door lock: one value of type fff3 differs.
 [[service]]
 uuid = "1800"
@@ -81,8 +80,7 @@ const ONE_EACH: &Setting<'static> = &Setting {
     packets: 2,
 };
 
-/// What a stranger asks about the value at 17, and a phone whose link is not encrypted: the answers
-/// are the same, whatever the value is.
+/// The answers do not depend on the value at 17, which needs encryption.
 const ASKED_OF_A_HIDDEN_VALUE: &[Step] = &[
     Step::Connects(0x40, Stranger, "010a200101"),
     Step::Asks(0x40, "060100fffff3ff02", "010601000a"),
@@ -98,7 +96,7 @@ const ASKED_OF_A_HIDDEN_VALUE: &[Step] = &[
     Step::Asks(0x41, "0e0f001100", "010e11000f"),
 ];
 
-/// All that the completion of one connection's packets brings is its own next packet.
+/// Completed packets of one connection release only its own next packet.
 const COMPLETED_FOR_ANOTHER: &[Step] = &[
     Step::Connects(0x40, Stranger, "010a200101"),
     Step::Connects(0x41, Phone, ""),
@@ -112,7 +110,7 @@ const COMPLETED_FOR_ANOTHER: &[Step] = &[
     Step::Octets("0413050141000100", "0241000600020004000b01"),
 ];
 
-/// What comes for a connection that is gone does nothing.
+/// Packets for a connection that ended are ignored.
 const AFTER_A_DISCONNECTION: &[Step] = &[
     Step::Connects(0x40, Stranger, "010a200101"),
     Step::Connects(0x41, Tablet, ""),
@@ -127,7 +125,7 @@ const AFTER_A_DISCONNECTION: &[Step] = &[
     Step::Octets("0413050141000100", "0241000600020004000b64"),
 ];
 
-/// Where one connection fetches no answer, and is ended for it, the others are served.
+/// A connection that fetches no answers is ended; the others are served.
 const ONE_FULL_QUEUE: &[Step] = &[
     Step::Connects(0x40, Stranger, "010a200101"),
     Step::Connects(0x41, Phone, ""),
@@ -141,7 +139,6 @@ const ONE_FULL_QUEUE: &[Step] = &[
     Step::Calls(App::Update(6, &[0x01]), &[(0x41, "1b060001")]),
 ];
 
-/// The same steps at both tables.
 const PLAYS: &[Play] = &[
     (TWO_EACH, ASKED_OF_A_HIDDEN_VALUE),
     (OTHER_TABLE, ASKED_OF_A_HIDDEN_VALUE),

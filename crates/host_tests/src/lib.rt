@@ -1,5 +1,5 @@
-//! The host between a controller and an application, tested: what goes out for what comes in. These
-//! tests use what the layers make public, so they stand in a crate of their own.
+//! Tests of the host between a controller and an application. They use what the layers make public,
+//! so they are a crate of their own.
 #![tactic(auto)]
 
 #[cfg(test)]

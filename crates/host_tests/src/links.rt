@@ -1,4 +1,4 @@
-//! Keys of links, as a controller asks for them, and links that the application ends.
+//! Keys of links, and links that the application ends.
 
 use crate::peers::Who::{Phone, Stranger, Tablet, Watch};
 use crate::player::{Setting, Step, play};
@@ -12,7 +12,7 @@ const SETTING: &Setting<'static> = &Setting {
     packets: 4,
 };
 
-/// A key is asked for by the number and the diversifier that it has, or there is none.
+/// A key is found by its random number and diversifier, or there is none.
 const KEYS_GIVEN: &[Step] = &[
     Step::Connects(0x40, Phone, "010a200101"),
     Step::Octets(
@@ -34,8 +34,7 @@ const KEYS_GIVEN: &[Step] = &[
     Step::HasNoKey(0x40, Phone),
 ];
 
-/// The application ends the connection that it names, once. What waits for it is dropped, nothing more
-/// is sent to it, and another may have its handle once it is gone.
+/// An ended connection gets nothing more, not even waiting packets, and its handle becomes free.
 const ENDED: &[Step] = &[
     Step::Refuses(App::Disconnect(0x40), AppFault::NoSuchConnection),
     Step::Connects(0x41, Phone, "010a200101"),

@@ -1,4 +1,4 @@
-//! Who listens hears what octets and calls tell, however they come.
+//! A listener receives all notices, however the octets and calls arrive.
 
 use crate::player::{Setting, ready};
 use crate::tables::File::Door;
@@ -6,7 +6,7 @@ use crate::wire::{Octets, Written, put_told, spell};
 use gatt_host::{
     App, End, Host, HostFault, Input, Listener, Notice, Peer, drive_to, feed, feed_to, serve_to,
 };
-use octets::{ArraySink, SliceSource};
+use octet_io::{ArraySink, SliceSource};
 use std::alloc::Global;
 use std::process::Abort;
 
@@ -17,13 +17,11 @@ const SETTING: &Setting<'static> = &Setting {
     packets: 4,
 };
 
-/// Hears notices that are known beforehand.
+/// Expects a list of notices.
 #[derive(Drop)]
 pub struct Expects {
     wanted: &'static [Notice<'static>],
-    /// How many were heard.
     heard: usize,
-    /// Whether one was another.
     differs: bool,
 }
 
@@ -36,7 +34,6 @@ impl Expects {
         }
     }
 
-    /// Whether it has heard these and no other.
     pub fn is_met(&self) -> bool {
         !self.differs && self.heard == self.wanted.len()
     }
@@ -65,7 +62,7 @@ const WROTE: Notice<'static> = Notice::Written {
     value: b"a",
 };
 
-/// A phone connects, writes a value, reads one, writes two values by one execution, and goes.
+/// A phone connects, writes a value, reads one, executes two writes, and disconnects.
 const TOLD: &[Notice<'static>] = &[
     CAME,
     WROTE,
@@ -82,7 +79,6 @@ const TOLD: &[Notice<'static>] = &[
     Notice::Disconnected { handle: 0x40 },
 ];
 
-/// The stream of the day.
 fn day(rt: &impl Abort) -> Octets {
     let mut octets = Octets::new();
     spell(
@@ -105,7 +101,6 @@ fn day(rt: &impl Abort) -> Octets {
     octets
 }
 
-/// Feeds the day in pieces of a size.
 fn hears_pieces(rt: &impl Abort, alloc: Global, size: usize) -> bool {
     let mut host = ready(rt, alloc, SETTING);
     let mut written = Written::new();
@@ -143,18 +138,15 @@ fn octets_in_pieces(rt: HostRuntime) {
     }
 }
 
-/// What of the day is taken in up to its second packet, and how far.
 #[derive(Clone, Copy)]
 struct Step {
-    /// How many octets are handed in.
     handed: usize,
-    /// How many of them are taken.
+    /// Number of octets used.
     taken: usize,
-    /// What is told then.
     told: &'static [Notice<'static>],
 }
 
-/// The event has 22 octets, and the packet that follows it 13.
+/// The event has 22 octets, and the next packet 13.
 const STEPS: &[Step] = &[
     Step {
         handed: 21,
@@ -178,7 +170,6 @@ const STEPS: &[Step] = &[
     },
 ];
 
-/// Whether these notices are there, and no other.
 pub fn tells(host: &Host, wanted: &'static [Notice<'static>]) -> bool {
     let mut listener = Expects::new(wanted);
     for notice in host.notices() {
@@ -187,7 +178,6 @@ pub fn tells(host: &Host, wanted: &'static [Notice<'static>]) -> bool {
     listener.is_met()
 }
 
-/// Takes the day in by these steps.
 fn takes_steps(host: &mut Host, octets: &[u8], steps: &[Step]) -> bool {
     let mut left = octets;
     for step in steps {
@@ -216,7 +206,7 @@ const CONNECTED: &[Notice<'static>] = &[CAME];
 
 const WRITTEN: &[Notice<'static>] = &[CAME, WROTE];
 
-/// An octet that begins no packet behind the first: what was told before it is heard.
+/// The notices before the fault are received.
 #[test]
 fn before_a_fault(rt: HostRuntime) {
     let mut host = ready(&rt, rt.alloc(), SETTING);
@@ -239,7 +229,7 @@ fn before_a_fault(rt: HostRuntime) {
     assert!(rt; silent && listener.is_met());
 }
 
-/// The answer to a Write is not written: that the value was written is heard.
+/// The answer to a Write is not written, but its notice is received.
 #[test]
 fn before_the_writer_fails(rt: HostRuntime) {
     let mut host = ready(&rt, rt.alloc(), SETTING);
@@ -255,7 +245,7 @@ fn before_the_writer_fails(rt: HostRuntime) {
     assert!(rt; listener.is_met());
 }
 
-/// Calls between octets. One is refused, and tells nothing.
+/// A refused call has no notice.
 #[test]
 fn octets_and_calls(rt: HostRuntime) {
     let mut host = ready(&rt, rt.alloc(), SETTING);
@@ -275,7 +265,7 @@ fn octets_and_calls(rt: HostRuntime) {
     assert!(rt; listener.is_met());
 }
 
-/// A stream to its end, after which nothing more is told.
+/// There are no notices after the end of a stream.
 #[test]
 fn a_stream(rt: HostRuntime) {
     let mut host = ready(&rt, rt.alloc(), SETTING);

@@ -1,4 +1,4 @@
-//! What the application is told of packets, calls and tables.
+//! Notices of packets, calls and tables.
 
 use crate::tables::File::{Bell, Door, Porch, PorchNext};
 use crate::taken::{Case, Taken, play};
@@ -26,9 +26,9 @@ const ANOTHER: Notice<'static> = Notice::Connected {
     },
 };
 
-/// Who comes and who goes, and nothing of what is ignored.
+/// Connections and disconnections; ignored ones have no notice.
 const LINKS: &[Case] = &[
-    // A status, another role, and a handle that none has.
+    // An error status, another role, and an invalid handle.
     (
         Taken::Packet("043e130101400001010a00000000c018000000480000"),
         &[],
@@ -43,7 +43,7 @@ const LINKS: &[Case] = &[
     ),
     (COMES, &[STRANGER]),
     (ANOTHER_COMES, &[ANOTHER]),
-    // There are two slots.
+    // Only two slots exist.
     (
         Taken::Packet("043e130100420001010c00000000c018000000480000"),
         &[],
@@ -57,11 +57,11 @@ const LINKS: &[Case] = &[
     ),
 ];
 
-/// Values and configurations that are written, in the order of first entries, also where the octets
-/// stand already; nothing of what is refused, prepared or read.
+/// Writes in the order of first entries, even without a change. Refused, prepared and read values
+/// have no notice.
 const WRITES: &[Case] = &[
     (COMES, &[STRANGER]),
-    // A handle that is in use.
+    // The handle is in use.
     (COMES, &[]),
     (
         Taken::Pdu("12150061"),
@@ -100,7 +100,7 @@ const WRITES: &[Case] = &[
             },
         ],
     ),
-    // Of two entries the second is refused.
+    // The second of two entries is refused.
     (Taken::Pdu("161500000064"), &[]),
     (Taken::Pdu("16070000000200"), &[]),
     (Taken::Pdu("1801"), &[]),
@@ -117,7 +117,7 @@ const WRITES: &[Case] = &[
     (GOES, &[]),
 ];
 
-/// What the key of a link is worth, and that a connection is ended that lost it.
+/// Changes of the key of a link; a link that loses it is ended.
 const KEYS: &[Case] = &[
     (
         Taken::Packet("043e1301004000010055443322110018000000480000"),
@@ -141,7 +141,7 @@ const KEYS: &[Case] = &[
             },
         }],
     ),
-    // The same key, refreshed.
+    // The same key is refreshed.
     (Taken::Packet("043003004000"), &[]),
     (
         Taken::Pdu("120a0001"),
@@ -151,7 +151,7 @@ const KEYS: &[Case] = &[
             value: &[0x01],
         }],
     ),
-    // Two values and a configuration, by their first entries. The first is what its last entry makes it.
+    // Values appear in the order of first entries; the last entry counts.
     (Taken::Pdu("160a00000002"), &[]),
     (Taken::Pdu("160b0000000100"), &[]),
     (Taken::Pdu("161500000061"), &[]),
@@ -199,12 +199,11 @@ const KEYS: &[Case] = &[
             },
         ],
     ),
-    // What it still sends is ignored.
+    // Later PDUs of the connection are ignored.
     (Taken::Pdu("12150061"), &[]),
     (GOES, &[Notice::Disconnected { handle: 0x40 }]),
 ];
 
-/// Confirmations, and one that does not come in time.
 const INDICATIONS: &[Case] = &[
     (COMES, &[STRANGER]),
     (
@@ -235,7 +234,6 @@ const INDICATIONS: &[Case] = &[
     (Taken::Call(App::Tick(60_002)), &[]),
 ];
 
-/// Two confirmations that do not come in time.
 const TWO_INDICATIONS: &[Case] = &[
     (COMES, &[STRANGER]),
     (ANOTHER_COMES, &[ANOTHER]),
@@ -266,7 +264,7 @@ const TWO_INDICATIONS: &[Case] = &[
     ),
 ];
 
-/// A confirmation of an indication from before a replacement confirms nothing.
+/// A confirmation of an indication from before a new table confirms nothing.
 const REPLACEMENT: &[Case] = &[
     (COMES, &[STRANGER]),
     (
@@ -289,11 +287,11 @@ const REPLACEMENT: &[Case] = &[
     ),
 ];
 
-/// There is no room for an answer: two packets are outstanding, and sixteen answers wait.
+/// Two packets are outstanding and sixteen answers wait.
 const A_FULL_QUEUE: &[Case] = &[
     (COMES, &[STRANGER]),
     (Taken::Held(18, "0a0300"), &[]),
-    // What is answered by nothing is served still.
+    // A request without an answer is still served.
     (
         Taken::Held(1, "52150061"),
         &[Notice::Written {
@@ -312,7 +310,7 @@ const A_FULL_QUEUE: &[Case] = &[
     (GOES, &[Notice::Disconnected { handle: 0x40 }]),
 ];
 
-/// Two packets are outstanding and eight answers wait, so that a value is skipped.
+/// Two packets are outstanding and eight answers wait.
 const A_SKIPPED_VALUE: &[Case] = &[
     (COMES, &[STRANGER]),
     (
@@ -334,7 +332,7 @@ const A_SKIPPED_VALUE: &[Case] = &[
     (GOES, &[Notice::Disconnected { handle: 0x40 }]),
 ];
 
-/// Seven answers wait: the value is sent, and nothing is told.
+/// Seven answers wait.
 const A_VALUE_IN_TIME: &[Case] = &[
     (COMES, &[STRANGER]),
     (
@@ -350,7 +348,6 @@ const A_VALUE_IN_TIME: &[Case] = &[
     (GOES, &[Notice::Disconnected { handle: 0x40 }]),
 ];
 
-/// A queue that is full for an answer on another channel.
 const A_FULL_QUEUE_FOR_PAIRING: &[Case] = &[
     (COMES, &[STRANGER]),
     (Taken::Held(18, "0a0300"), &[]),
@@ -401,7 +398,6 @@ fn a_skipped_value_is_told(rt: HostRuntime) {
     play(&rt, rt.alloc(), Door, A_VALUE_IN_TIME);
 }
 
-/// The application ends a connection, which is told as an end of the host's own.
 const AN_END: &[Case] = &[
     (COMES, &[STRANGER]),
     (
@@ -422,7 +418,7 @@ const AN_END: &[Case] = &[
     ),
     (Taken::Refused(App::Disconnect(0x40)), &[]),
     (Taken::Call(App::Update(6, &[0x63])), &[]),
-    // What it still sends is ignored.
+    // Later PDUs of the connection are ignored.
     (Taken::Pdu("12150061"), &[]),
     (GOES, &[Notice::Disconnected { handle: 0x40 }]),
     (Taken::Refused(App::Disconnect(0x40)), &[]),

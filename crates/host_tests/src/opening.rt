@@ -1,4 +1,4 @@
-//! A host is opened.
+//! Opening a host.
 
 use crate::player::{Setting, opened};
 use crate::tables::File::Door;
@@ -12,7 +12,7 @@ use le_security::Keys;
 use std::alloc::Global;
 use std::process::Abort;
 
-/// Slots, the largest PDU that is received, and a random address, with the fault of that.
+/// Slots, receive MTU, random address, and the expected fault.
 type Case = (usize, u16, Option<[u8; 6]>, Option<OpenFault>);
 
 const CASES: &[Case] = &[
@@ -38,7 +38,6 @@ const CASES: &[Case] = &[
     ),
 ];
 
-/// Whether a host that is opened so has that fault, or none.
 fn is_fault(rt: &impl Abort, alloc: Global, case: &Case) -> bool {
     let table = Table::read(alloc, DOOR).expect(rt, "the table");
     let keys = Keys::read(alloc, "").expect(rt, "the keys");
@@ -60,7 +59,6 @@ fn configurations(rt: HostRuntime) {
     }
 }
 
-/// Reset goes out at once, and nothing more before the controller answers.
 fn is_reset_first(host: &mut Host) -> bool {
     let mut written = Written::new();
     !host.drained()

@@ -2,19 +2,19 @@
 
 #[derive(Clone, Copy)]
 pub enum Who {
-    /// It has no key.
+    /// Has no key.
     Stranger,
-    /// Its key is not authenticated.
+    /// Has an unauthenticated key.
     Phone,
-    /// It has two authenticated keys. This is the longer one, of 16 octets.
+    /// Has two authenticated keys; this is the one of 16 octets.
     Tablet,
-    /// The shorter one, of 7 octets.
+    /// The one of 7 octets.
     TabletByItsShortKey,
-    /// Its key is one of LE Secure Connections.
+    /// Has a key of LE Secure Connections.
     Watch,
 }
 
-/// The kind of its address, and the address: hexadecimal digits, as on the wire.
+/// The address type and address, in hexadecimal as on the wire.
 pub fn address(who: Who) -> &'static str {
     match who {
         Who::Stranger => "010a00000000c0",
@@ -24,7 +24,7 @@ pub fn address(who: Who) -> &'static str {
     }
 }
 
-/// What its key is asked for by: a random number and a diversifier.
+/// The random number and diversifier of a key request.
 pub fn request(who: Who) -> &'static str {
     match who {
         Who::Stranger => "0a0a0a0a0a0a0a0a0000",
@@ -35,7 +35,6 @@ pub fn request(who: Who) -> &'static str {
     }
 }
 
-/// The key, where it has one.
 pub fn key(who: Who) -> &'static str {
     match who {
         Who::Stranger => "",

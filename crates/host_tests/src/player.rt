@@ -1,4 +1,4 @@
-//! What happens to a host, step by step, and what it writes then.
+//! Plays steps with a host and compares its output.
 
 ghost use Rattle.std.specs.Prelude.{◌<◌};
 
@@ -15,59 +15,51 @@ use le_security::examples::{KEYS, SECURE_KEY};
 use std::alloc::Global;
 use std::process::Abort;
 
-/// PDUs of the Attribute Protocol in hexadecimal digits, each with the handle of its connection.
+/// ATT PDUs in hexadecimal, each with its connection.
 pub type Pdus = &'static [(u16, &'static str)];
 
-/// One step. Octets and PDUs are hexadecimal, and empty where none are.
+/// One step. Octets and PDUs are hexadecimal.
 #[derive(Clone, Copy)]
 pub enum Step {
-    /// Octets from the controller, and those that the host then writes.
+    /// Octets from the controller, and the output.
     Octets(&'static str, &'static str),
-    /// Octets from the controller that end with so many octets `61`, and those that the host then writes.
+    /// Octets that end with this many octets `61`, and the output.
     Long(&'static str, usize, &'static str),
-    /// The data of a whole ACL packet that is handed in, of a connection and with these boundary flags,
-    /// ends with so many octets `61`: what goes out then.
+    /// A whole ACL packet: boundary flags, data that end with this many octets `61`, and the
+    /// output.
     Hands(u16, u8, &'static str, usize, Pdus),
-    /// From here on the controller completes no ACL packet.
+    /// The controller completes no ACL packets from here on.
     Hold,
-    /// A peer connects under a handle, and the host writes these octets.
+    /// A peer connects; the output.
     Connects(u16, Who, &'static str),
-    /// A peer ends its connection, and the host writes these octets.
+    /// A peer disconnects; the output.
     Leaves(u16, &'static str),
-    /// The key of a link is asked for and given, and then the link is encrypted by it: what goes out
-    /// then.
+    /// The key is requested and the link encrypted; the output.
     Encrypts(u16, Who, Pdus),
-    /// The key of a link is asked for, and the host has none.
+    /// The key is requested, and the host has none.
     HasNoKey(u16, Who),
-    /// A PDU of a connection, and its answer.
     Asks(u16, &'static str, &'static str),
-    /// A PDU of a connection, and its answer, which ends with so many octets `61`.
+    /// A PDU and its answer, which ends with this many octets `61`.
     AsksForLong(u16, &'static str, &'static str, usize),
-    /// A PDU of a connection several times, each time with this answer.
+    /// A PDU several times, each with this answer.
     Times(usize, u16, &'static str, &'static str),
-    /// A PDU of a connection, and all that goes out then.
+    /// A PDU and all output.
     Tells(u16, &'static str, Pdus),
-    /// A frame of a connection on a channel, and the one that answers it.
+    /// A frame on a channel and its answer.
     AsksOn(u16, u8, &'static str, &'static str),
-    /// A call of the application, and what goes out then.
     Calls(App<'static>, Pdus),
-    /// A call that brings a command, and the octets that go out then.
+    /// A call that causes a command, and the octets.
     Commands(App<'static>, &'static str),
-    /// A call that is refused, and for what.
     Refuses(App<'static>, AppFault),
-    /// Another table, and what goes out then.
     Replaces(File<'static>, Pdus),
-    /// Another table, which is refused and handed back.
+    /// A refused table.
     Keeps(File<'static>, AppFault),
-    /// The rows, as text.
     Rows(&'static str),
-    /// The value at a handle.
     Value(u16, &'static str),
-    /// Octets from the controller at which the host stops.
+    /// Octets at which the host stops.
     Stops(&'static str, HostFault),
 }
 
-/// What a host is opened with, and how many ACL packets its controller takes.
 #[derive(Clone, Copy)]
 pub struct Setting<'a> {
     pub table: File<'a>,
@@ -76,24 +68,22 @@ pub struct Setting<'a> {
     pub packets: u8,
 }
 
-/// What a host is opened with, and what happens to it.
 pub type Play = (&'static Setting<'static>, &'static [Step]);
 
-/// Plays one after the other, each with a host of its own.
 pub fn play_each(rt: &impl Abort, alloc: Global, plays: &[Play]) {
     for (setting, steps) in plays {
         play(rt, alloc, setting, steps);
     }
 }
 
-/// Makes the steps of a new host, once its controller is initialised.
+/// Plays steps with a new host whose controller is initialised.
 pub fn play(rt: &impl Abort, alloc: Global, setting: &Setting<'_>, steps: &[Step]) {
     let mut host = opened(rt, alloc, setting);
     play_with(rt, alloc, &mut host, setting.packets, steps);
     drop(host);
 }
 
-/// A new host whose controller is initialised.
+/// Returns a new host whose controller is initialised.
 pub fn ready(rt: &impl Abort, alloc: Global, setting: &Setting<'_>) -> Host {
     let mut host = opened(rt, alloc, setting);
     let controller = Controller {
@@ -119,7 +109,7 @@ fn play_with(rt: &impl Abort, alloc: Global, host: &mut Host, packets: u8, steps
     }
 }
 
-/// Takes in octets in pieces of at most `size`, and says whether that has no fault.
+/// Feeds pieces of at most `size` octets. Returns true if there is no fault.
 pub fn feed_pieces(host: &mut Host, size: usize, octets: &[u8], written: &mut Written) -> bool
     requires { 0 < size }
 {
@@ -131,8 +121,8 @@ pub fn feed_pieces(host: &mut Host, size: usize, octets: &[u8], written: &mut Wr
     true
 }
 
-/// A host with the example keys, and no rows. Who owns it ends it by `drop`, which costs the proof less
-/// than the end of its scope.
+/// Returns a host with the example keys. Callers end it by `drop`, which makes their proofs
+/// cheaper.
 pub fn opened(rt: &impl Abort, alloc: Global, setting: &Setting<'_>) -> Host {
     Host::open(
         alloc,
@@ -144,7 +134,6 @@ pub fn opened(rt: &impl Abort, alloc: Global, setting: &Setting<'_>) -> Host {
     .expect(rt, "the host")
 }
 
-/// The keys of both example files.
 fn read_keys(rt: &impl Abort, alloc: Global) -> Keys {
     let text = format!(in alloc; "{KEYS}{SECURE_KEY}").expect(rt, "memory");
     let keys = Keys::read(alloc, &text).expect(rt, "the keys");
@@ -169,7 +158,6 @@ fn config(setting: &Setting<'_>) -> Config {
     }
 }
 
-/// Lets the host initialise its controller, which it ends by advertising.
 fn initialise(rt: &impl Abort, controller: Controller, host: &mut Host) {
     let mut written = Written::new();
     assert!(rt; feed(host, &[], &mut written).is_ok());
@@ -178,7 +166,6 @@ fn initialise(rt: &impl Abort, controller: Controller, host: &mut Host) {
     assert!(rt; ready);
 }
 
-/// Makes one step, and compares all that goes out with what was to.
 fn make(
     rt: &impl Abort,
     alloc: Global,

@@ -8,7 +8,6 @@ use gatt_host::App;
 use std::alloc::Global;
 use std::process::Abort;
 
-/// The door, with two slots.
 const AT_THE_DOOR: &Setting<'static> = &Setting {
     table: Door,
     slots: 2,
@@ -16,10 +15,10 @@ const AT_THE_DOOR: &Setting<'static> = &Setting {
     packets: 4,
 };
 
-/// What advertises for the slot that is still free.
+/// The command that advertises for a free slot.
 const ADVERTISES: &str = "010a200101";
 
-/// The state of the lock is read over an encrypted link, and written over an authenticated one.
+/// Reading the lock state needs an encrypted link, writing it an authenticated one.
 const STATE_OF_THE_LOCK: &[Step] = &[
     Step::Connects(0x40, Stranger, ADVERTISES),
     Step::Asks(0x40, "0a0a00", "010a0a0005"),
@@ -37,7 +36,7 @@ const STATE_OF_THE_LOCK: &[Step] = &[
     Step::Value(10, "05"),
 ];
 
-/// The code of the lock needs a long key, and an authorization.
+/// The code of the lock needs a long key and an authorization.
 const CODE_OF_THE_LOCK: &[Step] = &[
     Step::Connects(0x40, Tablet, ADVERTISES),
     Step::Encrypts(0x40, TabletByItsShortKey, &[]),
@@ -48,7 +47,7 @@ const CODE_OF_THE_LOCK: &[Step] = &[
     Step::Asks(0x40, "0a0d00", "0b31323334"),
 ];
 
-/// A value that needs encryption is passed over, or ends what is listed.
+/// A value that needs encryption is skipped, or ends a list.
 const LISTED: &[Step] = &[
     Step::Connects(0x40, Stranger, ADVERTISES),
     Step::Asks(0x40, "080100fffff3ff", "09030f0001"),
@@ -61,7 +60,7 @@ const LISTED: &[Step] = &[
     Step::Asks(0x41, "060100fffff3ff02", "0711001100"),
 ];
 
-/// What one peer prepares, another one neither writes nor drops.
+/// One peer neither writes nor drops what another prepared.
 const PREPARED: &[Step] = &[
     Step::Connects(0x40, Stranger, ADVERTISES),
     Step::Connects(0x41, Phone, ""),
@@ -86,7 +85,7 @@ fn policy_over_links(rt: HostRuntime) {
     play_each(&rt, rt.alloc(), OVER_LINKS);
 }
 
-/// That code, where it also needs a key of LE Secure Connections.
+/// The code also needs a key of LE Secure Connections.
 const SECURE_CODE: &[Step] = &[
     Step::Connects(0x40, Tablet, ADVERTISES),
     Step::Encrypts(0x40, TabletByItsShortKey, &[]),
@@ -112,7 +111,6 @@ fn reads_of_a_secure_value(rt: HostRuntime) {
     }
 }
 
-/// Makes the steps with this table in place of that of the door.
 fn play_at(rt: &impl Abort, alloc: Global, table: &str, steps: &[Step]) {
     let setting = Setting {
         table: Other(table),
@@ -121,7 +119,7 @@ fn play_at(rt: &impl Abort, alloc: Global, table: &str, steps: &[Step]) {
     play(rt, alloc, &setting, steps);
 }
 
-/// The first exchange of MTUs counts, for its connection alone.
+/// Only the first exchange of MTUs counts, and only for its connection.
 const MTUS: &[Step] = &[
     Step::Calls(App::Update(21, &[0x61; 512]), &[]),
     Step::Connects(0x40, Stranger, ADVERTISES),
@@ -135,7 +133,7 @@ const MTUS: &[Step] = &[
     Step::AsksForLong(0x40, "0a1500", "0b", 22),
 ];
 
-/// A long value is read whole, but for its length in a list.
+/// A long value is read whole, except in a list with lengths.
 const LONG_VALUES: &[Step] = &[
     Step::Calls(App::Update(21, &[0x61; 512]), &[]),
     Step::Connects(0x40, Stranger, ADVERTISES),

@@ -1,4 +1,4 @@
-//! What can be seen of a host: its deadline, who is connected, and what is left of it.
+//! The deadline, the connections, and the parts of a host.
 
 use crate::player::ready;
 use crate::tables::File::{Bell, Door};
@@ -12,7 +12,6 @@ const COMES: Taken = Taken::Packet("043e130100400001010a00000000c018000000480000
 
 const ANOTHER_COMES: Taken = Taken::Packet("043e130100410001010b00000000c018000000480000");
 
-/// Indications to two, of which one confirms, and one is ended.
 const DEADLINES: &[(Taken, Option<u64>)] = &[
     (COMES, None),
     (ANOTHER_COMES, None),
@@ -24,33 +23,29 @@ const DEADLINES: &[(Taken, Option<u64>)] = &[
     (Taken::Pdu("1e"), Some(30_005)),
     (Taken::Call(App::Update(3, &[0x02])), Some(30_005)),
     (Taken::Call(App::Tick(30_004)), Some(30_005)),
-    // The other is late, and this one is not yet.
     (Taken::Call(App::Tick(30_005)), Some(30_006)),
     (Taken::Call(App::Disconnect(0x40)), None),
 ];
 
-/// Authorizations of two, of which one ends, one is withdrawn and one is of a connection that is ended.
 const AUTHORIZATIONS: &[(Taken, Option<u64>)] = &[
     (COMES, None),
     (ANOTHER_COMES, None),
     (Taken::Call(App::Tick(5)), None),
-    // It has ended already.
+    // It has expired already.
     (Taken::Call(App::Authorize(0x40, 5)), None),
     (Taken::Call(App::Authorize(0x40, 90)), Some(90)),
     (Taken::Call(App::Authorize(0x41, 70)), Some(70)),
     (Taken::Call(App::Tick(69)), Some(70)),
     (Taken::Call(App::Tick(70)), Some(90)),
     (Taken::Call(App::Authorize(0x40, 0)), None),
-    // Even the last time is one.
     (Taken::Call(App::Authorize(0x40, u64::MAX)), Some(u64::MAX)),
-    // An indication is late before.
+    // An indication is late before that time.
     (Taken::Pdu("1204000200"), Some(u64::MAX)),
     (Taken::Call(App::Update(3, &[0x01])), Some(30_070)),
     (Taken::Call(App::Authorize(0x40, 80)), Some(80)),
     (Taken::Call(App::Tick(80)), Some(30_070)),
     (Taken::Pdu("1e"), None),
     (Taken::Call(App::Authorize(0x40, 100)), Some(100)),
-    // It serves no more.
     (Taken::Call(App::Disconnect(0x40)), None),
 ];
 
@@ -136,7 +131,6 @@ const ENDED: Connection = Connection {
     heard: 0,
 };
 
-/// Who is connected, in the order of the slots.
 const CONNECTIONS: &[(Taken, &[Connection])] = &[
     (COMES, &[FIRST]),
     (ANOTHER_COMES, &[FIRST, SECOND]),
@@ -147,10 +141,9 @@ const CONNECTIONS: &[(Taken, &[Connection])] = &[
     (Taken::Packet("04050400410016"), &[]),
 ];
 
-/// The ordinal of a connection, its slot, its handle, and when it was last heard.
+/// Ordinal, slot, handle, and time of the last packet.
 type Heard = (u64, usize, u16, u64);
 
-/// Which connections there are, and when each was last heard.
 const HEARD: &[(Taken, &[Heard])] = &[
     (Taken::Call(App::Tick(5)), &[]),
     (COMES, &[(1, 0, 0x40, 5)]),
@@ -160,7 +153,7 @@ const HEARD: &[(Taken, &[Heard])] = &[
         Taken::Call(App::Tick(7)),
         &[(1, 0, 0x40, 5), (2, 1, 0x41, 6)],
     ),
-    // A fragment, and then a broadcast packet, which is ignored.
+    // A fragment, and an ignored broadcast packet.
     (
         Taken::Packet("024020010003"),
         &[(1, 0, 0x40, 7), (2, 1, 0x41, 6)],
@@ -185,7 +178,7 @@ const HEARD: &[(Taken, &[Heard])] = &[
     (Taken::Packet("04050400400013"), &[(2, 1, 0x41, 8)]),
     // Another connection takes the slot, with a new ordinal.
     (COMES, &[(3, 0, 0x40, 9), (2, 1, 0x41, 8)]),
-    // A connection that is ending is not served, and not heard.
+    // Packets of an ending connection do not count.
     (
         Taken::Call(App::Disconnect(0x41)),
         &[(3, 0, 0x40, 9), (2, 1, 0x41, 8)],
@@ -252,7 +245,6 @@ fn is_written(table: &Table) -> bool {
     }
 }
 
-/// A phone writes a value, and then the stream is lost.
 #[test]
 fn values_are_left_after_a_fault(rt: HostRuntime) {
     let mut host = ready(&rt, rt.alloc(), &at(Door));

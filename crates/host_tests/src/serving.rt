@@ -4,7 +4,7 @@ use crate::player::{Setting, opened};
 use crate::tables::File::Door;
 use crate::wire::Written;
 use gatt_host::{End, HostFault, serve};
-use octets::SliceSource;
+use octet_io::SliceSource;
 use std::alloc::Global;
 use std::process::Abort;
 
@@ -15,16 +15,13 @@ const SETTING: &Setting<'static> = &Setting {
     packets: 4,
 };
 
-/// How many turns there are, and what comes of them.
 const CASES: &[(u64, Result<End, HostFault>)] = &[
     (1_000, Ok(End { turns: 2 })),
     (1, Err(HostFault::Turns)),
     (0, Err(HostFault::Turns)),
 ];
 
-/// Whether a new host that is served the beginning of an event, and then the end of the input, comes to
-/// this outcome in so many turns. Reset, which is owed from the start, is written whether there is a
-/// turn or none.
+/// Reset is written even without a turn.
 fn leads_to(rt: &impl Abort, alloc: Global, turns: u64, outcome: Result<End, HostFault>) -> bool {
     let mut host = opened(rt, alloc, SETTING);
     let mut source = SliceSource::new(&[0x04, 0x0E]);

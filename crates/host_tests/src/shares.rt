@@ -1,11 +1,10 @@
-//! What goes out while the controller does not complete packets.
+//! The output while the controller completes no packets.
 
 use crate::peers::Who::{Phone, Stranger};
 use crate::player::{Play, Setting, Step, play_each};
 use crate::tables::File::Door;
 use gatt_host::App;
 
-/// Each connection has a share of two packets.
 const TWO_EACH: &Setting<'static> = &Setting {
     table: Door,
     slots: 2,
@@ -13,7 +12,6 @@ const TWO_EACH: &Setting<'static> = &Setting {
     packets: 4,
 };
 
-/// Each connection has a share of one packet.
 const ONE_EACH: &Setting<'static> = &Setting {
     table: Door,
     slots: 2,
@@ -28,7 +26,7 @@ const ONE_ALONE: &Setting<'static> = &Setting {
     packets: 1,
 };
 
-/// What is completed can be no more than what is outstanding.
+/// Only outstanding packets can be completed.
 const COMPLETED: &[Step] = &[
     Step::Connects(0x40, Stranger, "010a200101"),
     Step::Asks(0x40, "1207000100", "13"),
@@ -43,7 +41,7 @@ const COMPLETED: &[Step] = &[
     Step::Calls(App::Update(6, &[0x06]), &[]),
 ];
 
-/// Of eleven notifications two go out, eight wait, and the last one is lost.
+/// Two of eleven notifications are sent, eight wait, and the last one is lost.
 const NEVER_COMPLETED: &[Step] = &[
     Step::Connects(0x40, Stranger, "010a200101"),
     Step::Asks(0x40, "1207000100", "13"),
@@ -78,7 +76,7 @@ const NEVER_COMPLETED: &[Step] = &[
     Step::Octets("0413050140000200", ""),
 ];
 
-/// A connection whose answers are not fetched is ended where one more has no room.
+/// A connection whose queue of answers overflows is ended.
 const TOO_MANY_READS: &[Step] = &[
     Step::Connects(0x40, Stranger, ""),
     Step::Hold,

@@ -1,4 +1,4 @@
-//! What each step does to a host, and what is to go out then.
+//! The effect of each step on a host.
 
 use crate::calls::ask;
 use crate::controller::{Controller, answer_all, take};
@@ -12,7 +12,6 @@ use le_h4::PacketRef;
 use std::alloc::Global;
 use std::process::Abort;
 
-/// Makes one step, and says what is to go out then.
 pub fn act(
     rt: &impl Abort,
     alloc: Global,
@@ -40,7 +39,6 @@ pub fn act(
     }
 }
 
-/// Hands in a whole ACL packet.
 fn hand(rt: &impl Abort, host: &mut Host, handle: u16, pb: u8, data: &[u8]) {
     assert!(rt; host.drained());
     let packet = PacketRef::Acl {
@@ -52,7 +50,6 @@ fn hand(rt: &impl Abort, host: &mut Host, handle: u16, pb: u8, data: &[u8]) {
     assert!(rt; host.packet(packet).is_ok());
 }
 
-/// What the controller tells: at once, or in turn with the host where a link is encrypted.
 fn hear(
     rt: &impl Abort,
     controller: Controller,
@@ -69,7 +66,6 @@ fn hear(
     }
 }
 
-/// What a host holds, and where it stops.
 fn check(rt: &impl Abort, host: &mut Host, step: Step, written: &mut Written) {
     match step {
         Step::Rows(text) => assert!(rt; has_rows(host, text)),
@@ -92,13 +88,11 @@ fn stop(rt: &impl Abort, host: &mut Host, octets: &str, fault: HostFault, writte
     assert!(rt; feed(host, octets.as_slice(), written) == Err(fault));
 }
 
-/// Whether the rows have this text.
 fn has_rows(host: &Host, text: &str) -> bool {
     let mut sink = Written::new();
     host.rows().text(&mut sink).is_ok() && sink.octets() == text.as_bytes()
 }
 
-/// The key of a link is asked for and given, and then the link is encrypted by it.
 fn encrypt(
     rt: &impl Abort,
     controller: Controller,
@@ -115,8 +109,7 @@ fn encrypt(
     put_pdus(rt, wanted, pdus);
 }
 
-/// The controller tells an event about a connection: the octets before its handle, and those behind
-/// it.
+/// Feeds an event: the octets before the handle, and those after it.
 fn tell_event(
     rt: &impl Abort,
     host: &mut Host,
@@ -130,7 +123,6 @@ fn tell_event(
     take(rt, host, told.as_slice(), written);
 }
 
-/// What the controller tells, and what is to go out then.
 fn tell(rt: &impl Abort, host: &mut Host, step: Step, written: &mut Written, wanted: &mut Octets) {
     let mut told = Octets::new();
     say(rt, step, &mut told, wanted);

@@ -1,4 +1,4 @@
-//! What connections are told unasked.
+//! Notifications and indications.
 
 use crate::peers::Who::{Phone, Stranger, Tablet};
 use crate::player::{Play, Setting, Step, play_each};
@@ -26,7 +26,8 @@ const AT_THE_LETTER_BOX: &Setting<'static> = &Setting {
     packets: 4,
 };
 
-/// What a peer with a key has configured outlasts its connections, for its encrypted links alone.
+/// The configuration of a bonded peer outlasts its connections, but holds only for its encrypted
+/// links.
 const KEPT_BY_A_BOND: &[Step] = &[
     Step::Connects(0x40, Tablet, "010a200101"),
     Step::Asks(0x40, "120b000100", "01120b000f"),
@@ -41,7 +42,7 @@ const KEPT_BY_A_BOND: &[Step] = &[
     Step::Calls(App::Update(10, &[0x03]), &[(0x40, "1b0a0003")]),
 ];
 
-/// What a link without a key has configured is not what it has with one.
+/// An unencrypted link has a configuration of its own.
 const OF_AN_UNENCRYPTED_LINK: &[Step] = &[
     Step::Connects(0x40, Phone, "010a200101"),
     Step::Asks(0x40, "1207000100", "13"),
@@ -51,8 +52,7 @@ const OF_AN_UNENCRYPTED_LINK: &[Step] = &[
     Step::Asks(0x40, "0a0700", "0b0000"),
 ];
 
-/// One indication is unconfirmed at a time, a value waits once, and who does not confirm in time is
-/// told nothing more.
+/// One indication is unconfirmed at a time, a value waits once, and a late peer gets nothing more.
 const INDICATED: &[Step] = &[
     Step::Connects(0x40, Stranger, "010a200101"),
     Step::Asks(0x40, "1204000300", "13"),
@@ -66,7 +66,7 @@ const INDICATED: &[Step] = &[
     Step::Asks(0x40, "0a0300", "0b04"),
 ];
 
-/// A connection is told while it is authorized.
+/// A connection is notified while it is authorized.
 const AUTHORIZED: &[Step] = &[
     Step::Connects(0x40, Stranger, "010a200101"),
     Step::Calls(App::Authorize(0x40, u64::MAX), &[]),
@@ -78,7 +78,6 @@ const AUTHORIZED: &[Step] = &[
     Step::Calls(App::Update(3, &[0x03]), &[(0x40, "1b030003")]),
 ];
 
-/// An authorization ends at its moment.
 const READ_IN_TIME: &[Step] = &[
     Step::Connects(0x40, Stranger, "010a200101"),
     Step::Calls(App::Authorize(0x40, 1000), &[]),
@@ -91,7 +90,7 @@ const READ_IN_TIME: &[Step] = &[
     Step::Asks(0x40, "0a0300", "010a030008"),
 ];
 
-/// What waits when the authorization ends is passed over.
+/// Values that wait when the authorization ends are skipped.
 const TOLD_IN_TIME: &[Step] = &[
     Step::Connects(0x40, Stranger, "010a200101"),
     Step::Calls(App::Authorize(0x40, 1000), &[]),

@@ -5,16 +5,14 @@ use att_table::examples::{BELL, DOOR, PORCH, PORCH_NEXT, POST};
 use std::alloc::Global;
 use std::process::Abort;
 
-/// A table file.
 #[derive(Clone, Copy)]
 pub enum File<'a> {
     Door,
     Bell,
     Porch,
-    /// The one in place of the porch.
+    /// Replaces `Porch`.
     PorchNext,
     Post,
-    /// One that is no example.
     Other(&'a str),
 }
 

@@ -1,4 +1,4 @@
-//! What a host takes in, and what its application is told of it.
+//! Inputs of a host, and their notices.
 
 use crate::calls::replaced;
 use crate::listening::tells;
@@ -9,27 +9,22 @@ use gatt_host::{App, Host, Notice, feed};
 use std::alloc::Global;
 use std::process::Abort;
 
-/// What is taken in, one at a time.
+/// One input.
 #[derive(Clone, Copy)]
 pub enum Taken {
-    /// A packet from the controller.
     Packet(&'static str),
-    /// A PDU of the Attribute Protocol of the connection 0040. What goes out for it is completed.
+    /// An ATT PDU of connection 0040, whose packets are completed.
     Pdu(&'static str),
-    /// PDUs of it, so many times, of which nothing is completed.
+    /// Several PDUs, of which no packet is completed.
     Held(usize, &'static str),
-    /// A call that is accepted.
     Call(App<'static>),
-    /// A call that is refused.
     Refused(App<'static>),
-    /// Another table.
     Table(File<'static>),
 }
 
-/// What is told of each.
+/// An input and its notices.
 pub type Case = (Taken, &'static [Notice<'static>]);
 
-/// A setting with a table, and two slots.
 pub const fn at(table: File<'static>) -> Setting<'static> {
     Setting {
         table,
@@ -39,7 +34,7 @@ pub const fn at(table: File<'static>) -> Setting<'static> {
     }
 }
 
-/// Has a new host with a table take in each in turn, and compares what is told of it.
+/// Feeds the inputs to a new host and compares the notices.
 pub fn play(rt: &impl Abort, alloc: Global, table: File<'static>, cases: &[Case]) {
     let mut host = ready(rt, alloc, &at(table));
     for (place, &(taken, notices)) in cases.iter().enumerate() {
@@ -50,13 +45,13 @@ pub fn play(rt: &impl Abort, alloc: Global, table: File<'static>, cases: &[Case]
     drop(host);
 }
 
-/// Takes it in, and lets go out what goes out for it.
+/// Processes an input and sends its output.
 pub fn go_on(rt: &impl Abort, alloc: Global, host: &mut Host, taken: Taken) {
     take(rt, alloc, host, taken);
     settle(rt, host, taken);
 }
 
-/// Takes it in. What goes out for packets goes out with them.
+/// Only the output of packets is sent at once.
 fn take(rt: &impl Abort, alloc: Global, host: &mut Host, taken: Taken) {
     match taken {
         Taken::Packet(octets) => hear(rt, host, spelled(rt, octets, 0).as_slice()),
@@ -75,20 +70,18 @@ fn take(rt: &impl Abort, alloc: Global, host: &mut Host, taken: Taken) {
     }
 }
 
-/// Octets from the controller.
 fn hear(rt: &impl Abort, host: &mut Host, octets: &[u8]) {
     let mut written = Written::new();
     assert!(rt; feed(host, octets, &mut written).is_ok());
 }
 
-/// A PDU of the connection.
 fn ask(rt: &impl Abort, host: &mut Host, pdu: &str) {
     let mut octets = Octets::new();
     put_told(rt, &mut octets, 0x40, 0x04, spelled(rt, pdu, 0).as_slice());
     hear(rt, host, octets.as_slice());
 }
 
-/// Whether a call is accepted, if all is out.
+/// Returns `None` if output is pending.
 fn is_accepted(host: &mut Host, call: App<'_>) -> Option<bool> {
     if host.drained() {
         Some(host.app(call).is_ok())
@@ -97,7 +90,7 @@ fn is_accepted(host: &mut Host, call: App<'_>) -> Option<bool> {
     }
 }
 
-/// What goes out for calls goes out afterwards, and packets are completed.
+/// Sends the output of calls, and completes packets.
 fn settle(rt: &impl Abort, host: &mut Host, taken: Taken) {
     hear(rt, host, &[]);
     if let Taken::Pdu(_) | Taken::Call(_) | Taken::Table(_) = taken {

@@ -1,11 +1,10 @@
-//! What a controller tells, step by step, and what is to go out then.
+//! The controller's packets of each step.
 
 use crate::peers::{Who, address, request};
 use crate::player::{Pdus, Step};
 use crate::wire::{Octets, put, put_sent, put_told, spell, spelled};
 use std::process::Abort;
 
-/// The octets of one step.
 pub fn say(rt: &impl Abort, step: Step, told: &mut Octets, wanted: &mut Octets) {
     match step {
         Step::Octets(octets, wants) => hear(rt, told, wanted, octets, 0, wants),
@@ -17,7 +16,6 @@ pub fn say(rt: &impl Abort, step: Step, told: &mut Octets, wanted: &mut Octets) 
     }
 }
 
-/// Octets, and behind them some octets `61`.
 fn hear(
     rt: &impl Abort,
     told: &mut Octets,
@@ -30,7 +28,6 @@ fn hear(
     spell(rt, wanted, wants);
 }
 
-/// What becomes of a link.
 fn link(rt: &impl Abort, step: Step, told: &mut Octets, wanted: &mut Octets) {
     match step {
         Step::Connects(handle, who, wants) => {
@@ -49,21 +46,18 @@ fn link(rt: &impl Abort, step: Step, told: &mut Octets, wanted: &mut Octets) {
     }
 }
 
-/// A peer connects.
 fn connect(rt: &impl Abort, told: &mut Octets, handle: u16, who: Who) {
     put_event(rt, told, "043e130100", handle, "01");
     spell(rt, told, address(who));
     spell(rt, told, "18000000480000");
 }
 
-/// A packet about a connection: the octets before its handle, and those behind it.
 pub fn put_event(rt: &impl Abort, octets: &mut Octets, before: &str, handle: u16, behind: &str) {
     spell(rt, octets, before);
     put(rt, octets, &handle.to_le_bytes());
     spell(rt, octets, behind);
 }
 
-/// PDUs that are to go out.
 pub fn put_pdus(rt: &impl Abort, wanted: &mut Octets, pdus: Pdus) {
     for &(handle, pdu) in pdus {
         let pdu = spelled(rt, pdu, 0);
@@ -71,7 +65,6 @@ pub fn put_pdus(rt: &impl Abort, wanted: &mut Octets, pdus: Pdus) {
     }
 }
 
-/// What a peer sends, and what is to go out then.
 fn send(rt: &impl Abort, step: Step, told: &mut Octets, wanted: &mut Octets) {
     match step {
         Step::Asks(handle, pdu, answer) => send_once(rt, told, wanted, handle, pdu, answer, 0),
@@ -85,7 +78,6 @@ fn send(rt: &impl Abort, step: Step, told: &mut Octets, wanted: &mut Octets) {
     }
 }
 
-/// Puts a PDU that brings others, or a frame on a channel, and what is to go out for it.
 fn send_alone(rt: &impl Abort, step: Step, told: &mut Octets, wanted: &mut Octets) {
     match step {
         Step::Tells(handle, pdu, pdus) => {
@@ -99,7 +91,6 @@ fn send_alone(rt: &impl Abort, step: Step, told: &mut Octets, wanted: &mut Octet
     }
 }
 
-/// A frame of a connection on a channel, and the one that answers it.
 fn send_on(
     rt: &impl Abort,
     told: &mut Octets,
@@ -115,7 +106,6 @@ fn send_on(
     put_sent(rt, wanted, handle, channel, answer.as_slice());
 }
 
-/// A PDU of a connection several times.
 fn send_often(
     rt: &impl Abort,
     told: &mut Octets,
@@ -130,7 +120,6 @@ fn send_often(
     }
 }
 
-/// A PDU of a connection, and its answer, if it has one.
 fn send_once(
     rt: &impl Abort,
     told: &mut Octets,

@@ -1,4 +1,4 @@
-//! Turns of a device that cannot save what some phones have changed: which octets are sent.
+//! Turns of a device that cannot save the changes of some phones.
 
 ghost use Rattle.std.specs.Prelude.{None, Some};
 
@@ -9,7 +9,7 @@ use device_loop::{
     End, Happenings, Next, Outgoing, Outside, Saving, Sending, serve_turn, withhold,
 };
 use gatt_host::{App, AppFault, Host, Listener, Notice};
-use octets::{Failed, Sink};
+use octet_io::{Failed, Sink};
 use std::alloc::Global;
 use std::process::Abort;
 
@@ -20,7 +20,6 @@ const SETTING: &Setting<'static> = &Setting {
     packets: 4,
 };
 
-/// Receives any notice.
 #[derive(Clone, Copy)]
 struct Hearing;
 
@@ -28,7 +27,6 @@ impl Listener for Hearing {
     fn hear(&mut self, _notice: Notice<'_>) {}
 }
 
-/// Octets that wait, in memory.
 #[derive(Drop)]
 struct Waiting(Vec<u8>);
 
@@ -60,17 +58,13 @@ impl Outgoing for Waiting {
     }
 }
 
-/// What happens in a turn, the connections whose changes cannot be saved, which octets are to be
-/// sent, and how that goes.
+/// Event, connections with unsaved changes, octets to be sent, and the outcome of sending.
 type Turn = (Next<'static>, &'static [u16], &'static [u8], Sending);
 
-/// A device whose turns are listed.
 #[derive(Drop)]
 struct Listed {
     turns: &'static [Turn],
-    /// How many are over.
     over: usize,
-    /// Whether other octets were to be sent.
     differs: bool,
 }
 
@@ -116,9 +110,9 @@ impl Outside<Hearing> for Listed {
     }
 }
 
-/// Two phones connect. The first one configures indications, which cannot be saved, so it gets no
-/// response and no indication. The second one gets its MTU, once a controller is there, and the
-/// command that ends the first connection goes out behind it.
+/// The changes of the first phone cannot be saved, so it gets no response and no indication. The
+/// second phone gets its MTU once a controller is there, before the command that ends the first
+/// connection.
 const TURNS: &[Turn] = &[
     (
         Next::Octets(
@@ -162,7 +156,6 @@ const TURNS: &[Turn] = &[
     ),
 ];
 
-/// Serves a new host in the turns that are listed, and says whether all is as it is to be.
 fn serves(rt: &impl Abort, alloc: Global) -> bool {
     let mut host = ready(rt, alloc, SETTING);
     let mut device = Listed {
@@ -187,7 +180,6 @@ fn withheld_while_nothing_is_saved(rt: HostRuntime) {
     assert!(rt; serves(&rt, rt.alloc()));
 }
 
-/// Octets, the connections whose data is withheld, and what is left.
 type Case = (&'static [u8], &'static [u16], &'static [u8]);
 
 const CASES: &[Case] = &[
@@ -198,13 +190,13 @@ const CASES: &[Case] = &[
         b"\x02\x40\x00\x01\x00\x61",
     ),
     (b"\x02\x40\x00\x01\x00\x61", &[0x40], b""),
-    // Whichever flags stand above the handle, and whichever octets are in the data.
+    // The flags above the handle and the data do not matter.
     (
         b"\x02\x40\x10\x01\x00\x61\x02\x41\x00\x02\x00\x02\x40\x01\x06\x04\x03\x40\x00\x13\x02\x40\x20\x00\x00",
         &[0x0F, 0x40],
         b"\x02\x41\x00\x02\x00\x02\x40\x01\x06\x04\x03\x40\x00\x13",
     ),
-    // What is no whole packet stays, and what follows it.
+    // Octets that are no whole packet stay, with everything after them.
     (
         b"\x02\x40\x00\x00\x00\x02\x40\x00\x02\x00\x61",
         &[0x40],
@@ -215,7 +207,7 @@ const CASES: &[Case] = &[
         &[0x40],
         b"\x03\x40\x00\x00\x02\x40\x00\x00\x00",
     ),
-    // A handle whose lower octet is another's.
+    // The lower octet of the handle is that of another.
     (
         b"\x02\x40\x01\x00\x00\x02\x40\x00\x00\x00",
         &[0x140],

@@ -1,24 +1,21 @@
-//! Octets of the wire, as the tests spell them.
+//! Octets on the wire.
 
 use arrayvec::ArrayVec;
-use octets::ArraySink;
+use octet_io::ArraySink;
 use std::process::Abort;
 
-/// As many octets as may go one way in one step.
+/// Most octets of one direction in one step.
 pub const ROOM: usize = 1536;
 
-/// Octets that go one way.
 pub type Octets = ArrayVec<u8, ROOM>;
 
-/// What a host writes.
 pub type Written = ArraySink<ROOM>;
 
-/// Octets behind others.
 pub fn put(rt: &impl Abort, octets: &mut Octets, more: &[u8]) {
     octets.try_extend_from_slice(more).expect(rt, "room");
 }
 
-/// The octets that hexadecimal text spells, behind others.
+/// Appends octets spelled in hexadecimal.
 pub fn spell(rt: &impl Abort, octets: &mut Octets, text: &str) {
     let mut spelled = [0; 64];
     let part = spelled.get_mut(..text.len() / 2).expect(rt, "room");
@@ -26,7 +23,7 @@ pub fn spell(rt: &impl Abort, octets: &mut Octets, text: &str) {
     put(rt, octets, part);
 }
 
-/// The octets that hexadecimal text spells, and behind them some octets `61`.
+/// Returns octets spelled in hexadecimal, and then some octets `61`.
 pub fn spelled(rt: &impl Abort, text: &str, more: usize) -> Octets {
     let mut octets = Octets::new();
     spell(rt, &mut octets, text);
@@ -36,13 +33,11 @@ pub fn spelled(rt: &impl Abort, text: &str, more: usize) -> Octets {
     octets
 }
 
-/// A handle, a length or a channel, the least significant octet first.
 fn put_number(rt: &impl Abort, octets: &mut Octets, number: usize) {
     let number = u16::try_from(number).expect(rt, "a number of two octets");
     put(rt, octets, &number.to_le_bytes());
 }
 
-/// A frame of a channel.
 fn frame(rt: &impl Abort, channel: u8, payload: &[u8]) -> Octets {
     let mut frame = Octets::new();
     put_number(rt, &mut frame, payload.len());
@@ -51,7 +46,6 @@ fn frame(rt: &impl Abort, channel: u8, payload: &[u8]) -> Octets {
     frame
 }
 
-/// An ACL packet with these flags above its handle.
 fn put_packet(rt: &impl Abort, octets: &mut Octets, handle: u16, flags: u16, data: &[u8]) {
     put(rt, octets, &[0x02]);
     put(rt, octets, &(handle | flags).to_le_bytes());
@@ -59,13 +53,13 @@ fn put_packet(rt: &impl Abort, octets: &mut Octets, handle: u16, flags: u16, dat
     put(rt, octets, data);
 }
 
-/// A frame of a connection, in one ACL packet of the controller.
+/// Appends a frame in one ACL packet of the controller.
 pub fn put_told(rt: &impl Abort, octets: &mut Octets, handle: u16, channel: u8, payload: &[u8]) {
     let frame = frame(rt, channel, payload);
     put_packet(rt, octets, handle, 0x2000, frame.as_slice());
 }
 
-/// A PDU of the Attribute Protocol of a connection, and behind it that what goes out for it is completed.
+/// Returns a PDU, followed by the completion of the packets that answer it.
 pub fn asked(rt: &impl Abort, handle: u16, pdu: &str) -> Octets {
     let mut octets = Octets::new();
     put_told(
@@ -81,7 +75,7 @@ pub fn asked(rt: &impl Abort, handle: u16, pdu: &str) -> Octets {
     octets
 }
 
-/// A frame of a connection, in ACL packets of the host with at most 27 octets of data.
+/// Appends a frame in ACL packets of the host, with at most 27 octets of data.
 pub fn put_sent(rt: &impl Abort, octets: &mut Octets, handle: u16, channel: u8, payload: &[u8]) {
     let frame = frame(rt, channel, payload);
     let mut flags = 0x0000;

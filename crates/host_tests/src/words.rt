@@ -1,11 +1,11 @@
-//! What faults say.
+//! The texts of faults.
 
 use gatt_host::{
     AppFault, Fault, HostFault, InitFault, KeyFault, OpenFault, RowsFault, TableFault, TableKey,
 };
 use std::alloc::Global;
 
-/// A fault of each kind, and its words.
+/// A fault of each kind, and its text.
 const WORDS: &[(Fault, &str)] = &[
     (
         Fault::Table(TableFault::BadUuid),

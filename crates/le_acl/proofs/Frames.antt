@@ -5,8 +5,9 @@ use Rattle.std.specs.Option.{option_map}
 use Rattle.std.proofs.lemmas.Bool.{leb-false, lt-leb, le-leb, eq-eqb, cases_lt}
 use Rattle.std.proofs.lemmas.List.{append-nil, length-append, length-drop, take-append-drop}
 use Rattle.std.proofs.lemmas.Grind.{reverse_onto}
-use Rattle.octets.specs.Number.{from_two}
-use Rattle.octets.specs.declared.pdu.TheConstants.{MAX_PDU}
+use Rattle.octet_io.proofs.Choices.{and_with_false}
+use Rattle.octet_io.specs.Number.{from_two}
+use Rattle.octet_io.specs.declared.pdu.TheConstants.{MAX_PDU}
 use Rattle.le_acl.specs.declared.frame.TheConstants.{MAX_FRAME}
 use Rattle.le_acl.specs.Fragment.{Fragment, Beginning, Continuation}
 use Rattle.le_acl.specs.Packets.{Pdu, frame_octets, pieces_within, pieces, fragments_of_pieces, fragments_of}
@@ -39,11 +40,6 @@ later-by false frame fits octets = refl
 outcome-later : (octets : List ℕ) → outcome octets false ≡ no_assembly
 outcome-later octets = later-by (is_enough octets) (is_frame octets) (nat_le (length octets) MAX_FRAME) octets
 
--- what is too long is never a frame
-and-false : (test : Bool) → (test && false) ≡ false
-and-false true = refl
-and-false false = refl
-
 frame-long : (octets : List ℕ) → MAX_FRAME < length octets → is_frame octets ≡ false
 frame-long [] long = refl
 frame-long (a ∷ []) long = refl
@@ -51,7 +47,7 @@ frame-long (a ∷ b ∷ []) long = refl
 frame-long (a ∷ b ∷ c ∷ []) long = refl
 frame-long (a ∷ b ∷ c ∷ d ∷ payload) long =
     ap (λ (fits : Bool). (length payload == from_two a b) && fits) (lt-leb (length (a ∷ b ∷ c ∷ d ∷ payload)) MAX_FRAME long)
-    ∙ and-false (length payload == from_two a b)
+    ∙ and_with_false (length payload == from_two a b)
 
 long-by : (enough : Bool) (octets : List ℕ) (short : Bool) → outcome_by enough false false octets short ≡ no_assembly
 long-by true octets true = refl

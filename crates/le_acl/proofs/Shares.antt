@@ -2,7 +2,7 @@
 use Rattle.std.proofs.Common.{◌≡◌, ◌≢◌, ℕ, ◌+◌, ◌-◌, ◌<◌, ◌≤◌, List, [], ◌∷◌, ◌++◌, length, take, drop, Bool, true, false, refl, sym, ◌∙◌, ap, subst, arith, append_assoc, inl, inr}
 use Rattle.std.specs.Prelude.{cond, not, ◌&&◌, ◌==◌, nat_lt}
 use Rattle.std.specs.Option.{option_to_list}
-use Rattle.std.proofs.lemmas.Bool.{ltb-true, ltb-false, lt-ltb, le-ltb, eqb-false, ne_eqb, cases_eq, cases_lt}
+use Rattle.std.proofs.lemmas.Bool.{ltb-true, ltb-false, lt-ltb, le-ltb, eqb-false, ne_eqb, cases_eq, cases_lt, and_parts, not-true}
 use Rattle.std.proofs.lemmas.Grind.{flat_map-append}
 use Rattle.std.proofs.lemmas.List.{append-nil, length-append, length-drop, take_at, take_all, drop-drop}
 use Rattle.le_acl.specs.Fragment.{Fragment}
@@ -105,18 +105,10 @@ rest-push given (first ∷ queued) packets within some = elim (cases_lt given (l
 rest-all : (given : List Fragment) → rest (length given) (given ∷ []) ≡ []
 rest-all given = rw (le-ltb (length given) (length given) (omega arith)) refl
 
-and-parts : (a b : Bool) → (a && b) ≡ true → (a ≡ true) × (b ≡ true)
-and-parts true b is = (refl, is)
-and-parts false b is = cc
-
-not-parts : (a : Bool) → not a ≡ true → a ≡ false
-not-parts true is = cc
-not-parts false is = refl
-
 may-parts : (old : Outgoing) → may_give old ≡ true → (length old.queue ≢ 0) × (old.outstanding < old.share)
 may-parts old is =
-    let parts = and-parts (not (length old.queue == 0)) (nat_lt old.outstanding old.share) is in
-    (eqb-false (length old.queue) 0 (not-parts (length old.queue == 0) parts.0), ltb-true old.outstanding old.share parts.1)
+    let parts = and_parts (not (length old.queue == 0)) (nat_lt old.outstanding old.share) is in
+    (eqb-false (length old.queue) 0 (not-true (length old.queue == 0) parts.0), ltb-true old.outstanding old.share parts.1)
 
 -- what is queued, given and done, and the sender
 record Keeps (queued : List (List Fragment)) (given : List Fragment) (done : ℕ) (now : Outgoing) : Type 0 where

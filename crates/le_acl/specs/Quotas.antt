@@ -1,15 +1,15 @@
--- How the buffers of a controller are shared: this profile's own.
+-- The division of a controller's buffers (this profile's own).
 use Rattle.std.specs.Prelude.{ℕ, ◌/◌, min}
 use Rattle.le_acl.specs.declared.sender.TheConstants.{MAX_ACL_LEN}
 
--- of so many slots for connections, those that packets are there for
+-- The usable slots: at most one for each packet.
 abbrev pub usable : ℕ → ℕ → ℕ
 usable slots packets = min slots packets
 
--- how many packets of one connection may be outstanding
+-- The number of packets of one connection that may be outstanding.
 abbrev pub quota : ℕ → ℕ → ℕ
 quota slots packets = packets / usable slots packets
 
--- the most octets of data in a packet, where the controller takes so many
+-- The maximum octets of data in a packet.
 abbrev pub acl_len : ℕ → ℕ
 acl_len length = min length MAX_ACL_LEN

@@ -2,27 +2,25 @@ ghost use Rattle.std.specs.Prelude.{◌≡◌, ◌-◌, ◌<◌, ◌≤◌, ◌+
 ghost use Rattle.le_acl.specs.FragmentRef.{fragment_of_ref, length_of_ref};
 ghost use Rattle.le_acl.specs.Packets.{frame_octets};
 ghost use Rattle.le_acl.specs.Sending.{fragment_at};
-ghost use Rattle.octets.specs.Number.{two_octets};
-ghost use Rattle.octets.specs.declared.pdu.TheConstants.{MAX_PDU};
+ghost use Rattle.octet_io.specs.Number.{two_octets};
+ghost use Rattle.octet_io.specs.declared.pdu.TheConstants.{MAX_PDU};
 
 use crate::frame::HEADER;
 
-/// The fragment of a frame that one packet has.
+/// The fragment of a frame in one packet.
 #[derive(Clone, Copy)]
 pub(crate) enum FragmentRef<'a> {
-    /// The frame's header, and the front of its payload.
     Beginning {
         header: [u8; HEADER],
         payload: &'a [u8],
     },
-    /// What follows of the payload.
     Continuation {
         payload: &'a [u8],
     },
 }
 
 impl<'a> FragmentRef<'a> {
-    /// The fragment of a PDU's frame that begins with the octet `gone`, with at most `acl_len` octets.
+    /// Returns the fragment at octet `gone` of the frame, of at most `acl_len` octets.
     #[inline(always)]
     #[tactic(auto, using(crate::proofs::Fragments::take_header, crate::proofs::Fragments::drop_header, crate::proofs::Fragments::fragment_later))]
     pub(crate) fn at(channel: u16, payload: &'a [u8], gone: usize, acl_len: usize) -> Self
@@ -46,7 +44,7 @@ impl<'a> FragmentRef<'a> {
     }
 }
 
-/// The header of a frame: the length of its payload, then its channel.
+/// Returns a frame's header: payload length, then channel.
 #[inline(always)]
 fn frame_header(channel: u16, length: u16) -> [u8; HEADER]
     ensures { result ≡ two_octets length ++ two_octets channel }
@@ -56,7 +54,6 @@ fn frame_header(channel: u16, length: u16) -> [u8; HEADER]
     [size_low, size_high, low, high]
 }
 
-/// The header of the frame of a payload.
 #[inline(always)]
 pub(crate) fn header_of(channel: u16, payload: &[u8]) -> [u8; HEADER]
     requires { length payload.now ≤ MAX_PDU }
@@ -65,7 +62,6 @@ pub(crate) fn header_of(channel: u16, payload: &[u8]) -> [u8; HEADER]
     frame_header(channel, payload.len() as u16)
 }
 
-/// As many octets from `start` on as there are, and at most `count`.
 #[inline(always)]
 fn part(octets: &[u8], start: usize, count: usize) -> &[u8]
     ensures { result.now ≡ take count (drop start octets.now) }

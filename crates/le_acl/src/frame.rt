@@ -1,9 +1,9 @@
-//! How long a frame may be: a header, and one PDU.
+//! Length of a frame: a header and one PDU.
 
-use octets::MAX_PDU;
+use octet_io::MAX_PDU;
 
-/// The octets of a frame's header: Core 5.0, Vol 3 Part A, 3.1.
+/// Octets of a frame's header (Core 5.0, Vol 3 Part A, 3.1).
 pub const HEADER: usize = 4;
 
-/// The most octets of a frame, its header among them.
+/// Maximum octets of a frame, including its header.
 pub const MAX_FRAME: usize = HEADER + MAX_PDU;

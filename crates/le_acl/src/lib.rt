@@ -1,5 +1,5 @@
-//! ACL data of one LE connection: frames from fragments, and fragments of the PDUs that go out within
-//! the buffers of the controller. (Core 5.0, Vol 3 Part A, 7.2, and Vol 2 Part E, 4.1)
+//! ACL data of one LE connection: reassembly of frames and fragmentation of PDUs (Core 5.0, Vol 3
+//! Part A, 7.2, and Vol 2 Part E, 4.1).
 #![tactic(auto)]
 
 pub mod boundary;

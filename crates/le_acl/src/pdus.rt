@@ -1,34 +1,32 @@
 ghost use Rattle.std.specs.Prelude.{◌≡◌, ◌+◌, ◌<◌, ◌≤◌, ◌↔◌, [], ◌∷◌, ◌++◌, take, drop, length, vec_len, slice_get, IfOk, IfSome, Some, IsNone};
 ghost use Rattle.std.specs.Borrow.{sem};
 ghost use Rattle.arrayvec.specs.ArrayVec.{array_vec_len};
-ghost use Rattle.octets.specs.declared.pdu.TheConstants.{MAX_PDU};
+ghost use Rattle.octet_io.specs.declared.pdu.TheConstants.{MAX_PDU};
 
-use octets::{MAX_PDU, PduOctets, write_front};
+use octet_io::{MAX_PDU, PduOctets, write_front};
 use std::alloc::{AllocError, Global};
 use std::marker::Model;
 
-/// How many PDUs of one connection are queued at most.
+/// Maximum number of queued PDUs of one connection.
 pub const MAX_PDUS: usize = 16;
 
-/// The header of a PDU's frame: Core 5.0, Vol 3 Part A, 3.1.
+/// Header of a PDU's frame (Core 5.0, Vol 3 Part A, 3.1).
 #[derive(Clone, Copy)]
 struct Header {
     channel: u16,
-    /// How many octets at the front of its payload are the PDU's.
     len: u16,
 }
 
-/// A PDU where it stands.
+/// A PDU in its buffer.
 #[derive(Clone, Copy)]
 pub(crate) struct PduRef<'a> {
     pub(crate) channel: u16,
-    /// All octets of its buffer.
+    /// The whole buffer.
     pub(crate) octets: &'a [u8],
-    /// How many of them, at their front, are its payload.
+    /// Length of the payload, at the start of the buffer.
     pub(crate) len: usize,
 }
 
-/// The payloads of PDUs, each at its place.
 #[derive(Drop)]
 struct Payloads {
     items: Vec<PduOctets>,
@@ -37,7 +35,6 @@ struct Payloads {
 impl Payloads {
     ghost use Rattle.le_acl.specs.PayloadLends.{LendsPayload};
 
-    /// Lends the payload at a place.
     #[inline(always)]
     fn at_mut(&mut self, index: usize) -> &mut PduOctets
         requires { index < vec_len self.old.items }
@@ -47,8 +44,7 @@ impl Payloads {
     }
 }
 
-/// At most `MAX_PDUS` PDUs in the order in which they were queued, and, where there are fewer, room for
-/// the next. None is moved.
+/// A ring of at most `MAX_PDUS` PDUs, in order, and a buffer for the next.
 #[derive(Drop)]
 pub(crate) struct Pdus {
     payloads: Payloads,
@@ -73,7 +69,6 @@ impl Model for Pdus {
 impl Pdus {
     ghost use Rattle.le_acl.specs.PdusLends.{LendsQueueRoom};
 
-    /// No PDUs, with room for as many as may be.
     pub(crate) fn new(alloc: Global) -> Result<Pdus, AllocError>
         ensures { IfOk result (λ pdus. pdus.pdus ≡ []) }
     {
@@ -87,7 +82,6 @@ impl Pdus {
         })
     }
 
-    /// How many PDUs there are.
     pub(crate) fn len(&self) -> usize
         ensures count { result ≡ length self.now.pdus }
         ensures within { result ≤ MAX_PDUS }
@@ -95,7 +89,6 @@ impl Pdus {
         self.count
     }
 
-    /// The payload of the next PDU.
     #[inline(always)]
     pub(crate) fn room(&mut self) -> &mut PduOctets
         requires { length self.old.pdus < MAX_PDUS }
@@ -104,7 +97,7 @@ impl Pdus {
         self.payloads.at_mut((self.first + self.count) % MAX_PDUS)
     }
 
-    /// Queues what stands in the room.
+    /// Queues the contents of the buffer.
     #[inline(always)]
     pub(crate) fn push(&mut self, channel: u16)
         requires { length self.old.pdus < MAX_PDUS }
@@ -118,7 +111,7 @@ impl Pdus {
         self.count += 1;
     }
 
-    /// Queues the first `count` octets of what stands in the room.
+    /// Queues the first `count` octets of the buffer.
     #[inline(always)]
     pub(crate) fn push_front(&mut self, channel: u16, count: usize)
         requires room { length self.old.pdus < MAX_PDUS }
@@ -134,7 +127,7 @@ impl Pdus {
         self.count += 1;
     }
 
-    /// Queues the octets of two places, one behind the other. What stood in the room is lost.
+    /// Queues two slices, joined, and overwrites the buffer.
     #[inline(always)]
     pub(crate) fn queue(&mut self, channel: u16, front: &[u8], rest: &[u8])
         requires room { length self.old.pdus < MAX_PDUS }
@@ -152,7 +145,7 @@ impl Pdus {
         write_front(payload.as_mut_slice(), front, rest);
     }
 
-    /// The first PDU where it stands.
+    /// Returns the first PDU with its whole buffer.
     #[inline(always)]
     pub(crate) fn first(&self) -> Option<PduRef<'_>>
         ensures none { IsNone result ↔ (self.now.pdus ≡ []) }
@@ -172,7 +165,6 @@ impl Pdus {
         })
     }
 
-    /// The channel and the payload of the first PDU.
     #[inline(always)]
     pub(crate) fn front(&self) -> Option<(u16, &[u8])>
         ensures none { IsNone result ↔ (self.now.pdus ≡ []) }
@@ -184,7 +176,6 @@ impl Pdus {
         Some((pdu.channel, &pdu.octets[..pdu.len]))
     }
 
-    /// Drops the first PDU.
     #[inline(always)]
     pub(crate) fn pop(&mut self)
         requires { 0 < length self.old.pdus }
@@ -195,7 +186,6 @@ impl Pdus {
         self.count -= 1;
     }
 
-    /// Drops all PDUs.
     pub(crate) fn clear(&mut self)
         ensures { self.new.pdus ≡ [] }
     {
@@ -203,7 +193,7 @@ impl Pdus {
     }
 }
 
-/// Gives a payload its full length. It mostly has it.
+/// Extends a buffer to its full length, which it mostly has.
 #[inline(always)]
 pub(crate) fn lengthen(payload: &mut PduOctets)
     ensures { array_vec_len payload.new ≡ MAX_PDU }
@@ -213,7 +203,6 @@ pub(crate) fn lengthen(payload: &mut PduOctets)
     }
 }
 
-/// Puts zeros in place of a payload, as many octets as it has room for.
 #[cold]
 #[inline(never)]
 fn fill(payload: &mut PduOctets)
@@ -222,7 +211,6 @@ fn fill(payload: &mut PduOctets)
     *payload = PduOctets::from([0; MAX_PDU]);
 }
 
-/// Payloads at their full length, for as many PDUs as may be.
 fn full_payloads(alloc: Global) -> Result<Vec<PduOctets>, AllocError>
     ensures { IfOk result (λ payloads. vec_len payloads ≡ MAX_PDUS) }
 {

@@ -3,36 +3,32 @@ ghost use Rattle.le_acl.specs.Frame.{FragmentsMakeTheirFrame, is_frame};
 ghost use Rattle.le_acl.specs.Reassembler.{GivesFrames, no_assembly, assembled_of, with_continuation, assembly_of};
 
 use crate::frame::{HEADER, MAX_FRAME};
-use octets::MAX_PDU;
+use octet_io::MAX_PDU;
 use std::marker::Model;
 
-/// What a fragment leads to.
+/// Result of a fragment.
 #[derive(Clone, Copy, PartialEq, Eq)]
 pub enum Piece {
-    /// No frame is whole.
+    /// No frame is complete.
     Nothing,
-    /// A frame is whole.
+    /// A frame is complete.
     Frame,
 }
 
-/// What is held of a frame.
+/// State of the stored frame.
 #[derive(Clone, Copy, PartialEq, Eq)]
 enum State {
-    /// Nothing.
     Idle,
-    /// Less than its header states.
     Unfinished,
-    /// All of it.
     Whole,
 }
 
-/// Puts the L2CAP frames of one connection together from ACL fragments: each has a header of 4
-/// octets, whose first 2 state the length of its payload, and at most `MAX_FRAME` octets in all.
-/// (Core 5.0, Vol 3 Part A, 3.1)
+/// A reassembler of the L2CAP frames of one connection, of at most `MAX_FRAME` octets with header
+/// (Core 5.0, Vol 3 Part A, 3.1).
 #[derive(Drop)]
 pub struct Reassembler {
     octets: [u8; MAX_FRAME],
-    /// How many of the octets are held.
+    /// Number of stored octets.
     len: usize,
     state: State,
 }
@@ -52,11 +48,11 @@ impl Model for Reassembler {
 }
 
 impl Reassembler {
-    /// A reassembler that holds nothing.
+    /// Creates an empty reassembler.
     #[tactic(auto, using(crate::proofs::Frames::assembled_frame, crate::proofs::Frames::fragments_frame))]
     pub fn new() -> Self
         ensures nothing { result ≡ no_assembly }
-        // Whatever fragments come, `start` and `more` give the frames that they make.
+        // `start` and `more` find the frames of any fragments.
         ensures frames { GivesFrames }
         ensures fragments { FragmentsMakeTheirFrame }
     {
@@ -67,7 +63,7 @@ impl Reassembler {
         }
     }
 
-    /// Takes in a fragment that begins a frame. A frame that is unfinished is dropped.
+    /// Accepts a fragment that begins a frame. Drops an unfinished frame.
     pub fn start(&mut self, octets: &[u8]) -> Piece
         ensures after { self.new ≡ assembled_of octets.now }
         ensures frame { (result ≡ Piece.Frame) ↔ IsSome self.new.frame }
@@ -77,7 +73,7 @@ impl Reassembler {
         self.piece()
     }
 
-    /// Takes in a fragment that continues a frame. It is dropped where none is unfinished.
+    /// Accepts a fragment that continues a frame. Ignores it if no frame is unfinished.
     pub fn more(&mut self, octets: &[u8]) -> Piece
         ensures after { self.new ≡ with_continuation self.old octets.now }
         ensures frame { (result ≡ Piece.Frame) ↔ IsSome self.new.frame }
@@ -89,7 +85,7 @@ impl Reassembler {
         self.piece()
     }
 
-    /// The frame that the newest fragment made whole.
+    /// Returns the frame that the last fragment completed.
     pub fn frame(&self) -> &[u8]
         requires { IsSome self.now.frame }
         ensures { self.now.frame ≡ Some result.now }
@@ -97,14 +93,13 @@ impl Reassembler {
         &self.octets[..self.len]
     }
 
-    /// Drops what is held.
+    /// Drops the stored octets.
     pub fn clear(&mut self)
         ensures { self.new ≡ no_assembly }
     {
         self.state = State::Idle;
     }
 
-    /// What the newest fragment led to.
     fn piece(&self) -> Piece
         ensures { (result ≡ Piece.Frame) ↔ IsSome self.now.frame }
     {
@@ -115,20 +110,17 @@ impl Reassembler {
     }
 }
 
-/// Whether octets are a whole frame: a header, and as long a payload as it states, at most
-/// `MAX_FRAME` in all.
+/// Returns true if `octets` are exactly one frame, of at most `MAX_FRAME` octets.
 #[inline(always)]
 pub fn is_frame(octets: &[u8]) -> bool
     ensures { result ≡ is_frame octets.now }
 {
-    // Both ends of its length are asked for at once.
     match octets.len().checked_sub(HEADER) {
         Some(count) if count <= MAX_PDU => state_of(octets) == State::Whole,
         _ => false,
     }
 }
 
-/// Joins a fragment to the octets so far, which are less than a frame.
 #[inline(always)]
 fn join(octets: &mut [u8; MAX_FRAME], len: &mut usize, fragment: &[u8]) -> State
     requires { len.old ≤ MAX_FRAME }
@@ -145,7 +137,6 @@ fn join(octets: &mut [u8; MAX_FRAME], len: &mut usize, fragment: &[u8]) -> State
     state_of(&octets[..end])
 }
 
-/// What octets of at most a frame are of it.
 #[inline(always)]
 fn state_of(octets: &[u8]) -> State
     requires { length octets.now ≤ MAX_FRAME }
@@ -155,7 +146,7 @@ fn state_of(octets: &[u8]) -> State
         return State::Unfinished;
     };
     let size = usize::from(u16::from_le_bytes([*low, *high]));
-    // It is mostly whole, and the others are told apart then.
+    // Most frames are complete, so this is checked first.
     if payload.len() == size {
         State::Whole
     } else if payload.len() < size {

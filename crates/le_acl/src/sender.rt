@@ -9,43 +9,42 @@ ghost use Rattle.le_acl.specs.Sending.{idle, queue_of, IsWithin, IsOfFirst};
 ghost use Rattle.le_acl.specs.declared.frame.TheConstants.{MAX_FRAME};
 ghost use Rattle.le_acl.specs.declared.sender.TheConstants.{MIN_ACL_LEN, MAX_ACL_LEN};
 ghost use Rattle.arrayvec.specs.ArrayVec.{array_vec_len};
-ghost use Rattle.octets.specs.Number.{Octets};
+ghost use Rattle.octet_io.specs.Number.{Octets};
 ghost use Rattle.le_h4.specs.declared.packet_buf.TheConstants.{MAX_PACKET_OUT};
-ghost use Rattle.octets.specs.declared.pdu.TheConstants.{MAX_PDU};
+ghost use Rattle.octet_io.specs.declared.pdu.TheConstants.{MAX_PDU};
 
 use crate::boundary::{CONTINUATION, FIRST_NOT_FLUSHED};
 use crate::fragment_ref::{FragmentRef, header_of};
 use crate::frame::HEADER;
 use crate::pdus::{MAX_PDUS, Pdus, lengthen};
 use le_h4::{PacketBuf, PacketOctets, acl_into, write_acl_parts};
-use octets::PduOctets;
+use octet_io::PduOctets;
 use std::alloc::{AllocError, Global};
 use std::marker::Model;
 
-/// The least length of a controller's buffer for ACL data of an LE connection, in octets: Core 5.0,
-/// Vol 2 Part E, 7.8.2.
+/// Minimum octets of a controller's buffer for LE ACL data (Core 5.0, Vol 2 Part E, 7.8.2).
 pub const MIN_ACL_LEN: u16 = 27;
 
-/// The most octets of data of an ACL packet that goes out, as many as one packet of the Link Layer
-/// has: Core 5.0, Vol 6 Part B, 4.5.10.
+/// Maximum octets of data of an ACL packet to the controller: one packet of the Link Layer (Core
+/// 5.0, Vol 6 Part B, 4.5.10).
 pub const MAX_ACL_LEN: u16 = 251;
 
-/// As many PDUs are queued as there is room for.
+/// Error of a full queue.
 #[derive(Clone, Copy, PartialEq, Eq)]
 pub struct Full;
 
-/// Queues the PDUs that go out on one connection, at most `MAX_PDUS`, and gives them as ACL
-/// packets, of which only a quota may be outstanding. (Core 5.0, Vol 2 Part E, 4.1.1)
+/// A queue of PDUs of one connection, sent as ACL packets within a quota of outstanding packets
+/// (Core 5.0, Vol 2 Part E, 4.1.1).
 #[derive(Drop)]
 pub struct Sender {
     pdus: Pdus,
-    /// How many octets of the first frame were given.
+    /// Octets sent of the first frame.
     gone: usize,
     outstanding: u16,
     share: u16,
-    /// The most octets of a packet's data.
+    /// Maximum octets of data in a packet.
     acl_len: usize,
-    /// Whether the room is lent.
+    /// True if the buffer for the next PDU is borrowed.
     lent: bool,
 }
 
@@ -64,15 +63,15 @@ impl Model for Sender {
 impl Sender {
     ghost use Rattle.le_acl.specs.SenderLends.{LendsRoom};
 
-    /// A sender that queues nothing yet. Of its packets, with at most `acl_len` octets of data, at
-    /// most `share` may be outstanding.
+    /// Creates an empty sender. At most `share` packets may be outstanding, with at most `acl_len`
+    /// octets of data.
     #[tactic(auto, using(crate::proofs::Shares::always_gives_a_share))]
     pub fn new(alloc: Global, share: u16, acl_len: u16) -> Result<Sender, AllocError>
         requires share { 0 < share }
         requires acl_len_least { MIN_ACL_LEN ≤ acl_len }
         requires acl_len_most { acl_len ≤ MAX_ACL_LEN }
         ensures idle { IfOk result (λ sender. sender ≡ idle share acl_len) }
-        // Whatever is done with it, the packets that it gives are a quota of those that are queued.
+        // Packets are sent in order and within the quota, whatever the calls.
         ensures share { AlwaysGivesWithinQuota share acl_len }
         ensures history { FollowsHistory share acl_len }
     {
@@ -86,7 +85,7 @@ impl Sender {
         })
     }
 
-    /// Lends an empty buffer for the payload of the next PDU.
+    /// Returns an empty buffer for the payload of the next PDU.
     #[inline(always)]
     pub fn room(&mut self) -> Result<&mut PduOctets, Full>
         ensures* writes_back { sem 𝓛 (LendsRoom self.entry result) }
@@ -98,8 +97,7 @@ impl Sender {
         Ok(room)
     }
 
-    /// Lends the buffer for the payload of the next PDU at its full length, for octets that are written
-    /// over its front.
+    /// Returns the buffer at its full length, to overwrite its start.
     #[inline(always)]
     pub fn room_to_overwrite(&mut self) -> Result<&mut PduOctets, Full>
         ensures* writes_back { sem 𝓛 (LendsRoom self.entry result) }
@@ -111,7 +109,6 @@ impl Sender {
         Ok(room)
     }
 
-    /// Lends the buffer for the payload of the next PDU as it is.
     #[inline(always)]
     fn lend(&mut self) -> Result<&mut PduOctets, Full>
         ensures* writes_back { sem 𝓛 (LendsRoom self.entry result) }
@@ -124,7 +121,7 @@ impl Sender {
         Ok(self.pdus.room())
     }
 
-    /// Queues what was put into the room, as a PDU on a channel.
+    /// Queues the contents of the buffer from `room`, as a PDU on channel `cid`.
     pub fn push(&mut self, cid: u16)
         requires { IsSome self.old.room }
         ensures { (payload : Octets) → self.old.room ≡ Some payload
@@ -135,7 +132,7 @@ impl Sender {
         self.lent = false;
     }
 
-    /// Queues the first `count` octets of what stands in the room, as a PDU on a channel.
+    /// Queues the first `count` octets of the buffer.
     pub fn push_front(&mut self, cid: u16, count: usize)
         requires lent { IsSome self.old.room }
         requires within { (room : Octets) → self.old.room ≡ Some room → count ≤ length room }
@@ -150,7 +147,7 @@ impl Sender {
         self.lent = false;
     }
 
-    /// Queues the octets of two places, one behind the other, as a PDU on a channel. There is room for it.
+    /// Queues two slices, joined. The queue must not be full.
     pub fn queue(&mut self, cid: u16, first: &[u8], rest: &[u8])
         requires room { length self.old.outgoing.queue < MAX_PDUS }
         requires fits { length first.now + length rest.now ≤ MAX_PDU }
@@ -164,8 +161,8 @@ impl Sender {
         self.pdus.queue(cid, first, rest);
     }
 
-    /// Writes the first packet not yet given in place of what `out` holds. There is none, and nothing
-    /// changes, where no PDU is queued or as many packets are outstanding as may be.
+    /// Writes the next packet in place of the contents of `out`. Returns false and changes nothing
+    /// if no PDU is queued or the quota is used up.
     pub fn next(&mut self, handle: u16, out: &mut PacketOctets) -> bool
         requires { handle < 2 ^ 12 }
         ensures gives { result ≡ may_give self.old.outgoing }
@@ -196,8 +193,7 @@ impl Sender {
         true
     }
 
-    /// Writes the first packet not yet given in place of what `out` holds. There is none, and nothing
-    /// changes, where no PDU is queued or as many packets are outstanding as may be.
+    /// Writes the next packet to `out`, as `next` does.
     #[inline(always)]
     pub fn next_packet(&mut self, handle: u16, out: &mut PacketBuf) -> bool
         requires { handle < 2 ^ 12 }
@@ -218,7 +214,7 @@ impl Sender {
         let frame_len = HEADER + pdu.len;
         let payload = &pdu.octets[..pdu.len];
         if self.gone == 0 && frame_len <= self.acl_len {
-            // Most frames go out whole, in one packet.
+            // Most frames fit into one packet.
             let header = header_of(pdu.channel, payload);
             out.acl_front(handle, FIRST_NOT_FLUSHED, &header, pdu.octets, pdu.len);
             self.outstanding += 1;
@@ -238,8 +234,8 @@ impl Sender {
         true
     }
 
-    /// Writes the next packet at the front of `out`, and says how many octets it has. There is none,
-    /// and nothing changes, where no PDU is queued or as many packets are outstanding as may be.
+    /// Writes the next packet to the start of `out`. Returns its length, or `None` if `next` would
+    /// return false.
     #[inline(always)]
     pub fn next_into(&mut self, handle: u16, out: &mut [u8]) -> Option<usize>
         requires handle { handle < 2 ^ 12 }
@@ -278,14 +274,14 @@ impl Sender {
         Some(count)
     }
 
-    /// Whether a packet may be given now.
+    /// Returns true if a packet may be sent now.
     pub fn may_give(&self) -> bool
         ensures { result ≡ may_give self.now.outgoing }
     {
         self.outstanding < self.share && self.backlog() > 0
     }
 
-    /// Whether fewer packets are outstanding than may be.
+    /// Returns true if the quota is not used up.
     #[inline(always)]
     pub fn has_quota(&self) -> bool
         ensures { result ≡ nat_lt self.now.outgoing.outstanding self.now.outgoing.share }
@@ -293,7 +289,7 @@ impl Sender {
         self.outstanding < self.share
     }
 
-    /// Counts packets as completed, at most those that are outstanding.
+    /// Counts packets as completed, at most the outstanding ones.
     pub fn completed(&mut self, count: u16)
         ensures { self.new ≡ record self.old
             { outgoing = with_completed self.old.outgoing count } }
@@ -301,7 +297,7 @@ impl Sender {
         self.outstanding = self.outstanding.saturating_sub(count);
     }
 
-    /// Drops the PDUs. Packets stay outstanding.
+    /// Drops all PDUs. Packets stay outstanding.
     pub fn flush(&mut self)
         ensures { self.new ≡ record { outgoing = without_pdus self.old.outgoing; room = None } }
     {
@@ -310,7 +306,7 @@ impl Sender {
         self.lent = false;
     }
 
-    /// How many PDUs have a packet not yet given.
+    /// Returns the number of PDUs not completely sent.
     pub fn backlog(&self) -> usize
         ensures count { result ≡ length self.now.outgoing.queue }
         ensures within { result ≤ MAX_PDUS }
@@ -318,7 +314,7 @@ impl Sender {
         self.pdus.len()
     }
 
-    /// Drops the PDUs, counts no packet as outstanding, and takes another quota and size.
+    /// Drops all PDUs and outstanding packets, and sets quota and packet size.
     pub fn reset(&mut self, share: u16, acl_len: u16)
         requires share { 0 < share }
         requires acl_len_least { MIN_ACL_LEN ≤ acl_len }
@@ -332,8 +328,6 @@ impl Sender {
     }
 }
 
-/// Takes in that a packet of the first PDU was given, whose frame has `frame_len` octets. The PDU is
-/// dropped with its last packet.
 #[inline(always)]
 fn pass_fragment(pdus: &mut Pdus, gone: &mut usize, acl_len: usize, frame_len: usize)
     requires first { IsOfFirst frame_len pdus.old.pdus }
@@ -355,7 +349,6 @@ fn pass_fragment(pdus: &mut Pdus, gone: &mut usize, acl_len: usize, frame_len: u
     }
 }
 
-/// Takes in that the frame of the first PDU was given in one packet, whole: the PDU is dropped.
 #[inline(always)]
 fn pass_whole(pdus: &mut Pdus, gone: usize, acl_len: usize, frame_len: usize)
     requires first { IsOfFirst frame_len pdus.old.pdus }

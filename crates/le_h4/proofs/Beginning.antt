@@ -2,7 +2,7 @@
 use Rattle.std.proofs.Common.{◌≡◌, ℕ, suc, ◌+◌, ◌<◌, ◌≤◌, List, [], ◌∷◌, length, take, drop, Bool, true, false, refl, ◌∙◌, ap, subst, arith}
 use Rattle.std.specs.Prelude.{cond, ◌==◌, slice_get, Option, Some, None}
 use Rattle.std.proofs.lemmas.List.{drop_all, length-take, take_all}
-use Rattle.octets.specs.Number.{from_two}
+use Rattle.octet_io.specs.Number.{from_two}
 use Rattle.le_h4.specs.Packet.{Packet, EventPacket, ScoPacket, First, FirstPacket, NoneYet, NoPacket, first_of, acl_form, sco_form, event_form, with_data, acl_packet}
 use Rattle.le_h4.specs.Progress.{acl_size, short_size, stated_size, IsSizeOf}
 use Rattle.le_h4.proofs.Firsts.{with_data-whole, with_data-part}

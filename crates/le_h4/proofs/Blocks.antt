@@ -1,6 +1,6 @@
 -- Octets that are copied as a block, of which some are meant.
 use Rattle.std.proofs.Common.{◌≡◌, ℕ, zero, suc, ◌≤◌, [], ◌∷◌, ◌++◌, length, take, refl, ap, arith}
-use Rattle.octets.specs.Number.{Octets}
+use Rattle.octet_io.specs.Number.{Octets}
 
 pub front_of_block : (count size : ℕ) (octets behind : Octets) → count ≤ size → size ≤ length octets
     → take count (take size octets ++ behind) ≡ take count octets

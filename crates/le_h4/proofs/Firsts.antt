@@ -4,7 +4,7 @@ use Rattle.std.specs.Prelude.{cond, nat_le, ◌==◌}
 use Rattle.std.proofs.lemmas.Bool.{leb-true, eqb-true, cases_Bool, le-leb, lt-leb}
 use Rattle.std.proofs.lemmas.List.{take-append-le, drop-append-le, take_all, length-append, length-drop}
 use Rattle.le_h4.specs.Packet.{Packet, EventPacket, ScoPacket, First, FirstPacket, NoneYet, NoPacket, first_of, acl_form, sco_form, event_form, with_data, acl_packet, Spells}
-use Rattle.octets.specs.Number.{from_two}
+use Rattle.octet_io.specs.Number.{from_two}
 use Rattle.le_h4.specs.Progress.{reading}
 
 -- data that is all there, and data that is not

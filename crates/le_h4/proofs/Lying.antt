@@ -1,10 +1,10 @@
 -- A packet that lies whole in octets, where they begin.
-use Rattle.std.proofs.Common.{◌≡◌, ℕ, suc, ◌≤◌, List, [], ◌∷◌, ◌++◌, length, take, drop, Bool, true, false, ◌&&◌, Option, Some, None, refl, sym, ◌∙◌, ap, subst, arith, inl, inr}
+use Rattle.std.proofs.Common.{◌≡◌, ℕ, suc, ◌≤◌, List, [], ◌∷◌, ◌++◌, length, take, drop, Bool, true, false, Option, Some, None, refl, sym, ◌∙◌, ap, subst, arith, inl, inr}
 use Rattle.std.specs.Prelude.{cond, nat_le, ◌==◌, IfSome}
 use Rattle.std.specs.Option.{option_map}
-use Rattle.std.proofs.lemmas.Bool.{leb-true, eqb-true, cases_Bool}
+use Rattle.std.proofs.lemmas.Bool.{leb-true, eqb-true, cases_Bool, and_parts}
 use Rattle.std.proofs.lemmas.List.{length-drop}
-use Rattle.octets.specs.Number.{Octets, from_two}
+use Rattle.octet_io.specs.Number.{Octets, from_two}
 use Rattle.le_h4.specs.declared.packet.WholePacket.{WholePacket}
 use Rattle.le_h4.specs.Packet.{Packet, EventPacket, ScoPacket, First, FirstPacket, NoneYet, NoPacket, first_of, acl_form, sco_form, event_form, acl_packet, packet_of_ref, Spells}
 use Rattle.le_h4.specs.Division.{is_long, before, unfinished, division, division_past, kept_first}
@@ -104,18 +104,13 @@ lies octets whole same within = by (first_of octets) refl same
     by NoneYet is same = absurd (cc same)
     by (NoPacket indicator) is same = absurd (cc same)
 
--- what is still to come divides as it does by itself
-both : (x y : Bool) → (x && y) ≡ true → (x ≡ true) × (y ≡ true)
-both true y is = (refl, is)
-both false y is = absurd (cc is)
-
 nothing : (octets : Octets) → (length octets == 0) ≡ true → octets ≡ []
 nothing [] is = refl
 nothing (x ∷ octets) is = absurd (let none : suc (length octets) ≡ 0 = eqb-true (suc (length octets)) 0 is in omega (arith, none))
 
 pub still_at_border : (deframing : Deframing) → is_at_border deframing ≡ true → (rest : Octets) → still deframing rest ≡ division rest
 still_at_border deframing is rest =
-    let tests = both (deframing.skipping == 0) (length deframing.gathered == 0) is in
+    let tests = and_parts (deframing.skipping == 0) (length deframing.gathered == 0) is in
     ap (λ (n : ℕ). division_past n (deframing.gathered ++ rest)) (eqb-true deframing.skipping 0 tests.0)
     ∙ ap (λ (gathered : Octets). division_past 0 (gathered ++ rest)) (nothing deframing.gathered tests.1)
     ∙ past_none rest

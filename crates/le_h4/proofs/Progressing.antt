@@ -4,7 +4,7 @@ use Rattle.std.specs.Prelude.{cond, nat_le, ◌==◌}
 use Rattle.std.proofs.lemmas.Bool.{cases_Bool, le-leb, lt-leb, cases_lt}
 use Rattle.std.proofs.lemmas.List.{drop_all, length-append}
 use Rattle.le_h4.specs.Packet.{Packet, EventPacket, ScoPacket, First, FirstPacket, NoneYet, NoPacket, first_of, acl_form, sco_form, event_form, with_data, acl_packet}
-use Rattle.octets.specs.Number.{from_two}
+use Rattle.octet_io.specs.Number.{from_two}
 use Rattle.le_h4.specs.Progress.{progress_of, acl_progress, sco_progress, event_progress, data_progress, short_progress}
 use Rattle.le_h4.specs.Division.{after_first, division, division_past}
 use Rattle.le_h4.specs.declared.progress.Progress.{Progress}

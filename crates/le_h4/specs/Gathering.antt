@@ -1,6 +1,6 @@
--- What is gathered of one packet. Of the code alone.
+-- Gathering of the octets of one packet (code only).
 use Rattle.std.specs.Prelude.{◌≡◌, ℕ, ◌+◌, ◌<◌, ◌≤◌, nat_le, if◌then◌else◌, true, false, [], ◌∷◌, ◌++◌, length, take, None, Result, Ok, Err}
-use Rattle.octets.specs.Number.{Octets}
+use Rattle.octet_io.specs.Number.{Octets}
 use Rattle.le_h4.specs.declared.deframer.Fed.{Fed}
 use Rattle.le_h4.specs.declared.deframer.H4Fault.{H4Fault}
 use Rattle.le_h4.specs.declared.deframer.H4Fault.TheVariants.{Desync}
@@ -9,8 +9,9 @@ use Rattle.le_h4.specs.Division.{unfinished, lost, before, division_past}
 use Rattle.le_h4.specs.Deframer.{EndsWith}
 use Rattle.le_h4.specs.Progress.{IsWithinFirst, IsSizeOf, packet_in}
 
--- so many of these octets were taken, and end a packet
-pub record GathersPacket (skipping : ℕ) (gathered octets : Octets) (used left : ℕ) (holds : Octets) : Type 0 where
+-- The first `used` octets end a packet.
+pub record GathersPacket (skipping : ℕ) (gathered octets : Octets) (used left : ℕ)
+    (holds : Octets) : Type 0 where
   pub packet : Packet
   pub first : first_of holds ≡ FirstPacket packet []
   pub none_left : left ≡ 0
@@ -20,37 +21,41 @@ pub record GathersPacket (skipping : ℕ) (gathered octets : Octets) (used left 
   pub some : 0 < used
   pub within : used ≤ length octets
 
--- all octets were taken, and end no packet
-pub record GathersAll (skipping : ℕ) (gathered octets : Octets) (used left : ℕ) (holds : Octets) : Type 0 where
+-- All octets are consumed and end no packet.
+pub record GathersAll (skipping : ℕ) (gathered octets : Octets) (used left : ℕ)
+    (holds : Octets) : Type 0 where
   pub none : packet_in (first_of holds) ≡ None
-  pub divided : (rest : Octets) → division_past skipping (gathered ++ (octets ++ rest)) ≡ division_past left (holds ++ rest)
+  pub divided : (rest : Octets) → division_past skipping (gathered ++ (octets ++ rest))
+      ≡ division_past left (holds ++ rest)
   pub unfinished : division_past left holds ≡ unfinished
   pub fits : IsWithinFirst holds
   pub passes : 0 < left → holds ≡ []
   pub all : used ≡ length octets
 
--- an indicator was met that no packet has
-pub record GathersLost (skipping : ℕ) (gathered octets : Octets) (indicator left : ℕ) (holds : Octets) : Type 0 where
+-- An indicator was found that no packet has.
+pub record GathersLost (skipping : ℕ) (gathered octets : Octets) (indicator left : ℕ)
+    (holds : Octets) : Type 0 where
   pub none_left : left ≡ 0
   pub holds_it : holds ≡ indicator ∷ []
   pub first : first_of holds ≡ NoPacket indicator
-  pub divided : (rest : Octets) → division_past skipping (gathered ++ (octets ++ rest)) ≡ lost indicator
+  pub divided : (rest : Octets) → division_past skipping (gathered ++ (octets ++ rest))
+      ≡ lost indicator
 
--- the packet that is gathered lacks so many octets, and those of them that are there are gathered too
+-- The gathered packet lacked `missing` octets, and those present were added.
 pub record GoesOn (gathered octets : Octets) (missing : ℕ) (holds : Octets) : Type 0 where
   pub size : IsSizeOf (gathered ++ octets) (length gathered + missing)
   pub gathers : holds ≡ gathered ++ take missing octets
 
--- how far a piece of so many octets is taken, where a packet lacks some
 abbrev pub fed_of : ℕ → ℕ → Fed
 fed_of missing count =
-    if nat_le missing count then record { used = missing; packet = true } else record { used = count; packet = false }
+    if nat_le missing count then record { used = missing; packet = true }
+    else record { used = count; packet = false }
 
--- what is held changes so by a piece of the stream
 abbrev pub Gathers : ℕ → Octets → Octets → Result Fed H4Fault → ℕ → Octets → Type 0
 Gathers skipping gathered octets (Ok fed) left holds =
     elim fed.packet [
       | true ↦ GathersPacket skipping gathered octets fed.used left holds
       | false ↦ GathersAll skipping gathered octets fed.used left holds
     ]
-Gathers skipping gathered octets (Err (Desync indicator)) left holds = GathersLost skipping gathered octets indicator left holds
+Gathers skipping gathered octets (Err (Desync indicator)) left holds =
+    GathersLost skipping gathered octets indicator left holds

@@ -1,11 +1,11 @@
--- The fields of a deframer, as one value. Of the code alone.
+-- The fields of a deframer as one `Deframing` (code only).
 use Rattle.std.specs.Prelude.{◌≡◌, ℕ, ◌<◌, Bool, true, false, [], Option, None, IsSome}
-use Rattle.octets.specs.Number.{Octets}
+use Rattle.octet_io.specs.Number.{Octets}
 use Rattle.le_h4.specs.Packet.{Packet, first_of}
 use Rattle.le_h4.specs.Deframer.{Deframing}
 use Rattle.le_h4.specs.Progress.{IsWithinFirst, packet_in}
 
--- a packet that is marked is what was gathered, and nothing is gathered behind it
+-- A marked packet is all that was gathered.
 abbrev pub unless_marked : Bool → Octets → Octets
 unless_marked true gathered = []
 unless_marked false gathered = gathered
@@ -16,9 +16,13 @@ marked_in false gathered = None
 
 abbrev pub deframing_of : ℕ → Octets → Bool → Deframing
 deframing_of skipping gathered marked =
-    record { skipping = skipping; gathered = unless_marked marked gathered; marked = marked_in marked gathered }
+    record {
+      skipping = skipping;
+      gathered = unless_marked marked gathered;
+      marked = marked_in marked gathered;
+    }
 
--- what is gathered is one packet or less, or nothing where octets are passed over
+-- The gathered octets are at most one packet, and none while octets are skipped.
 pub record IsHeld (skipping : ℕ) (gathered : Octets) (marked : Bool) : Type 0 where
   pub fits : IsWithinFirst gathered
   pub passes : 0 < skipping → gathered ≡ []

@@ -1,22 +1,23 @@
--- How far the octets of one packet have come. Of the code alone.
+-- Progress of a packet, of which some octets are there (code only).
 use Rattle.std.specs.Prelude.{◌≡◌, ℕ, ◌+◌, ◌-◌, ◌==◌, ◌<◌, ◌≤◌, nat_le, if◌then◌else◌, [], ◌∷◌, length, take, slice_get, Option, Some, None}
 use Rattle.le_h4.specs.declared.progress.Progress.{Progress}
 use Rattle.le_h4.specs.declared.progress.Progress.TheVariants.{Lacks, Whole, Long, Desync}
 use Rattle.le_h4.specs.Packet.{Packet, EventPacket, ScoPacket, First, FirstPacket, NoneYet, NoPacket, first_of, acl_packet}
-use Rattle.octets.specs.Number.{Octets, from_two}
+use Rattle.octet_io.specs.Number.{Octets, from_two}
 use Rattle.le_h4.specs.declared.indicator.TheConstants.{ACL, SCO, EVENT}
 use Rattle.le_h4.specs.declared.progress.TheConstants.{MAX_ACL_DATA, MAX_PACKET_IN}
 
--- the progress of data of a size, of which so many octets are there
 abbrev pub short_progress : ℕ → ℕ → Progress
 short_progress size count = if nat_le size count then Whole else Lacks (size - count)
 
 abbrev pub data_progress : ℕ → ℕ → Progress
 data_progress size count =
-    if nat_le size count then Whole else if nat_le size MAX_ACL_DATA then Lacks (size - count) else Long (size - count)
+    if nat_le size count then Whole else if nat_le size MAX_ACL_DATA then Lacks (size - count)
+    else Long (size - count)
 
 abbrev pub acl_progress : Octets → Progress
-acl_progress (low ∷ high ∷ size_low ∷ size_high ∷ octets) = data_progress (from_two size_low size_high) (length octets)
+acl_progress (low ∷ high ∷ size_low ∷ size_high ∷ octets) =
+    data_progress (from_two size_low size_high) (length octets)
 acl_progress header = Lacks (4 - length header)
 
 abbrev pub sco_progress : Octets → Progress
@@ -35,8 +36,7 @@ progress_of (indicator ∷ octets) =
     else if indicator == EVENT then event_progress octets
     else Desync indicator
 
--- how many octets a packet has behind its indicator, so far as those that are there say: its header, and the data that
--- the header states
+-- The size after the indicator: of the header, and of the data once the header states it.
 abbrev pub acl_size : Option ℕ → Option ℕ → ℕ
 acl_size (Some low) (Some high) = 4 + from_two low high
 acl_size (Some low) None = 4
@@ -57,41 +57,41 @@ size_by octets None = None
 abbrev pub stated_size : Octets → Option ℕ
 stated_size octets = size_by octets (slice_get octets 0)
 
--- these octets begin with a packet of so many, which is kept
+-- A packet of this size, not too long, begins the octets.
 pub record BeginsWith (octets : Octets) (size : ℕ) : Type 0 where
   pub packet : Packet
   pub first : first_of (take size octets) ≡ FirstPacket packet []
   pub within : size ≤ length octets
   pub kept : size ≤ MAX_PACKET_IN
 
--- these octets begin with a packet of so many, which is kept, or are less than it
+-- Such a packet, or part of it, begins the octets.
 pub record IsSizeOf (octets : Octets) (size : ℕ) : Type 0 where
   pub whole : size ≤ length octets → BeginsWith octets size
   pub part : length octets < size → first_of octets ≡ NoneYet
   pub kept : size ≤ MAX_PACKET_IN
 
--- what is lacking is at most so much
 abbrev pub LacksAtMost : ℕ → Progress → Type 0
 LacksAtMost room (Lacks missing) = missing ≤ room
 LacksAtMost room (Long missing) = Unit {0}
 LacksAtMost room Whole = Unit {0}
 LacksAtMost room (Desync indicator) = Unit {0}
 
--- the octets go no further than their first packet, or than an indicator that no packet has
+-- The octets end within their first packet, or at an indicator that no packet has.
 pub record IsWithinFirst (octets : Octets) : Type 0 where
-  pub whole : (packet : Packet) (rest : Octets) → first_of octets ≡ FirstPacket packet rest → rest ≡ []
+  pub whole : (packet : Packet) (rest : Octets) → first_of octets ≡ FirstPacket packet rest
+      → rest ≡ []
   pub lost : (indicator : ℕ) → first_of octets ≡ NoPacket indicator → octets ≡ indicator ∷ []
 
--- the packet that octets begin with, where it is whole
 abbrev pub packet_in : First → Option Packet
 packet_in (FirstPacket packet rest) = Some packet
 packet_in NoneYet = None
 packet_in (NoPacket indicator) = None
 
--- the packet of octets that are a packet's
+-- The packet that consists of these octets.
 abbrev pub reading : Octets → Packet
 reading (indicator ∷ octets) =
-    if indicator == ACL then acl_reading octets else if indicator == EVENT then EventPacket octets else ScoPacket
+    if indicator == ACL then acl_reading octets else if indicator == EVENT then EventPacket octets
+    else ScoPacket
   where
     acl_reading : Octets → Packet
     acl_reading (low ∷ high ∷ size_low ∷ size_high ∷ octets) = acl_packet (from_two low high) octets

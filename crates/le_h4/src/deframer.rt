@@ -1,6 +1,6 @@
 ghost use Rattle.std.specs.Prelude.{◌≡◌, ℕ, ◌+◌, ◌-◌, ◌<◌, ◌≤◌, ◌↔◌, [], ◌++◌, length, take, drop, ◌∷◌, Some, None, true, IsTrue, IsSome, IsNone, IfOk, IfSome, OnOk, if◌then◌else◌};
 ghost use Rattle.std.specs.Option.{option_map};
-ghost use Rattle.octets.specs.Number.{Octets};
+ghost use Rattle.octet_io.specs.Number.{Octets};
 ghost use Rattle.le_h4.specs.Packet.{packet_of_ref, first_of, Spells};
 ghost use Rattle.le_h4.specs.Division.{unfinished, lost, before, kept_first};
 ghost use Rattle.le_h4.specs.Deframer.{deframing_at_start, lost_at, still, marks, EndsWith, MarksTheDivision};
@@ -15,32 +15,32 @@ use crate::packet::{PacketRef, WholePacket, first_packet, read_packet};
 use crate::progress::{Progress, known_size, progress_at};
 use std::marker::Model;
 
-/// How far a piece of the stream was taken.
+/// Part of a piece that `feed` consumed.
 #[derive(Clone, Copy, Debug, PartialEq, Eq)]
 pub struct Fed {
-    /// How many octets of the piece were taken.
+    /// Octets consumed.
     pub used: usize,
-    /// Whether they end a packet, which is then marked.
+    /// True if they end a packet, which is then marked.
     pub packet: bool,
 }
 
-/// Why a stream cannot be divided any further.
+/// Reason why a stream cannot be divided further.
 #[derive(Clone, Copy, Debug, PartialEq, Eq)]
 pub enum H4Fault {
-    /// In the place of an indicator stands an octet that no packet has.
+    /// An octet in the place of an indicator that no packet has.
     Desync(u8),
 }
 
-/// Finds the packets of a stream that comes in pieces. It keeps one packet, of at most 1,029 octets.
+/// A deframer, which finds the packets of a stream that arrives in pieces. It stores one packet, of
+/// at most 1,029 octets.
 #[derive(Drop)]
 pub struct Deframer {
-    /// The packet that is marked, or else the octets so far of the next one.
+    /// The marked packet, or the octets of the next one so far.
     gathered: Gathered,
-    /// Whether what is gathered is a packet that is marked.
     marked: bool,
-    /// How many octets of a long ACL packet are still to be passed over.
+    /// Octets of a long ACL packet still to skip.
     skipping: usize,
-    /// Whether no packet is unfinished, and none is passed over: each packet asks for it.
+    /// True if no packet is unfinished or being skipped.
     at_border: bool,
 }
 
@@ -60,12 +60,11 @@ impl Model for Deframer {
 }
 
 impl Deframer {
-    /// A deframer at the start of a stream.
+    /// Creates a deframer at the start of a stream.
     #[tactic(auto, using(crate::proofs::Laws::packets_feeds))]
     pub fn new() -> Self
         ensures at_start { result ≡ deframing_at_start }
-        // However the stream is cut into pieces, the packets that `feed` marks and `whole_packet` lends are
-        // the same.
+        // However the stream is cut, `feed` and `whole_packet` find the same packets.
         ensures division { MarksTheDivision }
     {
         Deframer {
@@ -76,11 +75,13 @@ impl Deframer {
         }
     }
 
-    /// Takes in octets of the stream up to the end of a packet, which is then marked, or all of them.
-    /// An ACL packet of more than 1,024 octets of data is passed over. After `Desync` every call
-    /// answers it again and changes nothing.
+    /// Consumes octets up to the end of the next packet, and marks it. If no packet ends, consumes
+    /// all octets.
+    ///
+    /// Skips ACL packets with more than 1,024 octets of data. After `Desync`, each call returns the
+    /// same error and changes nothing.
     pub fn feed(&mut self, octets: &[u8]) -> Result<Fed, H4Fault>
-        // Whatever follows the octets that were taken, the packet that is marked comes first.
+        // The marked packet comes first, whatever octets follow.
         ensures divided { IfOk result
             (λ fed. (rest : Octets) → still self.old (take fed.used octets.now ++ rest)
             ≡ before (marks self.new) (still self.new rest)) }
@@ -114,14 +115,15 @@ impl Deframer {
         }
     }
 
-    /// The packet that octets begin with, where none is unfinished, all of it is there and it is kept.
-    /// It is lent from the octets, and the deframer stays as it is: what follows is fed next, without
-    /// the octets that the packet takes.
+    /// Returns the packet at the start of `octets`, and leaves the deframer unchanged. The caller
+    /// then feeds the octets after the packet.
+    ///
+    /// Returns `None` inside a packet, or if the packet is incomplete or would be skipped: `feed`
+    /// these octets.
     #[inline(always)]
     pub fn whole_packet<'a>(&self, octets: &'a [u8]) -> Option<WholePacket<'a>>
         ensures first { option_map (lying_in octets.now) result
             ≡ (if is_at_border self.now then kept_first (first_of octets.now) else None) }
-        // Whatever follows the octets that it takes, the packet comes first.
         ensures divided { IfSome result
             (λ whole. (rest : Octets) → still self.now (take whole.used octets.now ++ rest)
             ≡ before (packet_of_ref whole.packet ∷ []) (still self.now rest)) }
@@ -138,7 +140,7 @@ impl Deframer {
         }
     }
 
-    /// The packet that the last call of `feed` marked.
+    /// Returns the packet that the last call of `feed` marked.
     pub fn packet(&self) -> PacketRef<'_>
         requires { IsSome self.now.marked }
         ensures { self.now.marked ≡ Some (packet_of_ref result) }
@@ -147,7 +149,6 @@ impl Deframer {
     }
 }
 
-/// Whether no packet is unfinished, and none is passed over. One that is marked is whole.
 fn is_at_border(gathered: &Gathered, skipping: usize, marked: bool) -> bool
     requires { marked ≡ true → skipping ≡ 0 }
     ensures { result ≡ is_at_border (deframing_of skipping gathered.now marked) }
@@ -155,7 +156,6 @@ fn is_at_border(gathered: &Gathered, skipping: usize, marked: bool) -> bool
     marked || (skipping == 0 && gathered.is_empty())
 }
 
-/// Forgets what is gathered where it is a packet that is marked.
 fn forget(gathered: &mut Gathered, marked: bool)
     ensures { gathered.new ≡ unless_marked marked gathered.old }
 {
@@ -164,8 +164,7 @@ fn forget(gathered: &mut Gathered, marked: bool)
     }
 }
 
-/// Gathers octets to the end of a packet that is kept, or all of them. Where none is passed over, the
-/// size of the packet tells at once which are to be copied.
+/// Gathers octets up to the end of a packet, or all. A known size allows one copy.
 fn gather(gathered: &mut Gathered, skipping: &mut usize, octets: &[u8]) -> Result<Fed, H4Fault>
     requires fits { IsWithinFirst gathered.old }
     requires unfinished { packet_in (first_of gathered.old) ≡ None }
@@ -185,8 +184,8 @@ fn gather(gathered: &mut Gathered, skipping: &mut usize, octets: &[u8]) -> Resul
     gather_by_parts(gathered, skipping, octets)
 }
 
-/// Gathers the octets that go on with the packet that is gathered, where it is kept, and says how many
-/// it lacks. Apart, so that a packet that is whole saves no registers for it.
+/// Continues the gathered packet. Returns how many octets it lacked, if its size is known. Not
+/// inlined, so that whole packets save no registers for it.
 #[inline(never)]
 fn go_on(gathered: &mut Gathered, octets: &[u8]) -> Option<usize>
     requires { packet_in (first_of gathered.old) ≡ None }
@@ -201,7 +200,6 @@ fn go_on(gathered: &mut Gathered, octets: &[u8]) -> Option<usize>
     Some(missing)
 }
 
-/// Gathers octets, as many as there are of those that are missing, and says how far they are taken.
 #[inline(always)]
 fn fill_up(gathered: &mut Gathered, missing: usize, octets: &[u8]) -> Fed
     requires { length gathered.old + missing ≤ MAX_PACKET_IN }
@@ -216,7 +214,6 @@ fn fill_up(gathered: &mut Gathered, missing: usize, octets: &[u8]) -> Fed
     fed_of(missing, octets)
 }
 
-/// How far octets are taken where a packet lacks so many.
 #[inline(always)]
 fn fed_of(missing: usize, octets: &[u8]) -> Fed
     ensures { result ≡ fed_of missing (length octets.now) }
@@ -234,8 +231,7 @@ fn fed_of(missing: usize, octets: &[u8]) -> Fed
     }
 }
 
-/// Gathers octets to the end of a packet that is kept, or all of them: header and data each by what
-/// they lack.
+/// Gathers header and data separately, and skips long packets.
 #[cold]
 #[inline(never)]
 fn gather_by_parts(
@@ -275,7 +271,6 @@ fn gather_by_parts(
     }
 }
 
-/// Passes over octets, as many as there are of those that are left to skip, and answers what follows.
 fn skip<'a>(skipping: &mut usize, octets: &'a [u8]) -> &'a [u8]
     ensures left { skipping.new ≡ skipping.old - length octets.now }
     ensures rest { result.now ≡ drop skipping.old octets.now }
@@ -285,7 +280,7 @@ fn skip<'a>(skipping: &mut usize, octets: &'a [u8]) -> &'a [u8]
     &octets[count..]
 }
 
-/// Gathers octets, as many as there are of those that are missing, and answers what follows.
+/// Gathers at most `missing` octets and returns the rest.
 fn fill<'a>(gathered: &mut Gathered, missing: usize, octets: &'a [u8]) -> &'a [u8]
     requires { length gathered.old + missing ≤ MAX_PACKET_IN }
     ensures gathered { gathered.new ≡ gathered.old ++ take missing octets.now }

@@ -3,7 +3,7 @@ ghost use Rattle.std.specs.Prelude.{◌≡◌, ◌+◌, ◌≤◌, [], ◌++◌,
 use crate::progress::MAX_PACKET_IN;
 use std::marker::Model;
 
-/// The octets so far of one packet, in a buffer of their own. What was there before is not cleared.
+/// The octets of one packet so far. Old contents are not cleared.
 #[derive(Drop)]
 pub(crate) struct Gathered {
     octets: [u8; MAX_PACKET_IN],
@@ -11,7 +11,7 @@ pub(crate) struct Gathered {
 }
 
 impl Model for Gathered {
-    ghost use Rattle.octets.specs.Number.{Octets};
+    ghost use Rattle.octet_io.specs.Number.{Octets};
 
     ghost Value = { Octets };
 
@@ -24,7 +24,6 @@ impl Model for Gathered {
 }
 
 impl Gathered {
-    /// No octets.
     pub(crate) fn new() -> Self
         ensures { result ≡ [] }
     {
@@ -34,7 +33,6 @@ impl Gathered {
         }
     }
 
-    /// The octets.
     #[inline(always)]
     pub(crate) fn as_slice(&self) -> &[u8]
         ensures value { result.now ≡ self.now }
@@ -43,7 +41,6 @@ impl Gathered {
         &self.octets[..self.len]
     }
 
-    /// Whether there are none.
     #[inline(always)]
     pub(crate) fn is_empty(&self) -> bool
         ensures { result ≡ (length self.now == 0) }
@@ -51,7 +48,6 @@ impl Gathered {
         self.len == 0
     }
 
-    /// Forgets the octets.
     #[inline(always)]
     pub(crate) fn clear(&mut self)
         ensures { self.new ≡ [] }
@@ -59,7 +55,6 @@ impl Gathered {
         self.len = 0;
     }
 
-    /// Appends octets.
     #[inline(always)]
     pub(crate) fn append(&mut self, octets: &[u8])
         requires { length self.old + length octets.now ≤ MAX_PACKET_IN }

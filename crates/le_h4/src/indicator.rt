@@ -1,10 +1,10 @@
-//! The indicators that stand before packets: Core 5.0, Vol 4 Part A, 2.
+//! Packet indicators of H4 (Core 5.0, Vol 4 Part A, 2).
 
-/// A command, from the host.
+/// Command, from the host.
 pub const COMMAND: u8 = 0x01;
-/// ACL data, from either side.
+/// ACL data, in both directions.
 pub const ACL: u8 = 0x02;
 /// Synchronous (SCO) data.
 pub const SCO: u8 = 0x03;
-/// An event, from the controller.
+/// Event, from the controller.
 pub const EVENT: u8 = 0x04;

@@ -8,33 +8,32 @@ ghost use Rattle.le_h4.specs.Whole.{lying_in};
 use crate::indicator;
 use crate::progress::MAX_ACL_DATA;
 
-/// A packet from the controller: Core 5.0, Vol 2 Part E, 5.4.
+/// A packet from the controller (Core 5.0, Vol 2 Part E, 5.4).
 #[derive(Clone, Copy, PartialEq, Eq)]
 pub enum PacketRef<'a> {
-    /// ACL data: a connection handle of 12 bits, the packet boundary and broadcast flags of 2 bits
-    /// each, and at most 1,024 octets of data.
+    /// ACL data: a connection handle of 12 bits, packet boundary and broadcast flags of 2 bits
+    /// each, and at most 1,024 octets.
     Acl {
         handle: u16,
         pb: u8,
         bc: u8,
         octets: &'a [u8],
     },
-    /// An event, from its event code on: the code, the length and the parameters.
+    /// Event code, length and parameters.
     Event(&'a [u8]),
-    /// Synchronous data, which is not kept.
+    /// Synchronous data, which is dropped.
     Sco,
 }
 
-/// A packet that lies whole in octets, where they begin.
+/// A whole packet at the start of octets.
 #[derive(Clone, Copy)]
 pub struct WholePacket<'a> {
-    /// The packet.
     pub packet: PacketRef<'a>,
-    /// How many of the octets it takes, its indicator among them.
+    /// Length of the packet in octets, including its indicator.
     pub used: usize,
 }
 
-/// The packet that octets begin with, where all of it is there and it is kept.
+/// Returns the packet at the start of `octets`, if it is whole and not too long.
 #[inline(always)]
 pub(crate) fn first_packet(octets: &[u8]) -> Option<WholePacket<'_>>
     ensures first { option_map (lying_in octets.now) result ≡ kept_first (first_of octets.now) }
@@ -88,7 +87,7 @@ pub(crate) fn first_packet(octets: &[u8]) -> Option<WholePacket<'_>>
     }
 }
 
-/// The packet that octets from an indicator on are.
+/// Reads octets that are exactly one packet, including its indicator.
 pub(crate) fn read_packet(octets: &[u8]) -> PacketRef<'_>
     ensures { packet_of_ref result ≡ reading octets.now }
 {
@@ -105,7 +104,6 @@ pub(crate) fn read_packet(octets: &[u8]) -> PacketRef<'_>
     }
 }
 
-/// An ACL packet by its first field and its data.
 #[inline(always)]
 fn acl(field: u16, octets: &[u8]) -> PacketRef<'_>
     ensures { packet_of_ref result ≡ acl_packet field octets.now }

@@ -1,28 +1,27 @@
 ghost use Rattle.std.specs.Prelude.{◌≡◌, ◌+◌, ◌*◌, ◌^◌, ◌<◌, ◌≤◌, [], ◌∷◌, ◌++◌, length, take};
-ghost use Rattle.octets.specs.Number.{two_octets};
+ghost use Rattle.octet_io.specs.Number.{two_octets};
 ghost use Rattle.le_h4.specs.declared.packet_buf.TheConstants.{MAX_ACL_DATA_OUT};
 
 use crate::indicator;
 use crate::write::{HEADER, acl_header};
 use arrayvec::ArrayVec;
-use octets::{write_front, write_parts};
+use octet_io::{write_front, write_parts};
 use std::marker::Model;
 
-/// The most octets of data of an ACL packet to the controller: this profile's own.
+/// Maximum octets of data of an ACL packet to the controller (this profile's own).
 pub const MAX_ACL_DATA_OUT: usize = 255;
 
-/// The most octets of a packet to the controller: those of an ACL packet. A command with its indicator
-/// is shorter.
+/// Maximum octets of a packet to the controller: an ACL packet, as commands are shorter.
 pub const MAX_PACKET_OUT: usize = HEADER + MAX_ACL_DATA_OUT;
 
-/// How many octets are copied as a block, whose size the compiler knows: most packets have no more.
+/// Octets copied as one block of constant size. Most packets have no more.
 const BLOCK: usize = 32;
 
 /// The octets of a packet to the controller.
 pub type PacketOctets = ArrayVec<u8, MAX_PACKET_OUT>;
 
-/// A packet to the controller, and room for the next. What stood there before is not cleared, so that
-/// each octet is written once.
+/// A reusable buffer for a packet to the controller. Old contents are not cleared, so each octet is
+/// written once.
 #[derive(Drop)]
 pub struct PacketBuf {
     octets: [u8; MAX_PACKET_OUT],
@@ -30,7 +29,7 @@ pub struct PacketBuf {
 }
 
 impl Model for PacketBuf {
-    ghost use Rattle.octets.specs.Number.{Octets};
+    ghost use Rattle.octet_io.specs.Number.{Octets};
 
     ghost Value = { Octets };
 
@@ -43,7 +42,7 @@ impl Model for PacketBuf {
 }
 
 impl PacketBuf {
-    /// No packet.
+    /// Creates an empty buffer.
     pub fn new() -> Self
         ensures { result ≡ [] }
     {
@@ -53,7 +52,7 @@ impl PacketBuf {
         }
     }
 
-    /// The octets of the packet, from its indicator on.
+    /// Returns the octets of the packet, including its indicator.
     #[inline(always)]
     pub fn as_slice(&self) -> &[u8]
         ensures value { result.now ≡ self.now }
@@ -62,10 +61,10 @@ impl PacketBuf {
         &self.octets[..self.len]
     }
 
-    /// Writes an ACL packet in place of the one before: a connection handle of 12 bits, the packet
-    /// boundary flag, and at most `MAX_ACL_DATA_OUT` octets of data, those of `header` and then those of
-    /// `octets`. So the header of a frame goes in front of its payload without a copy of both. Its
-    /// broadcast flag is 0. (Core 5.0, Vol 2 Part E, 5.4.2)
+    /// Writes an ACL packet in place of the last one (Core 5.0, Vol 2 Part E, 5.4.2).
+    ///
+    /// Its data is `header`, then `octets`, which need not be joined first. Its broadcast flag is
+    /// 0.
     #[inline(always)]
     pub fn acl(&mut self, handle: u16, pb: u8, header: &[u8], octets: &[u8])
         requires handle { handle < 2 ^ 12 }
@@ -79,9 +78,7 @@ impl PacketBuf {
         self.write(&acl_header(handle, pb, length as u16), header, octets);
     }
 
-    /// Writes an ACL packet in place of the one before: a connection handle of 12 bits, the packet
-    /// boundary flag, and at most `MAX_ACL_DATA_OUT` octets of data, those of `header` and then the
-    /// first `count` of `octets`. Its broadcast flag is 0. (Core 5.0, Vol 2 Part E, 5.4.2)
+    /// Writes an ACL packet as `acl` does, with only the first `count` of `octets`.
     #[inline(always)]
     pub fn acl_front(&mut self, handle: u16, pb: u8, header: &[u8], octets: &[u8], count: usize)
         requires handle { handle < 2 ^ 12 }
@@ -103,8 +100,8 @@ impl PacketBuf {
         copy_behind(&mut self.octets, place, octets, count);
     }
 
-    /// Writes a command in place of the packet before: its indicator, and its octets from the opcode on,
-    /// fewer than `MAX_PACKET_OUT`. (Core 5.0, Vol 2 Part E, 5.4.1)
+    /// Writes a command in place of the last packet (Core 5.0, Vol 2 Part E, 5.4.1). `octets` begin
+    /// at the opcode.
     pub fn command(&mut self, octets: &[u8])
         requires { length octets.now < MAX_PACKET_OUT }
         ensures { self.new ≡ 0x01 ∷ octets.now }
@@ -112,7 +109,6 @@ impl PacketBuf {
         self.write(&[indicator::COMMAND], octets, &[]);
     }
 
-    /// Puts octets of three places, one behind the other, in place of those before.
     #[inline(always)]
     fn write(&mut self, first: &[u8], second: &[u8], third: &[u8])
         requires { length first.now + length second.now + length third.now ≤ MAX_PACKET_OUT }
@@ -124,7 +120,6 @@ impl PacketBuf {
     }
 }
 
-/// Copies the first `count` of some octets over others from a place on.
 #[inline(always)]
 fn copy_behind(out: &mut [u8], place: usize, octets: &[u8], count: usize)
     requires within { count ≤ length octets.now }
@@ -135,8 +130,8 @@ fn copy_behind(out: &mut [u8], place: usize, octets: &[u8], count: usize)
     copy_front(&mut out[place..], octets, count);
 }
 
-/// Copies the first `count` of some octets over the first of others. Few are copied as a block, with
-/// what stands behind them.
+/// Copies `count` octets to the start of `out`. A short copy may also change octets of `out` after
+/// them.
 #[inline(always)]
 fn copy_front(out: &mut [u8], octets: &[u8], count: usize)
     requires within { count ≤ length octets.now }

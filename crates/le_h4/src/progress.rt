@@ -4,26 +4,26 @@ ghost use Rattle.le_h4.specs.Progress.{progress_of, data_progress, short_progres
 use crate::indicator;
 use crate::write::HEADER;
 
-/// The most octets of data of an ACL packet that is kept.
+/// Maximum octets of data of an ACL packet. Longer packets are skipped.
 pub const MAX_ACL_DATA: usize = 1_024;
 
-/// The most octets of a packet that is kept: those of an ACL packet.
+/// Maximum octets of a packet that is not skipped.
 pub const MAX_PACKET_IN: usize = HEADER + MAX_ACL_DATA;
 
-/// How far the octets of a packet have come.
+/// Progress of a packet, of which some octets are there.
 #[derive(Clone, Copy, PartialEq, Eq)]
 pub(crate) enum Progress {
-    /// At least so many more belong to it.
+    /// Minimum number of missing octets.
     Lacks(usize),
-    /// They are all there.
+    /// Complete packet.
     Whole,
-    /// So many more belong to it, and it is too long to be kept.
+    /// Number of missing octets of a packet that is too long.
     Long(usize),
-    /// No packet has this indicator.
+    /// Indicator that no packet has.
     Desync(u8),
 }
 
-/// How far a packet has come of which these octets are there, from its indicator on.
+/// Returns the progress of a packet, from its indicator on.
 pub(crate) fn progress_at(octets: &[u8]) -> Progress
     requires { length octets.now ≤ MAX_PACKET_IN }
     ensures exact { result ≡ progress_of octets.now }
@@ -51,9 +51,8 @@ pub(crate) fn progress_at(octets: &[u8]) -> Progress
     }
 }
 
-/// How many octets the packet has that `first` and then `second` begin with, so far as they say: those
-/// of its header, and of its data where the header is all there. There is no answer where they begin
-/// with no packet, or with one that is not kept.
+/// Returns the size of the packet in `first` followed by `second`. Without the complete header it
+/// is the size of the header. Returns `None` if no packet begins so, or if it is too long.
 #[inline(always)]
 pub(crate) fn known_size(first: &[u8], second: &[u8]) -> Option<usize>
     ensures { IfSome result (IsSizeOf (first.now ++ second.now)) }
@@ -66,7 +65,6 @@ pub(crate) fn known_size(first: &[u8], second: &[u8]) -> Option<usize>
     }
 }
 
-/// How many octets behind its indicator the packet has, so far as they say.
 #[inline(always)]
 fn stated_size(first: &[u8], second: &[u8]) -> Option<usize>
     ensures { result ≡ stated_size (first.now ++ second.now) }
@@ -79,8 +77,6 @@ fn stated_size(first: &[u8], second: &[u8]) -> Option<usize>
     }
 }
 
-/// The size of an ACL packet behind its indicator, by the octets of its header that state that of its
-/// data.
 #[inline(always)]
 fn acl_size(low: Option<u8>, high: Option<u8>) -> usize
     ensures { result ≡ acl_size low high }
@@ -94,8 +90,6 @@ fn acl_size(low: Option<u8>, high: Option<u8>) -> usize
     4 + usize::from(u16::from_le_bytes([low, high]))
 }
 
-/// The size of another packet behind its indicator, by that of its header and the octet that states
-/// that of its data.
 #[inline(always)]
 fn short_size(header: usize, size: Option<u8>) -> usize
     requires { header ≤ 3 }
@@ -107,7 +101,6 @@ fn short_size(header: usize, size: Option<u8>) -> usize
     }
 }
 
-/// An octet of those of two places, one behind the other.
 #[inline(always)]
 fn octet_at(first: &[u8], second: &[u8], index: usize) -> Option<u8>
     ensures { result ≡ slice_get (first.now ++ second.now) index }
@@ -120,7 +113,6 @@ fn octet_at(first: &[u8], second: &[u8], index: usize) -> Option<u8>
     }
 }
 
-/// How far a packet has come whose header states `size` octets of data, of which `count` are there.
 fn with_data(size: usize, count: usize) -> Progress
     ensures { result ≡ data_progress size count }
 {
@@ -131,7 +123,6 @@ fn with_data(size: usize, count: usize) -> Progress
     }
 }
 
-/// How far a packet is whose data is not too long.
 fn with_short_data(size: usize, count: usize) -> Progress
     ensures { result ≡ short_progress size count }
 {

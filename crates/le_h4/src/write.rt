@@ -1,17 +1,16 @@
 ghost use Rattle.std.specs.Prelude.{◌≡◌, ◌+◌, ◌*◌, ◌^◌, ◌<◌, ◌≤◌, [], ◌∷◌, ◌++◌, length, take};
-ghost use Rattle.octets.specs.Number.{two_octets};
+ghost use Rattle.octet_io.specs.Number.{two_octets};
 ghost use Rattle.le_h4.specs.declared.packet_buf.TheConstants.{MAX_ACL_DATA_OUT, MAX_PACKET_OUT};
 
 use crate::indicator;
 use crate::packet_buf::PacketOctets;
-use octets::{overwrite, write_parts};
+use octet_io::{overwrite, write_parts};
 
-/// The octets in front of ACL data.
+/// Octets before the data of an ACL packet.
 pub(crate) const HEADER: usize = 5;
 
-/// Writes an ACL packet in place of what `out` holds: a connection handle of 12 bits, the packet
-/// boundary flag, and at most `MAX_ACL_DATA_OUT` octets of data. Its broadcast flag is 0. (Core 5.0,
-/// Vol 2 Part E, 5.4.2)
+/// Writes an ACL packet in place of the contents of `out` (Core 5.0, Vol 2 Part E, 5.4.2). Its
+/// broadcast flag is 0.
 pub fn write_acl(handle: u16, pb: u8, octets: &[u8], out: &mut PacketOctets)
     requires handle { handle < 2 ^ 12 }
     requires pb { pb ≤ 3 }
@@ -23,9 +22,7 @@ pub fn write_acl(handle: u16, pb: u8, octets: &[u8], out: &mut PacketOctets)
     write_acl_parts(handle, pb, &[], octets, out);
 }
 
-/// Writes an ACL packet in place of what `out` holds: a connection handle of 12 bits, the packet
-/// boundary flag, and at most `MAX_ACL_DATA_OUT` octets of data, those of `header` and then those of
-/// `octets`. Its broadcast flag is 0. (Core 5.0, Vol 2 Part E, 5.4.2)
+/// Writes an ACL packet as `write_acl` does. Its data is `header`, then `octets`.
 #[inline(always)]
 pub fn write_acl_parts(handle: u16, pb: u8, header: &[u8], octets: &[u8], out: &mut PacketOctets)
     requires handle { handle < 2 ^ 12 }
@@ -40,10 +37,8 @@ pub fn write_acl_parts(handle: u16, pb: u8, header: &[u8], octets: &[u8], out: &
     overwrite(out, &acl_header(handle, pb, length as u16), header, octets);
 }
 
-/// Writes an ACL packet at the front of `out`, and says how many octets it has: a connection handle of
-/// 12 bits, the packet boundary flag, and at most `MAX_ACL_DATA_OUT` octets of data, those of `header`
-/// and then those of `octets`. What stands behind it stays. Its broadcast flag is 0. (Core 5.0, Vol 2
-/// Part E, 5.4.2)
+/// Writes an ACL packet as `write_acl_parts` does, to the start of `out`. Returns its length in
+/// octets.
 #[inline(always)]
 pub fn acl_into(handle: u16, pb: u8, header: &[u8], octets: &[u8], out: &mut [u8]) -> usize
     requires handle { handle < 2 ^ 12 }
@@ -67,8 +62,7 @@ pub fn acl_into(handle: u16, pb: u8, header: &[u8], octets: &[u8], out: &mut [u8
     end
 }
 
-/// What stands in front of `length` octets of ACL data: the indicator, the connection handle with the
-/// packet boundary flag, and their length.
+/// Returns the octets before the data: indicator, handle and flag, length.
 #[inline(always)]
 pub(crate) fn acl_header(handle: u16, pb: u8, length: u16) -> [u8; HEADER]
     requires handle { handle < 2 ^ 12 }
@@ -80,8 +74,8 @@ pub(crate) fn acl_header(handle: u16, pb: u8, length: u16) -> [u8; HEADER]
     [indicator::ACL, low, high, size_low, size_high]
 }
 
-/// Writes a command in place of what `out` holds: its indicator, and its octets from the opcode on,
-/// fewer than `MAX_PACKET_OUT`. (Core 5.0, Vol 2 Part E, 5.4.1)
+/// Writes a command in place of the contents of `out` (Core 5.0, Vol 2 Part E, 5.4.1). `octets`
+/// begin at the opcode.
 pub fn write_command(octets: &[u8], out: &mut PacketOctets)
     requires { length octets.now < MAX_PACKET_OUT }
     ensures { out.new.items ≡ 0x01 ∷ octets.now }

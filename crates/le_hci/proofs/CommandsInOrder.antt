@@ -14,7 +14,7 @@ use Rattle.le_hci.specs.Buffers.{usable_of, shared_buffers_of}
 use Rattle.le_hci.specs.Command.{Commanded, SetEventMask, ReadBufferSize, LeSetEventMask, LeReadBufferSize, LeSetAdvertisingParameters, LeSetAdvertisingData, LeSetAdvertiseEnable}
 use Rattle.le_hci.specs.Init.{event_mask, le_event_mask, opcode_awaited, outcome_by, init_outcome, next_by, handed_back, next, first_state, addressed_from, after_sizing, after_shared_sizing, with_buffers}
 use Rattle.le_hci.specs.InitOrder.{address_commands, shared_commands, advertising_commands, commands_in_order, tell_shared, sent_after, init_commands_sent, IsPrefixOf}
-use Rattle.octets.specs.Number.{from_two}
+use Rattle.octet_io.specs.Number.{from_two}
 
 none_sent : (commands : List Commanded) → IsPrefixOf [] commands
 none_sent commands = record { rest = commands; whole = refl }

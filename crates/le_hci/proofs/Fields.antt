@@ -4,7 +4,7 @@ use Rattle.std.specs.Prelude.{◌+◌, Option, Some, None}
 use Rattle.std.specs.Option.{option_map, option_and_then}
 use Rattle.std.proofs.lemmas.Bool.{le-leb, lt-leb, cases_lt}
 use Rattle.std.proofs.lemmas.List.{length-drop}
-use Rattle.octets.specs.Number.{from_two}
+use Rattle.octet_io.specs.Number.{from_two}
 use Rattle.le_hci.specs.Event.{Reported, ConnectionComplete, LongTermKeyRequest, handle_of, fields, connection_complete_of, connection_complete, key_request_of, long_term_key_request}
 
 abbrev all_of : List ℕ → ℕ

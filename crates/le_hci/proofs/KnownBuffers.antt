@@ -3,7 +3,7 @@ use Rattle.std.proofs.Common.{◌≡◌, ℕ, List, [], ◌∷◌, Bool, true, f
 use Rattle.std.specs.Prelude.{◌==◌, ◌&&◌, nat_le, nat_lt, if◌then◌else◌, IfOk, Option, Some, None, Result, Ok, Err}
 use Rattle.std.specs.Result.{result_map_both}
 use Rattle.std.proofs.lemmas.Bool.{leb-true, ltb-true}
-use Rattle.octets.specs.Number.{from_two}
+use Rattle.octet_io.specs.Number.{from_two}
 use Rattle.le_hci.specs.declared.buffers.Buffers.{Buffers}
 use Rattle.le_hci.specs.declared.buffers.TheConstants.{LEAST_LENGTH}
 use Rattle.le_hci.specs.declared.init.Settings.{Settings}

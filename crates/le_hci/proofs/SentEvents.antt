@@ -12,7 +12,7 @@ use Rattle.le_hci.specs.declared.event.Event.{Event}
 use Rattle.le_hci.specs.declared.event.BadEvent.{BadEvent}
 use Rattle.le_hci.specs.Event.{Reported, report_of, DisconnectionComplete, EncryptionChange, CommandComplete, CommandStatus, HardwareError, NumberOfCompletedPackets, EncryptionKeyRefreshComplete, ConnectionComplete, LongTermKeyRequest, Other, completed_packets_of, completed_entries, disconnection_complete, encryption_change, command_complete, command_status, hardware_error, number_of_completed_packets, encryption_key_refresh_complete, connection_complete, long_term_key_request, le_meta_form, reported_form, read_or_bad, event_of}
 use Rattle.le_hci.specs.EventPacket.{event_packet, event_code, entry_fields, fields_of, HasFields, entry_told, report_read, IsSentAs, IsRead}
-use Rattle.octets.specs.Number.{from_two}
+use Rattle.octet_io.specs.Number.{from_two}
 use Rattle.le_hci.proofs.Fields.{connection_by, connection_is, request_by, request_is}
 
 abbrev AreOctets : List ℕ → Type 0

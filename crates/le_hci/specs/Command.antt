@@ -1,12 +1,11 @@
--- The commands that a host sends, and the octets of each: Core 5.0, Vol 2 Part E, 5.4.1 and 7.
+-- The commands of a host and their octets (Core 5.0, Vol 2 Part E, 5.4.1 and 7).
 use Rattle.std.specs.Prelude.{ℕ, ◌+◌, ◌-◌, ◌*◌, [], ◌∷◌, ◌++◌, length, replicate}
 use Rattle.std.specs.Int.{to_le_bytes, w64}
 use Rattle.le_hci.specs.declared.command.Command.{Command}
 use Rattle.le_hci.specs.declared.command.Command.TheVariants as variant
 use Rattle.le_hci.specs.declared.command.TheConstants.{MAX_ADVERTISING_DATA}
-use Rattle.octets.specs.Number.{Octets, two_octets}
+use Rattle.octet_io.specs.Number.{Octets, two_octets}
 
--- what a command asks for, without where its data lie
 pub data Commanded : Type 0 where
   Reset : Commanded
   SetEventMask : (mask : ℕ) → Commanded
@@ -29,13 +28,15 @@ command_of (variant.Disconnect handle reason) = Disconnect handle reason
 command_of (variant.LeSetEventMask mask) = LeSetEventMask mask
 command_of variant.LeReadBufferSize = LeReadBufferSize
 command_of (variant.LeSetRandomAddress address) = LeSetRandomAddress address
-command_of (variant.LeSetAdvertisingParameters own_address_type) = LeSetAdvertisingParameters own_address_type
+command_of (variant.LeSetAdvertisingParameters own_address_type) =
+    LeSetAdvertisingParameters own_address_type
 command_of (variant.LeSetAdvertisingData advertising) = LeSetAdvertisingData advertising.now.items
 command_of variant.LeSetAdvertiseEnable = LeSetAdvertiseEnable
 command_of (variant.LeLongTermKeyRequestReply handle key) = LeLongTermKeyRequestReply handle key
-command_of (variant.LeLongTermKeyRequestNegativeReply handle) = LeLongTermKeyRequestNegativeReply handle
+command_of (variant.LeLongTermKeyRequestNegativeReply handle) =
+    LeLongTermKeyRequestNegativeReply handle
 
--- an opcode: the group (OGF) in the upper 6 bits, and the command in it (OCF) in the lower 10
+-- An opcode has the group (OGF) in the upper 6 bits and the command (OCF) in the lower 10.
 abbrev pub opcode : ℕ → ℕ → ℕ
 opcode group command = 1024 * group + command
 
@@ -53,17 +54,19 @@ opcode_of LeSetAdvertiseEnable = opcode 0x08 0x000A
 opcode_of (LeLongTermKeyRequestReply handle key) = opcode 0x08 0x001A
 opcode_of (LeLongTermKeyRequestNegativeReply handle) = opcode 0x08 0x001B
 
--- both intervals 100 milliseconds, connectable and scannable undirected, the own address type, no peer (its
--- address type and address), all three channels, and no filter: 7.8.5
+-- Advertising is connectable, scannable and undirected, every 100 milliseconds, from the own
+-- address type, with no peer, all three channels and no filter (7.8.5).
 abbrev pub advertising_parameters : ℕ → Octets
 advertising_parameters own_address_type =
-    two_octets 160 ++ two_octets 160 ++ 0x00 ∷ own_address_type ∷ 0x00 ∷ replicate 6 0x00 ++ 0x07 ∷ 0x00 ∷ []
+    two_octets 160 ++ two_octets 160 ++ 0x00 ∷ own_address_type ∷ 0x00 ∷ replicate 6 0x00 ++ 0x07
+    ∷ 0x00 ∷ []
 
--- a length, and the data filled up to the most octets that they can have: 7.8.7
+-- The length, and the data padded to `MAX_ADVERTISING_DATA` octets (7.8.7).
 abbrev pub advertising_data : Octets → Octets
-advertising_data advertising = length advertising ∷ advertising ++ replicate (MAX_ADVERTISING_DATA - length advertising) 0x00
+advertising_data advertising =
+    length advertising ∷ advertising ++ replicate (MAX_ADVERTISING_DATA - length advertising) 0x00
 
--- a handle and a key: 7.8.25
+-- The handle and the key (7.8.25).
 abbrev pub key_reply : ℕ → Octets → Octets
 key_reply handle key = two_octets handle ++ key
 
@@ -75,13 +78,14 @@ parameters_of (Disconnect handle reason) = two_octets handle ++ reason ∷ []
 parameters_of (LeSetEventMask mask) = to_le_bytes w64 mask
 parameters_of LeReadBufferSize = []
 parameters_of (LeSetRandomAddress address) = address
-parameters_of (LeSetAdvertisingParameters own_address_type) = advertising_parameters own_address_type
+parameters_of (LeSetAdvertisingParameters own_address_type) =
+    advertising_parameters own_address_type
 parameters_of (LeSetAdvertisingData advertising) = advertising_data advertising
 parameters_of LeSetAdvertiseEnable = 0x01 ∷ []
 parameters_of (LeLongTermKeyRequestReply handle key) = key_reply handle key
 parameters_of (LeLongTermKeyRequestNegativeReply handle) = two_octets handle
 
--- a command packet: the opcode, the length of the parameters, and the parameters
+-- A command packet: opcode, length of the parameters, parameters.
 abbrev pub command_packet : ℕ → Octets → Octets
 command_packet code parameters = two_octets code ++ length parameters ∷ parameters
 

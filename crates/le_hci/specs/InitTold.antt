@@ -1,6 +1,6 @@
--- What the states of initialisation know of the buffers.
+-- The buffers that the states of initialisation know.
 use Rattle.std.specs.Prelude.{◌<◌, ◌≤◌, List, [], ◌∷◌, IfSome, Option, Some, None, Result, Ok, Err}
-use Rattle.octets.specs.Number.{Octets}
+use Rattle.octet_io.specs.Number.{Octets}
 use Rattle.le_hci.specs.declared.buffers.Buffers.{Buffers}
 use Rattle.le_hci.specs.declared.buffers.TheConstants.{LEAST_LENGTH}
 use Rattle.le_hci.specs.declared.init.Init.{Init}
@@ -8,7 +8,6 @@ use Rattle.le_hci.specs.declared.init.Init.TheVariants.{Resetting, Masking, LeMa
 use Rattle.le_hci.specs.declared.init.InitFault.{InitFault}
 use Rattle.le_hci.specs.Init.{init_outcome}
 
--- what was told of the buffers, in the states that have it
 abbrev pub told_in : Init → Option Buffers
 told_in (Addressing address advertising buffers) = Some buffers
 told_in (Describing own_address_type advertising buffers) = Some buffers
@@ -21,7 +20,6 @@ told_in (LeMasking settings) = None
 told_in (Sizing settings) = None
 told_in (SharedSizing settings) = None
 
--- it is enough for a peripheral
 pub record AreUsable (buffers : Buffers) : Type 0 where
   pub length_least : LEAST_LENGTH ≤ buffers.length
   pub packets_some : 0 < buffers.packets
@@ -29,11 +27,12 @@ pub record AreUsable (buffers : Buffers) : Type 0 where
 abbrev pub KnowsUsable : Init → Type 0
 KnowsUsable state = IfSome (told_in state) AreUsable
 
--- the state that these answers to the awaited commands lead to, until one fails
+-- The state after these answers, until one fails.
 abbrev pub state_after : Result Init (InitFault × Init) → (Init → Init) → Init
 state_after (Ok following) go_on = go_on following
 state_after (Err fault) go_on = fault.1
 
 abbrev pub state_after_answers : List Octets → Init → Init
 state_after_answers [] state = state
-state_after_answers (returned ∷ answers) state = state_after (init_outcome state returned) (state_after_answers answers)
+state_after_answers (returned ∷ answers) state =
+    state_after (init_outcome state returned) (state_after_answers answers)

@@ -3,20 +3,20 @@ ghost use Rattle.le_hci.specs.Buffers.{le_buffers_of, shared_buffers_of, usable_
 
 use crate::init::InitFault;
 
-/// The buffers for ACL packets that a controller has told.
+/// Buffers for ACL packets, as the controller reports them.
 #[derive(Clone, Copy, PartialEq, Eq)]
 pub struct Buffers {
-    /// The largest number of octets of data in a packet.
+    /// Maximum octets of data in a packet.
     pub length: u16,
-    /// The number of packets that the controller takes at a time.
+    /// Number of packets that the controller accepts at a time.
     pub packets: u16,
 }
 
-/// The least length of a buffer for an LE connection: Core 5.0, Vol 2 Part E, 7.8.2.
+/// Minimum octets of a buffer for an LE connection (Core 5.0, Vol 2 Part E, 7.8.2).
 const LEAST_LENGTH: u16 = 27;
 
-/// The values of LE Read Buffer Size, `None` where the buffers are shared with
-/// another transport: Core 5.0, Vol 2 Part E, 7.8.2.
+/// Reads what LE Read Buffer Size returned after its status (Core 5.0, Vol 2 Part E, 7.8.2).
+/// Returns `None` if the buffers are shared with another transport.
 pub fn le_buffers(returned: &[u8]) -> Result<Option<Buffers>, InitFault>
     ensures { result ≡ le_buffers_of returned.now }
 {
@@ -31,8 +31,7 @@ pub fn le_buffers(returned: &[u8]) -> Result<Option<Buffers>, InitFault>
     }
 }
 
-/// What Read Buffer Size returned after its status: the length and number of the ACL buffers,
-/// between which those of the SCO buffers stand. Core 5.0, Vol 2 Part E, 7.4.5.
+/// Reads what Read Buffer Size returned after its status (Core 5.0, Vol 2 Part E, 7.4.5).
 pub fn shared_buffers(returned: &[u8]) -> Result<Buffers, InitFault>
     ensures { result ≡ shared_buffers_of returned.now }
 {
@@ -54,7 +53,6 @@ pub fn shared_buffers(returned: &[u8]) -> Result<Buffers, InitFault>
     }
 }
 
-/// The buffers, where a host can use them.
 fn usable(buffers: Buffers) -> Result<Buffers, InitFault>
     ensures { result ≡ usable_of buffers }
 {

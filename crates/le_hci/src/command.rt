@@ -4,66 +4,64 @@ ghost use Rattle.le_hci.specs.Command.{command_of, opcode_of};
 use crate::opcode;
 use arrayvec::ArrayVec;
 
-/// The events that this host listens to, a bit for each: the default 0x00001FFFFFFFFFFF with the
-/// bits 47, Encryption Key Refresh Complete, and 61, LE Meta. Core 5.0, Vol 2 Part E, 7.3.1.
+/// Events to report: the default, bits 47 (Encryption Key Refresh Complete) and 61 (LE Meta) (Core
+/// 5.0, Vol 2 Part E, 7.3.1).
 pub const EVENT_MASK: u64 = 0x2000_9FFF_FFFF_FFFF;
-/// The subevents of LE Meta that this host listens to, a bit for each: the default, which has
-/// Connection Complete and Long Term Key Request. Core 5.0, Vol 2 Part E, 7.8.1.
+/// LE Meta subevents to report: the default (Core 5.0, Vol 2 Part E, 7.8.1).
 pub const LE_EVENT_MASK: u64 = 0x0000_0000_0000_001F;
-/// The most octets of advertising data: Core 5.0, Vol 2 Part E, 7.8.7.
+/// Maximum octets of advertising data (Core 5.0, Vol 2 Part E, 7.8.7).
 pub const MAX_ADVERTISING_DATA: usize = 31;
 
-/// What a host asks of its controller: Core 5.0, Vol 2 Part E, 7.
+/// A command to the controller (Core 5.0, Vol 2 Part E, 7).
 #[derive(Clone, Copy)]
 pub enum Command<'a> {
-    /// Start over: 7.3.2.
+    /// Controller reset (7.3.2).
     Reset,
-    /// Report these events: 7.3.1.
+    /// Mask of the events to report (7.3.1).
     SetEventMask {
         mask: u64,
     },
-    /// Tell the buffers for ACL packets of any transport: 7.4.5.
+    /// Query of the ACL buffers of all transports (7.4.5).
     ReadBufferSize,
-    /// End a connection: 7.1.6.
+    /// End of a connection (7.1.6).
     Disconnect {
         handle: u16,
         reason: u8,
     },
-    /// Report these subevents of LE Meta: 7.8.1.
+    /// Mask of the LE Meta subevents to report (7.8.1).
     LeSetEventMask {
         mask: u64,
     },
-    /// Tell the buffers for ACL packets of LE connections: 7.8.2.
+    /// Query of the ACL buffers of LE connections (7.8.2).
     LeReadBufferSize,
-    /// Take this random address, its octets as on the wire: 7.8.4.
+    /// Random address, in wire order (7.8.4).
     LeSetRandomAddress {
         address: [u8; 6],
     },
-    /// Advertise to any device on all three channels, so that it may connect, every 100
-    /// milliseconds, from the address of this type: 7.8.5.
+    /// Advertising to any device, on all three channels, every 100 milliseconds (7.8.5).
     LeSetAdvertisingParameters {
         /// 0 public, 1 random.
         own_address_type: u8,
     },
-    /// Advertise with these data: 7.8.7.
+    /// Advertising data (7.8.7).
     LeSetAdvertisingData {
         advertising: &'a ArrayVec<u8, MAX_ADVERTISING_DATA>,
     },
-    /// Begin to advertise: 7.8.9.
+    /// Start of advertising (7.8.9).
     LeSetAdvertiseEnable,
-    /// Encrypt a connection by this key, the octets as on the wire: 7.8.25.
+    /// Key of a connection, in wire order (7.8.25).
     LeLongTermKeyRequestReply {
         handle: u16,
         key: [u8; 16],
     },
-    /// There is no such key: 7.8.26.
+    /// Response that there is no such key (7.8.26).
     LeLongTermKeyRequestNegativeReply {
         handle: u16,
     },
 }
 
 impl Command<'_> {
-    /// The opcode, by which Command Complete and Command Status name the command.
+    /// Returns the opcode, which Command Complete and Command Status contain.
     pub fn opcode(&self) -> u16
         ensures { result ≡ opcode_of (command_of self.now) }
     {

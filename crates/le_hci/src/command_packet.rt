@@ -1,28 +1,26 @@
 ghost use Rattle.std.specs.Prelude.{◌≡◌, ◌+◌, ◌≤◌, [], ◌∷◌, ◌++◌, ◌-◌, length, replicate};
 ghost use Rattle.arrayvec.specs.ArrayVec.{array_vec_len};
 ghost use Rattle.le_hci.specs.Command.{command_of, packet_of, command_packet, advertising_data, key_reply, advertising_parameters};
-ghost use Rattle.octets.specs.Number.{two_octets};
+ghost use Rattle.octet_io.specs.Number.{two_octets};
 ghost use Rattle.le_hci.specs.declared.command.TheConstants.{MAX_ADVERTISING_DATA};
 ghost use Rattle.le_hci.specs.declared.command_packet.TheConstants.{COMMAND_ROOM, MAX_COMMAND, MAX_PARAMETERS};
 
 use crate::command::{Command, MAX_ADVERTISING_DATA};
 use arrayvec::ArrayVec;
 
-/// The octets in front of a command's parameters: its opcode and their length.
+/// Octets of the opcode and the parameter length.
 const HEADER: usize = 3;
 
-/// The most octets of a command's parameters: Core 5.0, Vol 2 Part E, 5.4.1.
+/// Maximum octets of parameters (Core 5.0, Vol 2 Part E, 5.4.1).
 const MAX_PARAMETERS: usize = 255;
 
-/// The most octets of a command packet, from its opcode on.
+/// Maximum octets of a command packet, from its opcode on.
 pub const MAX_COMMAND: usize = HEADER + MAX_PARAMETERS;
 
-/// The room for a command packet: that of any packet to the controller, of which ACL data have the
-/// longest.
+/// Capacity for a packet to the controller: ACL data is the longest.
 pub const COMMAND_ROOM: usize = 260;
 
-/// Replaces the content of `out` by a command packet, from its opcode on: Core 5.0, Vol 2 Part E,
-/// 5.4.1. A packet has at most `MAX_COMMAND` octets.
+/// Writes a command packet, from its opcode on, to `out` (Core 5.0, Vol 2 Part E, 5.4.1).
 pub fn write_command(command: &Command<'_>, out: &mut ArrayVec<u8, COMMAND_ROOM>)
     ensures packet { out.new.items ≡ packet_of (command_of command.now) }
     ensures fits { length out.new.items ≤ MAX_COMMAND }
@@ -56,10 +54,9 @@ pub fn write_command(command: &Command<'_>, out: &mut ArrayVec<u8, COMMAND_ROOM>
     }
 }
 
-/// Enabled, as the parameter of LE Set Advertise Enable: Core 5.0, Vol 2 Part E, 7.8.9.
+/// Parameter of LE Set Advertise Enable (7.8.9).
 const ENABLE: u8 = 0x01;
 
-/// Writes a command in place of the content: its header and its parameters.
 fn write_packet(opcode: u16, parameters: &[u8], out: &mut ArrayVec<u8, COMMAND_ROOM>)
     requires { length parameters.now ≤ MAX_PARAMETERS }
     ensures packet { out.new.items ≡ command_packet opcode parameters.now }
@@ -69,7 +66,6 @@ fn write_packet(opcode: u16, parameters: &[u8], out: &mut ArrayVec<u8, COMMAND_R
     append(parameters, out);
 }
 
-/// Replaces the content by the header of a packet: the opcode and the length of its parameters.
 fn write_header(opcode: u16, length: u8, out: &mut ArrayVec<u8, COMMAND_ROOM>)
     ensures { out.new.items ≡ two_octets opcode ++ length ∷ [] }
 {
@@ -78,7 +74,6 @@ fn write_header(opcode: u16, length: u8, out: &mut ArrayVec<u8, COMMAND_ROOM>)
     append(&[low, high, length], out);
 }
 
-/// Appends octets for which there is room.
 fn append(octets: &[u8], out: &mut ArrayVec<u8, COMMAND_ROOM>)
     requires { array_vec_len out.old + length octets.now ≤ COMMAND_ROOM }
     ensures { out.new.items ≡ out.old.items ++ octets.now }
@@ -86,7 +81,7 @@ fn append(octets: &[u8], out: &mut ArrayVec<u8, COMMAND_ROOM>)
     out.try_extend_from_slice(octets).unwrap();
 }
 
-/// Writes LE Set Advertising Parameters: Core 5.0, Vol 2 Part E, 7.8.5.
+/// Writes LE Set Advertising Parameters (7.8.5).
 fn write_advertising_parameters(
     opcode: u16,
     own_address_type: u8,
@@ -116,7 +111,7 @@ fn write_advertising_parameters(
     write_packet(opcode, &parameters, out);
 }
 
-/// Writes LE Set Advertising Data, filled up to 31 octets: Core 5.0, Vol 2 Part E, 7.8.7.
+/// Writes LE Set Advertising Data, padded to 31 octets (7.8.7).
 fn write_advertising_data(
     opcode: u16,
     advertising: &ArrayVec<u8, MAX_ADVERTISING_DATA>,
@@ -133,8 +128,6 @@ fn write_advertising_data(
     fill_up(octets.len(), out);
 }
 
-/// Appends the octets 00 that `length` octets of advertising data are filled up with. It stands apart
-/// for its proof.
 fn fill_up(length: usize, out: &mut ArrayVec<u8, COMMAND_ROOM>)
     requires shorter { length ≤ MAX_ADVERTISING_DATA }
     requires room { array_vec_len out.old + MAX_ADVERTISING_DATA ≤ COMMAND_ROOM + length }
@@ -143,7 +136,7 @@ fn fill_up(length: usize, out: &mut ArrayVec<u8, COMMAND_ROOM>)
     append(&[0x00; MAX_ADVERTISING_DATA][length..], out);
 }
 
-/// Writes LE Long Term Key Request Reply: Core 5.0, Vol 2 Part E, 7.8.25.
+/// Writes LE Long Term Key Request Reply (7.8.25).
 fn write_key_reply(opcode: u16, handle: u16, key: &[u8; 16], out: &mut ArrayVec<u8, COMMAND_ROOM>)
     ensures packet { out.new.items ≡ command_packet opcode (key_reply handle key.now) }
     ensures fits { length out.new.items ≤ MAX_COMMAND }

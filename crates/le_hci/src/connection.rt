@@ -1,5 +1,5 @@
-/// The role of a peripheral in a connection: Core 5.0, Vol 2 Part E, 7.7.65.1.
+/// Role of a peripheral (Core 5.0, Vol 2 Part E, 7.7.65.1).
 pub const PERIPHERAL: u8 = 0x01;
 
-/// The largest handle that a connection may have: 7.7.65.1.
+/// Highest connection handle (Core 5.0, Vol 2 Part E, 7.7.65.1).
 pub const LAST_CONNECTION_HANDLE: u16 = 0x0EFF;

@@ -1,56 +1,56 @@
 ghost use Rattle.std.specs.Prelude.{◌≡◌, ◌++◌, IfOk};
 ghost use Rattle.std.specs.Result.{result_map_both};
-ghost use Rattle.octets.specs.Number.{Octets};
+ghost use Rattle.octet_io.specs.Number.{Octets};
 ghost use Rattle.le_hci.specs.Event.{Reported, report_of, event_of, completed_packets_of};
 ghost use Rattle.le_hci.specs.EventPacket.{event_packet, event_code, fields_of, HasFields, report_read, IsRead};
 
 use crate::event_form;
 use crate::peer::Peer;
 
-/// What a controller reports: Core 5.0, Vol 2 Part E, 7.7. A handle is that of a connection, below
-/// 4,096, and a status of 0 is success.
+/// An event of the controller (Core 5.0, Vol 2 Part E, 7.7). Handles are below 4,096, and status 0
+/// is success.
 #[derive(Clone, Copy, PartialEq, Eq)]
 pub enum Event<'a> {
-    /// A connection has ended: 7.7.5.
+    /// End of a connection (7.7.5).
     DisconnectionComplete {
         status: u8,
         handle: u16,
         reason: u8,
     },
-    /// Encryption was turned on, or off where `enabled` is 0: 7.7.8.
+    /// Encryption on, or off if `enabled` is 0 (7.7.8).
     EncryptionChange {
         status: u8,
         handle: u16,
         enabled: u8,
     },
-    /// A command is complete, and `allowed` more commands may be sent: 7.7.14.
+    /// Completed command. `allowed` more may be sent (7.7.14).
     CommandComplete {
         allowed: u8,
         opcode: u16,
-        /// The return parameters, which most commands begin with a status.
+        /// Return parameters, which begin with a status for most commands.
         parameters: &'a [u8],
     },
-    /// A command is under way or refused, and `allowed` more commands may be sent: 7.7.15.
+    /// Started or rejected command. `allowed` more may be sent (7.7.15).
     CommandStatus {
         status: u8,
         allowed: u8,
         opcode: u16,
     },
-    /// The controller failed: 7.7.16.
+    /// Controller failure (7.7.16).
     HardwareError {
         code: u8,
     },
-    /// Packets that the controller has sent or dropped: 7.7.19.
+    /// Packets sent or dropped (7.7.19).
     NumberOfCompletedPackets {
-        /// An entry for each connection, which `CompletedPackets::read` reads.
+        /// One entry per connection, for `CompletedPackets::read`.
         entries: &'a [[u8; 4]],
     },
-    /// The key of an encrypted connection was changed: 7.7.39.
+    /// Changed key of an encrypted connection (7.7.39).
     EncryptionKeyRefreshComplete {
         status: u8,
         handle: u16,
     },
-    /// A connection was made: 7.7.65.1.
+    /// New connection (7.7.65.1).
     ConnectionComplete {
         status: u8,
         handle: u16,
@@ -65,30 +65,29 @@ pub enum Event<'a> {
         timeout: u16,
         clock_accuracy: u8,
     },
-    /// A peer wants to encrypt a connection, with the key of this number and diversifier: 7.7.65.5.
+    /// Request for the key of this number and diversifier (7.7.65.5).
     LongTermKeyRequest {
         handle: u16,
-        /// The octets as on the wire.
+        /// In wire order.
         random_number: [u8; 8],
         diversifier: u16,
     },
-    /// Any other event, or subevent of LE Meta.
+    /// Any other event or LE Meta subevent.
     Other,
 }
 
-/// The code of an event that has fewer octets than its fields, or another number of octets than
-/// its length octet says; 0 of no octets at all.
+/// Code of an event with fewer octets than its fields, or another number than its length states; 0
+/// without octets.
 #[derive(Clone, Copy, Debug, PartialEq, Eq)]
 pub struct BadEvent(pub u8);
 
-/// Reads an event packet, from its event code on: Core 5.0, Vol 2 Part E, 5.4.4. The upper four
-/// bits of a handle field are ignored, and so are octets after the fields. What has no fixed size
-/// is borrowed from the packet.
+/// Reads an event packet, from its event code on (Core 5.0, Vol 2 Part E, 5.4.4). Ignores the upper
+/// four bits of handles, and octets after the fields.
 #[inline(always)]
 pub fn read_event(octets: &[u8]) -> Result<Event<'_>, BadEvent>
     ensures exact { result_map_both report_of (λ bad. bad) result ≡ event_of octets.now }
     ensures sent { IfOk result (λ event. IsRead (report_of event) octets.now) }
-    // Nothing that is sent so is a bad event.
+    // No well-formed event is a bad event.
     ensures accepted { (sent : Reported) (extra : Octets) → HasFields sent extra
         → event_packet (event_code sent) (fields_of sent ++ extra) ≡ octets.now
         → event_of octets.now ≡ Ok (report_read sent) }
@@ -105,17 +104,17 @@ pub fn read_event(octets: &[u8]) -> Result<Event<'_>, BadEvent>
     event_form::read(*code, parameters).ok_or(BadEvent(*code))
 }
 
-/// How many packets of one connection were completed.
+/// Completed packets of one connection.
 #[derive(Clone, Copy, PartialEq, Eq)]
 pub struct CompletedPackets {
-    /// The handle of the connection, below 4,096.
+    /// Handle of the connection, below 4,096.
     pub handle: u16,
-    /// The number of packets since the last report.
+    /// Packets completed since the last report.
     pub packets: u16,
 }
 
 impl CompletedPackets {
-    /// Reads an entry of Number Of Completed Packets: Core 5.0, Vol 2 Part E, 7.7.19.
+    /// Reads an entry of Number Of Completed Packets (Core 5.0, Vol 2 Part E, 7.7.19).
     pub fn read(entry: &[u8; 4]) -> CompletedPackets
         ensures { result ≡ completed_packets_of entry.now }
     {

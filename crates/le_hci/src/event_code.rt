@@ -1,4 +1,4 @@
-//! The codes of events, and of the subevents of LE Meta: Core 5.0, Vol 2 Part E, 7.7.
+//! Codes of events and of LE Meta subevents (Core 5.0, Vol 2 Part E, 7.7).
 
 pub const DISCONNECTION_COMPLETE: u8 = 0x05;
 
@@ -16,8 +16,8 @@ pub const ENCRYPTION_KEY_REFRESH_COMPLETE: u8 = 0x30;
 
 pub const LE_META: u8 = 0x3E;
 
-/// A subevent of LE Meta.
+/// LE Meta subevent.
 pub const LE_CONNECTION_COMPLETE: u8 = 0x01;
 
-/// A subevent of LE Meta.
+/// LE Meta subevent.
 pub const LE_LONG_TERM_KEY_REQUEST: u8 = 0x05;

@@ -1,5 +1,5 @@
-//! The forms of the parameters of events: Core 5.0, Vol 2 Part E, 7.7. Each function answers `None`
-//! where there are fewer octets than fields.
+//! Readers of event parameters (Core 5.0, Vol 2 Part E, 7.7), which return `None` if octets are
+//! missing.
 
 ghost use Rattle.std.specs.Prelude.{◌≡◌, map};
 ghost use Rattle.std.specs.Option.{option_map};
@@ -9,10 +9,10 @@ use crate::event::Event;
 use crate::event_code;
 use crate::peer::Peer;
 
-/// The bits of a handle field that are the handle.
+/// Bits of a field that hold the handle; the others are ignored.
 const HANDLE: u16 = 0x0FFF;
 
-/// The event with this code and these parameters.
+/// Reads the event with this code and these parameters.
 #[inline(always)]
 pub fn read(code: u8, parameters: &[u8]) -> Option<Event<'_>>
     ensures { option_map report_of result ≡ reported_form code parameters.now }
@@ -32,7 +32,7 @@ pub fn read(code: u8, parameters: &[u8]) -> Option<Event<'_>>
     }
 }
 
-/// Reads an LE event, which its first parameter names: Core 5.0, Vol 2 Part E, 7.7.65.
+/// Reads an LE Meta event, whose first parameter is the subevent code (7.7.65).
 fn read_le_meta(parameters: &[u8]) -> Option<Event<'_>>
     ensures { option_map report_of result ≡ le_meta_form parameters.now }
 {
@@ -46,14 +46,14 @@ fn read_le_meta(parameters: &[u8]) -> Option<Event<'_>>
     }
 }
 
-/// A handle field, whose upper four bits are ignored.
+/// Returns the handle in a field.
 pub fn handle(low: u8, high: u8) -> u16
     ensures { result ≡ handle_of low high }
 {
     u16::from_le_bytes([low, high]) & HANDLE
 }
 
-/// Reads a Disconnection Complete event: Core 5.0, Vol 2 Part E, 7.7.5.
+/// Reads Disconnection Complete (7.7.5).
 fn read_disconnection_complete(parameters: &[u8]) -> Option<Event<'_>>
     ensures { option_map report_of result ≡ disconnection_complete parameters.now }
 {
@@ -67,7 +67,7 @@ fn read_disconnection_complete(parameters: &[u8]) -> Option<Event<'_>>
     }
 }
 
-/// Reads an Encryption Change event: Core 5.0, Vol 2 Part E, 7.7.8.
+/// Reads Encryption Change (7.7.8).
 fn read_encryption_change(parameters: &[u8]) -> Option<Event<'_>>
     ensures { option_map report_of result ≡ encryption_change parameters.now }
 {
@@ -81,7 +81,7 @@ fn read_encryption_change(parameters: &[u8]) -> Option<Event<'_>>
     }
 }
 
-/// Reads a Command Complete event: Core 5.0, Vol 2 Part E, 7.7.14.
+/// Reads Command Complete (7.7.14).
 fn read_command_complete(parameters: &[u8]) -> Option<Event<'_>>
     ensures { option_map report_of result ≡ command_complete parameters.now }
 {
@@ -95,7 +95,7 @@ fn read_command_complete(parameters: &[u8]) -> Option<Event<'_>>
     }
 }
 
-/// Reads a Command Status event: Core 5.0, Vol 2 Part E, 7.7.15.
+/// Reads Command Status (7.7.15).
 fn read_command_status(parameters: &[u8]) -> Option<Event<'_>>
     ensures { option_map report_of result ≡ command_status parameters.now }
 {
@@ -109,7 +109,7 @@ fn read_command_status(parameters: &[u8]) -> Option<Event<'_>>
     }
 }
 
-/// Reads a Hardware Error event: Core 5.0, Vol 2 Part E, 7.7.16.
+/// Reads Hardware Error (7.7.16).
 fn read_hardware_error(parameters: &[u8]) -> Option<Event<'_>>
     ensures { option_map report_of result ≡ hardware_error parameters.now }
 {
@@ -119,7 +119,7 @@ fn read_hardware_error(parameters: &[u8]) -> Option<Event<'_>>
     }
 }
 
-/// Reads a Number Of Completed Packets event: Core 5.0, Vol 2 Part E, 7.7.19.
+/// Reads Number Of Completed Packets (7.7.19).
 #[inline(always)]
 fn read_number_of_completed_packets(parameters: &[u8]) -> Option<Event<'_>>
     ensures { option_map report_of result ≡ number_of_completed_packets parameters.now }
@@ -131,7 +131,6 @@ fn read_number_of_completed_packets(parameters: &[u8]) -> Option<Event<'_>>
     Some(Event::NumberOfCompletedPackets { entries })
 }
 
-/// As many entries as are counted.
 #[inline(always)]
 fn entries(count: u8, octets: &[u8]) -> Option<&[[u8; 4]]>
     ensures { option_map (λ entries. map completed_packets_of entries.now) result
@@ -141,7 +140,7 @@ fn entries(count: u8, octets: &[u8]) -> Option<&[[u8; 4]]>
     entries.get(..usize::from(count))
 }
 
-/// Reads an Encryption Key Refresh Complete event: Core 5.0, Vol 2 Part E, 7.7.39.
+/// Reads Encryption Key Refresh Complete (7.7.39).
 fn read_encryption_key_refresh_complete(parameters: &[u8]) -> Option<Event<'_>>
     ensures { option_map report_of result ≡ encryption_key_refresh_complete parameters.now }
 {
@@ -154,7 +153,7 @@ fn read_encryption_key_refresh_complete(parameters: &[u8]) -> Option<Event<'_>>
     }
 }
 
-/// Reads an LE Connection Complete event: Core 5.0, Vol 2 Part E, 7.7.65.1.
+/// Reads LE Connection Complete (7.7.65.1).
 fn read_connection_complete(parameters: &[u8]) -> Option<Event<'_>>
     ensures { option_map report_of result ≡ connection_complete parameters.now }
 {
@@ -190,7 +189,7 @@ fn read_connection_complete(parameters: &[u8]) -> Option<Event<'_>>
     })
 }
 
-/// Reads an LE Long Term Key Request event: Core 5.0, Vol 2 Part E, 7.7.65.5.
+/// Reads LE Long Term Key Request (7.7.65.5).
 fn read_long_term_key_request(parameters: &[u8]) -> Option<Event<'_>>
     ensures { option_map report_of result ≡ long_term_key_request parameters.now }
 {

@@ -1,7 +1,7 @@
 ghost use Rattle.std.specs.Prelude.{◌≡◌, ◌≢◌, List, ℕ, ◌∷◌, drop, IsSome, Some, IfErr};
 ghost use Rattle.std.specs.Option.{option_map};
 ghost use Rattle.std.specs.Result.{result_map_both};
-ghost use Rattle.octets.specs.Number.{Octets};
+ghost use Rattle.octet_io.specs.Number.{Octets};
 ghost use Rattle.arrayvec.specs.ArrayVec.{ArrayVec};
 ghost use Rattle.le_hci.specs.Command.{command_of};
 ghost use Rattle.le_hci.specs.InitOrder.{init_commands_sent, commands_in_order, tell_shared, IsPrefixOf};
@@ -13,83 +13,80 @@ use crate::command::{Command, EVENT_MASK, LE_EVENT_MASK, MAX_ADVERTISING_DATA};
 use crate::peer::{PUBLIC_ADDRESS, RANDOM_ADDRESS};
 use arrayvec::ArrayVec;
 
-/// What a host wants of its controller.
+/// Settings of a controller.
 #[derive(Drop)]
 pub struct Settings {
-    /// The random address to advertise from, its octets as on the wire, or `None` for the public
-    /// one.
+    /// Random address to advertise from, in wire order. `None` means the public one.
     pub address: Option<[u8; 6]>,
-    /// The advertising data.
     pub advertising: ArrayVec<u8, MAX_ADVERTISING_DATA>,
 }
 
-/// How far a controller is initialised. Each state but `Ready` awaits the completion of one
-/// command, and keeps what the later ones need.
+/// Progress of a controller's initialisation. Each state except `Ready` waits for the completion of
+/// the named command.
 #[derive(Drop)]
 pub enum Init {
-    /// Awaits Reset.
+    /// Reset.
     Resetting(Settings),
-    /// Awaits Set Event Mask.
+    /// Set Event Mask.
     Masking(Settings),
-    /// Awaits LE Set Event Mask.
+    /// LE Set Event Mask.
     LeMasking(Settings),
-    /// Awaits LE Read Buffer Size.
+    /// LE Read Buffer Size.
     Sizing(Settings),
-    /// Awaits Read Buffer Size: there are no buffers for LE connections alone.
+    /// Read Buffer Size: all transports share the buffers.
     SharedSizing(Settings),
-    /// Awaits LE Set Random Address.
+    /// LE Set Random Address.
     Addressing {
         address: [u8; 6],
         advertising: ArrayVec<u8, MAX_ADVERTISING_DATA>,
         buffers: Buffers,
     },
-    /// Awaits LE Set Advertising Parameters.
+    /// LE Set Advertising Parameters.
     Describing {
         /// 0 public, 1 random.
         own_address_type: u8,
         advertising: ArrayVec<u8, MAX_ADVERTISING_DATA>,
         buffers: Buffers,
     },
-    /// Awaits LE Set Advertising Data.
+    /// LE Set Advertising Data.
     Filling {
         advertising: ArrayVec<u8, MAX_ADVERTISING_DATA>,
         buffers: Buffers,
     },
-    /// Awaits LE Set Advertise Enable.
+    /// LE Set Advertise Enable.
     Enabling {
         buffers: Buffers,
     },
-    /// The controller advertises and may be connected to. It has told that it takes `packets` ACL
-    /// packets at a time, each of at most `length` octets of data.
+    /// The controller advertises. It accepts `packets` ACL packets at a time, with at most `length`
+    /// octets of data.
     Ready {
         length: u16,
         packets: u16,
     },
 }
 
-/// Why a command did not bring the initialisation further.
+/// Reason why the initialisation did not continue.
 #[derive(Clone, Copy, Debug, PartialEq, Eq)]
 pub enum InitFault {
-    /// The command with this opcode was refused with this status, which is not 0.
+    /// The command with this opcode failed with this nonzero status.
     Refused(u16, u8),
-    /// The buffers are too few or too short: there have to be buffers of at least 27 octets.
+    /// There is no buffer, or buffers have fewer than 27 octets.
     BadBuffers,
-    /// The return parameters lack their status, or have the status 0 and fewer octets than the
-    /// command returns.
+    /// The status is missing, or it is 0 and return parameters are missing.
     Short,
 }
 
-/// The status of a command that was successful: Core 5.0, Vol 2 Part D, 1.3.
+/// Status of a successful command (Core 5.0, Vol 2 Part D, 1.3).
 const SUCCESS: u8 = 0x00;
 
 impl Init {
-    /// The first state, for a random address or the public one, and for advertising data.
+    /// Returns the first state. Without `address` the controller uses its public one.
     pub fn new(address: Option<[u8; 6]>, advertising: ArrayVec<u8, MAX_ADVERTISING_DATA>) -> Init
         ensures exact { result ≡ first_state address advertising }
         ensures in_order { (answers : List Octets)
             → IsPrefixOf (init_commands_sent answers result)
             (commands_in_order address advertising.items (tell_shared (drop 3 answers))) }
-        // Whatever the answers are, buffers that a state knows have 27 octets at least, and there is one.
+        // Whatever the answers, known buffers hold at least one packet of 27 octets.
         ensures usable { (answers : List Octets)
             → KnowsUsable (state_after_answers answers result) }
     {
@@ -99,8 +96,7 @@ impl Init {
         })
     }
 
-    /// The command that is awaited, or `None` where the controller is ready. It is to be sent once
-    /// in each state.
+    /// Returns the command to send once in this state. `None` means that the controller is ready.
     pub fn command(&self) -> Option<Command<'_>>
         ensures { option_map command_of result ≡ command_awaited self.now }
     {
@@ -129,9 +125,10 @@ impl Init {
         }
     }
 
-    /// Takes the return parameters of the awaited command, from its Command Complete, or the
-    /// nonzero status of its Command Status as one octet. Gives the next state, or hands this one
-    /// back with what is wrong. Octets after the return parameters are ignored.
+    /// Processes the response to the pending command and returns the next state.
+    ///
+    /// The parameters are those of a Command Complete, or the nonzero status of a Command Status.
+    /// Octets after them are ignored. A fault returns the unchanged state.
     pub fn complete(self, parameters: &[u8]) -> Result<Init, (InitFault, Init)>
         requires awaiting { IsSome (command_awaited self) }
         ensures exact { result ≡ init_outcome self parameters.now }
@@ -150,7 +147,6 @@ impl Init {
         }
     }
 
-    /// Goes on after a successful command, which returned these values after its status.
     fn advance(self, values: &[u8]) -> Result<Init, (InitFault, Init)>
         requires awaiting { IsSome (command_awaited self) }
         ensures { result ≡ handed_back self (next self values.now) }
@@ -198,7 +194,6 @@ impl Init {
     }
 }
 
-/// What a command returned after its status, where it was successful.
 fn values(opcode: u16, parameters: &[u8]) -> Result<&[u8], InitFault>
     ensures { result_map_both (λ values. values.now) (λ fault. fault) result
         ≡ returned_values opcode parameters.now }
@@ -211,7 +206,7 @@ fn values(opcode: u16, parameters: &[u8]) -> Result<&[u8], InitFault>
 }
 
 impl Settings {
-    /// The state once the buffers are told: a random address comes before all that uses it.
+    /// Returns the state once the buffers are known. A random address is set before its first use.
     fn with_buffers(self, buffers: Buffers) -> Init
         ensures { result ≡ with_buffers self buffers }
     {

@@ -1,4 +1,4 @@
-//! What a fault of the initialisation says.
+//! Texts of initialisation faults.
 
 use crate::init::InitFault;
 use crate::opcode;
@@ -25,7 +25,7 @@ impl fmt::Display for InitFault {
 
 impl Error for InitFault {}
 
-/// The name of a command by which a controller is initialised: Core 5.0, Vol 2 Part E, 7.
+/// Returns the name of an initialisation command (Core 5.0, Vol 2 Part E, 7).
 fn command_name(opcode: u16) -> &'static str {
     match opcode {
         opcode::RESET => "Reset",

@@ -1,5 +1,4 @@
-//! The Host Controller Interface (HCI) of an LE peripheral: the events that it reads, the commands
-//! that it sends, and the order of the commands that make a controller ready.
+//! Host Controller Interface (HCI) of an LE peripheral.
 #![tactic(auto)]
 
 mod buffers;

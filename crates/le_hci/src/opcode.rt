@@ -1,5 +1,4 @@
-//! The opcodes of commands, the OGF in the upper 6 bits and the OCF in the lower 10: Core 5.0,
-//! Vol 2 Part E, 5.4.1 and 7.
+//! Opcodes: OGF in the upper 6 bits, OCF in the lower 10 (Core 5.0, Vol 2 Part E, 5.4.1 and 7).
 
 pub const DISCONNECT: u16 = 0x0406;
 

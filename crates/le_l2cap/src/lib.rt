@@ -1,5 +1,5 @@
-//! The Logical Link Control and Adaptation Protocol (L2CAP) of an LE link: basic frames, and what
-//! is answered on the channels of LE signalling and of the Security Manager.
+//! L2CAP of an LE link: basic frames, and responses on the channels of LE signalling and the
+//! Security Manager.
 #![tactic(auto)]
 
 pub mod channel;

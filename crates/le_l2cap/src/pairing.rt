@@ -1,13 +1,12 @@
 ghost use Rattle.std.specs.Prelude.{◌≡◌};
 ghost use Rattle.le_l2cap.specs.Pairing.{pairing_answer};
 
-/// Pairing Request: Core 5.0, Vol 3 Part H, 3.3.
+/// Code of a Pairing Request (Core 5.0, Vol 3 Part H, 3.3).
 const PAIRING_REQUEST: u8 = 0x01;
-/// Pairing Failed with the reason Pairing Not Supported: Core 5.0, Vol 3 Part H, 3.5.5.
+/// Pairing Failed with reason Pairing Not Supported (Core 5.0, Vol 3 Part H, 3.5.5).
 const PAIRING_NOT_SUPPORTED: [u8; 2] = [0x05, 0x05];
 
-/// The answer that is due to a payload of the channel of the Security Manager: Pairing Failed to
-/// a Pairing Request, and `None` where the payload is ignored.
+/// Returns Pairing Failed for a Pairing Request. Other payloads are ignored.
 pub fn security(payload: &[u8]) -> Option<[u8; 2]>
     ensures { result ≡ pairing_answer payload.now }
 {

@@ -2,7 +2,7 @@ ghost use Rattle.std.specs.Prelude.{◌≡◌, IfSome, false};
 ghost use Rattle.std.specs.Option.{option_map};
 ghost use Rattle.le_l2cap.specs.SignallingCommand.{Command, command_spelled, is_ignored_code, rejected_identifier, command_reject, IsRejected, HasCommandFields};
 
-/// The codes of the signalling commands that are named here: Core 5.0, Vol 3 Part A, 4.
+/// Codes of signalling commands (Core 5.0, Vol 3 Part A, 4).
 const COMMAND_REJECT: u8 = 0x01;
 
 const DISCONNECTION_RESPONSE: u8 = 0x07;
@@ -13,16 +13,16 @@ const LE_CREDIT_BASED_CONNECTION_RESPONSE: u8 = 0x15;
 
 const LE_FLOW_CONTROL_CREDIT: u8 = 0x16;
 
-/// The answer to a command that this end does not understand.
+/// Response to a command that this end does not understand.
 #[derive(Clone, Copy, Debug, PartialEq, Eq)]
 pub struct Reject {
-    /// The identifier of the command.
+    /// Identifier of the command.
     pub id: u8,
 }
 
 impl Reject {
-    /// The payload of the answer: a Command Reject whose reason is Command Not Understood. Core
-    /// 5.0, Vol 3 Part A, 4.1.
+    /// Returns the payload: Command Reject with reason Command Not Understood (Core 5.0, Vol 3 Part
+    /// A, 4.1).
     pub fn octets(self) -> [u8; 6]
         ensures { result ≡ command_reject self.id }
     {
@@ -30,13 +30,14 @@ impl Reject {
     }
 }
 
-/// The answer that is due to a payload of the channel of LE signalling, or `None` where the
-/// payload is ignored: it is not one whole command, its identifier is 0, or it answers a command
-/// that was never sent.
+/// Returns the response to a payload of the signalling channel.
+///
+/// Returns `None` if the payload is not one whole command, has the identifier 0, or responds to a
+/// command that was never sent.
 pub fn signalling(payload: &[u8]) -> Option<Reject>
     ensures exact { option_map (λ reject. reject.id) result ≡ rejected_identifier payload.now }
     ensures rejected { IfSome result (λ reject. IsRejected payload.now reject.id) }
-    // No other command is left without an answer.
+    // Every other command has a response.
     ensures answered { (command : Command) → HasCommandFields command → command_spelled command
         ≡ payload.now
         → is_ignored_code command.code ≡ false → rejected_identifier payload.now
@@ -52,7 +53,7 @@ pub fn signalling(payload: &[u8]) -> Option<Reject>
     Some(Reject { id: *id })
 }
 
-/// Whether a command is no request, so that nothing is due to it.
+/// Returns true if a command needs no response.
 fn is_ignored(code: u8) -> bool
     ensures { result ≡ is_ignored_code code }
 {

@@ -1,7 +1,7 @@
 -- A text of as many characters as an address has, character by character.
 use Rattle.std.proofs.Common.{◌≡◌, ℕ, zero, suc, ◌+◌, true, if◌then◌else◌, ◌==◌, ◌&&◌, None, [], ◌∷◌, length, get_or, drop, ap, drop-cons, arith}
 use Rattle.std.proofs.lemmas.Grind.{common_steps}
-use Rattle.octets.specs.Number.{Octets}
+use Rattle.octet_io.specs.Number.{Octets}
 use Rattle.le_security.specs.Address.{address_octets, address_of}
 
 -- so many characters from a place on

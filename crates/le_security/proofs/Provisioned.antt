@@ -6,23 +6,20 @@ use Rattle.std.proofs.lemmas.Bool.Decides.{Decides-eqb}
 use Rattle.std.proofs.lemmas.Grind.{common_steps}
 use Rattle.std.proofs.lemmas.List.Sums.{sum_by-append}
 use Rattle.std.proofs.lemmas.Slice.Eq.{bytes_eq-Decides}
+use Rattle.std.proofs.lemmas.Bool.{and_parts}
 use Rattle.le_hci.specs.declared.peer.Peer.{Peer}
 use Rattle.le_security.specs.declared.entry.Entry.{Entry}
 use Rattle.le_security.specs.Entry.{same_peer, is_for}
 use Rattle.le_security.proofs.Peers.{equal_peers}
 use Rattle.le_security.specs.Keys.{AreProvisioned, has_answer}
 
-both : (x y : Bool) → (x && y) ≡ true → (x ≡ true) × (y ≡ true)
-both true y e = (refl, e)
-both false y e = absurd (cc e)
-
 -- an entry that is for a request has its peer, random number and diversifier, so the same entries are for it as for the request of that entry
 asked_alike : (peer : Peer) (random_number : List ℕ) (diversifier : ℕ) (entries : List Entry) (entry : Entry)
     → is_for peer random_number diversifier entry ≡ true
     → list_any (is_for peer random_number diversifier) entries ≡ has_answer entries entry
 asked_alike peer random_number diversifier entries entry for =
-    let parts = both (same_peer entry.peer peer) (bytes_eq entry.random_number random_number && (entry.diversifier == diversifier)) for in
-    let rest = both (bytes_eq entry.random_number random_number) (entry.diversifier == diversifier) parts.1 in
+    let parts = and_parts (same_peer entry.peer peer) (bytes_eq entry.random_number random_number && (entry.diversifier == diversifier)) for in
+    let rest = and_parts (bytes_eq entry.random_number random_number) (entry.diversifier == diversifier) parts.1 in
     let same_peers = sym (equal_peers entry.peer peer parts.0) in
     let same_numbers = sym ((bytes_eq-Decides entry.random_number random_number).0 rest.0) in
     let same_diversifiers = sym ((Decides-eqb entry.diversifier diversifier).0 rest.1) in

@@ -1,13 +1,13 @@
--- The entries of a key file: each is what its element writes, or its first fault. The format is this profile's own.
+-- An entry of a key file, or its first fault (this profile's own).
 use Rattle.std.specs.Prelude.{ℕ, ◌^◌, ℤ, pos, negsuc, Bool, ◌==◌, ◌&&◌, ◌||◌, not, nat_le, nat_lt, if◌then◌else◌, List, [], ◌∷◌, length, replicate, codes, Option, Some, None, Result, Ok, Err}
 use Rattle.std.specs.Result.{result_ok}
 use Rattle.std.specs.Str.{bytes_eq}
 use Rattle.hex.specs.Hex.{decode_sized}
-use Rattle.octets.specs.Number.{Octets}
+use Rattle.octet_io.specs.Number.{Octets}
 use Rattle.toml.specs.Data.{Data, Members, as_table}
-use Rattle.toml_tables.specs.Reading.{◌>>=◌, unless, require, text_at, integer_at, boolean_at, flag_at}
-use Rattle.toml_tables.specs.Shape.{Keys, is_shaped}
-use Rattle.toml_tables.specs.declared.shape.Shape.TheVariants.{Text, Boolean, Integer}
+use Rattle.toml_schema.specs.Reading.{◌>>=◌, unless, require, text_at, integer_at, boolean_at, flag_at}
+use Rattle.toml_schema.specs.Shape.{Keys, is_shaped}
+use Rattle.toml_schema.specs.declared.shape.Shape.TheVariants.{Text, Boolean, Integer}
 use Rattle.le_security.specs.declared.entry.Entry.{Entry}
 use Rattle.le_security.specs.declared.entry_file.Written.{Written}
 use Rattle.le_security.specs.declared.key_fault.KeyFault.{KeyFault}
@@ -18,10 +18,10 @@ use Rattle.le_security.specs.declared.entry_file.TheConstants.{MAX_ENTRIES}
 
 abbrev pub entry_keys : Keys
 entry_keys =
-    (codes "address", Text) ∷ (codes "kind", Text) ∷ (codes "rand", Text) ∷ (codes "ediv", Integer) ∷ (codes "ltk", Text)
+    (codes "address", Text) ∷ (codes "kind", Text) ∷ (codes "rand", Text) ∷ (codes "ediv", Integer)
+    ∷ (codes "ltk", Text)
     ∷ (codes "size", Integer) ∷ (codes "authenticated", Boolean) ∷ (codes "secure", Boolean) ∷ []
 
--- what an entry writes
 pub record WrittenEntry : Type 0 where
   pub address : Octets
   pub kind : Octets
@@ -32,7 +32,6 @@ pub record WrittenEntry : Type 0 where
   pub authenticated : Bool
   pub secure : Bool
 
--- the same as the code has it
 abbrev pub written_view : Written → WrittenEntry
 written_view written = record {
   address = written.address.now;
@@ -45,10 +44,10 @@ written_view written = record {
   secure = written.secure;
 }
 
--- a diversifier has 16 bits
 abbrev pub diversifier_of : Option ℤ → Result (Option ℕ) KeyFault
 diversifier_of None = Ok None
-diversifier_of (Some (pos diversifier)) = if nat_lt diversifier (2 ^ 16) then Ok (Some diversifier) else Err Shape
+diversifier_of (Some (pos diversifier)) =
+    if nat_lt diversifier (2 ^ 16) then Ok (Some diversifier) else Err Shape
 diversifier_of (Some (negsuc _)) = Err Shape
 
 abbrev pub written_at : Members → Result WrittenEntry KeyFault
@@ -72,12 +71,12 @@ written_at members = do
     secure = flag_at (codes "secure") members;
   })
 
--- the size of a key: from 7 to 16 octets (Core 5.0, Vol 3 Part H, 2.3.4)
+-- A key size is 7 to 16 octets (Core 5.0, Vol 3 Part H, 2.3.4).
 abbrev pub key_size_in : ℤ → Option ℕ
 key_size_in (pos size) = if nat_le 7 size && nat_le size 16 then Some size else None
 key_size_in (negsuc _) = None
 
--- a key of LE Secure Connections has the random number and the diversifier 0 (Core 5.0, Vol 3 Part H, 2.4.4)
+-- LE Secure Connections keys have random number and diversifier 0 (Core 5.0, Vol 3 Part H, 2.4.4).
 abbrev pub is_zero : Octets → ℕ → Bool
 is_zero random_number diversifier = bytes_eq random_number (replicate 8 0) && (diversifier == 0)
 
@@ -95,11 +94,15 @@ entry_written written = do
     diversifier = written.diversifier;
     key = record {
       ltk = ltk;
-      facts = record { size = size; authenticated = written.authenticated; secure = written.secure };
+      facts = record {
+        size = size;
+        authenticated = written.authenticated;
+        secure = written.secure;
+      };
     };
   })
 
--- an entry behind others, at most so many in all, none of which answers the same request
+-- An entry follows fewer than `MAX_ENTRIES` others, none for the same request.
 abbrev pub entry_after : List Entry → Data → Result Entry KeyFault
 entry_after entries value = do
   _ ← unless (nat_lt (length entries) MAX_ENTRIES) TooMany

@@ -1,4 +1,4 @@
--- The numbers of the faults of a key file: this profile's own.
+-- The numbers of the faults of a key file (this profile's own).
 use Rattle.std.specs.Prelude.{ℕ}
 use Rattle.le_security.specs.declared.key_fault.KeyFault.{KeyFault}
 use Rattle.le_security.specs.declared.key_fault.KeyFault.TheVariants.{NotToml, Missing, BadAddress, BadHex, BadSize, Twice, TooMany, OutOfMemory, Shape, NotZero}

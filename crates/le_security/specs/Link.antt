@@ -1,10 +1,11 @@
--- The key of a link, as the events of its controller tell it: Core 5.0, Vol 3 Part C, 10.2, and this profile's own.
+-- The key of a link by the events of its controller (Core 5.0, Vol 3 Part C, 10.2, and this
+-- profile's own).
 use Rattle.std.specs.Prelude.{ℕ, Bool, ◌==◌, ◌&&◌, not, is_some, if◌then◌else◌, List, [], ◌∷◌, Option, None}
 use Rattle.att_policy.specs.declared.standing.KeyFacts.{KeyFacts}
 use Rattle.le_security.specs.declared.link.LinkChange.{LinkChange}
 use Rattle.le_security.specs.declared.link.LinkChange.TheVariants.{Same, Raised, Lost}
 
--- what the last request for a key was answered, and the link's key
+-- The answer to the last Long Term Key request, and the link's key.
 pub record Linking : Type 0 where
   pub asked : Option KeyFacts
   pub key : Option KeyFacts
@@ -15,7 +16,7 @@ no_key = record { asked = None; key = None }
 abbrev pub with_asked : Linking → Option KeyFacts → Linking
 with_asked old answer = record old { asked = answer }
 
--- an event counts only with the key that was asked for and answered
+-- An event sets the key only if the last request was answered.
 abbrev pub with_key : Linking → Bool → Linking
 with_key old encrypted = record old { key = if encrypted then old.asked else None }
 
@@ -25,11 +26,9 @@ after_encryption old status enabled = with_key old ((status == 0) && not (enable
 abbrev pub after_refresh : Linking → ℕ → Linking
 after_refresh old status = with_key old (status == 0)
 
--- what changed
 abbrev pub link_change_of : Linking → Linking → LinkChange
 link_change_of old new = if is_some new.key then Raised else if is_some old.key then Lost else Same
 
--- a step of a link: a request and what it was answered, or an event
 pub data Step : Type 0 where
   Request : (answer : Option KeyFacts) → Step
   Encryption : (status enabled : ℕ) → Step
@@ -40,21 +39,21 @@ after_step old (Request answer) = with_asked old answer
 after_step old (Encryption status enabled) = after_encryption old status enabled
 after_step old (Refresh status) = after_refresh old status
 
--- steps stand with the newest first. The answer to the last request among them
+-- The answer to the last request; steps are newest first.
 abbrev pub last_asked : List Step → Option KeyFacts
 last_asked [] = None
 last_asked (Request answer ∷ older) = answer
 last_asked (Encryption status enabled ∷ older) = last_asked older
 last_asked (Refresh status ∷ older) = last_asked older
 
--- the key after them: the last event decides, and it speaks of the last request before it
+-- The last encryption event decides; it uses the answer to the request before it.
 abbrev pub key_after : List Step → Option KeyFacts
 key_after [] = None
 key_after (Request answer ∷ older) = key_after older
-key_after (Encryption status enabled ∷ older) = if (status == 0) && not (enabled == 0) then last_asked older else None
+key_after (Encryption status enabled ∷ older) =
+    if (status == 0) && not (enabled == 0) then last_asked older else None
 key_after (Refresh status ∷ older) = if status == 0 then last_asked older else None
 
--- the link after them
 abbrev pub after_steps : List Step → Linking
 after_steps [] = no_key
 after_steps (step ∷ older) = after_step (after_steps older) step

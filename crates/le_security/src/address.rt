@@ -5,8 +5,9 @@ ghost use Rattle.le_security.specs.Address.{address_octets, address_of, address_
 
 use le_hci::{PUBLIC_ADDRESS, Peer, RANDOM_ADDRESS};
 
-/// The address that a text writes: six pairs of hexadecimal digits joined by colons, the most
-/// significant one first. The octets are as on the wire, where that is the last one.
+/// Reads an address: six pairs of hexadecimal digits joined by colons.
+///
+/// The result has the octets in wire order, the reverse of the text's.
 pub fn read_address(text: &[u8]) -> Option<[u8; 6]>
     ensures { result ≡ address_of text.now }
 {
@@ -35,7 +36,6 @@ pub fn read_address(text: &[u8]) -> Option<[u8; 6]>
     octets_of([*a, *b, *c, *d, *e, *f, *g, *h, *i, *j, *k, *l])
 }
 
-/// The octets that twelve digits write, in the other order.
 fn octets_of(digits: [u8; 12]) -> Option<[u8; 6]>
     ensures { result ≡ address_octets digits }
 {
@@ -47,7 +47,7 @@ fn octets_of(digits: [u8; 12]) -> Option<[u8; 6]>
     Some(octets)
 }
 
-/// The address type that a word names.
+/// Reads the address type `public` or `random`.
 pub fn read_address_type(word: &str) -> Option<u8>
     ensures { result ≡ address_type_of word.now }
 {
@@ -58,8 +58,9 @@ pub fn read_address_type(word: &str) -> Option<u8>
     }
 }
 
-/// The peer that a digit and a text name: 0 for a public address or 1 for a random one, and the
-/// address. (Core 5.0, Vol 2 Part E, 7.7.65.1)
+/// Reads a peer from its address type and address.
+///
+/// The type is 0 for public, 1 for random (Core 5.0, Vol 2 Part E, 7.7.65.1).
 #[tactic(auto, unfolding(crate::specs::Address::peer_of))]
 pub fn read_peer(kind: &str, address: &str) -> Option<Peer>
     ensures { result ≡ peer_of kind.now address.now }

@@ -13,12 +13,10 @@ use crate::key_fault::KeyFault;
 use att_policy::KeyFacts;
 use le_hci::Peer;
 use toml::{Table, Value};
-use toml_tables::{Key as Listed, Shape};
+use toml_schema::{Key as Listed, Shape};
 
-/// The most entries that a key file may have.
 const MAX_ENTRIES: usize = 64;
 
-/// The keys of an entry.
 const ENTRY: [Listed; 8] = [
     Listed {
         name: "address",
@@ -54,7 +52,7 @@ const ENTRY: [Listed; 8] = [
     },
 ];
 
-/// What an entry writes, before it is judged.
+/// The fields of an entry, not yet checked.
 #[derive(Clone, Copy)]
 pub struct Written<'a> {
     pub address: &'a str,
@@ -67,8 +65,7 @@ pub struct Written<'a> {
     pub secure: bool,
 }
 
-/// The entry that an element of a key file describes, behind the entries before it, or its first
-/// fault.
+/// Reads the entry after `entries`, or returns its first fault.
 pub fn read_entry(entries: &[Entry], element: &Value) -> Result<Entry, KeyFault>
     ensures entry { result ≡ entry_after entries.now (view element.now) }
     ensures room { IfOk result (λ _. length entries.now < MAX_ENTRIES) }
@@ -79,7 +76,7 @@ pub fn read_entry(entries: &[Entry], element: &Value) -> Result<Entry, KeyFault>
         return Err(KeyFault::TooMany);
     }
     let table = element.as_table().ok_or(KeyFault::Shape)?;
-    if !toml_tables::is_shaped(table, &ENTRY) {
+    if !toml_schema::is_shaped(table, &ENTRY) {
         return Err(KeyFault::Shape);
     }
     let entry = judge(&read_written(table)?)?;
@@ -89,27 +86,24 @@ pub fn read_entry(entries: &[Entry], element: &Value) -> Result<Entry, KeyFault>
     Ok(entry)
 }
 
-/// What an entry writes: `Shape` where its diversifier is out of range, `Missing` where a key that
-/// it has to have is not there.
 fn read_written<'a>(table: &'a Table) -> Result<Written<'a>, KeyFault>
     ensures written { result_map_both written_view (λ fault. fault) result
         ≡ written_at (table_view table.now) }
     ensures is_toml { IfErr result (λ fault. fault ≢ NotToml) }
 {
-    let diversifier = read_diversifier(toml_tables::integer(table, "ediv"))?;
+    let diversifier = read_diversifier(toml_schema::integer(table, "ediv"))?;
     Ok(Written {
-        address: toml_tables::text(table, "address").ok_or(KeyFault::Missing)?,
-        kind: toml_tables::text(table, "kind").ok_or(KeyFault::Missing)?,
-        random_number: toml_tables::text(table, "rand").ok_or(KeyFault::Missing)?,
+        address: toml_schema::text(table, "address").ok_or(KeyFault::Missing)?,
+        kind: toml_schema::text(table, "kind").ok_or(KeyFault::Missing)?,
+        random_number: toml_schema::text(table, "rand").ok_or(KeyFault::Missing)?,
         diversifier: diversifier.ok_or(KeyFault::Missing)?,
-        ltk: toml_tables::text(table, "ltk").ok_or(KeyFault::Missing)?,
-        size: toml_tables::integer(table, "size").ok_or(KeyFault::Missing)?,
-        authenticated: toml_tables::boolean(table, "authenticated").ok_or(KeyFault::Missing)?,
-        secure: toml_tables::flag(table, "secure"),
+        ltk: toml_schema::text(table, "ltk").ok_or(KeyFault::Missing)?,
+        size: toml_schema::integer(table, "size").ok_or(KeyFault::Missing)?,
+        authenticated: toml_schema::boolean(table, "authenticated").ok_or(KeyFault::Missing)?,
+        secure: toml_schema::flag(table, "secure"),
     })
 }
 
-/// The diversifier that is written, if any: `Shape` unless it is from 0 to 65,535.
 fn read_diversifier(number: Option<i64>) -> Result<Option<u16>, KeyFault>
     ensures diversifier { result ≡ diversifier_of number }
     ensures is_toml { IfErr result (λ fault. fault ≢ NotToml) }
@@ -123,7 +117,7 @@ fn read_diversifier(number: Option<i64>) -> Result<Option<u16>, KeyFault>
     Ok(Some(diversifier))
 }
 
-/// The entry that is written, or its first fault.
+/// Checks the fields and builds the entry.
 fn judge(written: &Written<'_>) -> Result<Entry, KeyFault>
     ensures entry { result ≡ entry_written (written_view written.now) }
     ensures is_toml { IfErr result (λ fault. fault ≢ NotToml) }
@@ -157,7 +151,6 @@ fn judge(written: &Written<'_>) -> Result<Entry, KeyFault>
     })
 }
 
-/// The size of a key, in octets: `None` unless it is from 7 to 16.
 fn read_size(size: i64) -> Option<u8>
     ensures { result ≡ key_size_in size }
 {
@@ -167,15 +160,12 @@ fn read_size(size: i64) -> Option<u8>
     }
 }
 
-/// Whether a random number and a diversifier are 0.
 fn is_zero(random_number: [u8; 8], diversifier: u16) -> bool
     ensures { result ≡ is_zero random_number diversifier }
 {
     random_number == [0; 8] && diversifier == 0
 }
 
-/// Whether one of the entries answers the request that this one answers. It stands apart for its
-/// proof.
 fn is_answered(entries: &[Entry], entry: &Entry) -> bool
     ensures { result ≡ has_answer entries.now entry.now }
 {

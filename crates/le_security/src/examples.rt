@@ -1,6 +1,6 @@
-//! Key files to begin with, the same as in `examples/`.
+//! Example key files, the same as in `examples/`.
 
-/// The keys of the door lock: `examples/keys.toml`.
+/// The keys of the door lock, `examples/keys.toml`.
 pub const KEYS: &str =
     r#"# The keys of the example door lock: one of the owner's phone, and two of a tablet.
 [[key]]
@@ -31,7 +31,7 @@ size = 7
 authenticated = true
 "#;
 
-/// A key of LE Secure Connections: `examples/secure_key.toml`.
+/// An LE Secure Connections key, `examples/secure_key.toml`.
 pub const SECURE_KEY: &str =
     r#"# A key of LE Secure Connections, which a server may ask for beside the keys of the door lock.
 [[key]]

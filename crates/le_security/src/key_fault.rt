@@ -6,35 +6,31 @@ use std::alloc::AllocError;
 use std::error::Error;
 use std::fmt;
 
-/// Why a key file is refused: the first fault of the file, read from its beginning.
+/// The first fault in a key file.
 #[derive(Clone, Copy, Debug, PartialEq, Eq)]
 pub enum KeyFault {
-    /// The text is not TOML.
     NotToml,
-    /// A key that each entry has to have is not there.
+    /// A required key is absent.
     Missing,
-    /// An address is not six pairs of hexadecimal digits joined by colons, or its kind is neither
-    /// `public` nor `random`.
+    /// A malformed address, or a kind other than `public` and `random`.
     BadAddress,
-    /// A random number or a long-term key has another number of hexadecimal digits than its own.
+    /// A malformed random number or Long Term Key.
     BadHex,
-    /// The size of a key is not from 7 to 16.
+    /// A key size outside 7 to 16.
     BadSize,
-    /// An earlier entry has the same peer, random number and diversifier.
+    /// Same peer, random number and diversifier as an earlier entry.
     Twice,
-    /// There are more than `MAX_ENTRIES` entries.
+    /// More than 64 entries.
     TooMany,
-    /// Memory was refused.
     OutOfMemory,
-    /// A key is unknown, or its value is of another TOML type than its own, or a diversifier is not
-    /// from 0 to 65,535.
+    /// An unknown key, a wrong TOML type, or a diversifier outside 0 to 65,535.
     Shape,
-    /// A key of LE Secure Connections has another random number or diversifier than 0.
+    /// An LE Secure Connections key with nonzero random number or diversifier.
     NotZero,
 }
 
 impl KeyFault {
-    /// The number by which the fault is told, from 1.
+    /// Returns the fault's number, from 1.
     pub fn number(self) -> u8
         ensures { result ≡ key_fault_number self }
     {

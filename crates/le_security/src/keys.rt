@@ -10,7 +10,7 @@ use le_hci::Peer;
 use std::alloc::{AllocError, Global};
 use std::marker::Model;
 
-/// The keys that are provisioned for peers, in the order of their file.
+/// The provisioned keys, in file order.
 #[derive(Drop)]
 pub struct Keys {
     entries: Vec<Entry>,
@@ -29,7 +29,6 @@ impl Model for Keys {
 }
 
 impl Keys {
-    /// No keys.
     pub(crate) fn new(alloc: Global) -> Self
         ensures { result ≡ [] }
     {
@@ -38,7 +37,6 @@ impl Keys {
         }
     }
 
-    /// Adds a key at the end.
     pub(crate) fn push(&mut self, entry: Entry) -> Result<(), AllocError>
         requires room { length self.old < MAX_ENTRIES }
         requires once { IsFalse (has_answer self.old entry) }
@@ -49,21 +47,20 @@ impl Keys {
         Ok(())
     }
 
-    /// The keys, in the order of their file.
     pub(crate) fn entries(&self) -> &[Entry]
         ensures { result.now ≡ self.now }
     {
         &self.entries
     }
 
-    /// Whether there is a key of a peer.
+    /// Returns true if the peer has a key.
     pub fn known(&self, peer: &Peer) -> bool
         ensures { result ≡ is_known self.now peer.now }
     {
         self.entries.iter().any(|entry| entry.peer == *peer)
     }
 
-    /// The key of a peer that a request for it names by its random number and its diversifier.
+    /// Returns the key that a peer's Long Term Key request names.
     pub fn answer(&self, peer: &Peer, random_number: [u8; 8], diversifier: u16) -> Option<&Key>
         ensures key { option_copied result
             ≡ key_asked_for self.now peer.now random_number diversifier }
@@ -76,7 +73,7 @@ impl Keys {
         Some(&entry.key)
     }
 
-    /// How many keys there are.
+    /// Returns the number of keys.
     pub fn count(&self) -> usize
         ensures count { result ≡ length self.now }
         ensures within { result ≤ MAX_ENTRIES }
@@ -84,7 +81,7 @@ impl Keys {
         self.entries.len()
     }
 
-    /// The peer of the key at a place, counted from 0 in the order of the file.
+    /// Returns the peer of the key at an index from 0.
     pub fn peer(&self, at: usize) -> Option<&Peer>
         ensures { option_copied result ≡ peer_at self.now at }
     {

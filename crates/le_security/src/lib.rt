@@ -1,5 +1,4 @@
-//! Keys and links: the keys that are provisioned for peers, and what a link's key is worth. (Core
-//! 5.0, Vol 3 Part C, 10.2)
+//! Long Term Keys of peers, and the security of links (Core 5.0, Vol 3 Part C, 10.2).
 #![tactic(auto)]
 
 mod address;

@@ -5,19 +5,18 @@ use crate::entry::Key;
 use att_policy::KeyFacts;
 use std::marker::Model;
 
-/// What an event of encryption did to a link.
+/// The effect of an encryption event on a link.
 #[derive(Clone, Copy, PartialEq, Eq)]
 pub enum LinkChange {
-    /// It had no key, and has none.
+    /// No key before or after.
     Same,
-    /// It has a key.
+    /// The link has a key.
     Raised,
-    /// It had a key, and has none.
+    /// The link lost its key.
     Lost,
 }
 
-/// The security of one link: the key that it is encrypted with, as far as that is known. (Core 5.0,
-/// Vol 3 Part C, 10.2)
+/// The security of one link (Core 5.0, Vol 3 Part C, 10.2).
 #[derive(Drop)]
 pub struct Link {
     asked: Option<KeyFacts>,
@@ -33,7 +32,7 @@ impl Model for Link {
 }
 
 impl Link {
-    /// A link that is not encrypted, of which no key was asked for.
+    /// Creates an unencrypted link.
     pub fn new() -> Self
         ensures { result ≡ no_key }
     {
@@ -43,7 +42,7 @@ impl Link {
         }
     }
 
-    /// The controller asked for a key, and this was the answer.
+    /// Records the answer to a Long Term Key request.
     pub fn request(&mut self, answer: Option<&Key>)
         ensures { self.new ≡ with_asked self.old
             (option_map (λ key. key.now.facts) answer.entry) }
@@ -51,8 +50,9 @@ impl Link {
         self.asked = answer.map(|key| key.facts);
     }
 
-    /// Encryption was turned on, or off where `enabled` is 0, or could not be changed, where
-    /// `status` is not 0: Core 5.0, Vol 2 Part E, 7.7.8.
+    /// Processes an Encryption Change event (Core 5.0, Vol 2 Part E, 7.7.8).
+    ///
+    /// Encryption is on if `status` is 0 and `enabled` is not.
     pub fn encryption(&mut self, status: u8, enabled: u8) -> LinkChange
         ensures link { self.new ≡ after_encryption self.old status enabled }
         ensures change { result ≡ link_change_of self.old self.new }
@@ -62,8 +62,9 @@ impl Link {
         self.replace(if encrypted { asked } else { None })
     }
 
-    /// The key of the encrypted link was changed, or could not be, where `status` is not 0: Core 5.0,
-    /// Vol 2 Part E, 7.7.39.
+    /// Processes an Encryption Key Refresh Complete event (Core 5.0, Vol 2 Part E, 7.7.39).
+    ///
+    /// The link loses its key unless `status` is 0.
     pub fn refresh(&mut self, status: u8) -> LinkChange
         ensures link { self.new ≡ after_refresh self.old status }
         ensures change { result ≡ link_change_of self.old self.new }
@@ -72,7 +73,7 @@ impl Link {
         self.replace(if status == 0 { asked } else { None })
     }
 
-    /// What is known of the link's key, if it has one.
+    /// Returns the properties of the link's key, if it has one.
     #[tactic(auto, using(crate::proofs::Links::key_of_steps))]
     pub fn facts(&self) -> Option<KeyFacts>
         ensures key { result ≡ self.now.key }
@@ -82,7 +83,6 @@ impl Link {
         self.key
     }
 
-    /// Sets the link's key.
     fn replace(&mut self, key: Option<KeyFacts>) -> LinkChange
         ensures link { self.new ≡ record self.old { key = key } }
         ensures change { result ≡ link_change_of self.old self.new }

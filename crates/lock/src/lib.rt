@@ -1,38 +1,35 @@
-//! A door lock, as an application of the host. A phone opens and shuts it by a value of the table,
-//! which turns a motor; a button inside leaves whoever is there five seconds to read its code; and
-//! who stays without a key is sent away.
+//! A door lock as an application of the host. A phone turns the bolt by writing a value of the
+//! table. A button inside lets connected phones read the code for five seconds. Phones without a
+//! key are disconnected after a while.
 #![tactic(auto)]
 
 use arrayvec::ArrayVec;
 use gatt_host::{App, Host, HostFault, Input, Listener, MAX_SLOTS, Notice, Sink, drive_to};
 
-/// The handle of the state of the lock in the table of the door: 01 is open.
+/// Handle of the lock state in the table of the door: 01 is open.
 const STATE: u16 = 10;
 
-/// How long the code may be read once the button is pressed, in milliseconds.
+/// Time to read the code after the button, in milliseconds.
 const LEAVE: u64 = 5_000;
 
-/// How long a phone may stay that has no key, in milliseconds.
+/// Time that a phone without a key may stay, in milliseconds.
 const PATIENCE: u64 = 30_000;
 
 /// Turns the bolt of a door.
 pub trait Motor {
-    /// Opens the door, or shuts it.
     fn turn(&mut self, open: bool);
 }
 
-/// A phone that is connected.
 #[derive(Clone, Copy, Default)]
 struct Phone {
-    /// The handle of its connection.
     handle: u16,
-    /// When it came, in milliseconds.
+    /// Time of connection, in milliseconds.
     since: u64,
-    /// Whether its link has a key.
+    /// True if its link has a key.
     known: bool,
 }
 
-/// A lock, and who is at the door.
+/// A lock with the phones at the door.
 #[derive(Drop)]
 pub struct Lock<M> {
     motor: M,
@@ -58,7 +55,7 @@ impl<M: Motor> Listener for Lock<M> {
 }
 
 impl<M: Motor> Lock<M> {
-    /// A lock with this motor, and nobody at the door.
+    /// Creates a lock without phones.
     pub fn new(motor: M) -> Lock<M> {
         Lock {
             motor,
@@ -67,12 +64,13 @@ impl<M: Motor> Lock<M> {
         }
     }
 
-    /// What turns the bolt.
+    /// Returns the motor.
     pub fn motor(&self) -> &M {
         &self.motor
     }
 
-    /// Takes in a moment, and what the controller has sent by then, and writes what goes back to it.
+    /// Sets the time, in milliseconds, processes bytes and writes the answers. Disconnects phones
+    /// that stayed too long without a key.
     pub fn serve<W: Sink>(
         &mut self,
         host: &mut Host,
@@ -91,7 +89,7 @@ impl<M: Motor> Lock<M> {
         Ok(())
     }
 
-    /// The button inside is pressed.
+    /// Handles the button: authorizes all connected phones.
     pub fn press<W: Sink>(&mut self, host: &mut Host, out: &mut W) -> Result<(), HostFault> {
         let until = self.now.saturating_add(LEAVE);
         for place in 0..MAX_SLOTS {
@@ -102,7 +100,7 @@ impl<M: Motor> Lock<M> {
         Ok(())
     }
 
-    /// Makes a call, and writes what it brings. One that is refused came too late.
+    /// Makes a call and writes its packets. A refusal is ignored: the call came too late.
     fn call<W: Sink>(
         &mut self,
         host: &mut Host,
@@ -113,12 +111,11 @@ impl<M: Motor> Lock<M> {
         Ok(())
     }
 
-    /// The phone at a place, if there is one.
     fn phone(&self, place: usize) -> Option<Phone> {
         self.phones.get(place).copied()
     }
 
-    /// The connection of the phone at a place, if it has stayed too long without a key.
+    /// Returns the connection of a phone that stayed too long without a key.
     fn stranger(&self, place: usize) -> Option<u16> {
         let phone = self.phone(place)?;
         let late = self.now.saturating_sub(phone.since) > PATIENCE;
@@ -129,9 +126,8 @@ impl<M: Motor> Lock<M> {
         }
     }
 
-    /// A phone comes.
     fn welcome(&mut self, handle: u16) {
-        // The host has no more connections than there is room for.
+        // A host has at most `MAX_SLOTS` connections, so this succeeds.
         let _ = self.phones.try_push(Phone {
             handle,
             since: self.now,
@@ -139,7 +135,6 @@ impl<M: Motor> Lock<M> {
         });
     }
 
-    /// A phone shows its key.
     fn know(&mut self, handle: u16) {
         for phone in self.phones.as_mut_slice() {
             if phone.handle == handle {
@@ -148,7 +143,6 @@ impl<M: Motor> Lock<M> {
         }
     }
 
-    /// A phone goes.
     fn forget(&mut self, handle: u16) {
         self.phones.retain(|phone| phone.handle != handle);
     }

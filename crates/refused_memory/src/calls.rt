@@ -1,4 +1,4 @@
-//! Calls that take memory: how each ends, and how it ends a second time after a refusal.
+//! Calls that allocate memory: the outcome of each, and of a repetition after a refusal.
 
 use arrayvec::ArrayVec;
 use att_table::examples::DOOR;
@@ -11,11 +11,11 @@ use le_acl::Sender;
 use le_hci::{Peer, RANDOM_ADDRESS};
 use le_security::examples::KEYS;
 use le_security::{KeyFault, Keys};
-use octets::ArraySink;
+use octet_io::ArraySink;
 use sim_controller::{Sim, SimConfig, SimFault};
 use std::alloc::{AllocError, Global};
 
-/// A subscription of a phone that has a key of the door lock, to the battery level of the door lock.
+/// A subscription of a phone with a key to the battery level of the door lock.
 const SUBSCRIPTION: &str = "1 c0:00:00:00:00:01 7 1\n";
 
 const PHONE: Peer = Peer {
@@ -23,7 +23,7 @@ const PHONE: Peer = Peer {
     address: [0x01, 0x00, 0x00, 0x00, 0x00, 0xc0],
 };
 
-/// A call that takes memory.
+/// A call that allocates memory.
 #[derive(Clone, Copy)]
 pub enum Call {
     ReadTable,
@@ -37,20 +37,19 @@ pub enum Call {
     MakeSim,
 }
 
-/// How a call ended.
+/// The outcome of a call.
 #[derive(Clone, Copy)]
 enum End {
     /// It succeeded, with the right result.
     Done,
-    /// It answered that memory was refused.
+    /// It reported refused memory.
     Refused,
     /// A file that it needs could not be read.
     Unprepared,
-    /// It answered something else.
     Wrong,
 }
 
-/// Makes a call, and makes it again if memory was refused. Returns in words how it ended.
+/// Makes a call, repeats it after a refusal, and returns the outcome in words.
 pub fn end_of(alloc: Global, call: Call) -> &'static str {
     match made(alloc, call) {
         End::Done => "done",
@@ -60,7 +59,7 @@ pub fn end_of(alloc: Global, call: Call) -> &'static str {
     }
 }
 
-/// Makes a call again. Returns these words if it succeeds with the right result.
+/// Repeats a call. Returns `words` if it succeeds with the right result.
 fn again(alloc: Global, call: Call, words: &'static str) -> &'static str {
     match made(alloc, call) {
         End::Done => words,
@@ -117,18 +116,17 @@ fn end_of_rows(read: Result<Rows, RowsFault>) -> End {
     }
 }
 
-/// Whether rows are written as the subscription.
 fn is_written(rows: &Rows) -> bool {
     let mut sink = ArraySink::<32>::new();
     rows.text(&mut sink).is_ok() && sink.octets() == SUBSCRIPTION.as_bytes()
 }
 
-/// Whether rows are as they were read: no peer has a row yet.
+/// Returns true if the rows are unfitted: no peer has a row yet.
 fn is_unchanged(rows: &mut Rows) -> bool {
     is_written(rows) && rows.of(&PHONE).is_none()
 }
 
-/// Whether rows are fitted to the keys and the table of the door lock.
+/// Returns true if the rows fit the keys and the table of the door lock.
 fn is_fitted(rows: &mut Rows) -> bool {
     is_written(rows) && rows.of(&PHONE).is_some()
 }
@@ -154,7 +152,7 @@ fn fit_to_table(alloc: Global, rows: &mut Rows, keys: &Keys) -> End {
     }
 }
 
-/// Fits rows. If memory is refused, the rows are unchanged and can still be fitted.
+/// Fits rows. If memory is refused, they are unchanged and can still be fitted.
 fn fit(alloc: Global, rows: &mut Rows, keys: &Keys, table: &Table) -> End {
     match rows.fit(alloc, keys, table) {
         Ok(()) => done_if(is_fitted(rows)),

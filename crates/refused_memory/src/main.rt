@@ -1,5 +1,5 @@
-//! The program `refused_memory`: makes each call that takes memory, and prints how it ended.
-//! `tests/refusals.py` runs it once for each allocation, and refuses that one only.
+//! Makes each call that allocates memory, and prints its outcome. `tests/refusals.py` runs this
+//! program once for each allocation, and refuses only that one.
 #![tactic(auto)]
 
 mod calls;
@@ -7,7 +7,6 @@ mod calls;
 use calls::{Call, end_of};
 use std::io;
 
-/// The calls that take memory, each by its name.
 const CALLS: &[(&str, Call)] = &[
     ("Table::read", Call::ReadTable),
     ("Keys::read", Call::ReadKeys),

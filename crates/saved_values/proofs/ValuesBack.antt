@@ -18,7 +18,7 @@ use Rattle.uuid.specs.Text.{lower, nibble, hex_digit, digit_place, is_hyphen_pla
 use Rattle.uuid.proofs.OrderLemmas.{from_be_bytes-to_be_bytes_16}
 use Rattle.uuid.proofs.RoundTrips.{parses_hyphenated}
 use Rattle.uuid.proofs.TextLemmas.{by_index_length, by_index_at, nibble_small}
-use Rattle.octets.specs.Number.{Octets}
+use Rattle.octet_io.specs.Number.{Octets}
 use Rattle.att_numbers.specs.AttributeType.{is_of_16_bits, of_16_bits}
 use Rattle.att_table.specs.file.TypeText.{type_named}
 use Rattle.app_lines.specs.NoticeText.{value_text}

@@ -1,9 +1,9 @@
--- Attribute types as texts: four hexadecimal digits for one of 16 bits, else a UUID with hyphens (RFC 4122, 3).
+-- Types as texts: four hexadecimal digits for 16 bits, otherwise a UUID with hyphens (RFC 4122, 3).
 use Rattle.std.specs.Prelude.{◌/◌, ◌^◌, if◌then◌else◌}
 use Rattle.std.specs.Int.{w16, w128, to_be_bytes}
 use Rattle.hex.specs.Hex.{encode_lower}
 use Rattle.uuid.specs.Text.{hyphenated_text, lower}
-use Rattle.octets.specs.Number.{Octets}
+use Rattle.octet_io.specs.Number.{Octets}
 use Rattle.att_numbers.specs.AttributeType.{is_of_16_bits}
 use Rattle.att_numbers.specs.Types.{AttributeType}
 

@@ -1,4 +1,4 @@
-//! The lines in which the values of a table are saved, and from which they are restored.
+//! The lines in which the values of a table are saved and restored.
 #![tactic(auto)]
 
 mod pieces;

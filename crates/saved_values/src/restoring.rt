@@ -1,4 +1,4 @@
-//! Saved values that are put back into a table.
+//! Restoring saved values into a table.
 
 ghost use Rattle.std.specs.Prelude.{◌≡◌, if◌then◌else◌, length, IfErr, IfOk, Ok, Err};
 ghost use Rattle.att_table.specs.Table.{with_value};
@@ -27,8 +27,9 @@ impl fmt::Display for BadLine {
 
 impl Error for BadLine {}
 
-/// Restores the values of a text into a table, and returns how many of them do not fit. The values of the
-/// lines before a bad line are restored.
+/// Restores the values of a text, and returns how many of them do not fit.
+///
+/// The values before a bad line are restored.
 #[tactic(auto, unfolding(crate::specs::Restore::values_restored))]
 pub fn restore_lines(table: &mut Table, text: &str) -> Result<usize, BadLine>
     ensures restored { IfOk result (λ left_out.
@@ -48,7 +49,6 @@ pub fn restore_lines(table: &mut Table, text: &str) -> Result<usize, BadLine>
     Ok(left_out)
 }
 
-/// Restores the value of the line of a number, and returns whether it fits.
 fn restore_line(table: &mut Table, number: u64, line: &str) -> Result<bool, BadLine>
     ensures restored { IfOk result (λ fits.
         line_restored number table.old line.now ≡ Ok (table.new, fits)) }
@@ -62,16 +62,17 @@ fn restore_line(table: &mut Table, number: u64, line: &str) -> Result<bool, BadL
     Ok(restore(table, value.handle(), value.kind(), value.octets()))
 }
 
-/// Returns how many values a line leaves out.
 fn count_left_out(fits: bool) -> usize
     ensures { result ≡ (if fits then 0 else 1) }
 {
     if fits { 0 } else { 1 }
 }
 
-/// Sets the value at a handle to octets that were saved, if they fit, and returns whether they do. They
-/// fit if the attribute has this type, is a characteristic value or a descriptor and no client
-/// characteristic configuration, and may have this number of octets. Otherwise nothing changes.
+/// Restores the value at a handle if it fits, and returns true if it does.
+///
+/// It fits if the attribute is a characteristic value or a descriptor of this type, but not a
+/// client characteristic configuration, and may have this number of octets. Otherwise nothing
+/// changes.
 pub fn restore(table: &mut Table, handle: u16, kind: u128, octets: &[u8]) -> bool
     ensures fits { result ≡ fits table.old handle kind (length octets.now) }
     ensures attributes { table.new.attributes ≡ table.old.attributes }
@@ -85,7 +86,6 @@ pub fn restore(table: &mut Table, handle: u16, kind: u128, octets: &[u8]) -> boo
     fits
 }
 
-/// Returns whether the attribute at a handle has this type and may be set to this number of octets.
 fn fits(table: &Table, handle: u16, kind: u128, count: usize) -> bool
     ensures { result ≡ fits table.now handle kind count }
 {
@@ -99,8 +99,6 @@ fn fits(table: &Table, handle: u16, kind: u128, count: usize) -> bool
     }
 }
 
-/// Returns whether a value may have this number of octets. `room` is the largest number, and the only
-/// one of a fixed value.
 fn length_fits(fixed: bool, room: usize, count: usize) -> bool
     ensures { result ≡ length_fits fixed room count }
 {

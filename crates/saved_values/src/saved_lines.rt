@@ -1,4 +1,4 @@
-//! The text of the values of a table that are saved.
+//! The text of the saved values of a table.
 
 ghost use Rattle.std.specs.Prelude.{◌≡◌, ◌++◌, ◌∷◌, [], IfOk, OnOk};
 ghost use Rattle.saved_values.specs.ValuesText.{saved_lines, saved_values, values_text};
@@ -8,8 +8,9 @@ use crate::saves::{Saves, is_saved, value_told};
 use att_table::{Attr, Table};
 use std::alloc::{AllocError, Global};
 
-/// Returns the text of the values of a table that differ from those of `initial`, the table as its file
-/// has it: a line for each, in the order of the handles. Fails if memory is refused.
+/// Returns the lines of the values that differ from the table file, `initial`.
+///
+/// The lines are in order of handles. Fails if memory is refused.
 pub fn values_text(
     alloc: Global,
     table: &Table,
@@ -24,7 +25,7 @@ pub fn values_text(
     Ok(text)
 }
 
-/// Adds the lines of the values of a table that are saved. `initial` is the table as its file has it.
+/// Adds the lines of a table's saved values; `initial` is the table of the file.
 pub fn add_values(
     text: &mut Vec<u8>,
     table: &Table,
@@ -37,7 +38,6 @@ pub fn add_values(
     add_values_of(text, all_attributes(table), table, initial, saves)
 }
 
-/// Returns all attributes of a table.
 #[tactic(auto, using(crate::proofs::Writing::all_attributes))]
 fn all_attributes(table: &Table) -> &[Attr]
     ensures { result.now ≡ table.now.attributes }
@@ -45,7 +45,6 @@ fn all_attributes(table: &Table) -> &[Attr]
     table.in_range(1, table.len() as u16)
 }
 
-/// Adds the lines of the values of some attributes that are saved.
 fn add_values_of(
     text: &mut Vec<u8>,
     attributes: &[Attr],
@@ -62,7 +61,6 @@ fn add_values_of(
     Ok(())
 }
 
-/// Adds the line of the value of an attribute, if it is saved.
 fn add_saved(
     text: &mut Vec<u8>,
     attr: &Attr,

@@ -1,4 +1,4 @@
-//! The lines of values.
+//! The line of a value.
 
 ghost use Rattle.std.specs.Prelude.{◌≡◌, ◌++◌, OnOk};
 ghost use Rattle.std.specs.Option.{option_map};
@@ -9,12 +9,12 @@ ghost use Rattle.saved_values.specs.SavedValue.{value_line, value_of_line, value
 use crate::type_text::add_type;
 use app_lines::{add_value, read_type};
 use itoa::Buffer;
-use octets::PduOctets;
+use octet_io::PduOctets;
 use scripts::{Payload, read_u16};
 use std::alloc::AllocError;
 use std::marker::Model;
 
-/// A value that was saved.
+/// A saved value.
 #[derive(Drop)]
 pub struct SavedValue {
     handle: u16,
@@ -46,14 +46,13 @@ impl SavedValue {
         self.kind
     }
 
-    /// Returns its octets, at most `octets::MAX_PDU`.
+    /// Returns its octets, at most `octet_io::MAX_PDU`.
     pub fn octets(&self) -> &[u8]
         ensures { result.now ≡ self.now.octets }
     {
         self.octets.as_slice()
     }
 
-    /// Reads a handle, a type, and octets in hexadecimal or a hyphen for none.
     fn read(handle: &str, kind: &str, octets: &str) -> Option<SavedValue>
         ensures { result ≡ value_of_words handle.now kind.now octets.now }
     {
@@ -68,7 +67,6 @@ impl SavedValue {
     }
 }
 
-/// Reads octets in hexadecimal, or a hyphen for none.
 fn read_octets(word: &str) -> Option<PduOctets>
     ensures { option_map (λ octets. octets.items) result ≡ payload_of word.now }
 {
@@ -88,7 +86,6 @@ pub fn read_value(line: &str) -> Option<SavedValue>
     SavedValue::read(handle, kind, octets)
 }
 
-/// Splits a text at its first space.
 #[tactic(auto, unfolding(gatt_subs::specs::RowsLine::parts_of))]
 fn parts(text: &str) -> Option<(&str, &str)>
     ensures { option_map parts_view result ≡ parts_of text.now }

@@ -1,4 +1,4 @@
-//! Which values are saved.
+//! The choice of the values that are saved.
 
 ghost use Rattle.std.specs.Prelude.{◌≡◌};
 ghost use Rattle.saved_values.specs.Saves.{is_changed, is_saved, is_value_or_descriptor, is_writable, may_be_saved, value_told};
@@ -7,7 +7,7 @@ use att_policy::{Guard, Properties};
 use att_table::{Attr, Role, Table};
 use bitflags::Flags;
 
-/// The values that a device saves if they differ from those of its table file.
+/// The values that a device saves if they differ from its table file.
 #[derive(Clone, Copy, Debug, PartialEq, Eq)]
 pub enum Saves {
     /// Characteristic values and descriptors that a phone may write.
@@ -16,15 +16,14 @@ pub enum Saves {
     All,
 }
 
-/// Returns whether the value of an attribute of a table is saved. `initial` is the table as its file
-/// has it.
+/// Returns true if a value is saved; `initial` is the table of the file.
 pub fn is_saved(attr: &Attr, table: &Table, initial: &Table, saves: Saves) -> bool
     ensures { result ≡ is_saved saves table.now initial.now attr.now }
 {
     may_be_saved(attr, saves) && is_changed(table, initial, attr.handle)
 }
 
-/// Returns whether the value of an attribute is saved once it has changed.
+/// Returns true if the value of an attribute is saved once it has changed.
 pub fn may_be_saved(attr: &Attr, saves: Saves) -> bool
     ensures { result ≡ may_be_saved saves attr.now }
 {
@@ -34,8 +33,9 @@ pub fn may_be_saved(attr: &Attr, saves: Saves) -> bool
     }
 }
 
-/// Returns whether an attribute is a characteristic value or a descriptor, and no client
-/// characteristic configuration.
+/// Returns true for a characteristic value or a descriptor.
+///
+/// Returns false for a client characteristic configuration.
 pub fn is_value_or_descriptor(role: Role) -> bool
     ensures { result ≡ is_value_or_descriptor role }
 {
@@ -45,7 +45,6 @@ pub fn is_value_or_descriptor(role: Role) -> bool
     }
 }
 
-/// Returns whether a phone may write a value at all, by a request or a command.
 fn is_writable(guard: &Guard) -> bool
     ensures { result ≡ is_writable guard.now }
 {
@@ -55,7 +54,6 @@ fn is_writable(guard: &Guard) -> bool
             .contains(Properties::WRITE_WITHOUT_RESPONSE)
 }
 
-/// Returns whether the value at a handle is another one than in `initial`.
 fn is_changed(table: &Table, initial: &Table, handle: u16) -> bool
     ensures { result ≡ is_changed table.now initial.now handle }
 {
@@ -65,7 +63,7 @@ fn is_changed(table: &Table, initial: &Table, handle: u16) -> bool
     }
 }
 
-/// Returns the value at a handle, which is empty if there is no attribute.
+/// Returns the value at a handle, empty if there is no attribute.
 pub fn value_told(table: &Table, handle: u16) -> &[u8]
     ensures { result.now ≡ value_told table.now handle }
 {

@@ -8,7 +8,7 @@ use att_table::is_of_16_bits;
 use std::alloc::AllocError;
 use uuid::Uuid;
 
-/// Adds a type: four hexadecimal digits for one of 16 bits, else a UUID with hyphens.
+/// Adds a type: four hexadecimal digits for 16 bits, otherwise a UUID with hyphens.
 pub fn add_type(text: &mut Vec<u8>, kind: u128) -> Result<(), AllocError>
     ensures ok { OnOk result (text.new.items ≡ text.old.items ++ type_text kind) }
 {
@@ -19,7 +19,6 @@ pub fn add_type(text: &mut Vec<u8>, kind: u128) -> Result<(), AllocError>
     }
 }
 
-/// Adds a type of 16 bits.
 fn add_short(text: &mut Vec<u8>, kind: u128) -> Result<(), AllocError>
     requires { IsTrue (is_of_16_bits kind) }
     ensures ok { OnOk result (text.new.items ≡ text.old.items ++ short_type_text kind) }
@@ -29,7 +28,6 @@ fn add_short(text: &mut Vec<u8>, kind: u128) -> Result<(), AllocError>
     text.extend_from_slice(&digits)
 }
 
-/// Adds a type of 128 bits.
 fn add_long(text: &mut Vec<u8>, kind: u128) -> Result<(), AllocError>
     ensures ok { OnOk result (text.new.items ≡ text.old.items ++ long_type_text kind) }
 {
@@ -37,7 +35,6 @@ fn add_long(text: &mut Vec<u8>, kind: u128) -> Result<(), AllocError>
     text.extend_from_slice(write_long(kind, &mut buffer).as_bytes())
 }
 
-/// Writes a type of 128 bits into a buffer. It is a function of its own for its proof.
 fn write_long(kind: u128, buffer: &mut [u8]) -> &str
     requires { 36 ≤ length buffer.old }
     ensures { result.now ≡ long_type_text kind }

@@ -9,9 +9,9 @@ use Rattle.std.proofs.lemmas.List.{length_push}
 use Rattle.std.proofs.lemmas.List.Sums.{prefix_len-le-length}
 use Rattle.std.proofs.lemmas.List.Elements.{All-nil, All-cons, All-head, All-tail, All-push}
 use Rattle.std.proofs.lemmas.Map.Keys.{IsDistinct-push}
-use Rattle.octets.specs.Number.{Octets}
-use Rattle.octets.specs.Memory.{Gives}
-use Rattle.toml_tables.specs.Reading.{◌>>=◌, unless, require}
+use Rattle.octet_io.specs.Number.{Octets}
+use Rattle.octet_io.specs.Memory.{Gives}
+use Rattle.toml_schema.specs.Reading.{◌>>=◌, unless, require}
 use Rattle.scripts.specs.declared.act.Act.{Act}
 use Rattle.scripts.specs.declared.act.Act.TheVariants as act
 use Rattle.scripts.specs.declared.line.Line.{Line}

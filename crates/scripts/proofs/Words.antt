@@ -1,7 +1,7 @@
 -- Lines of more than four words.
 use Rattle.std.proofs.Common.{◌≡◌, ℕ, ◌<◌, ◌==◌, List, [], ◌∷◌, length, None, refl, sym, ◌∙◌, ap, arith}
 use Rattle.std.proofs.lemmas.List.Splits.{length-slice_split}
-use Rattle.octets.specs.Number.{Octets}
+use Rattle.octet_io.specs.Number.{Octets}
 use Rattle.scripts.specs.Line.{words_of, line_of_words}
 
 more_words : (first second third fourth : Octets) (words : List Octets) → 0 < length words → line_of_words (first ∷ second ∷ third ∷ fourth ∷ words) ≡ None

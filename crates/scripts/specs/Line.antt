@@ -1,12 +1,12 @@
--- What one line of a script says: this profile's own.
+-- The lines of a script (this profile's own).
 use Rattle.std.specs.Prelude.{ℕ, ◌-◌, ◌==◌, ◌^◌, if◌then◌else◌, List, [], ◌∷◌, codes, Option, Some, None}
 use Rattle.std.specs.List.{slice_split}
 use Rattle.std.specs.Option.{option_map}
 use Rattle.std.specs.Result.{result_ok}
 use Rattle.std.specs.Str.{bytes_eq}
 use Rattle.hex.specs.Hex.{decode_sized}
-use Rattle.octets.specs.Missing.{◌>>=◌}
-use Rattle.octets.specs.Number.{Octets}
+use Rattle.octet_io.specs.Missing.{◌>>=◌}
+use Rattle.octet_io.specs.Number.{Octets}
 use Rattle.le_l2cap.specs.declared.channel.TheConstants.{ATT, LE_SIGNALLING, SECURITY_MANAGER}
 use Rattle.le_security.specs.Address.{peer_of}
 use Rattle.scripts.specs.declared.act.ScriptedAct.{ScriptedAct}
@@ -17,15 +17,15 @@ use Rattle.scripts.specs.Name.{name_of}
 use Rattle.scripts.specs.Numeral.{numeral_of}
 use Rattle.scripts.specs.Payload.{payload_of}
 
--- the words of a line, with a single space between each two
+-- Single spaces separate the words of a line.
 abbrev pub words_of : Octets → List Octets
 words_of line = slice_split (λ octet. octet == 32) line
 
--- a random number is 16 digits, two an octet
+-- A random number has 16 digits, two an octet.
 unfoldable pub random_number_of : Octets → Option Octets
 random_number_of word = result_ok (decode_sized word 8)
 
--- the channel of a PDU: the Attribute Protocol's, unless the sign names another one
+-- The ATT channel, unless the sign names another one.
 unfoldable pub channel_of : Octets → Option ℕ
 channel_of sign =
     if bytes_eq sign (codes "<") then Some ATT
@@ -33,15 +33,13 @@ channel_of sign =
     else if bytes_eq sign (codes "<6") then Some SECURITY_MANAGER
     else None
 
--- what a phone does, by its name
 abbrev pub of_phone : Octets → ScriptedAct → Option Line
 of_phone word act = option_map (λ name. Phone name act) (name_of word)
 
--- the moment until which a phone is authorized, by its name
 abbrev pub authorized_until : Octets → ℕ → Option Line
 authorized_until word moment = option_map (λ name. Authorize name moment) (name_of word)
 
--- no time comes after this one
+-- The last time.
 abbrev pub last_moment : ℕ
 last_moment = 2 ^ 64 - 1
 
@@ -58,22 +56,22 @@ line_of_two first second =
     else if bytes_eq first (codes "tick") then option_map Tick (numeral_of (2 ^ 64) second)
     else None
 
--- `done NAME N`
+-- `done NAME N`.
 abbrev pub done_line : Octets → Octets → Option Line
 done_line name packets = numeral_of (2 ^ 16) packets >>= (λ count. of_phone name (Done count))
 
--- `allow NAME MS`
+-- `allow NAME MS`.
 abbrev pub allow_line : Octets → Octets → Option Line
 allow_line name moment = numeral_of (2 ^ 64) moment >>= (λ until. authorized_until name until)
 
--- `update HANDLE HEX`
+-- `update HANDLE HEX`.
 abbrev pub update_line : Octets → Octets → Option Line
 update_line handle value = do
   place ← numeral_of (2 ^ 16) handle
   octets ← payload_of value
   Some (Update place octets)
 
--- `NAME < HEX`
+-- `NAME < HEX`.
 abbrev pub send_line : Octets → Octets → Octets → Option Line
 send_line name sign payload = do
   channel ← channel_of sign
@@ -87,11 +85,11 @@ line_of_three first second third =
     else if bytes_eq first (codes "update") then update_line second third
     else send_line first second third
 
--- `connect NAME KIND ADDRESS`
+-- `connect NAME KIND ADDRESS`.
 abbrev pub connect_line : Octets → Octets → Octets → Option Line
 connect_line name kind address = peer_of kind address >>= (λ peer. of_phone name (Connect peer))
 
--- `encrypt NAME RAND EDIV`
+-- `encrypt NAME RAND EDIV`.
 abbrev pub encrypt_line : Octets → Octets → Octets → Option Line
 encrypt_line name random diversifier = do
   number ← random_number_of random
@@ -104,7 +102,6 @@ line_of_four first second third fourth =
     else if bytes_eq first (codes "encrypt") then encrypt_line second third fourth
     else None
 
--- what words say, if they say something
 abbrev pub line_of_words : List Octets → Option Line
 line_of_words (first ∷ []) = line_of_one first
 line_of_words (first ∷ second ∷ []) = line_of_two first second

@@ -1,10 +1,10 @@
--- Numbers in decimal: this profile's own.
+-- Decimal numbers (this profile's own).
 use Rattle.std.specs.Prelude.{ℕ, ◌&&◌, nat_lt, if◌then◌else◌, length, Option, Some, None}
 use Rattle.std.specs.Str.{all_ascii_digits}
 use Rattle.std.specs.Str.Parse.{digits_value}
-use Rattle.octets.specs.Number.{Octets}
+use Rattle.octet_io.specs.Number.{Octets}
 
--- the number below a limit that digits write, of which there is at least one
+-- The number, below a limit, of at least one digit.
 unfoldable pub numeral_of : ℕ → Octets → Option ℕ
 numeral_of limit word =
     if nat_lt 0 (length word) && (all_ascii_digits word && nat_lt (digits_value 10 word) limit)

@@ -1,50 +1,47 @@
-//! What a line of a script does.
+//! Acts of a script's lines.
 
 use crate::payload::Payload;
 use le_hci::Peer;
 
-/// What a line has a phone do.
+/// An act of a phone.
 #[derive(Drop)]
 pub enum ScriptedAct<'a> {
-    /// It connects, as this peer.
+    /// Connects as this peer.
     Connect {
         peer: Peer,
     },
-    /// It ends its connection.
+    /// Disconnects.
     Drop,
-    /// It wants to encrypt its connection with the key of this random number, its octets as in the
-    /// event, and diversifier.
+    /// Requests encryption with the key of this random number, in wire order, and diversifier.
     Encrypt {
         random_number: [u8; 8],
         diversifier: u16,
     },
-    /// Its connection is no longer encrypted.
+    /// Ends encryption of the connection.
     Clear,
-    /// It sends a payload on a channel of the Logical Link Control and Adaptation Protocol.
+    /// Sends a payload on an L2CAP channel.
     Send {
         channel: u16,
         payload: Payload<'a>,
     },
-    /// Packets for it are no longer completed by themselves.
+    /// Stops the automatic completion of packets.
     Hold,
-    /// So many packets for it are completed.
+    /// Completes this number of packets.
     Done {
         packets: u16,
     },
 }
 
-/// What a line does. Phones are numbered from 0.
+/// The act of a line. Phones have numbers from 0.
 #[derive(Drop)]
 pub enum Act<'a> {
-    /// A phone does something.
     Phone { phone: u8, act: ScriptedAct<'a> },
-    /// The application authorizes a phone's connection while the time is below a moment, in
-    /// milliseconds. At 0 it is not authorized.
+    /// Authorizes a phone's connection before a time in milliseconds. 0 revokes it.
     Authorize { phone: u8, until: u64 },
-    /// The application updates the value at a handle.
+    /// Updates the value at a handle.
     Update { handle: u16, value: Payload<'a> },
-    /// The application tells the time, in milliseconds.
+    /// Sets the time, in milliseconds.
     Tick { time: u64 },
-    /// The application replaces the table by the other one.
+    /// Replaces the table by the next one.
     Replace,
 }

@@ -1,5 +1,4 @@
-//! Scripts: what phones and the application do, line by line, each line read before any of it is
-//! done.
+//! Scripts of phones and an application, which are read completely before any act.
 #![tactic(auto)]
 
 mod act;

@@ -1,4 +1,4 @@
-//! The lines of a script.
+//! Lines of a script.
 
 ghost use Rattle.std.specs.Prelude.{◌≡◌, [], ◌∷◌, IfSome, IfNone};
 ghost use Rattle.scripts.specs.Line.{words_of, random_number_of, channel_of, line_of_one, line_of_two, line_of_three, line_of_four, of_phone, authorized_until, line_of};
@@ -10,33 +10,32 @@ use crate::payload::Payload;
 use le_l2cap::channel;
 use le_security::read_peer;
 
-/// What a line says.
+/// The content of a line.
 #[derive(Drop)]
 pub enum Line<'a> {
-    /// What the phone of a name does.
     Phone {
         name: Name<'a>,
         act: ScriptedAct<'a>,
     },
-    /// The moment until which the phone of a name is authorized, in milliseconds.
+    /// Authorization until a time in milliseconds.
     Authorize {
         name: Name<'a>,
         until: u64,
     },
-    /// The value at a handle is updated.
+    /// New value at a handle.
     Update {
         handle: u16,
         value: Payload<'a>,
     },
-    /// The time, in milliseconds.
+    /// Time in milliseconds.
     Tick {
         time: u64,
     },
-    /// The table is replaced.
+    /// Replacement of the table.
     Replace,
 }
 
-/// What a line says, which is neither blank nor a comment, if it says something.
+/// Reads a line that is not blank and not a comment. Returns `None` if it is wrong.
 #[tactic(auto, unfolding(crate::specs::Line::line_of))]
 pub fn read_line(line: &str) -> Option<Line<'_>>
     ensures { result ≡ line_of line.now }
@@ -56,7 +55,7 @@ pub fn read_line(line: &str) -> Option<Line<'_>>
     }
 }
 
-/// The first word of a text that has another one, and what stands behind its space.
+/// Splits a text at its first space, if it has one.
 pub fn first_word(text: &str) -> Option<(&str, &str)>
     ensures first { IfSome result
         (λ parts. words_of text.now ≡ parts.0.now ∷ words_of parts.1.now) }
@@ -65,7 +64,6 @@ pub fn first_word(text: &str) -> Option<(&str, &str)>
     text.split_once(' ')
 }
 
-/// What a word says alone.
 #[tactic(auto, unfolding(crate::specs::Line::line_of_one))]
 fn read_one(first: &str) -> Option<Line<'_>>
     ensures { result ≡ line_of_one first.now }
@@ -76,7 +74,6 @@ fn read_one(first: &str) -> Option<Line<'_>>
     }
 }
 
-/// What two words say.
 #[tactic(auto, unfolding(crate::specs::Line::line_of_two))]
 fn read_two<'a>(first: &str, second: &'a str) -> Option<Line<'a>>
     ensures { result ≡ line_of_two first.now second.now }
@@ -94,7 +91,6 @@ fn read_two<'a>(first: &str, second: &'a str) -> Option<Line<'a>>
     }
 }
 
-/// What three words say.
 #[tactic(auto, unfolding(crate::specs::Line::line_of_three))]
 fn read_three<'a>(first: &'a str, second: &'a str, third: &'a str) -> Option<Line<'a>>
     ensures { result ≡ line_of_three first.now second.now third.now }
@@ -121,7 +117,6 @@ fn read_three<'a>(first: &'a str, second: &'a str, third: &'a str) -> Option<Lin
     }
 }
 
-/// What four words say.
 #[tactic(auto, unfolding(crate::specs::Line::line_of_four))]
 fn read_four<'a>(first: &str, second: &'a str, third: &str, fourth: &str) -> Option<Line<'a>>
     ensures { result ≡ line_of_four first.now second.now third.now fourth.now }
@@ -144,7 +139,6 @@ fn read_four<'a>(first: &str, second: &'a str, third: &str, fourth: &str) -> Opt
     }
 }
 
-/// What the phone of a name does.
 fn of_phone<'a>(name: &'a str, act: ScriptedAct<'a>) -> Option<Line<'a>>
     ensures { result ≡ of_phone name.now act.entry }
 {
@@ -154,7 +148,6 @@ fn of_phone<'a>(name: &'a str, act: ScriptedAct<'a>) -> Option<Line<'a>>
     })
 }
 
-/// The moment until which the phone of a name is authorized.
 fn authorized_until(name: &str, until: u64) -> Option<Line<'_>>
     ensures { result ≡ authorized_until name.now until }
 {
@@ -164,7 +157,6 @@ fn authorized_until(name: &str, until: u64) -> Option<Line<'_>>
     })
 }
 
-/// The channel that a sign names.
 #[tactic(auto, unfolding(crate::specs::Line::channel_of))]
 fn read_channel(sign: &str) -> Option<u16>
     ensures { result ≡ channel_of sign.now }
@@ -177,7 +169,6 @@ fn read_channel(sign: &str) -> Option<u16>
     }
 }
 
-/// The octets of a random number.
 #[tactic(auto, unfolding(crate::specs::Line::random_number_of))]
 fn read_random_number(word: &str) -> Option<[u8; 8]>
     ensures { result ≡ random_number_of word.now }

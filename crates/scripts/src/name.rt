@@ -1,4 +1,4 @@
-//! The names of phones.
+//! Names of phones.
 
 ghost use Rattle.std.specs.Prelude.{◌≡◌};
 ghost use Rattle.std.specs.Char.{is_ascii_alphanumeric};
@@ -7,17 +7,16 @@ ghost use Rattle.scripts.specs.Name.{is_command_word, is_name, name_of};
 
 use std::marker::Model;
 
-/// The most letters and digits of a name.
 const MAX_NAME: usize = 8;
 
-/// The name of a phone: 1 to `MAX_NAME` ASCII letters and digits, and no word of a command.
+/// A phone's name: 1 to `MAX_NAME` ASCII letters and digits, except command words.
 #[derive(Drop)]
 pub struct Name<'a> {
     text: &'a str,
 }
 
 impl<'a> Model for Name<'a> {
-    ghost use Rattle.octets.specs.Number.{Octets};
+    ghost use Rattle.octet_io.specs.Number.{Octets};
 
     ghost Value = { Octets };
 
@@ -25,7 +24,7 @@ impl<'a> Model for Name<'a> {
 }
 
 impl<'a> Name<'a> {
-    /// The name that a word is.
+    /// Reads a name, or returns `None` if the word is none.
     #[tactic(auto, unfolding(crate::specs::Name::name_of))]
     pub fn read(word: &'a str) -> Option<Name<'a>>
         ensures { result ≡ name_of word.now }
@@ -37,7 +36,7 @@ impl<'a> Name<'a> {
         }
     }
 
-    /// The name as a text.
+    /// Returns the name as text.
     pub fn as_str(&self) -> &'a str
         ensures { result.now ≡ self.now }
     {
@@ -45,7 +44,6 @@ impl<'a> Name<'a> {
     }
 }
 
-/// Whether a word is a name.
 #[tactic(auto, unfolding(crate::specs::Name::is_name))]
 fn is_name(word: &str) -> bool
     ensures { result ≡ is_name word.now }
@@ -56,14 +54,12 @@ fn is_name(word: &str) -> bool
     !is_command_word(word) && has_only_letters_and_digits(word)
 }
 
-/// Whether a word is of ASCII letters and digits alone.
 fn has_only_letters_and_digits(word: &str) -> bool
     ensures { result ≡ list_all is_ascii_alphanumeric word.now }
 {
     word.bytes().all(|octet| octet.is_ascii_alphanumeric())
 }
 
-/// Whether a word begins the lines of a command.
 #[tactic(auto, unfolding(crate::specs::Name::is_command_word))]
 fn is_command_word(word: &str) -> bool
     ensures { result ≡ is_command_word word.now }

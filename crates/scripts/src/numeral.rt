@@ -1,9 +1,9 @@
-//! Numbers in decimal.
+//! Decimal numbers.
 
 ghost use Rattle.std.specs.Prelude.{◌≡◌, ◌^◌};
 ghost use Rattle.scripts.specs.Numeral.{numeral_of};
 
-/// The number below 65,536 that digits write.
+/// Reads a number below 65,536.
 #[tactic(auto, unfolding(crate::specs::Numeral::numeral_of))]
 pub fn read_u16(word: &str) -> Option<u16>
     ensures { result ≡ numeral_of (2 ^ 16) word.now }
@@ -14,7 +14,7 @@ pub fn read_u16(word: &str) -> Option<u16>
     }
 }
 
-/// The number of 64 bits that digits write.
+/// Reads a number of 64 bits.
 #[tactic(auto, unfolding(crate::specs::Numeral::numeral_of))]
 pub fn read_u64(word: &str) -> Option<u64>
     ensures { result ≡ numeral_of (2 ^ 64) word.now }

@@ -1,19 +1,19 @@
-//! Octets that a line writes.
+//! Payloads in a line.
 
 ghost use Rattle.std.specs.Prelude.{◌≡◌, is_some, IfSome};
 ghost use Rattle.scripts.specs.Payload.{decoded, payload_of};
 
-use octets::{MAX_PDU, PduOctets};
+use octet_io::{MAX_PDU, PduOctets};
 use std::marker::Model;
 
-/// At most a PDU's octets, as the digits that write them.
+/// The hexadecimal digits of at most a PDU's octets.
 #[derive(Drop)]
 pub struct Payload<'a> {
     digits: &'a str,
 }
 
 impl<'a> Model for Payload<'a> {
-    ghost use Rattle.octets.specs.Number.{Octets};
+    ghost use Rattle.octet_io.specs.Number.{Octets};
     ghost use Rattle.scripts.specs.Payload.{decoded_octets, IsWritten};
 
     ghost Value = { Octets };
@@ -24,7 +24,7 @@ impl<'a> Model for Payload<'a> {
 }
 
 impl<'a> Payload<'a> {
-    /// The octets that a word writes in hexadecimal, two digits an octet; a dash writes none.
+    /// Reads hexadecimal digits, two an octet. A hyphen means no octets.
     #[tactic(auto, unfolding(crate::specs::Payload::payload_of), using(crate::proofs::Payloads::written))]
     pub fn read(word: &'a str) -> Option<Payload<'a>>
         ensures { result ≡ payload_of word.now }
@@ -38,7 +38,7 @@ impl<'a> Payload<'a> {
         Some(Payload { digits: word })
     }
 
-    /// Gives the octets, and drops what was in the buffer.
+    /// Replaces the contents of the buffer by the octets.
     pub fn decode(&self, octets: &mut PduOctets)
         ensures { octets.new.items ≡ self.now }
     {
@@ -46,8 +46,8 @@ impl<'a> Payload<'a> {
     }
 }
 
-/// Writes the octets of at most `MAX_PDU` pairs of digits into the buffer, and drops what was in
-/// it. Where a text is something else, the buffer is emptied.
+/// Decodes digits into the buffer. Returns false and clears the buffer if they are wrong or more
+/// than a PDU.
 #[tactic(auto, unfolding(crate::specs::Payload::decoded))]
 fn decode(digits: &str, octets: &mut PduOctets) -> bool
     ensures is { result ≡ is_some (decoded digits.now) }

@@ -1,9 +1,9 @@
-//! Scripts, whole.
+//! Whole scripts.
 
 ghost use Rattle.std.specs.Prelude.{◌≡◌, ◌<◌, ◌≤◌, ◌∷◌, [], ◌++◌, length, Ok, Err, IfSome, IfNone, IfOk, OnOk, OnErr};
 ghost use Rattle.std.specs.List.{position};
 ghost use Rattle.std.specs.Str.{bytes_eq};
-ghost use Rattle.octets.specs.Memory.{Gives, Leaves};
+ghost use Rattle.octet_io.specs.Memory.{Gives, Leaves};
 ghost use Rattle.scripts.specs.declared.script_fault.ScriptFault.TheVariants.{OutOfMemory};
 ghost use Rattle.scripts.specs.Phones.{HasNamedPhones};
 ghost use Rattle.scripts.specs.Script.{no_acts, phone_number_in, with_name, script_with_said, script_with_line, lines_of_script, script_of};
@@ -15,14 +15,14 @@ use crate::script_fault::ScriptFault;
 use std::alloc::{AllocError, Global};
 use std::marker::Model;
 
-/// The most phones that a script may name.
+/// Maximum number of phones in a script.
 pub const MAX_PHONES: usize = 8;
 
-/// What phones and the application do, one after the other.
+/// The acts of a script, in order.
 #[derive(Drop)]
 pub struct Script<'a> {
     acts: Vec<Act<'a>>,
-    /// The names of the phones, by their numbers.
+    /// The phones' names, by number.
     names: Vec<Name<'a>>,
 }
 
@@ -36,7 +36,6 @@ impl<'a> Model for Script<'a> {
 }
 
 impl<'a> Script<'a> {
-    /// Nothing.
     fn new(alloc: Global) -> Self
         ensures { result ≡ no_acts }
     {
@@ -46,9 +45,8 @@ impl<'a> Script<'a> {
         }
     }
 
-    /// Reads a script, and gives what it says or its first line with a fault. Without a table to
-    /// replace by, as `has_next` says, a replacement is a fault of its line. Memory may be refused
-    /// at any point.
+    /// Reads a script, or returns the fault of its first wrong line. A replacement is wrong if
+    /// `has_next` is false.
     pub fn read(alloc: Global, text: &'a str, has_next: bool) -> Result<Script<'a>, ScriptFault>
         ensures script { Gives OutOfMemory (script_of has_next text.now) result }
         ensures phones { IfOk result HasNamedPhones }
@@ -56,7 +54,6 @@ impl<'a> Script<'a> {
         Script::read_lines(alloc, text, has_next)
     }
 
-    /// Reads a script line by line. It stands apart for its proof.
     #[tactic(auto, unfolding(crate::specs::Script::script_of))]
     fn read_lines(alloc: Global, text: &'a str, has_next: bool) -> Result<Script<'a>, ScriptFault>
         ensures { Gives OutOfMemory (script_of has_next text.now) result }
@@ -73,21 +70,20 @@ impl<'a> Script<'a> {
         Ok(script)
     }
 
-    /// What is done, in the order of the lines.
+    /// Returns the acts, in the order of the lines.
     pub fn acts(&self) -> &[Act<'a>]
         ensures { result.now ≡ self.now.acts }
     {
         &self.acts
     }
 
-    /// The names of the phones, by their numbers.
+    /// Returns the phones' names, by number.
     pub fn names(&self) -> &[Name<'a>]
         ensures { result.now ≡ self.now.names }
     {
         &self.names
     }
 
-    /// Takes in the line of a number.
     fn take_line(&mut self, has_next: bool, number: u64, line: &'a str) -> Result<(), ScriptFault>
         ensures { Leaves OutOfMemory (script_with_line has_next number self.old line.now) result
             self.new }
@@ -99,7 +95,6 @@ impl<'a> Script<'a> {
         self.take(has_next, number, said)
     }
 
-    /// Takes in what the line of a number says.
     fn take(&mut self, has_next: bool, number: u64, said: Line<'a>) -> Result<(), ScriptFault>
         ensures { Leaves OutOfMemory
             (script_with_said has_next number self.old said.entry) result self.new }
@@ -127,7 +122,7 @@ impl<'a> Script<'a> {
     }
 }
 
-/// The number of a name, which stands behind the others if it is a new one.
+/// Returns a phone's number, and adds its name if it is new.
 fn take_name<'a>(names: &mut Vec<Name<'a>>, name: Name<'a>, number: u64) -> Result<u8, ScriptFault>
     ensures few { phone_number_in names.old.items name.entry < MAX_PHONES
         → Leaves OutOfMemory (Ok (with_name names.old.items name.entry)) result names.new.items }
@@ -146,7 +141,6 @@ fn take_name<'a>(names: &mut Vec<Name<'a>>, name: Name<'a>, number: u64) -> Resu
     Ok(place as u8)
 }
 
-/// Adds an act. It stands apart for its proof.
 fn push_act<'a>(acts: &mut Vec<Act<'a>>, act: Act<'a>) -> Result<(), AllocError>
     ensures ok { OnOk result (acts.new.items ≡ acts.old.items ++ act.entry ∷ []) }
     ensures err { OnErr result (acts.new.items ≡ acts.old.items) }
@@ -155,7 +149,6 @@ fn push_act<'a>(acts: &mut Vec<Act<'a>>, act: Act<'a>) -> Result<(), AllocError>
     Ok(())
 }
 
-/// Adds a name. It stands apart for its proof.
 fn push_name<'a>(names: &mut Vec<Name<'a>>, name: Name<'a>) -> Result<(), AllocError>
     ensures ok { OnOk result (names.new.items ≡ names.old.items ++ name.entry ∷ []) }
     ensures err { OnErr result (names.new.items ≡ names.old.items) }
@@ -164,14 +157,13 @@ fn push_name<'a>(names: &mut Vec<Name<'a>>, name: Name<'a>) -> Result<(), AllocE
     Ok(())
 }
 
-/// The number of a name among these, or how many these are if it is another one.
+/// Returns a name's number, or the next free number.
 fn number_in(names: &[Name<'_>], name: &Name<'_>) -> usize
     ensures { result ≡ phone_number_in names.now name.now }
 {
     place_of(names, name).unwrap_or(names.len())
 }
 
-/// Where a name stands among these. It stands apart for its proof.
 fn place_of(names: &[Name<'_>], name: &Name<'_>) -> Option<usize>
     ensures { result ≡ position (bytes_eq name.now) names.now }
 {
@@ -179,7 +171,7 @@ fn place_of(names: &[Name<'_>], name: &Name<'_>) -> Option<usize>
     names.iter().position(|other| text == other.as_str())
 }
 
-/// The first line of a text that has another one, and what stands behind its line feed.
+/// Splits a text at its first line feed, if it has one.
 fn first_line(text: &str) -> Option<(&str, &str)>
     ensures first { IfSome result
         (λ parts. lines_of_script text.now ≡ parts.0.now ∷ lines_of_script parts.1.now) }

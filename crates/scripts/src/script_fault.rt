@@ -1,14 +1,14 @@
-//! Why a script is refused.
+//! Faults of a script.
 
 ghost use Rattle.std.specs.Prelude.{◌≡◌};
 ghost use Rattle.scripts.specs.declared.script_fault.ScriptFault.TheVariants.{OutOfMemory};
 
 use std::alloc::AllocError;
 
-/// Why a script is refused: its first line with a fault. Lines count from 1, skipped ones too.
+/// Reason why a script was rejected. Lines count from 1, skipped ones too.
 #[derive(Clone, Copy, Debug, PartialEq, Eq)]
 pub enum ScriptFault {
-    /// The line of this number says nothing that a script may say.
+    /// The line with this number is wrong.
     BadLine(u64),
     /// Memory was refused.
     OutOfMemory,

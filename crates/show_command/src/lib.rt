@@ -1,5 +1,4 @@
-//! The command `show`: what a table says, who may do what there, and where a file that is refused has
-//! its fault.
+//! The command `show`: a table in words, its permitted uses, and the faults of refused files.
 #![tactic(auto)]
 
 mod show;

@@ -1,16 +1,16 @@
-//! The files of `show`, each judged before the next one is read, and what is printed of them.
+//! The files of `show`, checked one after the other, and the text printed for them.
 
 ghost use Rattle.std.specs.Prelude.{◌≡◌, ◌≢◌, ℕ, IfErr, IfOk, IfSome, IsOk, OnOk, is_some};
 ghost use Rattle.std.specs.Io.KnownBytes.{Keeps};
 ghost use Rattle.std.specs.Option.{option_map};
-ghost use Rattle.gatt_files.specs.KeyFile.{keys_in, KeysAreRefusedAs, IsKeyFileFault, IsKeyRefusal};
-ghost use Rattle.gatt_files.specs.RowsFile.{rows_in, RowsAreRefusedAs, IsRowsFileFault};
+ghost use Rattle.shell_files.specs.KeyFile.{keys_in, KeysAreRefusedAs, IsKeyFileFault, IsKeyRefusal};
+ghost use Rattle.shell_files.specs.RowsFile.{rows_in, RowsAreRefusedAs, IsRowsFileFault};
 ghost use Rattle.show_command.specs.Show.{AreShown, HasHolders, IsShowFault, TellsHoldersOf};
-ghost use Rattle.gatt_files.specs.TableFile.{table_in, TableIsRefusedAs, IsTableFileFault};
-ghost use Rattle.gatt_files.specs.Turns.{IsPast, OfKeys, OfRows, OfTable};
+ghost use Rattle.shell_files.specs.TableFile.{table_in, TableIsRefusedAs, IsTableFileFault};
+ghost use Rattle.shell_files.specs.Turns.{IsPast, OfKeys, OfRows, OfTable};
 
 use att_table::Table;
-use gatt_files::{
+use shell_files::{
     KeysPath, LazyFile, RowsPath, RowsReader, ShellFault, TOML_OCTETS, TablePath, judged_keys,
     judged_rows, judged_table, print, read_all,
 };
@@ -19,13 +19,14 @@ use std::fs::Files;
 use std::io::{Read, Write};
 use std::str;
 
-/// What is told of a file that is too large.
+/// The text about a file that is too large.
 const TOO_LARGE: &[u8] = b"more than 2,097,152 octets";
 
-/// Judges a table file, a key file, if there is one, and a rows file, and prints what the table says,
-/// and who may do what where there are keys. Each file is read only once those in front of it have
-/// been accepted. Of one that is refused, where it has its fault and what that is is added to `place`;
-/// where memory is refused for that text, `place` is empty.
+/// Checks the table, key and subscriptions files, and prints the table.
+///
+/// With a key file, prints the permitted uses too. Reads each file only if those before it are
+/// accepted. Adds the place and the fault of a refused file to `place`, which is empty if memory is
+/// refused for them.
 pub fn show_files<T: Read, K: Read, R: Read, W: Write>(
     alloc: Global,
     table: &mut T,
@@ -34,11 +35,9 @@ pub fn show_files<T: Read, K: Read, R: Read, W: Write>(
     writer: &mut W,
     place: &mut Vec<u8>,
 ) -> Result<(), ShellFault>
-    // All files were accepted, and what they say was printed.
     ensures ok { OnOk result (AreShown (T.remaining table.old) (option_map K.remaining keys.old)
         (W.contents writer.old) (W.contents writer.new)) }
-    // A file is refused for its first fault, or for want of memory, which is 10 of a table file, 8 of
-    // a key file and 4 of a rows file.
+    // Refused memory is fault 10 of a table file, 8 of a key file and 4 of a subscriptions file.
     ensures table { (number : ℕ) → result ≡ Err (ShellFault.Table number) → number ≢ 10
         → IfSome (T.remaining table.old) (λ octets. TableIsRefusedAs number (table_in octets)) }
     ensures keys { (number : ℕ) → result ≡ Err (ShellFault.Keys number) → number ≢ 8
@@ -46,8 +45,7 @@ pub fn show_files<T: Read, K: Read, R: Read, W: Write>(
         (λ octets. KeysAreRefusedAs number (keys_in octets))) }
     ensures rows { (number : ℕ) → result ≡ Err (ShellFault.Rows number) → number ≢ 4
         → IfSome (R.remaining rows.old) (λ octets. RowsAreRefusedAs number (rows_in octets)) }
-    // And only where those in front of it are accepted: table, keys, rows. Then the output is written
-    // to.
+    // The files are accepted in the order table, keys, rows; only then is the output written.
     ensures table_first { IsPast OfTable result
         → IfSome (T.remaining table.old) (λ octets. IsOk (table_in octets)) }
     ensures keys_second { IsPast OfKeys result
@@ -55,14 +53,12 @@ pub fn show_files<T: Read, K: Read, R: Read, W: Write>(
         (λ octets. IsOk (keys_in octets))) }
     ensures rows_third { IsPast OfRows result
         → IfSome (R.remaining rows.old) (λ octets. IsOk (rows_in octets)) }
-    // Those behind it are not read.
     ensures keys_unread { (number : ℕ) → result ≡ Err (ShellFault.Table number)
         → keys.new ≡ keys.old }
     ensures rows_unread { (number : ℕ) → result ≡ Err (ShellFault.Table number)
         → rows.new ≡ rows.old }
     ensures rows_unread_at_keys { (number : ℕ) → result ≡ Err (ShellFault.Keys number)
         → rows.new ≡ rows.old }
-    // Nothing is told of files that are all accepted.
     ensures place { IsOk result → place.new ≡ place.old }
     ensures nothing_printed { IfErr result (λ fault. fault ≢ ShellFault.Unwritten
         → Keeps (W.contents writer.old) (W.contents writer.new)) }
@@ -76,7 +72,6 @@ pub fn show_files<T: Read, K: Read, R: Read, W: Write>(
     print(text.as_slice(), writer)
 }
 
-/// Reads a table file, and gives its table.
 fn read_table_at<R: Read>(
     alloc: Global,
     reader: &mut R,
@@ -101,8 +96,9 @@ fn read_table_at<R: Read>(
     }
 }
 
-/// Adds to a text where a table file with these octets has its fault, and what that is. On `Err` memory
-/// was refused, and the text means nothing.
+/// Adds the place and the fault of a table file with these bytes.
+///
+/// On `Err` memory was refused and the text is invalid.
 pub fn tell_table_fault(
     alloc: Global,
     place: &mut Vec<u8>,
@@ -114,8 +110,7 @@ pub fn tell_table_fault(
     gatt_show::add_table_fault(alloc, place, octets)
 }
 
-/// Adds to a text where a key file with these octets has its fault, and what that is, like
-/// `tell_table_fault`.
+/// Adds the place and the fault of a key file. Errors: as `tell_table_fault`.
 pub fn tell_keys_fault(
     alloc: Global,
     place: &mut Vec<u8>,
@@ -127,7 +122,7 @@ pub fn tell_keys_fault(
     gatt_show::add_keys_fault(alloc, place, octets)
 }
 
-/// Reads a key file, if there is one, and adds who has which key and what he may do.
+/// Reads a key file, if any, and adds its holders and their permitted uses.
 fn add_keys<K: Read>(
     alloc: Global,
     text: &mut Vec<u8>,
@@ -151,7 +146,6 @@ fn add_keys<K: Read>(
     }
 }
 
-/// Reads a key file, and adds who has which key and what he may do.
 fn add_holders<K: Read>(
     alloc: Global,
     text: &mut Vec<u8>,
@@ -174,8 +168,7 @@ fn add_holders<K: Read>(
     Ok(gatt_show::add_holders(alloc, text, table, file)?)
 }
 
-/// The text of a key file: one that is not UTF-8 is not TOML.
-#[tactic(auto, using(host_files::proofs::Texts::of_no_text), unfolding(host_files::specs::Files::keys_in))]
+#[tactic(auto, using(octet_io::proofs::Texts::of_no_text), unfolding(le_security::specs::KeyFile::keys_in))]
 fn key_text(octets: &[u8]) -> Result<&str, ShellFault>
     ensures text { IfOk result (λ text. text.now ≡ octets.now) }
     ensures refused { IfErr result (IsKeyRefusal octets.now) }
@@ -186,7 +179,6 @@ fn key_text(octets: &[u8]) -> Result<&str, ShellFault>
     }
 }
 
-/// Judges the octets of a key file.
 fn judge_keys_at(alloc: Global, octets: &[u8], place: &mut Vec<u8>) -> Result<(), ShellFault>
     ensures accepted { OnOk result (IsOk (keys_in octets.now)) }
     ensures refused { IfErr result (IsKeyRefusal octets.now) }
@@ -203,8 +195,7 @@ fn judge_keys_at(alloc: Global, octets: &[u8], place: &mut Vec<u8>) -> Result<()
     }
 }
 
-/// Adds to a text where a rows file with these octets has its fault, and what that is, like
-/// `tell_table_fault`.
+/// Adds the place and the fault of a subscriptions file. Errors: as `tell_table_fault`.
 pub fn tell_rows_fault(
     alloc: Global,
     place: &mut Vec<u8>,
@@ -213,7 +204,6 @@ pub fn tell_rows_fault(
     gatt_show::add_rows_fault(alloc, place, octets)
 }
 
-/// Reads and judges a rows file.
 fn judge_rows_at<R: Read>(
     alloc: Global,
     reader: &mut R,
@@ -241,15 +231,12 @@ fn judge_rows_at<R: Read>(
 /// The paths of the files that `show` reads.
 #[derive(Clone, Copy)]
 pub struct ShowPaths<'a> {
-    /// The table file.
     pub table: TablePath<'a>,
-    /// The key file, where there is one.
     pub keys: Option<KeysPath<'a>>,
-    /// The rows file.
     pub rows: RowsPath<'a>,
 }
 
-/// Shows the files at some paths. None is opened before its turn.
+/// Shows the files at these paths, and opens each only before its check.
 pub fn show_paths<F: Files, W: Write>(
     alloc: Global,
     files: &F,
@@ -268,7 +255,6 @@ pub fn show_paths<F: Files, W: Write>(
     show_files(alloc, &mut table, &mut keys, &mut rows, writer, place)
 }
 
-/// The key file, where there is one.
 fn key_file<'a, F: Files>(files: &'a F, path: Option<KeysPath<'a>>) -> Option<LazyFile<'a, F>>
     ensures { is_some result ≡ is_some path.entry }
 {

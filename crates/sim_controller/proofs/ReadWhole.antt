@@ -3,7 +3,7 @@ use Rattle.std.proofs.Common.{◌≡◌, ℕ, ◌+◌, ◌-◌, ◌*◌, ◌/◌
 use Rattle.std.specs.Prelude.{Option, Some, None, Result, Ok, All, ◌&&◌, nat_le, nat_lt, if◌then◌else◌, is_some, slice_index_or}
 use Rattle.std.specs.Option.{option_map, option_and_then, option_to_list}
 use Rattle.std.proofs.lemmas.List.{take_all, drop_all}
-use Rattle.octets.specs.Number.{from_two}
+use Rattle.octet_io.specs.Number.{from_two}
 use Rattle.le_h4.specs.Packet.{Packet, AclPacket, EventPacket, FirstPacket, first_of, acl_packet, with_data}
 use Rattle.le_h4.proofs.Firsts.{with_data-whole}
 use Rattle.le_hci.specs.Event.{Reported, DisconnectionComplete, EncryptionChange, CommandComplete, CommandStatus, NumberOfCompletedPackets, ConnectionComplete, LongTermKeyRequest}

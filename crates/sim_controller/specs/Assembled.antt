@@ -1,6 +1,6 @@
--- What the fragments of a frame have come to, as le_acl says it. Of the code alone.
+-- The result of a frame's fragments as an `Assembly` of le_acl (code only).
 use Rattle.std.specs.Prelude.{Some, None}
-use Rattle.octets.specs.Number.{Octets}
+use Rattle.octet_io.specs.Number.{Octets}
 use Rattle.le_acl.specs.Reassembler.{Assembly, no_assembly}
 use Rattle.sim_controller.specs.declared.assembly.Assembled.{Assembled}
 use Rattle.sim_controller.specs.declared.assembly.Assembled.TheVariants.{Nothing, Unfinished, Frame}

@@ -1,6 +1,6 @@
--- What a controller gives its host, whatever is done with it: this profile's own.
+-- The packets from a controller to its host, whatever the calls (this profile's own).
 use Rattle.std.specs.Prelude.{◌≡◌, ℕ, ◌<◌, List, [], ◌∷◌, ◌++◌, length, take, drop, All, ⊤, Option, Some, None, Ok}
-use Rattle.octets.specs.Number.{Octets}
+use Rattle.octet_io.specs.Number.{Octets}
 use Rattle.le_h4.specs.Packet.{FirstPacket, first_of}
 use Rattle.le_hci.specs.Event.{event_of}
 use Rattle.le_hci.specs.EventPacket.{event_packet, event_code, fields_of}
@@ -16,8 +16,8 @@ use Rattle.sim_controller.specs.Simulated.{Simulated, simulated_at_start, phone_
 use Rattle.sim_controller.specs.Told as packets
 use Rattle.sim_controller.specs.Told.{Sent, sent_of, sent_octets, sent_packet}
 
--- a phone acts, a packet of the host is taken, a packet for it is asked for, a frame that a phone hears is asked for,
--- or the reason why its connection ended
+-- A call: an act, a packet of the host, or a request for a packet, a frame of a phone, or the
+-- reason of its disconnection.
 pub data SimulatedCall : Type 0 where
   Acts : (act : SimulatedAct) → SimulatedCall
   Takes : (octets : Octets) → SimulatedCall
@@ -25,24 +25,24 @@ pub data SimulatedCall : Type 0 where
   Hears : (phone : ℕ) → SimulatedCall
   Tells : (phone : ℕ) → SimulatedCall
 
--- one value where no fault is found, and another one where one is
 abbrev pub if_accepted : {X : Type 0} → Option SimFault → X → X → X
 if_accepted None accepted refused = accepted
 if_accepted (Some fault) accepted refused = refused
 
 abbrev pub after_call : Simulated → SimulatedCall → Simulated
 after_call old (Acts act) = if_accepted (act_fault old act) (simulated_after_act old act) old
-after_call old (Takes octets) = if_accepted (host_fault old (host_packet_of octets)) (after_host old (host_packet_of octets)) old
+after_call old (Takes octets) =
+    if_accepted (host_fault old (host_packet_of octets)) (after_host old (host_packet_of octets))
+    old
 after_call old Gives = record old { waiting = drop 1 old.waiting }
 after_call old (Hears phone) = with_phone old phone (phone_after_hearing (phone_at old phone))
 after_call old (Tells phone) = with_phone old phone (after_telling (phone_at old phone))
 
--- after any calls, of which the newest stands first
+-- The state after calls, of which the newest is first.
 abbrev pub after_calls : SimConfig → List SimulatedCall → Simulated
 after_calls config [] = simulated_at_start config
 after_calls config (call ∷ earlier) = after_call (after_calls config earlier) call
 
--- what the host is told of a packet that is taken from it
 abbrev pub told_of_data : Simulated → Option ℕ → List Told
 told_of_data old None = []
 told_of_data old (Some phone) = completions_for old phone
@@ -52,10 +52,12 @@ told_of_host old None = []
 told_of_host old (Some (Command asked)) = answers old asked
 told_of_host old (Some (Data handle fragment)) = told_of_data old (phone_here old.phones handle)
 
--- what a call has the host told, and what it gives the host
+-- The packets that a call causes, and those that it returns.
 abbrev pub told_by : Simulated → SimulatedCall → List Told
 told_by old (Acts act) = if_accepted (act_fault old act) (told_of_act old.config act) []
-told_by old (Takes octets) = if_accepted (host_fault old (host_packet_of octets)) (told_of_host old (host_packet_of octets)) []
+told_by old (Takes octets) =
+    if_accepted (host_fault old (host_packet_of octets)) (told_of_host old (host_packet_of octets))
+    []
 told_by old Gives = []
 told_by old (Hears phone) = []
 told_by old (Tells phone) = []
@@ -69,17 +71,21 @@ given_by_call old (Tells phone) = []
 
 abbrev pub told_in_calls : SimConfig → List SimulatedCall → List Told
 told_in_calls config [] = []
-told_in_calls config (call ∷ earlier) = told_in_calls config earlier ++ told_by (after_calls config earlier) call
+told_in_calls config (call ∷ earlier) =
+    told_in_calls config earlier ++ told_by (after_calls config earlier) call
 
 abbrev pub given_in_calls : SimConfig → List SimulatedCall → List Told
 given_in_calls config [] = []
-given_in_calls config (call ∷ earlier) = given_in_calls config earlier ++ given_by_call (after_calls config earlier) call
+given_in_calls config (call ∷ earlier) =
+    given_in_calls config earlier ++ given_by_call (after_calls config earlier) call
 
--- what was given, and then what waits, is what the acts and the answers tell, in their order
+-- The packets returned and queued are those of acts and responses, in order.
 abbrev pub GivesInOrder : SimConfig → Type 0
-GivesInOrder config = (calls : List SimulatedCall) → given_in_calls config calls ++ (after_calls config calls).waiting ≡ told_in_calls config calls
+GivesInOrder config =
+    (calls : List SimulatedCall) → given_in_calls config calls ++ (after_calls config calls).waiting
+    ≡ told_in_calls config calls
 
--- an act of one of the phones, whose address has 6 octets and whose random number has 8
+-- The address has 6 octets, and the random number 8.
 abbrev pub IsFit : SimulatedAct → Type 0
 IsFit (Connect phone peer) = (phone < PHONES) × (length peer.address ≡ 6)
 IsFit (Encrypt phone random_number diversifier) = (phone < PHONES) × (length random_number ≡ 8)
@@ -93,15 +99,16 @@ abbrev pub IsFitCall : SimulatedCall → Type 0
 IsFitCall (Acts act) = IsFit act
 IsFitCall _ = ⊤
 
--- a packet is read whole by the transport, and an event as what it reports
+-- The packet is read whole, and an event as itself.
 abbrev pub ReportsItself : Sent → Type 0
-ReportsItself (packets.Event report) = event_of (event_packet (event_code report) (fields_of report)) ≡ Ok report
+ReportsItself (packets.Event report) =
+    event_of (event_packet (event_code report) (fields_of report)) ≡ Ok report
 ReportsItself (packets.Data handle boundary octets) = ⊤
 
 pub record IsReadWhole (told : Told) : Type 0 where
   pub first : first_of (sent_octets (sent_of told)) ≡ FirstPacket (sent_packet (sent_of told)) []
   pub event : ReportsItself (sent_of told)
 
--- whatever a call has the host told, it reads so
 abbrev pub TellsWhatIsRead : Type 0
-TellsWhatIsRead = (old : Simulated) (call : SimulatedCall) → IsFitCall call → All IsReadWhole (told_by old call)
+TellsWhatIsRead =
+    (old : Simulated) (call : SimulatedCall) → IsFitCall call → All IsReadWhole (told_by old call)

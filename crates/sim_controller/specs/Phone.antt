@@ -1,23 +1,22 @@
--- A phone, as the controller sees it: this profile's own.
+-- A phone, as the controller sees it (this profile's own).
 use Rattle.std.specs.Prelude.{ℕ, ◌+◌, nat_lt, Bool, true, false, List, [], ◌++◌, drop, length, Option, Some, None}
 use Rattle.std.specs.Option.{option_map, option_to_list}
-use Rattle.octets.specs.Number.{Octets}
+use Rattle.octet_io.specs.Number.{Octets}
 use Rattle.le_acl.specs.Fragment.{Fragment, Beginning, Continuation}
 use Rattle.le_acl.specs.Reassembler.{Assembly, assembled_of, with_more}
 use Rattle.sim_controller.specs.declared.phone.TheConstants.{MAX_FRAMES}
 
--- its connection: whether packets are not completed by themselves, and the octets so far of a frame to it
+-- A connection, with packets held or not, and an unfinished frame.
 pub record Link : Type 0 where
   pub held : Bool
   pub unfinished : Option Octets
 
--- its connection if it is here, the frames that wait to be heard, and the reason of a Disconnect that was not yet told
+-- The connection, the queued frames, and the reason of a Disconnect until it is reported.
 pub record Phone : Type 0 where
   pub link : Option Link
   pub heard : List Octets
   pub ended : Option ℕ
 
--- a phone that never was here
 abbrev pub absent_phone : Phone
 absent_phone = record { link = None; heard = []; ended = None }
 
@@ -31,17 +30,16 @@ abbrev pub is_held : Option Link → Bool
 is_held None = false
 is_held (Some link) = link.held
 
--- the octets of a frame that is unfinished
 abbrev pub unfinished_in : Option Link → Option Octets
 unfinished_in None = None
 unfinished_in (Some link) = link.unfinished
 
--- what a fragment comes to, behind what its connection has of a frame
+-- A fragment continues the unfinished frame.
 abbrev pub assembled_in : Option Link → Fragment → Assembly
 assembled_in link (Beginning octets) = assembled_of octets
 assembled_in link (Continuation octets) = with_more (unfinished_in link) octets
 
--- with what a fragment came to, where the phone is here: a frame waits to be heard
+-- A complete frame is queued, if the phone is connected.
 abbrev pub link_with : Link → Assembly → Link
 link_with link assembly = record link { unfinished = assembly.unfinished }
 
@@ -55,11 +53,10 @@ with_assembly old assembly = record old {
   heard = heard_by old.link old.heard assembly;
 }
 
--- so many frames at most wait to be heard
 abbrev pub hears_too_much : Phone → Assembly → Bool
-hears_too_much phone assembly = nat_lt MAX_FRAMES (length phone.heard + length (option_to_list assembly.frame))
+hears_too_much phone assembly =
+    nat_lt MAX_FRAMES (length phone.heard + length (option_to_list assembly.frame))
 
--- once its first frame is heard, or none, and once the reason is told, or none
 abbrev pub phone_after_hearing : Phone → Phone
 phone_after_hearing old = record old { heard = drop 1 old.heard }
 

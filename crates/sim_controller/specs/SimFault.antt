@@ -1,4 +1,4 @@
--- The numbers of the faults of a simulated controller: this profile's own.
+-- The numbers of the faults of a simulated controller (this profile's own).
 use Rattle.std.specs.Prelude.{ℕ}
 use Rattle.sim_controller.specs.declared.fault.SimFault.{SimFault}
 use Rattle.sim_controller.specs.declared.fault.SimFault.TheVariants.{NotHere, AlreadyHere, NotAdvertising, Full, BadPacket, OutOfMemory}

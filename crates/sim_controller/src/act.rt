@@ -1,39 +1,38 @@
 use le_hci::Peer;
 
-/// What a phone does. Phones are numbered from 0, and there are `PHONES`.
+/// An act of a phone. Phones have the numbers 0 to `PHONES` - 1.
 #[derive(Clone, Copy)]
 pub enum PhoneAct<'a> {
-    /// The phone connects, as this peer. The controller no longer advertises.
+    /// Connects as this peer. The controller stops advertising.
     Connect {
         phone: u8,
         peer: Peer,
     },
-    /// The phone ends its connection.
+    /// Disconnects.
     Drop {
         phone: u8,
     },
-    /// The phone wants to encrypt its connection with the key of this number, its octets as on the
-    /// wire, and diversifier.
+    /// Requests encryption with the key of this number, in wire order, and diversifier.
     Encrypt {
         phone: u8,
         rand: [u8; 8],
         ediv: u16,
     },
-    /// The phone's connection is no longer encrypted.
+    /// Ends encryption of the connection.
     Clear {
         phone: u8,
     },
-    /// The phone sends a payload of at most a PDU's octets on an L2CAP channel.
+    /// Sends a payload, at most a PDU, on an L2CAP channel.
     Send {
         phone: u8,
         cid: u16,
         payload: &'a [u8],
     },
-    /// Packets for the phone are no longer completed by themselves.
+    /// Stops the automatic completion of packets for the phone.
     Hold {
         phone: u8,
     },
-    /// So many packets for the phone are completed.
+    /// Completes this number of packets for the phone.
     Done {
         phone: u8,
         packets: u16,

@@ -7,10 +7,10 @@ use crate::told::Told;
 use arrayvec::ArrayVec;
 use le_hci::opcode;
 
-/// The status of a command that was successful: Core 5.0, Vol 2 Part D, 1.3.
+/// Status of a successful command (Core 5.0, Vol 2 Part D, 1.3).
 const SUCCESS: u8 = 0x00;
 
-/// The answer to a command, whether its phone is connected or not.
+/// Returns the response to a command, whether its phone is connected or not.
 pub(crate) fn answer_to(config: &SimConfig, asked: Asked) -> Told
     ensures { result ≡ answer_to_command config.now asked }
 {
@@ -49,14 +49,13 @@ pub(crate) fn answer_to(config: &SimConfig, asked: Asked) -> Told
     }
 }
 
-/// A command is complete, and returns at most 7 octets after its status.
+/// Returns a Command Complete with at most 7 octets after its status.
 fn completion(opcode: u16, returned: &[u8]) -> Told
     requires { length returned.now < 8 }
     ensures { result ≡ completion opcode returned.now }
 {
     let mut parameters = ArrayVec::new();
     parameters.push(SUCCESS);
-    // There is room: the `unwrap` is proved, and tests nothing.
     parameters.try_extend_from_slice(returned).unwrap();
     Told::CommandComplete { opcode, parameters }
 }

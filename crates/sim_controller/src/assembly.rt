@@ -6,19 +6,15 @@ use arrayvec::ArrayVec;
 use le_acl::MAX_FRAME;
 use std::cmp::Ordering;
 
-/// What the fragments of a frame have come to.
 #[derive(Drop)]
 pub(crate) enum Assembled {
-    /// Nothing that may still become a frame.
+    /// No unfinished frame.
     Nothing,
-    /// Less than a frame's header states.
     Unfinished(ArrayVec<u8, MAX_FRAME>),
-    /// A whole frame.
     Frame(ArrayVec<u8, MAX_FRAME>),
 }
 
 impl Assembled {
-    /// Whether a frame is whole.
     pub(crate) fn is_frame(&self) -> bool
         ensures { result ≡ is_some (assembly self.now).frame }
     {
@@ -26,20 +22,16 @@ impl Assembled {
     }
 }
 
-/// How many octets of a frame there are.
 #[derive(Clone, Copy)]
 enum State {
-    /// Fewer than its header states, or than the header has.
+    /// The header or payload is incomplete.
     Short,
-    /// As many.
     Whole,
-    /// More.
     Long,
 }
 
-/// What the octets of a frame so far come to, with those of a fragment behind them. A frame has at
-/// most `MAX_FRAME` octets, its header of 4 among them, whose first 2 state the length of its
-/// payload. (Core 5.0, Vol 3 Part A, 3.1)
+/// Appends a fragment to an unfinished frame (Core 5.0, Vol 3 Part A, 3.1). Returns `Nothing` if it
+/// exceeds its stated length or `MAX_FRAME`.
 pub(crate) fn assemble(earlier: &[u8], fragment: &[u8]) -> Assembled
     ensures { assembly result ≡ assembled_of (earlier.now ++ fragment.now) }
 {
@@ -57,7 +49,6 @@ pub(crate) fn assemble(earlier: &[u8], fragment: &[u8]) -> Assembled
     }
 }
 
-/// How many octets of a frame these are, of at most `MAX_FRAME`.
 fn state_of(octets: &[u8]) -> State
     requires { length octets.now ≤ MAX_FRAME }
     ensures { assembly_by result octets.now ≡ assembled_of octets.now }

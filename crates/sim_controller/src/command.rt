@@ -6,30 +6,23 @@ use le_acl::boundary::{CONTINUATION, FIRST_NOT_FLUSHED};
 use le_h4::indicator;
 use le_hci::opcode;
 
-/// What a command asks of a controller, as far as it matters to a simulated one.
+/// A command, as far as it matters to a simulated controller.
 #[derive(Clone, Copy)]
 pub(crate) enum Asked {
-    /// To be answered with a status alone.
+    /// Command that returns only a status.
     Status { opcode: u16 },
-    /// The buffers for ACL packets of any transport.
     ReadBufferSize,
-    /// The buffers for ACL packets of LE connections.
     LeReadBufferSize,
-    /// To advertise, or no longer.
     Advertise { enable: bool },
-    /// To end a connection.
     Disconnect { handle: u16, reason: u8 },
-    /// To encrypt a connection by the key that is given.
     GiveKey { handle: u16 },
-    /// To tell that there is no such key.
     RefuseKey { handle: u16 },
 }
 
-/// A packet from the host.
 #[derive(Clone, Copy)]
 pub(crate) enum HostPacket<'a> {
     Command(Asked),
-    /// A fragment for the connection with a handle, that begins a frame or continues one.
+    /// Fragment that begins a frame on a connection, or continues one.
     Data {
         handle: u16,
         begins: bool,
@@ -37,7 +30,7 @@ pub(crate) enum HostPacket<'a> {
     },
 }
 
-/// Reads a packet from the host, from its indicator on.
+/// Reads a packet of the host, from its indicator on.
 pub(crate) fn read(octets: &[u8]) -> Option<HostPacket<'_>>
     ensures { option_map taken_of result ≡ host_packet_of octets.now }
 {
@@ -51,7 +44,7 @@ pub(crate) fn read(octets: &[u8]) -> Option<HostPacket<'_>>
     }
 }
 
-/// Reads a command packet from its opcode on: Core 5.0, Vol 2 Part E, 5.4.1.
+/// Reads a command packet, from its opcode on (Core 5.0, Vol 2 Part E, 5.4.1).
 fn read_command(octets: &[u8]) -> Option<Asked>
     ensures { result ≡ command_in octets.now }
 {
@@ -64,7 +57,6 @@ fn read_command(octets: &[u8]) -> Option<Asked>
     read_asked(u16::from_le_bytes([*low, *high]), parameters)
 }
 
-/// What a command with these parameters asks, where they are those of the command.
 #[tactic(auto, unfolding(crate::specs::FromHost::asked_by_command))]
 fn read_asked(opcode: u16, parameters: &[u8]) -> Option<Asked>
     ensures { result ≡ asked_by_command opcode parameters.now }
@@ -80,7 +72,6 @@ fn read_asked(opcode: u16, parameters: &[u8]) -> Option<Asked>
     }
 }
 
-/// What a command with these parameters asks, where it is not answered with a status alone.
 fn read_parameters(opcode: u16, parameters: &[u8]) -> Option<Asked>
     ensures { result ≡ asked_by_parameters opcode parameters.now }
 {
@@ -122,7 +113,6 @@ fn read_parameters(opcode: u16, parameters: &[u8]) -> Option<Asked>
     }
 }
 
-/// A command that is answered with a status alone, where its parameters are as they should be.
 fn status_if(fits: bool, opcode: u16) -> Option<Asked>
     ensures { result ≡ (if fits then Some (Asked.Status opcode) else None) }
 {
@@ -133,7 +123,7 @@ fn status_if(fits: bool, opcode: u16) -> Option<Asked>
     }
 }
 
-/// Reads an ACL packet from its handle on: Core 5.0, Vol 2 Part E, 5.4.2.
+/// Reads an ACL packet, from its handle on (Core 5.0, Vol 2 Part E, 5.4.2).
 fn read_data(octets: &[u8]) -> Option<HostPacket<'_>>
     ensures { option_map taken_of result ≡ data_in octets.now }
 {
@@ -160,8 +150,8 @@ fn read_data(octets: &[u8]) -> Option<HostPacket<'_>>
     }
 }
 
-/// The packet boundary flags of the fragments of a frame from the host, behind a broadcast flag of
-/// 00: Core 5.0, Vol 2 Part E, 5.4.2.
+/// Packet boundary flags of fragments from the host, with broadcast flag 00 (Core 5.0, Vol 2 Part
+/// E, 5.4.2).
 const FIRST_FRAGMENT: u16 = FIRST_NOT_FLUSHED as u16;
 
 const NEXT_FRAGMENT: u16 = CONTINUATION as u16;

@@ -1,12 +1,12 @@
-/// What a simulated controller tells a host of itself, and how it cuts what it gives.
+/// Configuration of a simulated controller.
 #[derive(Clone, Copy, Debug, PartialEq, Eq)]
 pub struct SimConfig {
-    /// The most octets of an ACL packet from the host, as the controller tells it.
+    /// Maximum octets of an ACL packet from the host, as reported.
     pub acl_len: u16,
-    /// How many ACL packets it has room for, as it tells.
+    /// Number of ACL packets that the controller stores, as reported.
     pub packets: u8,
-    /// There are no buffers for LE connections alone: they are told by Read Buffer Size.
+    /// True if all transports share the buffers, so that only Read Buffer Size reports them.
     pub shared: bool,
-    /// The most octets of data of an ACL packet to the host, 1 to `le_acl::MAX_ACL_LEN`.
+    /// Maximum octets of data of an ACL packet to the host, from 1 to `le_acl::MAX_ACL_LEN`.
     pub cut: u16,
 }

@@ -1,26 +1,26 @@
 ghost use Rattle.std.specs.Prelude.{◌≡◌};
 ghost use Rattle.sim_controller.specs.SimFault.{sim_fault_number};
 
-/// Why an act of a phone or a packet of the host is refused. Of several, the first applies. What is
-/// refused changes nothing.
+/// Reason why an act or a packet of the host was rejected, with no effect. If several apply, the
+/// first is returned.
 #[derive(Clone, Copy, Debug, PartialEq, Eq)]
 pub enum SimFault {
     /// The phone is not connected.
     NotHere,
-    /// The phone is connected already.
+    /// The phone is already connected.
     AlreadyHere,
     /// The controller does not advertise.
     NotAdvertising,
-    /// More packets would wait for the host, or more frames for a phone, than there is room for.
+    /// The queue of packets to the host, or of frames to a phone, would exceed its limit.
     Full,
-    /// The packet is no command that this controller knows, and no ACL packet.
+    /// The packet is not a known command and not an ACL packet.
     BadPacket,
-    /// A growth was refused.
+    /// Memory was refused.
     OutOfMemory,
 }
 
 impl SimFault {
-    /// The number by which the fault is told, from 1.
+    /// Returns the number of the fault, from 1.
     pub fn number(self) -> u8
         ensures { result ≡ sim_fault_number self }
     {

@@ -5,7 +5,7 @@ ghost use Rattle.sim_controller.specs.Frames.{told_frame, told_others};
 ghost use Rattle.sim_controller.specs.declared.told.TheConstants.{MAX_PIECE};
 ghost use Rattle.sim_controller.specs.declared.waiting.TheConstants.{MAX_PACKETS};
 ghost use Rattle.le_acl.specs.declared.sender.TheConstants.{MAX_ACL_LEN};
-ghost use Rattle.octets.specs.declared.pdu.TheConstants.{MAX_PDU};
+ghost use Rattle.octet_io.specs.declared.pdu.TheConstants.{MAX_PDU};
 
 use crate::fault::SimFault;
 use crate::told::{MAX_PIECE, Told};
@@ -14,8 +14,7 @@ use arrayvec::ArrayVec;
 use circular_buffer::HeapCircularBuffer;
 use le_acl::MAX_FRAME;
 
-/// A payload as a frame: the length of the payload, the channel, and the
-/// payload. (Core 5.0, Vol 3 Part A, 3.1)
+/// Returns the frame of a payload (Core 5.0, Vol 3 Part A, 3.1).
 pub(crate) fn frame_of(cid: u16, payload: &[u8]) -> ArrayVec<u8, MAX_FRAME>
     requires { length payload.now ≤ MAX_PDU }
     ensures { result.items ≡ frame_octets (cid, payload.now) }
@@ -27,13 +26,11 @@ pub(crate) fn frame_of(cid: u16, payload: &[u8]) -> ArrayVec<u8, MAX_FRAME>
     frame.push(size_high);
     frame.push(low);
     frame.push(high);
-    // There is room: the `unwrap` is proved, and tests nothing.
     frame.try_extend_from_slice(payload).unwrap();
     frame
 }
 
-/// Has a frame of a phone wait for the host, in fragments of at most `cut` octets, if there is room
-/// for all of them.
+/// Queues a frame of a phone in fragments of at most `cut` octets. Fails if they do not all fit.
 #[tactic(auto, using(crate::proofs::Pieces::frame_length, crate::proofs::Pieces::frame_step, crate::proofs::Pieces::frame_count))]
 pub(crate) fn tell_frame(
     waiting: &mut HeapCircularBuffer<Told>,
@@ -63,7 +60,6 @@ pub(crate) fn tell_frame(
     Ok(())
 }
 
-/// Has what continues a frame wait for the host, for which there is room.
 #[tactic(auto, using(crate::proofs::Pieces::others_parts, crate::proofs::Pieces::others_step, crate::proofs::Pieces::others_count, crate::proofs::Pieces::others_done))]
 fn tell_others(waiting: &mut HeapCircularBuffer<Told>, phone: u8, octets: &[u8], cut: usize)
     requires capacity { waiting.old.capacity ≡ MAX_PACKETS }
@@ -82,21 +78,18 @@ fn tell_others(waiting: &mut HeapCircularBuffer<Told>, phone: u8, octets: &[u8],
     }
 }
 
-/// The first octets, at most `count`.
 fn front(octets: &[u8], count: usize) -> &[u8]
     ensures { result.now ≡ take count octets.now }
 {
     &octets[..count.min(octets.len())]
 }
 
-/// The octets behind the first `count`.
 fn behind(octets: &[u8], count: usize) -> &[u8]
     ensures { result.now ≡ drop count octets.now }
 {
     &octets[count.min(octets.len())..]
 }
 
-/// At most `MAX_PIECE` octets, copied.
 fn piece(octets: &[u8]) -> ArrayVec<u8, MAX_PIECE>
     requires { length octets.now ≤ MAX_PIECE }
     ensures { result ≡ record { items = octets.now } }

@@ -2,20 +2,18 @@ ghost use Rattle.std.specs.Prelude.{◌≡◌, ◌<◌, IfSome};
 ghost use Rattle.sim_controller.specs.Phones.{handle_of_phone, phone_with};
 ghost use Rattle.sim_controller.specs.declared.handle.TheConstants.{PHONES};
 
-/// How many phones there are.
+/// Number of phones.
 pub const PHONES: u8 = 8;
 
-/// The connection handle of the first phone. Each other one has the next.
+/// Connection handle of phone 0. The others have the following handles.
 const FIRST_HANDLE: u16 = 0x0040;
 
-/// The connection handle of a phone.
 pub(crate) fn handle_of(phone: u8) -> u16
     ensures { result ≡ handle_of_phone phone }
 {
     FIRST_HANDLE + u16::from(phone)
 }
 
-/// The phone with a connection handle.
 pub(crate) fn phone_with(handle: u16) -> Option<u8>
     ensures exact { result ≡ phone_with handle }
     ensures below { IfSome result (λ phone. phone < PHONES) }

@@ -1,5 +1,5 @@
-//! A simulated controller, with phones that connect to it, as a host sees both: the packets that it
-//! gives are what its phones do and its answers to the host's packets, in their order.
+//! A simulated controller with phones: its packets to the host are the acts of its phones and its
+//! responses to the host, in order.
 #![tactic(auto)]
 
 mod act;

@@ -12,15 +12,15 @@ use le_acl::MAX_FRAME;
 use std::alloc::{AllocError, Global};
 use std::marker::Model;
 
-/// How many frames wait for a phone at most.
+/// Maximum number of frames queued for a phone.
 const MAX_FRAMES: usize = 16;
 
-/// What is kept of the connection of a phone.
+/// State of a phone's connection.
 #[derive(Drop)]
 struct Link {
-    /// Packets are not completed by themselves.
+    /// True if packets are not completed automatically.
     held: bool,
-    /// The octets so far of a frame to the phone.
+    /// Octets of an unfinished frame to the phone.
     unfinished: Option<ArrayVec<u8, MAX_FRAME>>,
 }
 
@@ -28,9 +28,9 @@ struct Link {
 #[derive(Drop)]
 pub(crate) struct Phone {
     link: Option<Link>,
-    /// The frames that wait to be heard.
+    /// Frames that the phone has not received yet.
     heard: HeapCircularBuffer<ArrayVec<u8, MAX_FRAME>>,
-    /// The reason of a Disconnect of the host that was not yet told.
+    /// Reason of the host's Disconnect, until it is reported.
     ended: Option<u8>,
 }
 
@@ -48,7 +48,6 @@ impl Model for Phone {
 }
 
 impl Phone {
-    /// A phone that is not connected, with room for all that it may hear.
     pub(crate) fn new(alloc: Global) -> Result<Phone, AllocError>
         ensures { IfOk result (λ phone. phone ≡ absent_phone) }
     {
@@ -59,14 +58,12 @@ impl Phone {
         })
     }
 
-    /// Whether it is connected.
     pub(crate) fn is_here(&self) -> bool
         ensures { result ≡ is_some self.now.link }
     {
         self.link.is_some()
     }
 
-    /// Whether its packets are not completed by themselves.
     pub(crate) fn is_held(&self) -> bool
         ensures { result ≡ is_held self.now.link }
     {
@@ -76,14 +73,13 @@ impl Phone {
         }
     }
 
-    /// Whether what a fragment came to is a frame that finds no room to wait.
+    /// Returns true if a complete frame exceeds the queue.
     pub(crate) fn hears_too_much(&self, assembled: &Assembled) -> bool
         ensures { result ≡ hears_too_much self.now (assembly assembled.now) }
     {
         self.heard.is_full() && assembled.is_frame()
     }
 
-    /// Begins its connection.
     pub(crate) fn connect(&mut self)
         ensures { self.new ≡ record self.old { link = Some new_link } }
     {
@@ -93,14 +89,12 @@ impl Phone {
         });
     }
 
-    /// Ends its connection.
     pub(crate) fn leave(&mut self)
         ensures { self.new ≡ record self.old { link = None } }
     {
         self.link = None;
     }
 
-    /// Ends its connection by a Disconnect of the host with this reason.
     pub(crate) fn end(&mut self, reason: u8)
         ensures { self.new ≡ record self.old { link = None; ended = Some reason } }
     {
@@ -108,7 +102,6 @@ impl Phone {
         self.ended = Some(reason);
     }
 
-    /// Completes its packets no longer by themselves, as long as it is connected.
     pub(crate) fn hold(&mut self)
         ensures { self.new ≡ record self.old { link = option_map held_link self.old.link } }
     {
@@ -117,7 +110,6 @@ impl Phone {
         }
     }
 
-    /// What a fragment from the host comes to.
     pub(crate) fn assemble(&self, begins: bool, octets: &[u8]) -> Assembled
         ensures { assembly result ≡ assembled_in self.now.link (fragment_that begins octets.now) }
     {
@@ -135,7 +127,7 @@ impl Phone {
         }
     }
 
-    /// Takes in what a fragment came to: a frame waits to be heard.
+    /// Stores the result of a fragment, and queues a complete frame.
     pub(crate) fn take_in(&mut self, assembled: Assembled)
         requires { IsFalse (hears_too_much self.old (assembly assembled)) }
         ensures { self.new ≡ with_assembly self.old (assembly assembled) }
@@ -148,13 +140,11 @@ impl Phone {
             Assembled::Unfinished(octets) => link.unfinished = Some(octets),
             Assembled::Frame(frame) => {
                 link.unfinished = None;
-                // There is room: the `unwrap` is proved, and tests nothing.
                 self.heard.try_push_back(frame).unwrap();
             }
         }
     }
 
-    /// Writes the first frame that waits in place of what `out` holds, where there is one.
     pub(crate) fn hear(&mut self, out: &mut ArrayVec<u8, MAX_FRAME>) -> bool
         ensures frame { OnTrue result (slice_get self.old.heard 0 ≡ Some out.new.items) }
         ensures none { OnFalse result (self.old.heard ≡ []) }
@@ -171,7 +161,6 @@ impl Phone {
         }
     }
 
-    /// The reason of a Disconnect that was not yet told.
     pub(crate) fn ended(&mut self) -> Option<u8>
         ensures reason { result ≡ self.old.ended }
         ensures after { self.new ≡ record self.old { ended = None } }

@@ -1,4 +1,4 @@
-//! The phones of a controller, by their numbers.
+//! The phones of a controller, by number.
 
 ghost use Rattle.std.specs.Prelude.{◌≡◌, ◌<◌, length, replicate, IfSome, IfOk};
 ghost use Rattle.sim_controller.specs.Answers.{phone_here};
@@ -9,7 +9,6 @@ use crate::handle::{PHONES, phone_with};
 use crate::phone::Phone;
 use std::alloc::{AllocError, Global};
 
-/// The phones, which are not connected, with room for all that they may hear.
 pub(crate) fn absent_phones(alloc: Global) -> Result<Vec<Phone>, AllocError>
     ensures { IfOk result (λ phones. phones.items ≡ replicate PHONES absent_phone) }
 {
@@ -20,7 +19,7 @@ pub(crate) fn absent_phones(alloc: Global) -> Result<Vec<Phone>, AllocError>
     Ok(phones)
 }
 
-/// The phone that is connected and whose connection has a handle.
+/// Returns the connected phone with a connection handle.
 pub(crate) fn here_with(phones: &[Phone], handle: u16) -> Option<u8>
     requires { length phones.now ≡ PHONES }
     ensures exact { result ≡ phone_here phones.now handle }

@@ -13,7 +13,7 @@ ghost use Rattle.sim_controller.specs.declared.handle.TheConstants.{PHONES};
 ghost use Rattle.sim_controller.specs.declared.phone.TheConstants.{MAX_FRAMES};
 ghost use Rattle.sim_controller.specs.declared.waiting.TheConstants.{MAX_PACKETS};
 ghost use Rattle.le_acl.specs.declared.sender.TheConstants.{MAX_ACL_LEN};
-ghost use Rattle.octets.specs.declared.pdu.TheConstants.{MAX_PDU};
+ghost use Rattle.octet_io.specs.declared.pdu.TheConstants.{MAX_PDU};
 
 use crate::act::PhoneAct;
 use crate::answer::answer_to;
@@ -34,14 +34,12 @@ use le_hci::reason::{LOCAL_HOST_TERMINATED, REMOTE_USER_TERMINATED};
 use std::alloc::{AllocError, Global};
 use std::marker::Model;
 
-/// A controller with its phones, `PHONES` of them, over memory. It takes none once it is made.
+/// A controller with `PHONES` phones. It allocates no memory after `new`.
 #[derive(Drop)]
 pub struct Sim {
     config: SimConfig,
     advertising: bool,
-    /// The packets that wait for the host.
     waiting: HeapCircularBuffer<Told>,
-    /// The phones by their numbers.
     phones: Vec<Phone>,
 }
 
@@ -56,15 +54,15 @@ impl Model for Sim {
 }
 
 impl Sim {
-    /// A controller that does not advertise yet, with no phone connected. All the room that it will
-    /// need is made here, with `alloc`.
+    /// Creates a controller that does not advertise and has no connection. Allocates all memory
+    /// with `alloc`.
     #[tactic(auto, using(crate::proofs::GivenInOrder::gives_in_order, crate::proofs::HeardFrames::hears_its_frames))]
     pub fn new(alloc: Global, config: SimConfig) -> Result<Sim, SimFault>
         requires cut_least { 1 ≤ config.cut }
         requires cut_most { config.cut ≤ MAX_ACL_LEN }
         ensures start { IfOk result (λ sim. sim ≡ simulated_at_start config) }
         ensures fault { IfErr result (λ fault. fault ≡ SimFault.OutOfMemory) }
-        // The same whatever is done with it.
+        // These hold whatever the calls are.
         ensures in_order { GivesInOrder config }
         ensures read { TellsWhatIsRead }
         ensures heard { HearsItsFrames config }
@@ -72,7 +70,6 @@ impl Sim {
         Sim::with_room(alloc, config).map_err(|_| SimFault::OutOfMemory)
     }
 
-    /// Takes the memory of a controller with no phone.
     fn with_room(alloc: Global, config: SimConfig) -> Result<Sim, AllocError>
         requires cut_least { 1 ≤ config.cut }
         requires cut_most { config.cut ≤ MAX_ACL_LEN }
@@ -86,7 +83,7 @@ impl Sim {
         })
     }
 
-    /// Does what one of the phones does. What is refused changes nothing.
+    /// Executes an act of a phone. A fault changes nothing.
     pub fn act(&mut self, act: PhoneAct<'_>) -> Result<(), SimFault>
         requires phone { phone_in (act_of act) < PHONES }
         requires payload { length (payload_in (act_of act)) ≤ MAX_PDU }
@@ -109,7 +106,6 @@ impl Sim {
         }
     }
 
-    /// A phone connects, which a controller that advertises allows once.
     fn connect(&mut self, phone: u8, peer: Peer) -> Result<(), SimFault>
         requires { phone < PHONES }
         ensures { DoesAct (SimulatedAct.Connect phone peer) self.old self.new result }
@@ -126,7 +122,6 @@ impl Sim {
         Ok(())
     }
 
-    /// A phone drops its connection.
     fn leave(&mut self, phone: u8) -> Result<(), SimFault>
         requires { phone < PHONES }
         ensures { DoesAct (SimulatedAct.Drop phone) self.old self.new result }
@@ -145,7 +140,6 @@ impl Sim {
         Ok(())
     }
 
-    /// A phone asks for the key with which its connection is encrypted.
     fn encrypt(&mut self, phone: u8, rand: [u8; 8], ediv: u16) -> Result<(), SimFault>
         requires { phone < PHONES }
         ensures { DoesAct (SimulatedAct.Encrypt phone rand ediv) self.old self.new result }
@@ -153,7 +147,6 @@ impl Sim {
         self.tell_of(phone, Told::LongTermKeyRequest { phone, rand, ediv })
     }
 
-    /// A phone has its connection encrypted no longer.
     fn clear(&mut self, phone: u8) -> Result<(), SimFault>
         requires { phone < PHONES }
         ensures { DoesAct (SimulatedAct.Clear phone) self.old self.new result }
@@ -161,7 +154,6 @@ impl Sim {
         self.tell_of(phone, Told::EncryptionChange { phone, enabled: 0 })
     }
 
-    /// Packets for a phone are completed.
     fn done(&mut self, phone: u8, packets: u16) -> Result<(), SimFault>
         requires { phone < PHONES }
         ensures { DoesAct (SimulatedAct.Done phone packets) self.old self.new result }
@@ -169,7 +161,6 @@ impl Sim {
         self.tell_of(phone, Told::CompletedPackets { phone, packets })
     }
 
-    /// Has the host told something of a phone that is connected.
     fn tell_of(&mut self, phone: u8, told: Told) -> Result<(), SimFault>
         requires { phone < PHONES }
         ensures { IsDone (telling_fault self.old phone (told ∷ []))
@@ -181,7 +172,6 @@ impl Sim {
         tell(&mut self.waiting, told)
     }
 
-    /// A phone sends a payload on a channel.
     fn send(&mut self, phone: u8, cid: u16, payload: &[u8]) -> Result<(), SimFault>
         requires phone { phone < PHONES }
         requires payload { length payload.now ≤ MAX_PDU }
@@ -195,7 +185,6 @@ impl Sim {
         tell_frame(&mut self.waiting, phone, &frame, cut)
     }
 
-    /// The packets for a phone are completed no longer by themselves.
     fn hold(&mut self, phone: u8) -> Result<(), SimFault>
         requires { phone < PHONES }
         ensures { DoesAct (SimulatedAct.Hold phone) self.old self.new result }
@@ -207,7 +196,6 @@ impl Sim {
         Ok(())
     }
 
-    /// Answers a command.
     fn answer(&mut self, asked: Asked) -> Result<(), SimFault>
         ensures { AnswersCommand asked self.old self.new result }
     {
@@ -219,7 +207,6 @@ impl Sim {
         }
     }
 
-    /// Ends the connection with a handle, where a phone has it.
     fn disconnect(&mut self, handle: u16, reason: u8) -> Result<(), SimFault>
         ensures { AnswersCommand (Asked.Disconnect handle reason) self.old self.new result }
     {
@@ -236,7 +223,6 @@ impl Sim {
         Ok(())
     }
 
-    /// Encrypts the connection with a handle, where a phone has it.
     fn give_key(&mut self, handle: u16) -> Result<(), SimFault>
         ensures { AnswersCommand (Asked.GiveKey handle) self.old self.new result }
     {
@@ -248,7 +234,6 @@ impl Sim {
         tell_both(&mut self.waiting, answer_to(&self.config, asked), encrypted)
     }
 
-    /// Advertises, or does no longer.
     fn advertise(&mut self, enable: bool) -> Result<(), SimFault>
         ensures { AnswersCommand (Asked.Advertise enable) self.old self.new result }
     {
@@ -257,15 +242,14 @@ impl Sim {
         Ok(())
     }
 
-    /// Has the host told the answer to a command.
     fn tell_answer(&mut self, asked: Asked) -> Result<(), SimFault>
         ensures { TellsAnswer asked self.old self.new result }
     {
         tell(&mut self.waiting, answer_to(&self.config, asked))
     }
 
-    /// Writes the first packet that waits for the host in place of what `out` holds. There is none,
-    /// and nothing changes, where it answers `false`.
+    /// Writes the next packet to the host to `out`. Returns false and changes nothing if there is
+    /// none.
     pub fn next_to_host(&mut self, out: &mut PacketOctets) -> bool
         ensures packet { OnTrue result (option_map (λ told. sent_octets (sent_of told))
             (slice_get self.old.waiting 0) ≡ Some out.new.items) }
@@ -283,7 +267,7 @@ impl Sim {
         }
     }
 
-    /// Takes a packet of the host, from its indicator on. What is refused changes nothing.
+    /// Processes a packet of the host, from its indicator on. A fault changes nothing.
     pub fn from_host(&mut self, octets: &[u8]) -> Result<(), SimFault>
         ensures exact { result ≡ refusal (host_fault self.old (host_packet_of octets.now)) }
         ensures done { OnOk result (self.new ≡ after_host self.old (host_packet_of octets.now)) }
@@ -295,7 +279,6 @@ impl Sim {
         }
     }
 
-    /// Takes a packet of the host.
     fn take(&mut self, packet: HostPacket<'_>) -> Result<(), SimFault>
         ensures { IsDone (host_fault self.old (Some (taken_of packet.entry)))
             (after_host self.old (Some (taken_of packet.entry))) self.old self.new result }
@@ -313,7 +296,6 @@ impl Sim {
         }
     }
 
-    /// Takes a fragment for a phone that is connected.
     fn take_data(&mut self, phone: u8, begins: bool, octets: &[u8]) -> Result<(), SimFault>
         requires { phone < PHONES }
         ensures { let fragment = fragment_that begins octets.now in
@@ -329,7 +311,7 @@ impl Sim {
         Ok(())
     }
 
-    /// Has the host told that a packet for a phone is completed, unless its packets are held.
+    /// Completes a packet for a phone, unless its packets are held.
     fn complete(&mut self, phone: u8) -> Result<(), SimFault>
         requires { phone < PHONES }
         ensures { IsDone (completion_fault self.old phone)
@@ -344,8 +326,8 @@ impl Sim {
         )
     }
 
-    /// Writes the first frame that waits for a phone in place of what `out` holds, its header in front
-    /// of its payload. There is none, and nothing changes, where it answers `false`.
+    /// Writes the next frame for a phone, with its header, to `out`. Returns false and changes
+    /// nothing if there is none.
     pub fn heard(&mut self, phone: u8, out: &mut ArrayVec<u8, MAX_FRAME>) -> bool
         requires { phone < PHONES }
         ensures frame { OnTrue result
@@ -359,7 +341,7 @@ impl Sim {
         self.phones[usize::from(phone)].hear(out)
     }
 
-    /// The reason of a Disconnect that ended the connection of a phone, where it was not yet told.
+    /// Returns, once, the reason of the Disconnect that ended a phone's connection.
     pub fn ended(&mut self, phone: u8) -> Option<u8>
         requires { phone < PHONES }
         ensures reason { result ≡ (phone_at self.old phone).ended }

@@ -9,63 +9,57 @@ use le_acl::boundary::{CONTINUATION, FIRST};
 use le_h4::{PacketOctets, indicator, write_acl};
 use le_hci::{PERIPHERAL, Peer, event_code};
 
-/// A packet that waits for the host.
+/// A packet to the host.
 #[derive(Drop)]
 pub(crate) enum Told {
-    /// A command is complete, and returns these parameters.
     CommandComplete {
         opcode: u16,
         parameters: ArrayVec<u8, 8>,
     },
-    /// A command is under way.
     CommandStatus {
         opcode: u16,
     },
-    /// A phone is connected.
     ConnectionComplete {
         phone: u8,
         peer: Peer,
     },
-    /// The connection of a phone has ended.
     DisconnectionComplete {
         phone: u8,
         reason: u8,
     },
-    /// The connection of a phone is encrypted, or no longer where `enabled` is 0.
+    /// Encryption is off if `enabled` is 0.
     EncryptionChange {
         phone: u8,
         enabled: u8,
     },
-    /// A phone wants to encrypt its connection.
     LongTermKeyRequest {
         phone: u8,
         rand: [u8; 8],
         ediv: u16,
     },
-    /// So many packets for a phone are completed.
     CompletedPackets {
         phone: u8,
         packets: u16,
     },
-    /// A frame of a phone begins.
+    /// First fragment of a frame.
     Beginning {
         phone: u8,
         octets: ArrayVec<u8, MAX_PIECE>,
     },
-    /// A frame of a phone goes on.
+    /// Later fragment of a frame.
     Continuation {
         phone: u8,
         octets: ArrayVec<u8, MAX_PIECE>,
     },
 }
 
-/// The most octets of a piece of a frame, which is the data of one ACL packet.
+/// Maximum octets of a fragment: the data of one ACL packet.
 pub(crate) const MAX_PIECE: usize = MAX_ACL_LEN as usize;
 
-/// The status of what was successful, in an event: Core 5.0, Vol 2 Part D, 1.3.
+/// Status of success (Core 5.0, Vol 2 Part D, 1.3).
 const SUCCESS: u8 = 0x00;
 
-/// How many commands the host may send: one at a time.
+/// Commands that the host may send at a time.
 const ALLOWED: u8 = 1;
 
 /// 30 milliseconds, in units of 1.25.
@@ -81,7 +75,6 @@ const TIMEOUT: u16 = 0x0048;
 const CLOCK_ACCURACY: u8 = 0x00;
 
 impl Told {
-    /// Writes the packet in place of what `out` holds.
     pub(crate) fn write(&self, out: &mut PacketOctets)
         ensures { out.new.items ≡ sent_octets (sent_of self.now) }
     {
@@ -142,11 +135,10 @@ impl Told {
     }
 }
 
-/// The most octets of an event's parameters: Core 5.0, Vol 2 Part E, 5.4.4.
+/// Maximum octets of an event's parameters (Core 5.0, Vol 2 Part E, 5.4.4).
 const MAX_PARAMETERS: usize = 255;
 
-/// Writes an event in place of what `out` holds: its code, and its parameters, which stand in two
-/// places. (Core 5.0, Vol 2 Part E, 5.4.4)
+/// Writes an event with its parameters to `out` (Core 5.0, Vol 2 Part E, 5.4.4).
 fn write_event(code: u8, first: &[u8], others: &[u8], out: &mut PacketOctets)
     requires { length first.now + length others.now ≤ MAX_PARAMETERS }
     ensures { out.new.items ≡ event_octets code (first.now ++ others.now) }
@@ -159,7 +151,7 @@ fn write_event(code: u8, first: &[u8], others: &[u8], out: &mut PacketOctets)
     out.try_extend_from_slice(others).unwrap();
 }
 
-/// Connection Complete: Core 5.0, Vol 2 Part E, 7.7.65.1.
+/// Writes LE Connection Complete (Core 5.0, Vol 2 Part E, 7.7.65.1).
 fn write_connection(phone: u8, peer: &Peer, out: &mut PacketOctets)
     ensures { out.new.items ≡ sent_octets (connection_sent phone peer.now) }
 {
@@ -185,13 +177,12 @@ fn write_connection(phone: u8, peer: &Peer, out: &mut PacketOctets)
         CLOCK_ACCURACY,
     ];
     let mut others: ArrayVec<u8, 13> = ArrayVec::new();
-    // There is room: each `unwrap` is proved, and tests nothing.
     others.try_extend_from_slice(&peer.address).unwrap();
     others.try_extend_from_slice(&connection).unwrap();
     write_event(event_code::LE_META, &first, &others, out);
 }
 
-/// Long Term Key Request: Core 5.0, Vol 2 Part E, 7.7.65.5.
+/// Writes LE Long Term Key Request (Core 5.0, Vol 2 Part E, 7.7.65.5).
 fn write_key_request(phone: u8, rand: &[u8; 8], ediv: u16, out: &mut PacketOctets)
     ensures { out.new.items ≡ sent_octets (key_request_sent phone rand.now ediv) }
 {

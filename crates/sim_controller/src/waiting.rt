@@ -6,10 +6,10 @@ use crate::fault::SimFault;
 use crate::told::Told;
 use circular_buffer::HeapCircularBuffer;
 
-/// How many packets wait for the host at most.
+/// Maximum number of packets queued for the host.
 pub(crate) const MAX_PACKETS: usize = 64;
 
-/// Has a packet wait for the host behind the others, if there is room.
+/// Queues a packet for the host, or fails if the queue is full.
 pub(crate) fn tell(waiting: &mut HeapCircularBuffer<Told>, told: Told) -> Result<(), SimFault>
     requires { waiting.old.capacity ≡ MAX_PACKETS }
     ensures room { IsOk result ↔ (length waiting.old.items < MAX_PACKETS) }
@@ -20,7 +20,7 @@ pub(crate) fn tell(waiting: &mut HeapCircularBuffer<Told>, told: Told) -> Result
     waiting.try_push_back(told).map_err(|_| SimFault::Full)
 }
 
-/// Has two packets wait for the host behind the others, if there is room for both.
+/// Queues two packets for the host, or fails if they do not both fit.
 pub(crate) fn tell_both(
     waiting: &mut HeapCircularBuffer<Told>,
     first: Told,
@@ -40,7 +40,7 @@ pub(crate) fn tell_both(
     tell(waiting, second)
 }
 
-/// Has a packet wait for the host behind the others, where there is room.
+/// Queues a packet for the host. The queue must not be full.
 pub(crate) fn put(waiting: &mut HeapCircularBuffer<Told>, told: Told)
     requires capacity { waiting.old.capacity ≡ MAX_PACKETS }
     requires room { length waiting.old.items < MAX_PACKETS }

@@ -1,8 +1,8 @@
-//! What a test says of a case that fails.
+//! Message of a failed case.
 
 use std::process::Abort;
 
-/// Ends the test with these octets, those of the case, unless the case holds.
+/// Aborts the test with the octets of a failed case.
 pub fn assert_case(rt: &impl Abort, holds: bool, octets: &[u8]) {
     assert!(rt; holds, "{octets:?}");
 }

@@ -1,16 +1,15 @@
-//! The octets of commands.
+//! Octets of commands.
 
 use super::cases::assert_case;
 use arrayvec::ArrayVec;
 use le_hci::{Command, write_command};
 use std::process::Abort;
 
-/// A key, its octets as on the wire.
+/// A key, in wire order.
 const KEY: [u8; 16] = [
     0x00, 0x11, 0x22, 0x33, 0x44, 0x55, 0x66, 0x77, 0x88, 0x99, 0xAA, 0xBB, 0xCC, 0xDD, 0xEE, 0xFF,
 ];
 
-/// Commands for a connection, each with its octets.
 const COMMANDS: [(Command<'static>, &[u8]); 3] = [
     (
         Command::LeLongTermKeyRequestReply {

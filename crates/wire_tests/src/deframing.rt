@@ -1,4 +1,4 @@
-//! Packets of a stream from the controller, however it is cut into pieces.
+//! Deframing, however a stream is cut into pieces.
 
 ghost use Rattle.std.specs.Prelude.{◌<◌};
 
@@ -7,8 +7,6 @@ use arrayvec::ArrayVec;
 use le_h4::{Deframer, Fed, H4Fault, PacketRef};
 use std::process::Abort;
 
-// What a controller sends while a host sets it up, then two fragments of ACL data, a SCO packet, and
-// an event.
 const STREAM: [u8; 83] = [
     0x04, 0x0E, 0x04, 0x01, 0x03, 0x0C, 0x00, // Reset is complete
     0x04, 0x0E, 0x07, 0x01, 0x02, 0x20, 0x00, 0x1B, 0x00, 0x04, // 4 packets of 27 octets
@@ -23,7 +21,7 @@ const STREAM: [u8; 83] = [
     0x04, 0x10, 0x00, // an event with no parameters
 ];
 
-// The kind of each packet, then what it holds.
+// The kind of each packet, then its contents.
 const PACKETS: [u8; 78] = [
     4, 0x0E, 0x04, 0x01, 0x03, 0x0C, 0x00, //
     4, 0x0E, 0x07, 0x01, 0x02, 0x20, 0x00, 0x1B, 0x00, 0x04, //
@@ -38,7 +36,7 @@ const PACKETS: [u8; 78] = [
     4, 0x10, 0x00, //
 ];
 
-/// What is noted of the packets. What has no room is not noted, and fails the comparison.
+/// Notes that do not fit are dropped, and fail the comparison.
 type Notes = ArrayVec<u8, 1029>;
 
 fn note(packet: PacketRef<'_>, notes: &mut Notes) {
@@ -63,7 +61,6 @@ fn note(packet: PacketRef<'_>, notes: &mut Notes) {
     }
 }
 
-/// Feeds a piece of a stream, and tells whether all of it is taken.
 fn feed_all(deframer: &mut Deframer, piece: &[u8], notes: &mut Notes) -> bool {
     let mut rest = piece;
     for _packet in 0..100u8 {
@@ -81,7 +78,6 @@ fn feed_all(deframer: &mut Deframer, piece: &[u8], notes: &mut Notes) -> bool {
     false
 }
 
-/// Feeds a piece in parts of at most `most` octets.
 fn feed_parts(deframer: &mut Deframer, piece: &[u8], most: usize, notes: &mut Notes) -> bool
     requires { 0 < most }
 {
@@ -93,7 +89,6 @@ fn feed_parts(deframer: &mut Deframer, piece: &[u8], most: usize, notes: &mut No
     true
 }
 
-/// Whether these pieces of a stream, each fed in parts of at most `most` octets, make these packets.
 fn makes(pieces: &[&[u8]], most: usize, packets: &[u8]) -> bool
     requires { 0 < most }
 {
@@ -120,7 +115,6 @@ fn octet_by_octet(rt: HostRuntime) {
     assert!(rt; makes(&[&STREAM], 1, &PACKETS));
 }
 
-/// A Read Request in an ACL packet, and what is noted of it.
 const READ: [u8; 12] = [
     0x02, 0x40, 0x20, 0x07, 0x00, 0x03, 0x00, 0x04, 0x00, 0x0A, 0x03, 0x00,
 ];
@@ -129,7 +123,7 @@ const READ_NOTED: [u8; 12] = [
     2, 0x40, 0x00, 2, 0, 0x03, 0x00, 0x04, 0x00, 0x0A, 0x03, 0x00,
 ];
 
-/// 1,025 octets of data are passed over.
+/// 1,025 octets of data are skipped.
 const TOO_LONG: &[&[u8]] = &[&[0x02, 0x40, 0x20, 0x01, 0x04], &[0x02; 1_025], &READ];
 
 #[test]
@@ -137,7 +131,7 @@ fn long_acl_packet(rt: HostRuntime) {
     assert!(rt; makes(TOO_LONG, usize::MAX, &READ_NOTED));
 }
 
-/// 1,024 are kept.
+/// 1,024 octets of data are not skipped.
 const LONGEST: &[&[u8]] = &[&[0x02, 0x40, 0x20, 0x00, 0x04], &[0x55; 1_024]];
 
 #[test]
@@ -147,7 +141,6 @@ fn longest_acl_packet(rt: HostRuntime) {
     assert!(rt; makes(LONGEST, usize::MAX, &noted));
 }
 
-/// What `feed` answers to pieces of a stream, one after another.
 const DESYNC: &[(&[u8], Result<Fed, H4Fault>)] = &[
     (
         &[],

@@ -1,10 +1,9 @@
-//! Events, and octets that are none.
+//! Events and bad events.
 
 use super::cases::assert_case;
 use le_hci::{BadEvent, CompletedPackets, Event, Peer, RANDOM_ADDRESS, read_event};
 use std::process::Abort;
 
-/// Octets that are no event, and the code that is told.
 const BAD_EVENTS: &[(&[u8], u8)] = &[
     (&[], 0x00),
     (&[0x3E], 0x3E),
@@ -16,7 +15,6 @@ const BAD_EVENTS: &[(&[u8], u8)] = &[
     (&[0x13, 0x04, 0x01, 0x40, 0x00, 0x03], 0x13),
 ];
 
-/// Octets, and the event that they are.
 const EVENTS: &[(&[u8], Event<'static>)] = &[
     (&[0xFF, 0x01, 0x00], Event::Other),
     (&[0x3E, 0x01, 0x02], Event::Other),
@@ -110,12 +108,11 @@ fn assert_bad_events(rt: &impl Abort, cases: &[(&[u8], u8)]) {
     }
 }
 
-/// Two entries, of which the second has upper bits that are ignored, and an octet that is no entry.
+/// The upper four bits of the second handle, and the last octet, are ignored.
 const TWO_ENTRIES: [u8; 12] = [
     0x13, 0x0A, 0x02, 0x40, 0x00, 0x03, 0x01, 0x41, 0xF0, 0x00, 0x00, 0x77,
 ];
 
-/// The entries that it has.
 const ENTRIES: &[CompletedPackets] = &[
     CompletedPackets {
         handle: 0x0040,
@@ -148,7 +145,6 @@ fn count_of(packet: &[u8]) -> Option<usize> {
     Some(entries_of(packet)?.len())
 }
 
-/// The entries of Number Of Completed Packets.
 fn entries_of(packet: &[u8]) -> Option<&[[u8; 4]]> {
     match read_event(packet) {
         Ok(Event::NumberOfCompletedPackets { entries }) => Some(entries),

@@ -1,10 +1,9 @@
-//! Frames, and octets that are none.
+//! Frames and octets that are none.
 
 use super::cases::assert_case;
 use le_l2cap::{Frame, Skip, channel, read_frame};
 use std::process::Abort;
 
-/// Octets, and the frame that they are.
 const FRAMES: &[(&[u8], Result<Frame<'static>, Skip>)] = &[
     (
         &[0x03, 0x00, 0x04, 0x00, 0x0A, 0x03, 0x00],

@@ -1,4 +1,4 @@
-//! The octets of a whole initialisation, and of what goes wrong in one.
+//! Initialisations, also with faults.
 
 ghost use Rattle.std.specs.Prelude.{IsSome};
 ghost use Rattle.le_hci.specs.Init.{command_awaited};
@@ -18,7 +18,6 @@ fn advertising() -> ArrayVec<u8, 31> {
     advertising
 }
 
-/// What a Command Complete returns, which has to be that of this command.
 fn returned<'a>(rt: &impl Abort, packet: &'a [u8], command: u16) -> &'a [u8] {
     match read_event(packet) {
         Ok(
@@ -32,7 +31,6 @@ fn returned<'a>(rt: &impl Abort, packet: &'a [u8], command: u16) -> &'a [u8] {
     }
 }
 
-/// What the completion of the awaited command returns.
 fn returned_by_awaited<'a>(rt: &impl Abort, init: &Init, packet: &'a [u8]) -> &'a [u8]
     ensures awaiting { IsSome (command_awaited init.now) }
 {
@@ -42,7 +40,6 @@ fn returned_by_awaited<'a>(rt: &impl Abort, init: &Init, packet: &'a [u8]) -> &'
     }
 }
 
-/// What follows on the completion of the awaited command: a fault, if there is one, and the state.
 fn complete(rt: &impl Abort, init: Init, packet: &[u8]) -> (Option<InitFault>, Init) {
     let parameters = returned_by_awaited(rt, &init, packet);
     match init.complete(parameters) {
@@ -51,10 +48,9 @@ fn complete(rt: &impl Abort, init: Init, packet: &[u8]) -> (Option<InitFault>, I
     }
 }
 
-/// A packet, the fault that it leads to, if any, and the command that is sent then.
+/// A packet, its fault, if any, and the next command.
 type Exchange = (&'static [u8], Option<InitFault>, &'static [u8]);
 
-/// The state after these packets.
 fn run(rt: &impl Abort, first: Init, exchanges: &[Exchange]) -> Init {
     let mut init = first;
     for &(packet, expected, command) in exchanges {
@@ -66,7 +62,6 @@ fn run(rt: &impl Abort, first: Init, exchanges: &[Exchange]) -> Init {
     init
 }
 
-/// The command that a state sends.
 fn assert_next(rt: &impl Abort, init: &Init, expected: &[u8]) {
     let mut octets = ArrayVec::new();
     if let Some(command) = init.command() {
@@ -75,7 +70,6 @@ fn assert_next(rt: &impl Abort, init: &Init, expected: &[u8]) {
     assert_case(rt, octets.as_slice() == expected, expected);
 }
 
-/// The packets up to LE Read Buffer Size, and the commands that they lead to.
 const UP_TO_SIZING: &[Exchange] = &[
     (
         &[0x0E, 0x04, 0x01, 0x03, 0x0C, 0x00],
@@ -98,14 +92,12 @@ const UP_TO_SIZING: &[Exchange] = &[
     ),
 ];
 
-/// Reset is refused.
 const REFUSED: &[Exchange] = &[(
     &[0x0E, 0x04, 0x01, 0x03, 0x0C, 0x01],
     Some(InitFault::Refused(0x0C03, 0x01)),
     &[0x03, 0x0C, 0x00],
 )];
 
-/// Buffers that do not serve, and return parameters that lack octets.
 const BAD_BUFFERS: &[Exchange] = &[
     (
         &[0x0E, 0x07, 0x01, 0x02, 0x20, 0x00, 0x1A, 0x00, 0x04],
@@ -129,7 +121,6 @@ const BAD_BUFFERS: &[Exchange] = &[
     ),
 ];
 
-/// From LE Read Buffer Size on, with a public address.
 const WITH_A_PUBLIC_ADDRESS: &[Exchange] = &[
     (
         &[0x0E, 0x07, 0x01, 0x02, 0x20, 0x00, 0x1B, 0x00, 0x04],
@@ -156,7 +147,6 @@ const WITH_A_PUBLIC_ADDRESS: &[Exchange] = &[
     (&[0x0E, 0x04, 0x01, 0x0A, 0x20, 0x00], None, &[]),
 ];
 
-/// From there on with buffers that are shared, and a random address.
 const WITH_A_RANDOM_ADDRESS: &[Exchange] = &[
     (
         &[0x0E, 0x07, 0x01, 0x02, 0x20, 0x00, 0x00, 0x00, 0x00],
@@ -180,7 +170,6 @@ const WITH_A_RANDOM_ADDRESS: &[Exchange] = &[
     ),
 ];
 
-/// The state after the packets up to LE Read Buffer Size, and then these.
 fn run_past_sizing(rt: &impl Abort, first: Init, exchanges: &[Exchange]) -> Init {
     let sizing = run(rt, first, UP_TO_SIZING);
     run(rt, sizing, exchanges)
@@ -203,7 +192,6 @@ fn initialises_with_a_public_address(rt: HostRuntime) {
     assert!(rt; is_ready(&run_past_sizing(&rt, init, WITH_A_PUBLIC_ADDRESS)));
 }
 
-/// The shared buffers are known, and the advertising parameters are awaited.
 fn is_describing(init: &Init) -> bool {
     matches!(
         init,

@@ -1,4 +1,4 @@
-//! The octets of a whole initialisation, from the stream of a controller to what the host writes.
+//! A whole initialisation, from stream to stream.
 
 ghost use Rattle.std.specs.Prelude.{◌<◌, ◌↔◌, IsSome, IsTrue};
 ghost use Rattle.le_hci.specs.Init.{command_awaited};
@@ -9,11 +9,10 @@ use le_h4::{Deframer, PacketRef};
 use le_hci::{Command, Event, Init, Peer, RANDOM_ADDRESS, read_event};
 use std::process::Abort;
 
-/// What the host writes at first: Reset.
 const RESET: [u8; 4] = [0x01, 0x03, 0x0C, 0x00];
 
-/// What the controller sends, and what the host then writes. The controller tells 4 packets of 27
-/// octets. The last packet is a connection, beside which the host advertises for another one.
+/// Packets of the controller, and of the host in response. After the connection the host advertises
+/// again.
 const EXCHANGES: &[(&[u8], &[u8])] = &[
     (
         &[0x04, 0x0E, 0x04, 0x01, 0x03, 0x0C, 0x00],
@@ -60,7 +59,7 @@ const EXCHANGES: &[(&[u8], &[u8])] = &[
     ),
 ];
 
-/// The advertising data: general discoverable mode, and LE alone.
+/// Returns advertising data: general discoverable mode, LE only.
 fn advertising() -> ArrayVec<u8, 31> {
     let mut advertising = ArrayVec::new();
     advertising.push(0x02);
@@ -69,21 +68,18 @@ fn advertising() -> ArrayVec<u8, 31> {
     advertising
 }
 
-/// Writes a command as a packet of the transport.
 fn write(command: &Command<'_>, written: &mut ArrayVec<u8, 260>) {
     let mut octets = ArrayVec::new();
     le_hci::write_command(command, &mut octets);
     le_h4::write_command(octets.as_slice(), written);
 }
 
-/// Writes the command that a state sends.
 fn write_next(init: &Init, written: &mut ArrayVec<u8, 260>) {
     if let Some(command) = init.command() {
         write(&command, written);
     }
 }
 
-/// The awaited command has to be this one.
 fn assert_awaits(rt: &impl Abort, init: &Init, opcode: u16)
     ensures awaiting { IsSome (command_awaited init.now) }
 {
@@ -93,7 +89,6 @@ fn assert_awaits(rt: &impl Abort, init: &Init, opcode: u16)
     assert!(rt; awaited.opcode() == opcode);
 }
 
-/// The state after the awaited command, which has to be this one.
 fn complete(rt: &impl Abort, init: Init, opcode: u16, parameters: &[u8]) -> Init {
     assert_awaits(rt, &init, opcode);
     match init.complete(parameters) {
@@ -102,7 +97,6 @@ fn complete(rt: &impl Abort, init: Init, opcode: u16, parameters: &[u8]) -> Init
     }
 }
 
-/// What a packet leads to: the next state, and the command that is written.
 fn follow(
     rt: &impl Abort,
     init: Init,
@@ -119,8 +113,7 @@ fn follow(
     }
 }
 
-/// The command that a packet completes and what it returns, or none where the packet tells the
-/// connection.
+/// Returns `None` for the connection.
 fn completion_in<'a>(rt: &impl Abort, packet: PacketRef<'a>) -> Option<(u16, &'a [u8])> {
     match event_in(packet) {
         Some(
@@ -151,7 +144,6 @@ fn event_in(packet: PacketRef<'_>) -> Option<Event<'_>> {
     }
 }
 
-/// Takes in a piece of what the controller sends, and tells whether it ends a packet.
 fn ends_packet(rt: &impl Abort, deframer: &mut Deframer, piece: &[u8]) -> bool
     ensures { IsTrue result ↔ IsSome deframer.new.marked }
 {
@@ -161,7 +153,6 @@ fn ends_packet(rt: &impl Abort, deframer: &mut Deframer, piece: &[u8]) -> bool
     }
 }
 
-/// Takes in a piece of what the controller sends, and writes the command that it leads to.
 fn take(
     rt: &impl Abort,
     deframer: &mut Deframer,
@@ -176,7 +167,6 @@ fn take(
     }
 }
 
-/// Takes in a packet in pieces of at most `size` octets, and writes the command that it leads to.
 fn take_all(
     rt: &impl Abort,
     deframer: &mut Deframer,
@@ -194,7 +184,7 @@ fn take_all(
     init
 }
 
-/// Takes in a packet in pieces of at most `size` octets, which lead to these octets.
+/// Feeds a packet in pieces of at most `size` octets, and checks the response.
 fn exchange(
     rt: &impl Abort,
     deframer: &mut Deframer,
@@ -211,7 +201,6 @@ fn exchange(
     next
 }
 
-/// The state after these packets, from a new stream on.
 fn exchange_all(rt: &impl Abort, first: Init, size: usize, exchanges: &[(&[u8], &[u8])]) -> Init
     requires { 0 < size }
 {
@@ -223,7 +212,6 @@ fn exchange_all(rt: &impl Abort, first: Init, size: usize, exchanges: &[(&[u8], 
     init
 }
 
-/// The first command.
 fn assert_first(rt: &impl Abort, init: &Init) {
     let mut written = ArrayVec::new();
     write_next(init, &mut written);
@@ -240,7 +228,6 @@ fn is_ready(init: &Init) -> bool {
     )
 }
 
-/// The whole initialisation, where packets come in pieces of at most `size` octets.
 fn initialise(rt: &impl Abort, size: usize, exchanges: &[(&[u8], &[u8])])
     requires { 0 < size }
 {

@@ -1,5 +1,4 @@
-//! The octets of the wire, tested: the streams, the transport, events and commands, frames and
-//! channels. These tests use what the layers make public, so they stand in a crate of their own.
+//! Tests of the crates that read and write octets, by their public items only.
 #![tactic(auto)]
 
 #[cfg(test)]

@@ -4,14 +4,12 @@ use arrayvec::ArrayVec;
 use le_h4::{PacketBuf, write_acl, write_command};
 use std::process::Abort;
 
-/// A Read Response in a frame, and its packet.
 const FRAME: [u8; 9] = [0x05, 0x00, 0x04, 0x00, 0x0B, 0x4C, 0x6F, 0x63, 0x6B];
 
 const FRAME_PACKET: [u8; 14] = [
     0x02, 0x40, 0x00, 0x09, 0x00, 0x05, 0x00, 0x04, 0x00, 0x0B, 0x4C, 0x6F, 0x63, 0x6B,
 ];
 
-/// An ACL packet without data.
 const EMPTY_PACKET: [u8; 5] = [0x02, 0xFF, 0x1E, 0x00, 0x00];
 
 #[test]
@@ -33,13 +31,12 @@ fn assert_frame_written(rt: &impl Abort, out: &mut ArrayVec<u8, 260>) {
     assert!(rt; out.as_slice() == FRAME_PACKET.as_slice());
 }
 
-/// The packet takes the place of what was written before.
 fn assert_empty_written(rt: &impl Abort, out: &mut ArrayVec<u8, 260>) {
     write_acl(0x0EFF, 1, &[], out);
     assert!(rt; out.as_slice() == EMPTY_PACKET.as_slice());
 }
 
-/// So it is where the header of the frame stands apart, and of a command.
+/// Checks that `PacketBuf` overwrites the last packet, too.
 #[test]
 fn packets_over_another(rt: HostRuntime) {
     let mut packet = PacketBuf::new();
@@ -48,7 +45,6 @@ fn packets_over_another(rt: HostRuntime) {
     assert_command(&rt, &mut packet);
 }
 
-/// The packet of a frame, of which the header stands apart.
 fn assert_frame(rt: &impl Abort, packet: &mut PacketBuf) {
     let (header, payload) = FRAME.split_at(4);
     packet.acl(0x0040, 0, header, payload);

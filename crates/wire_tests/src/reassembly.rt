@@ -1,4 +1,4 @@
-//! Frames from fragments.
+//! Reassembly of frames.
 
 ghost use Rattle.std.specs.Prelude.{IsSome};
 
@@ -7,7 +7,7 @@ use le_acl::{Piece, Reassembler};
 use le_h4::{Deframer, Fed, PacketRef};
 use std::process::Abort;
 
-/// A fragment, whether it begins a frame, and the frame that it makes whole.
+/// A fragment, true if it begins a frame, and the frame that it completes.
 type Case<'a> = (&'a [u8], bool, Option<&'a [u8]>);
 
 fn assert_frames(rt: &impl Abort, reassembler: &mut Reassembler, cases: &[Case<'_>]) {
@@ -22,7 +22,6 @@ fn assert_frame(rt: &impl Abort, reassembler: &mut Reassembler, case: Case<'_>) 
     assert_case(rt, frame == expected, octets);
 }
 
-/// The frame that a fragment makes whole.
 fn frame_of<'a>(reassembler: &'a mut Reassembler, octets: &[u8], begins: bool) -> Option<&'a [u8]> {
     let piece = if begins {
         reassembler.start(octets)
@@ -35,7 +34,6 @@ fn frame_of<'a>(reassembler: &'a mut Reassembler, octets: &[u8], begins: bool) -
     }
 }
 
-/// A Read Request of handle 3 in a frame.
 const READ: [u8; 7] = [0x03, 0x00, 0x04, 0x00, 0x0A, 0x03, 0x00];
 
 const THREE_FRAGMENTS: &[Case<'static>] = &[
@@ -46,7 +44,6 @@ const THREE_FRAGMENTS: &[Case<'static>] = &[
     (&[0x00], false, None),
 ];
 
-/// A frame that is begun, and begun again.
 const TWO_BEGINNINGS: &[Case<'static>] = &[
     (&[0x03], true, None),
     (&[0x00, 0x04, 0x00], false, None),
@@ -65,14 +62,12 @@ fn a_new_beginning(rt: HostRuntime) {
     assert_frames(&rt, &mut Reassembler::new(), TWO_BEGINNINGS);
 }
 
-/// A frame of 517 octets.
 fn largest() -> [u8; 521] {
     let mut largest = [0x0B; 521];
     largest[..4].copy_from_slice(&[0x05, 0x02, 0x04, 0x00]);
     largest
 }
 
-/// A frame that is longer, and one with more octets than it tells.
 const TOO_LONG: &[Case<'static>] = &[
     (&[0x06, 0x02, 0x04, 0x00], true, None),
     (&[0x0B; 518], false, None),
@@ -95,7 +90,6 @@ fn assert_largest(rt: &impl Abort, reassembler: &mut Reassembler) {
     assert_frames(rt, reassembler, &cases);
 }
 
-/// The frame that an ACL packet has to make whole, or none.
 fn assert_packet(
     rt: &impl Abort,
     reassembler: &mut Reassembler,
@@ -107,7 +101,6 @@ fn assert_packet(
     assert_frame(rt, reassembler, (octets, begins, expected));
 }
 
-/// Takes in a whole packet.
 fn feed(rt: &impl Abort, deframer: &mut Deframer, packet: &[u8])
     ensures { IsSome deframer.new.marked }
 {
@@ -117,7 +110,6 @@ fn feed(rt: &impl Abort, deframer: &mut Deframer, packet: &[u8])
     };
 }
 
-/// The ACL data of a packet, and whether they begin a frame.
 fn acl_data<'a>(rt: &impl Abort, deframer: &'a mut Deframer, packet: &[u8]) -> (&'a [u8], bool) {
     feed(rt, deframer, packet);
     match deframer.packet() {
@@ -126,7 +118,6 @@ fn acl_data<'a>(rt: &impl Abort, deframer: &'a mut Deframer, packet: &[u8]) -> (
     }
 }
 
-/// A whole frame in a packet that continues one, and in a packet that begins one.
 const CONTINUED_READ: [u8; 12] = [
     0x02, 0x40, 0x10, 0x07, 0x00, 0x03, 0x00, 0x04, 0x00, 0x0A, 0x03, 0x00,
 ];

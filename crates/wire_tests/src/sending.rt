@@ -1,4 +1,4 @@
-//! The packets of PDUs that go out.
+//! Packets of outgoing PDUs.
 
 ghost use Rattle.std.specs.Prelude.{◌<◌};
 
@@ -7,29 +7,24 @@ use le_acl::{MAX_PDUS, Sender};
 use std::alloc::Global;
 use std::process::Abort;
 
-/// What is done with a sender of packets of at most 27 octets of data, and what has to come of it.
+/// A call of a sender, and its expected result.
 #[derive(Clone, Copy)]
 enum Step {
-    /// So many PDUs with this payload are queued.
+    /// Queues a number of PDUs with this payload.
     Queue(usize, &'static [u8]),
-    /// A Read Response with 512 octets 55 is queued.
+    /// Queues a Read Response with a value of 512 octets.
     QueueLargest,
-    /// A PDU more has no room.
     Full,
-    /// The next packets are so many of so many octets, and begin with these.
+    /// Number, length and first octets of the next packets.
     Packets(usize, usize, &'static [u8]),
-    /// No packet goes out.
     Nothing,
-    /// So many packets are completed.
     Completed(u16),
-    /// So many PDUs wait.
     Backlog(usize),
     Flush,
-    /// From here on one packet may be outstanding, of at most 251 octets of data.
+    /// Resets to one outstanding packet of at most 251 octets of data.
     Reset,
 }
 
-/// Makes the steps with a new sender, of which so many packets may be outstanding.
 fn assert_sends(rt: &impl Abort, alloc: Global, share: u16, steps: &[Step])
     requires { 0 < share }
 {
@@ -110,7 +105,6 @@ fn is_next(sender: &mut Sender, size: usize, front: &[u8]) -> bool {
     sender.next(0x0040, &mut out) && out.len() == size && out.as_slice().starts_with(front)
 }
 
-/// A first fragment and a continuation of 27 octets each, of the frame of 50 octets 55.
 const FIFTY_OCTETS: &[Step] = &[
     Step::Nothing,
     Step::Queue(1, &[0x55; 50]),
@@ -130,7 +124,6 @@ fn two_packets_of_27_octets(rt: HostRuntime) {
     assert_sends(&rt, rt.alloc(), 2, FIFTY_OCTETS);
 }
 
-/// The first packet of the frame of 517 octets, those that are full, and the last one.
 const FRAME_OF_517_OCTETS: &[Step] = &[
     Step::QueueLargest,
     Step::Packets(
@@ -154,7 +147,6 @@ fn twenty_packets(rt: HostRuntime) {
     assert_sends(&rt, rt.alloc(), 20, FRAME_OF_517_OCTETS);
 }
 
-/// A packet with a frame of one octet.
 const ONE_OCTET: [u8; 10] = [0x02, 0x40, 0x00, 0x05, 0x00, 0x01, 0x00, 0x04, 0x00, 0x1B];
 
 const COMPLETIONS: &[Step] = &[
@@ -162,7 +154,7 @@ const COMPLETIONS: &[Step] = &[
     Step::Full,
     Step::Packets(2, 10, &ONE_OCTET),
     Step::Nothing,
-    // Nine completed packets count as the two that are outstanding.
+    // Counts as the two outstanding packets.
     Step::Completed(9),
     Step::Packets(2, 10, &ONE_OCTET),
     Step::Nothing,
@@ -174,7 +166,6 @@ fn completions(rt: HostRuntime) {
     assert_sends(&rt, rt.alloc(), 2, COMPLETIONS);
 }
 
-/// Of two PDUs one goes out.
 const FLUSHES: &[Step] = &[
     Step::Queue(2, b"\x1b"),
     Step::Packets(1, 10, &ONE_OCTET),
@@ -190,8 +181,6 @@ fn flushes(rt: HostRuntime) {
     assert_sends(&rt, rt.alloc(), 1, FLUSHES);
 }
 
-/// A packet is outstanding, and a PDU queued, until the sender is reset. Then a packet of the largest
-/// size goes out.
 const RESETS: &[Step] = &[
     Step::Queue(2, b"\x1b"),
     Step::Packets(1, 10, &ONE_OCTET),

@@ -1,4 +1,4 @@
-//! The answers of the channels of LE signalling and of the Security Manager.
+//! Responses on the signalling and Security Manager channels.
 
 use super::cases::assert_case;
 use le_l2cap::{Reject, security, signalling};
@@ -15,7 +15,6 @@ fn rejects_an_update_request(rt: HostRuntime) {
     );
 }
 
-/// Payloads of the channel, and what is rejected of each.
 const PAYLOADS: &[(&[u8], Option<Reject>)] = &[
     (&[0x06, 0x01, 0x00, 0x00], Some(Reject { id: 1 })),
     (&[0x0D, 0xFF, 0x01, 0x00, 0x07], Some(Reject { id: 0xFF })),
@@ -42,7 +41,6 @@ fn assert_answers(rt: &impl Abort, cases: &[(&[u8], Option<Reject>)]) {
     }
 }
 
-/// PDUs of the Security Manager, and the answer to each.
 const PAIRING: &[(&[u8], Option<[u8; 2]>)] = &[
     (
         &[0x01, 0x03, 0x00, 0x01, 0x10, 0x00, 0x00],

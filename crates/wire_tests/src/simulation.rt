@@ -1,6 +1,6 @@
-//! Steps with a simulated controller, from the host's side and from the phones'.
+//! Steps with a simulated controller, for host and phones.
 
-ghost use Rattle.octets.specs.declared.pdu.TheConstants.{MAX_PDU};
+ghost use Rattle.octet_io.specs.declared.pdu.TheConstants.{MAX_PDU};
 ghost use Rattle.sim_controller.specs.Acts.{act_of, payload_in, phone_in};
 ghost use Rattle.sim_controller.specs.declared.handle.TheConstants.{PHONES};
 ghost use Rattle.std.specs.Bool.{OnTrue};
@@ -9,33 +9,30 @@ ghost use Rattle.std.specs.Prelude.{length, ◌<◌, ◌≤◌};
 use arrayvec::ArrayVec;
 use le_acl::MAX_ACL_LEN;
 use le_hci::{Peer, RANDOM_ADDRESS};
-use octets::MAX_PDU;
+use octet_io::MAX_PDU;
 use sim_controller::{PHONES, PhoneAct, Sim, SimConfig, SimFault};
 use std::alloc::Global;
 use std::process::Abort;
 
-/// What is done, and what it has to lead to.
+/// A call and its expected result.
 #[derive(Clone, Copy)]
 pub enum Step<'a> {
-    /// An act, and the fault that refuses it.
     Act(PhoneAct<'a>, Option<SimFault>),
-    /// A packet of the host, and the fault that refuses it.
     Host(&'a [u8], Option<SimFault>),
-    /// The next packet to the host: no octets where there is none.
+    /// Next packet to the host, or empty.
     Given(&'a [u8]),
-    /// The next frame that a phone hears: no octets where there is none.
+    /// Next frame that a phone receives, or empty.
     Heard(u8, &'a [u8]),
-    /// The reason of a Disconnect that was not yet told.
+    /// Reason of a Disconnect, reported once.
     Ended(u8, Option<u8>),
 }
 
-/// Steps that are made so many times, one after the other.
+/// Number of runs, and steps.
 pub type Part<'a> = (usize, &'a [Step<'a>]);
 
-/// What a case shows, its controller, and what is done with it.
+/// Name, configuration and steps.
 pub type Case<'a> = (&'a str, SimConfig, &'a [Part<'a>]);
 
-/// Plays each case with a new controller.
 pub fn assert_plays(rt: &impl Abort, alloc: Global, cases: &[Case<'_>]) {
     for &(name, config, parts) in cases {
         assert!(rt; play(alloc, config, parts), "{name}");
@@ -63,7 +60,6 @@ fn are_parts_as_expected(sim: &mut Sim, parts: &[Part<'_>]) -> bool {
     true
 }
 
-/// Whether each step in turn leads to what it should.
 fn are_as_expected(sim: &mut Sim, steps: &[Step<'_>]) -> bool {
     for step in steps {
         if !is_as_expected(sim, *step) {
@@ -83,7 +79,6 @@ fn is_as_expected(sim: &mut Sim, step: Step<'_>) -> bool {
     }
 }
 
-/// The fault that refuses an act of one of the phones.
 fn fault_of(sim: &mut Sim, act: PhoneAct<'_>) -> Option<SimFault> {
     if is_within_bounds(act) {
         sim.act(act).err()
@@ -92,7 +87,7 @@ fn fault_of(sim: &mut Sim, act: PhoneAct<'_>) -> Option<SimFault> {
     }
 }
 
-/// Whether the phone is one of those that there are, and a payload no longer than a phone sends.
+/// Returns true if the preconditions of `Sim::act` hold.
 fn is_within_bounds(act: PhoneAct<'_>) -> bool
     ensures phone { OnTrue result (phone_in (act_of act.entry) < PHONES) }
     ensures payload { OnTrue result (length (payload_in (act_of act.entry)) ≤ MAX_PDU) }
@@ -120,7 +115,6 @@ fn hears(sim: &mut Sim, phone: u8, octets: &[u8]) -> bool {
     heard != octets.is_empty() && out.as_slice() == octets
 }
 
-/// Packets of 27 octets in both directions, of which the controller takes 8.
 pub const CONFIG: SimConfig = SimConfig {
     acl_len: 27,
     packets: 8,
@@ -145,7 +139,6 @@ pub const CONNECT: PhoneAct<'static> = PhoneAct::Connect {
     peer: PEER,
 };
 
-/// LE Set Advertise Enable, its completion, and the connection of phone 0.
 pub const ENABLE: [u8; 5] = [0x01, 0x0A, 0x20, 0x01, 0x01];
 
 pub const ENABLED: [u8; 7] = [0x04, 0x0E, 0x04, 0x01, 0x0A, 0x20, 0x00];
@@ -155,7 +148,6 @@ pub const CONNECTED: [u8; 22] = [
     0x00, 0x00, 0x00, 0x48, 0x00, 0x00,
 ];
 
-/// Phone 0 connects.
 pub const CONNECTING: Part<'static> = (
     1,
     &[
@@ -166,7 +158,6 @@ pub const CONNECTING: Part<'static> = (
     ],
 );
 
-/// A Read Request for handle 3.
 pub const READ: PhoneAct<'static> = PhoneAct::Send {
     phone: 0,
     cid: 0x0004,
@@ -176,7 +167,6 @@ pub const READ: PhoneAct<'static> = PhoneAct::Send {
 /// Number Of Completed Packets: one for phone 0.
 pub const COMPLETED: [u8; 8] = [0x04, 0x13, 0x05, 0x01, 0x40, 0x00, 0x01, 0x00];
 
-/// A frame to phone 0 with a payload of 3 octets, in two packets.
 pub const BEGINNING: [u8; 10] = [0x02, 0x40, 0x00, 0x05, 0x00, 0x03, 0x00, 0x04, 0x00, 0x0B];
 
 pub const CONTINUATION: [u8; 7] = [0x02, 0x40, 0x10, 0x02, 0x00, 0x01, 0x02];

@@ -1,4 +1,4 @@
-//! What a simulated controller refuses, and its bounds.
+//! Faults and limits of a simulated controller.
 
 use super::simulation::{
     BEGINNING, CONFIG, CONNECT, CONNECTING, CONTINUATION, Case, ENABLE, PEER, READ, Step,
@@ -10,7 +10,6 @@ const NOT_HERE: Option<SimFault> = Some(SimFault::NotHere);
 
 const BAD: Option<SimFault> = Some(SimFault::BadPacket);
 
-/// Each fault, of acts and of packets.
 const FAULTS: &[Step<'static>] = &[
     Step::Act(PhoneAct::Drop { phone: 7 }, NOT_HERE),
     Step::Act(
@@ -48,16 +47,16 @@ const FAULTS: &[Step<'static>] = &[
     ),
     Step::Host(&[], BAD),
     Step::Host(&[0x01], BAD),
-    // Reset with an octet too many, and with another number of octets than it says.
+    // Reset: an extra octet, a wrong length.
     Step::Host(&[0x01, 0x03, 0x0C, 0x01, 0x00], BAD),
     Step::Host(&[0x01, 0x03, 0x0C, 0x00, 0x00], BAD),
-    // Disconnect that lacks its reason, and an unknown command.
+    // Disconnect without reason; unknown command.
     Step::Host(&[0x01, 0x06, 0x04, 0x02, 0x40, 0x00], BAD),
     Step::Host(&[0x01, 0x02, 0x0C, 0x00], BAD),
-    // Data that are fewer than they should be, and more.
+    // Data: too few octets, too many.
     Step::Host(&[0x02, 0x40, 0x00, 0x02, 0x00, 0x01], BAD),
     Step::Host(&[0x02, 0x40, 0x00, 0x00, 0x00, 0x01], BAD),
-    // The flags of a controller's packet, and of a broadcast.
+    // Flags of a controller's packet, and of a broadcast.
     Step::Host(&[0x02, 0x40, 0x20, 0x00, 0x00], BAD),
     Step::Host(&[0x02, 0x40, 0x40, 0x00, 0x00], BAD),
     Step::Host(&[0x03, 0x40, 0x00, 0x00], BAD),
@@ -80,7 +79,7 @@ const DONE: PhoneAct<'static> = PhoneAct::Done {
 
 const FULL: Option<SimFault> = Some(SimFault::Full);
 
-/// With 62 packets waiting, what would make 65 of them is refused, and what makes 64 is taken.
+/// 62 packets are queued, of at most 64.
 const NEARLY_FULL: &[Step<'static>] = &[
     Step::Act(READ, None),
     Step::Host(&[0x01, 0x06, 0x04, 0x03, 0x40, 0x00, 0x13], FULL),
@@ -92,10 +91,9 @@ const NEARLY_FULL: &[Step<'static>] = &[
     Step::Host(&BEGINNING, None),
 ];
 
-/// A whole frame to phone 0.
 const WHOLE: [u8; 10] = [0x02, 0x40, 0x00, 0x05, 0x00, 0x01, 0x00, 0x04, 0x00, 0x1B];
 
-/// With 16 frames waiting, a 17th is refused, and what is no frame yet is taken.
+/// 16 frames are queued, which is the limit. An unfinished frame still fits.
 const HEARD_FULLY: &[Step<'static>] = &[
     Step::Host(&WHOLE, FULL),
     Step::Host(&BEGINNING, None),

@@ -1,4 +1,4 @@
-//! What the host and the phones of a simulated controller hear.
+//! Packets from a simulated controller to its host and phones.
 
 use super::simulation::{
     BEGINNING, COMPLETED, CONFIG, CONNECT, CONNECTED, CONNECTING, CONTINUATION, Case, ENABLE,
@@ -6,7 +6,6 @@ use super::simulation::{
 };
 use sim_controller::{PhoneAct, SimFault};
 
-/// The initialisation of a controller, a connection, and advertising for another one.
 const INITIALISATION: &[Step<'static>] = &[
     Step::Host(&[0x01, 0x03, 0x0C, 0x00], None),
     Step::Given(&[0x04, 0x0E, 0x04, 0x01, 0x03, 0x0C, 0x00]),
@@ -61,7 +60,6 @@ fn initialisation(rt: HostRuntime) {
     assert_plays(&rt, rt.alloc(), INITIALISATIONS);
 }
 
-/// The buffers where those of LE connections are shared, and a random address.
 const SHARED_BUFFERS: &[Step<'static>] = &[
     Step::Host(&[0x01, 0x02, 0x20, 0x00], None),
     Step::Given(&[0x04, 0x0E, 0x07, 0x01, 0x02, 0x20, 0x00, 0x00, 0x00, 0x00]),
@@ -97,7 +95,6 @@ const READ_IN_SEVEN: &[Step<'static>] = &[
     Step::Given(&[]),
 ];
 
-/// A payload of 46 octets, whose frame comes in packets of 27 and 23.
 const LONG: PhoneAct<'static> = PhoneAct::Send {
     phone: 0,
     cid: 0x0006,
@@ -155,7 +152,7 @@ const ANSWER_IN_TWO: &[Step<'static>] = &[
     Step::Heard(0, &[]),
 ];
 
-/// What is held is completed by the phone alone, and not the hold of an earlier connection.
+/// Only the phone completes held packets. A hold ends with its connection.
 const HELD: &[Step<'static>] = &[
     Step::Act(PhoneAct::Hold { phone: 0 }, None),
     Step::Host(&BEGINNING, None),
@@ -193,7 +190,7 @@ fn answers_in_pieces(rt: HostRuntime) {
     assert_plays(&rt, rt.alloc(), ANSWERS);
 }
 
-/// The key with number 01 eight times and diversifier 257, which the host gives and then has not.
+/// The host returns the key, then rejects a request.
 const KEYS: &[Step<'static>] = &[
     Step::Act(
         PhoneAct::Encrypt {
@@ -225,7 +222,7 @@ const KEYS: &[Step<'static>] = &[
     Step::Heard(0, &[]),
 ];
 
-/// The host ends a connection, which is told once.
+/// The disconnection is reported once.
 const ENDED: &[Step<'static>] = &[
     Step::Host(&[0x01, 0x06, 0x04, 0x03, 0x40, 0x00, 0x13], None),
     Step::Given(&[0x04, 0x0F, 0x04, 0x00, 0x01, 0x06, 0x04]),
@@ -236,7 +233,7 @@ const ENDED: &[Step<'static>] = &[
     Step::Act(PhoneAct::Drop { phone: 0 }, Some(SimFault::NotHere)),
 ];
 
-/// Packets for phone 1, which is not connected.
+/// Phone 1 is not connected.
 const ABSENT: &[Step<'static>] = &[
     Step::Host(&[0x01, 0x06, 0x04, 0x03, 0x41, 0x00, 0x13], None),
     Step::Given(&[0x04, 0x0F, 0x04, 0x00, 0x01, 0x06, 0x04]),

@@ -1,13 +1,12 @@
-//! Octets from readers and slices, and to writers and buffers.
+//! Sources and sinks of bytes.
 
 use super::cases::assert_case;
-use octets::{ArraySink, Failed, Reader, Sink, SliceSource, Source, Writer};
+use octet_io::{ArraySink, Failed, Reader, Sink, SliceSource, Source, Writer};
 use std::process::Abort;
 
-/// What is read of `abc`, two octets at a time.
+/// Reads with a buffer of two bytes.
 const READ: &[&[u8]] = &[b"ab", b"c", b""];
 
-/// Reads of at most two octets, each of which has to give these.
 fn assert_reads<S: Source>(rt: &impl Abort, source: &mut S, expected: &[&[u8]]) {
     for octets in expected {
         assert_case(rt, gives(source, octets), octets);
@@ -19,7 +18,6 @@ fn gives<S: Source>(source: &mut S, octets: &[u8]) -> bool {
     source.read(&mut buf) == Ok(octets.len()) && buf.as_slice().starts_with(octets)
 }
 
-/// What is written, and what the buffer of four octets answers.
 const WRITTEN: &[(&[u8], Result<usize, Failed>)] = &[
     (b"abc", Ok(3)),
     (b"def", Ok(1)),

@@ -1,7 +1,7 @@
-//! What is appended to a PDU that is being put together.
+//! Appends to a PDU; a call that returns `false` did not have enough space and changed nothing.
 
 ghost use Rattle.std.specs.Prelude.{◌≡◌, ◌+◌, ◌-◌, ◌≤◌, ◌↔◌, ◌++◌, length, IsTrue, take};
-ghost use Rattle.octets.specs.Number.{two_octets};
+ghost use Rattle.octet_io.specs.Number.{two_octets};
 
 use super::{End, PduBuf};
 use crate::buffer::{extend, write};
@@ -10,8 +10,7 @@ impl<'a> PduBuf<'a> {
     ghost use Rattle.att_pdu.specs.PduBuf.{contents, mtu_of, IsSameBuffer, AppendsWhereFits};
     ghost use Rattle.att_pdu.specs.Response.{OfAttribute, OfGroup, element_octets};
 
-    /// Appends octets, an opcode and the octets of a format too, or answers `false` with nothing
-    /// changed where they do not fit.
+    /// Appends octets.
     #[inline(always)]
     pub fn value(&mut self, octets: &[u8]) -> bool
         ensures { AppendsWhereFits self.old self.new octets.now result }
@@ -23,8 +22,7 @@ impl<'a> PduBuf<'a> {
         true
     }
 
-    /// Appends as much of a value, from its front, as fits: of several that are read the last is cut to
-    /// the ATT_MTU (Core 5.0, Vol 3 Part F, 3.4.4.8).
+    /// Appends a value, cut to the ATT_MTU (Core 5.0, Vol 3 Part F, 3.4.4.8).
     #[inline(always)]
     pub fn front(&mut self, octets: &[u8])
         ensures appended { contents self.new
@@ -36,9 +34,7 @@ impl<'a> PduBuf<'a> {
         self.append(&octets[..octets.len().min(room)]);
     }
 
-    /// Appends a handle and octets, an attribute's type or its value, or answers `false` with
-    /// nothing changed where they do not fit: an element of the responses of Core 5.0, Vol 3 Part F,
-    /// 3.4.3.2 and 3.4.4.2.
+    /// Appends a handle with a type or value (Core 5.0, Vol 3 Part F, 3.4.3.2 and 3.4.4.2).
     #[inline(always)]
     pub fn pair(&mut self, handle: u16, octets: &[u8]) -> bool
         ensures { AppendsWhereFits self.old self.new
@@ -52,9 +48,7 @@ impl<'a> PduBuf<'a> {
         true
     }
 
-    /// Appends two numbers of 16 bits, or answers `false` with nothing changed where they do not fit:
-    /// an attribute's handle and its type, or the first and the last handle of a group (Core 5.0, Vol
-    /// 3 Part F, 3.4.3.2 and 3.4.3.4).
+    /// Appends a handle and a 16-bit type or handle (Core 5.0, Vol 3 Part F, 3.4.3.2 and 3.4.3.4).
     #[inline(always)]
     pub fn numbers(&mut self, first: u16, second: u16) -> bool
         ensures { AppendsWhereFits self.old self.new
@@ -69,9 +63,7 @@ impl<'a> PduBuf<'a> {
         true
     }
 
-    /// Appends the first and the last handle of a group and its value, or answers `false` with
-    /// nothing changed where they do not fit: an element of the response of Core 5.0, Vol 3 Part F,
-    /// 3.4.4.10.
+    /// Appends a group's first and last handle and value (Core 5.0, Vol 3 Part F, 3.4.4.10).
     #[inline(always)]
     pub fn group(&mut self, first: u16, last: u16, octets: &[u8]) -> bool
         ensures { AppendsWhereFits self.old self.new
@@ -87,24 +79,23 @@ impl<'a> PduBuf<'a> {
         true
     }
 
-    /// Appends a handle, an offset and a part of a value, or answers `false` with nothing changed
-    /// where they do not fit: the response of Core 5.0, Vol 3 Part F, 3.4.6.2.
+    /// Appends a handle, an offset and a part of a value (Core 5.0, Vol 3 Part F, 3.4.6.2).
     pub fn part(&mut self, handle: u16, offset: u16, octets: &[u8]) -> bool
         ensures { AppendsWhereFits self.old self.new
             (two_octets handle ++ two_octets offset ++ octets.now) result }
     {
-        // The offset is spelled as a handle is.
+        // The offset is encoded like a handle.
         self.group(handle, offset, octets)
     }
 
-    /// Whether this many octets more are within the ATT_MTU.
+    /// Returns true if `count` more octets fit.
     fn has_room(&self, count: usize) -> bool
         ensures { IsTrue result ↔ (length (contents self.now) + count ≤ mtu_of self.now) }
     {
         count <= self.mtu - self.len()
     }
 
-    /// Appends octets for which there is room.
+    /// Appends octets that fit.
     #[inline(always)]
     fn append(&mut self, octets: &[u8])
         requires { length (contents self.old) + length octets.now ≤ mtu_of self.old }

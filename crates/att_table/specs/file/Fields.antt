@@ -1,8 +1,8 @@
--- What the tables of a characteristic and of another descriptor have in common: a value, and who may use it.
+-- The common fields of characteristics and other descriptors: a value and its access rules.
 use Rattle.std.specs.Prelude.{[], length, Result, Ok, codes}
-use Rattle.octets.specs.Number.{Octets}
+use Rattle.octet_io.specs.Number.{Octets}
 use Rattle.toml.specs.Data.{Data, Members, as_str}
-use Rattle.toml_tables.specs.Reading.{◌>>=◌, unless, require, each, text_at, integer_at, flag_at, array_at}
+use Rattle.toml_schema.specs.Reading.{◌>>=◌, unless, require, each, text_at, integer_at, flag_at, array_at}
 use Rattle.att_numbers.specs.Types.{Handle, AttributeType}
 use Rattle.att_policy.specs.declared.guard.Properties.{Properties}
 use Rattle.att_attributes.specs.declared.attr.Attr.{Attr}
@@ -14,7 +14,7 @@ use Rattle.att_table.specs.file.Field.{value_of, largest_of, property_named, bot
 use Rattle.att_table.specs.file.Needs.{need_at}
 use Rattle.att_table.specs.file.TypeText.{type_named, is_type_of_value}
 
--- the type at `uuid`, and that of a value, which is none of those that only the table itself gives
+-- The type at `uuid`; a value's type is none of `types_of_no_value`.
 abbrev pub attribute_type_in : Members → Result AttributeType TableFault
 attribute_type_in members = do
   text ← require (text_at (codes "uuid") members) (Missing Uuid)
@@ -26,7 +26,7 @@ value_type_at members = do
   _ ← unless (is_type_of_value kind) BadUuid
   Ok kind
 
--- the properties that the words name, each one of those that are allowed
+-- Each word must name an allowed property.
 abbrev pub no_properties : Properties
 no_properties = all_properties []
 
@@ -42,19 +42,18 @@ properties_at allowed members = do
   words ← require (array_at (codes "properties") members) (Missing PropertiesName)
   each (property_step allowed) no_properties words
 
--- the value at `value`
 abbrev pub value_read_at : Members → Result Octets TableFault
 value_read_at members = do
   text ← require (text_at (codes "value") members) (Missing Value)
   value_of text
 
--- an attribute at a handle, with its value
 abbrev pub placed_of : Role → Handle → Properties → Members → Result (Attr × Octets) TableFault
 placed_of role handle allowed members = do
   kind ← value_type_at members
   properties ← properties_at allowed members
   value ← value_read_at members
-  largest ← largest_of (integer_at (codes "max") members) (flag_at (codes "fixed") members) (length value)
+  largest ← largest_of (integer_at (codes "max") members) (flag_at (codes "fixed") members)
+      (length value)
   read ← need_at (codes "read") members
   write ← need_at (codes "write") members
   Ok (

@@ -1,4 +1,4 @@
--- Whether a table is within its limits: this profile's own.
+-- The limits of a table (this profile's own).
 use Rattle.std.specs.Prelude.{ℕ, Bool, ◌&&◌, nat_le, List, length}
 use Rattle.att_attributes.specs.declared.attr.Attr.{Attr}
 use Rattle.att_attributes.specs.Attributes.{configurations_of}
@@ -7,7 +7,8 @@ use Rattle.att_numbers.specs.declared.limit.TheConstants.{MAX_ATTRIBUTES, MAX_CO
 
 abbrev pub is_within : ℕ → ℕ → ℕ → Bool
 is_within attributes configurations octets =
-    nat_le attributes MAX_ATTRIBUTES && nat_le configurations MAX_CONFIGURATIONS && nat_le octets MAX_VALUES_OCTETS
+    nat_le attributes MAX_ATTRIBUTES && nat_le configurations MAX_CONFIGURATIONS
+    && nat_le octets MAX_VALUES_OCTETS
 
 abbrev pub is_within_limits : List Attr → Bool
 is_within_limits attributes =

@@ -1,9 +1,9 @@
--- What a table of needs asks for: this profile's own.
+-- The requirements tables (this profile's own).
 use Rattle.std.specs.Prelude.{false, Option, Some, None, Result, Ok, codes}
-use Rattle.octets.specs.Number.{Octets}
+use Rattle.octet_io.specs.Number.{Octets}
 use Rattle.toml.specs.Data.{Members}
-use Rattle.toml_tables.specs.Reading.{◌>>=◌, unless, flag_at, integer_at, table_at}
-use Rattle.toml_tables.specs.Shape.{is_shaped}
+use Rattle.toml_schema.specs.Reading.{◌>>=◌, unless, flag_at, integer_at, table_at}
+use Rattle.toml_schema.specs.Shape.{is_shaped}
 use Rattle.att_policy.specs.declared.guard.Need.{Need}
 use Rattle.att_table.specs.declared.table_fault.TableFault.{TableFault}
 use Rattle.att_table.specs.declared.table_fault.TableFault.TheVariants.{BadSecurity}
@@ -11,7 +11,14 @@ use Rattle.att_table.specs.file.Field.{key_size_asked}
 use Rattle.att_table.specs.file.Keys.{need_keys}
 
 abbrev pub no_need : Need
-no_need = record { encrypted = false; authenticated = false; key_size = None; authorized = false; secure = false }
+no_need =
+    record {
+      encrypted = false;
+      authenticated = false;
+      key_size = None;
+      authorized = false;
+      secure = false;
+    }
 
 abbrev pub need_in : Members → Result Need TableFault
 need_in members = do
@@ -25,7 +32,6 @@ need_in members = do
     secure = flag_at (codes "secure") members;
   })
 
--- the needs at a key: none unless they are written
 abbrev pub need_read : Option Members → Result Need TableFault
 need_read None = Ok no_need
 need_read (Some members) = need_in members

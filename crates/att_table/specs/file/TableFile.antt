@@ -1,11 +1,12 @@
--- The table file: the attributes that a document gives, or its first fault, read from its beginning.
--- The format is this profile's own; what is made of it is Core 5.0, Vol 3 Part G, 3.
+-- The attributes of a table file, or its first fault. The format is this profile's own, the result
+-- that of Core 5.0, Vol 3 Part G, 3.
 use Rattle.std.specs.Prelude.{◌+◌, Bool, false, not, ◌||◌, if◌then◌else◌, [], ◌∷◌, ◌++◌, Result, Ok, codes, is_some}
-use Rattle.octets.specs.Number.{Octets, two_octets}
+use Rattle.octet_io.specs.Number.{Octets, two_octets}
+use Rattle.octet_io.specs.Text.{as_text}
 use Rattle.toml.specs.Data.{Data, Members, as_integer, as_table}
 use Rattle.toml.specs.Parse.{parse_document}
-use Rattle.toml_tables.specs.Reading.{◌>>=◌, unless, require, each, flag_at, array_at, items_at, table_at}
-use Rattle.toml_tables.specs.Shape.{is_shaped}
+use Rattle.toml_schema.specs.Reading.{◌>>=◌, unless, require, each, flag_at, array_at, items_at, table_at}
+use Rattle.toml_schema.specs.Shape.{is_shaped}
 use Rattle.att_numbers.specs.AttributeType.{type_octets}
 use Rattle.att_numbers.specs.Types.{Handle, AttributeType}
 use Rattle.att_numbers.specs.declared.attribute_type.TheConstants.{PRIMARY_SERVICE, SECONDARY_SERVICE, INCLUDE, CHARACTERISTIC, CLIENT_CHARACTERISTIC_CONFIGURATION}
@@ -25,11 +26,10 @@ use Rattle.att_table.specs.file.Placed.{next_handle, add, declare}
 use Rattle.att_table.specs.file.Service.{earlier_service, include_value}
 use Rattle.att_table.specs.Table.{Contents}
 
--- what may be done with a descriptor, and with a client configuration, at most: reading and writing
+-- The properties that a descriptor or a client configuration may have.
 abbrev pub read_and_write : Properties
 read_and_write = all_properties (READ ∷ WRITE ∷ [])
 
--- a descriptor
 abbrev pub descriptor_step : Contents → Data → Result Contents TableFault
 descriptor_step table value = do
   members ← require (as_table value) Shape
@@ -37,17 +37,18 @@ descriptor_step table value = do
   placed ← placed_of Descriptor (next_handle table) read_and_write members
   add table placed.0 placed.1
 
--- what writing the client configuration needs, which only a value that notifies or indicates has
+-- Only a value that notifies or indicates has a client configuration.
 abbrev pub is_announced : Properties → Bool
 is_announced properties = has_any properties (all_properties (NOTIFY ∷ INDICATE ∷ []))
 
 abbrev pub config_at : Properties → Members → Result Need TableFault
 config_at properties members = do
   need ← need_at (codes "config") members
-  _ ← unless (is_announced properties || not (is_some (table_at (codes "config") members))) BadProperty
+  _ ← unless (is_announced properties || not (is_some (table_at (codes "config") members)))
+      BadProperty
   Ok need
 
--- a client configuration, of which each client has its own: the table holds none
+-- Each client has its own client configuration; the table stores none.
 abbrev pub configuration : Handle → Need → Attr
 configuration handle need = record {
   handle = handle;
@@ -60,11 +61,14 @@ configuration handle need = record {
 
 abbrev pub configure : Contents → Properties → Need → Result Contents TableFault
 configure table properties need =
-    if is_announced properties then add table (configuration (next_handle table) need) [] else Ok table
+    if is_announced properties then add table (configuration (next_handle table) need) []
+    else Ok table
 
--- a characteristic: its declaration, its value, its client configuration, its descriptors (Core 5.0, Vol 3 Part G, 3.3)
+-- A characteristic: declaration, value, client configuration, descriptors (Core 5.0, Vol 3 Part G,
+-- 3.3).
 abbrev pub characteristic_value : Attr → Octets
-characteristic_value attr = attr.guard.properties.0 ∷ two_octets attr.handle ++ type_octets attr.kind
+characteristic_value attr =
+    attr.guard.properties.0 ∷ two_octets attr.handle ++ type_octets attr.kind
 
 abbrev pub characterize : Contents → Attr → Octets → Need → Result Contents TableFault
 characterize table attr value need = do
@@ -84,16 +88,17 @@ characteristic_step table value = do
   characterized ← characterize table placed.0 placed.1 need
   each descriptor_step characterized (items_at (codes "descriptor") members)
 
--- an include of an earlier service (Core 5.0, Vol 3 Part G, 3.2)
+-- An include of an earlier service (Core 5.0, Vol 3 Part G, 3.2).
 abbrev pub include_step : Contents → Data → Result Contents TableFault
 include_step table value = do
   position ← require (as_integer value) Shape
   service ← require (earlier_service table.attributes position) BadInclude
   declare table INCLUDE (include_value table.values service)
 
--- a service: its declaration, its includes, its characteristics (Core 5.0, Vol 3 Part G, 3.1)
+-- A service: declaration, includes, characteristics (Core 5.0, Vol 3 Part G, 3.1).
 abbrev pub service_type_at : Members → AttributeType
-service_type_at members = if flag_at (codes "secondary") members then SECONDARY_SERVICE else PRIMARY_SERVICE
+service_type_at members = if flag_at (codes "secondary") members then SECONDARY_SERVICE
+    else PRIMARY_SERVICE
 
 abbrev pub service_step : Contents → Data → Result Contents TableFault
 service_step table value = do
@@ -104,7 +109,7 @@ service_step table value = do
   included ← each include_step declared (items_at (codes "include") members)
   each characteristic_step included (items_at (codes "characteristic") members)
 
--- the table of a document, which has a service for each table of its array
+-- The document has a table for each service.
 abbrev pub no_attributes : Contents
 no_attributes = record { attributes = []; values = [] }
 
@@ -114,8 +119,11 @@ table_of members = do
   services ← require (array_at (codes "service") members) (Missing Service)
   each service_step no_attributes services
 
--- the table of a text
 abbrev pub table_read : Octets → Result Contents TableFault
 table_read text = do
   members ← require (parse_document text) NotToml
   table_of members
+
+-- The table of a file with these bytes.
+unfoldable pub table_in : Octets → Result Contents TableFault
+table_in bytes = as_text table_read NotToml bytes

@@ -1,7 +1,7 @@
 //! The characteristics of a service in a table file.
 
 ghost use Rattle.std.specs.Prelude.{◌≡◌, ◌+◌, ◌≤◌, true, length};
-ghost use Rattle.octets.specs.Memory.{Leaves};
+ghost use Rattle.octet_io.specs.Memory.{Leaves};
 ghost use Rattle.toml.specs.View.{table_view};
 ghost use Rattle.att_attributes.specs.declared.attr.Role.TheVariants.{Declaration};
 ghost use Rattle.att_attributes.specs.Attributes.{is_value};
@@ -24,7 +24,6 @@ use att_policy::{Guard, Need, Properties};
 use bitflags::Flags;
 use toml::{Table, Value};
 
-/// What the properties of a characteristic may be: all of this profile.
 const ALLOWED: Properties = Properties(
     Properties::READ.0
         | Properties::WRITE_WITHOUT_RESPONSE.0
@@ -33,14 +32,14 @@ const ALLOWED: Properties = Properties(
         | Properties::INDICATE.0,
 );
 
-/// The properties of a characteristic that has a client configuration: notify and indicate.
+/// The properties that require a CCCD.
 const ANNOUNCED: Properties = Properties(Properties::NOTIFY.0 | Properties::INDICATE.0);
 
-/// What a client configuration may be: read and written.
+/// The properties of a CCCD.
 const CONFIGURABLE: Properties = Properties(Properties::READ.0 | Properties::WRITE.0);
 
-/// A characteristic of a service: its declaration, its value, its client configuration where it
-/// notifies or indicates, and its descriptors. (Core 5.0, Vol 3 Part G, 3.3)
+/// A characteristic: declaration, value, CCCD if it notifies or indicates, and other descriptors
+/// (Core 5.0, Vol 3 Part G, 3.3).
 pub struct Characteristic;
 
 impl Part for Characteristic {
@@ -48,7 +47,7 @@ impl Part for Characteristic {
 
     fn read(draft: &mut Draft, element: &Value) -> Result<(), TableFault> {
         let table = element.as_table().ok_or(TableFault::Shape)?;
-        if !toml_tables::is_shaped(table, &keys::CHARACTERISTIC) {
+        if !toml_schema::is_shaped(table, &keys::CHARACTERISTIC) {
             return Err(TableFault::Shape);
         }
         let mut value = ArrayVec::new();
@@ -56,16 +55,15 @@ impl Part for Characteristic {
         let attr = placed::read_placed(table, Role::Value, handle, ALLOWED, &mut value)?;
         let need = read_config(table, attr.guard.properties)?;
         characterize(draft, attr, value.as_slice(), need)?;
-        part::read_all::<Descriptor>(draft, toml_tables::items(table, "descriptor"))
+        part::read_all::<Descriptor>(draft, toml_schema::items(table, "descriptor"))
     }
 }
 
-/// What writing the client configuration needs: `BadProperty` where needs are written for one that
-/// a characteristic with these properties does not have.
+/// Reads the requirements for writing the CCCD. `BadProperty`: given without a CCCD.
 fn read_config(table: &Table, properties: Properties) -> Result<Need, TableFault>
     ensures { result ≡ config_at properties (table_view table.now) }
 {
-    let config = toml_tables::table(table, "config");
+    let config = toml_schema::table(table, "config");
     let need = needs::read_need(config)?;
     if !is_announced(properties) && config.is_some() {
         return Err(TableFault::BadProperty);
@@ -73,14 +71,13 @@ fn read_config(table: &Table, properties: Properties) -> Result<Need, TableFault
     Ok(need)
 }
 
-/// Whether a characteristic with these properties notifies or indicates.
 fn is_announced(properties: Properties) -> bool
     ensures { result ≡ is_announced properties }
 {
     properties.intersects(ANNOUNCED)
 }
 
-/// Adds the declaration, the value and the client configuration of a characteristic.
+/// Adds the declaration, value and CCCD of a characteristic.
 fn characterize(draft: &mut Draft, attr: Attr, value: &[u8], need: Need) -> Result<(), TableFault>
     requires handle { attr.handle ≡ next_handle draft.old + 1 }
     requires role { attr.role ≡ Role.Value }
@@ -94,7 +91,6 @@ fn characterize(draft: &mut Draft, attr: Attr, value: &[u8], need: Need) -> Resu
     configure(draft, attr.guard.properties, need)
 }
 
-/// The value of the declaration of a characteristic with this value.
 fn characteristic_value(attr: &Attr) -> ArrayVec<u8, MAX_DECLARATION>
     ensures { result.items ≡ characteristic_value attr.now }
 {
@@ -109,7 +105,6 @@ fn characteristic_value(attr: &Attr) -> ArrayVec<u8, MAX_DECLARATION>
     octets
 }
 
-/// Adds the client configuration of a characteristic with these properties, if it has one.
 fn configure(draft: &mut Draft, properties: Properties, need: Need) -> Result<(), TableFault>
     requires { is_value (last_role Declaration draft.old.attributes) ≡ true }
     ensures { Leaves OutOfMemory (configure draft.old properties need) result draft.new }

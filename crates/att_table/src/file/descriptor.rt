@@ -11,10 +11,9 @@ use att_attributes::Role;
 use att_policy::Properties;
 use toml::Value;
 
-/// What the properties of a descriptor may be: read and write.
 const ALLOWED: Properties = Properties(Properties::READ.0 | Properties::WRITE.0);
 
-/// A descriptor of a characteristic, other than its client configuration.
+/// A descriptor other than the CCCD.
 pub struct Descriptor;
 
 impl Part for Descriptor {
@@ -22,7 +21,7 @@ impl Part for Descriptor {
 
     fn read(draft: &mut Draft, element: &Value) -> Result<(), TableFault> {
         let table = element.as_table().ok_or(TableFault::Shape)?;
-        if !toml_tables::is_shaped(table, &keys::DESCRIPTOR) {
+        if !toml_schema::is_shaped(table, &keys::DESCRIPTOR) {
             return Err(TableFault::Shape);
         }
         let mut value = ArrayVec::new();

@@ -1,7 +1,7 @@
-//! A table as it is read from a file: it grows by one attribute at a time, within its limits.
+//! A table under construction from a file, within its limits.
 
 ghost use Rattle.std.specs.Prelude.{◌≡◌, ◌+◌, ◌≤◌, ◌<◌, [], length, OnOk, IfOk, IfSome, IsSome};
-ghost use Rattle.octets.specs.Memory.{Leaves};
+ghost use Rattle.octet_io.specs.Memory.{Leaves};
 ghost use Rattle.att_attributes.specs.declared.attr.Role.TheVariants.{Declaration};
 ghost use Rattle.att_attributes.specs.Attributes.{attribute_at, is_configuration};
 ghost use Rattle.att_table.specs.declared.table_fault.TableFault.TheVariants.{OutOfMemory};
@@ -21,7 +21,7 @@ use att_policy::{Guard, Need, Properties};
 use std::alloc::{AllocError, Global};
 use std::marker::Model;
 
-/// A table that grows, with what counts towards its limits.
+/// A growing table with the counts for its limits.
 #[derive(Drop)]
 pub struct Draft {
     table: TableBuilder,
@@ -42,7 +42,6 @@ impl Model for Draft {
 }
 
 impl Draft {
-    /// A draft with no attributes.
     pub fn new(alloc: Global) -> Self
         ensures attributes { result.attributes ≡ [] }
         ensures values { result.values ≡ [] }
@@ -54,21 +53,19 @@ impl Draft {
         }
     }
 
-    /// The table that was made.
+    /// Builds the table.
     pub fn finish(self, alloc: Global) -> Result<Table, AllocError>
         ensures { IfOk result (λ table. table ≡ self) }
     {
         self.table.finish(alloc)
     }
 
-    /// The table so far.
     pub fn table(&self) -> &TableBuilder
         ensures { result.now ≡ self.now }
     {
         &self.table
     }
 
-    /// The service at a position, counted from 0, among those that another one follows.
     #[tactic(auto, using(crate::proofs::Services::earlier_exists))]
     pub fn earlier_service(&self, position: i64) -> Option<ServiceHandles>
         ensures service { result ≡ earlier_service self.now.attributes position }
@@ -78,7 +75,6 @@ impl Draft {
         include::earlier_service(self.table.attributes(), position)
     }
 
-    /// The handle of the next attribute.
     pub fn next_handle(&self) -> u16
         ensures next { result ≡ next_handle self.now }
         ensures within { result ≤ MAX_ATTRIBUTES + 1 }
@@ -86,7 +82,7 @@ impl Draft {
         self.table.len() as u16 + 1
     }
 
-    /// Adds an attribute at the next handle, with its value: `TooMany` where a limit is passed.
+    /// Adds an attribute with its value at the next handle. `TooMany`: past a limit.
     pub fn add(&mut self, attr: Attr, value: &[u8]) -> Result<(), TableFault>
         requires { IsNext self.old.attributes attr value.now }
         ensures added { Leaves OutOfMemory (add self.old attr value.now) result self.new }
@@ -107,7 +103,7 @@ impl Draft {
         Ok(())
     }
 
-    /// Adds a declaration of this type, which anybody may read.
+    /// Adds a declaration that every client may read.
     pub fn declare(&mut self, kind: u128, value: &[u8]) -> Result<(), TableFault>
         requires { length value.now ≤ MAX_DECLARATION }
         ensures declared { Leaves OutOfMemory (declare self.old kind value.now) result self.new }
@@ -129,14 +125,12 @@ impl Draft {
     }
 }
 
-/// Whether an attribute of this role is a client characteristic configuration.
 fn is_configuration(role: Role) -> bool
     ensures { result ≡ is_configuration role }
 {
     role == Role::Configuration
 }
 
-/// The octets that count towards the limit, of an attribute of this role.
 fn counted_octets(role: Role, largest: u16) -> u16
     ensures { result ≡ counted_octets role largest }
 {

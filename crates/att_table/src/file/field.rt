@@ -1,4 +1,4 @@
-//! The fields of a characteristic or of another descriptor that are texts and numbers.
+//! The text and number fields of a characteristic or descriptor.
 
 ghost use Rattle.std.specs.Prelude.{◌≡◌, ◌≤◌, [], is_ok};
 ghost use Rattle.std.specs.Char.{is_ascii_hexdigit};
@@ -12,12 +12,11 @@ use arrayvec::ArrayVec;
 use att_numbers::limit::MAX_VALUE;
 use att_policy::Properties;
 
-/// What makes a buffer longer.
 const ZEROS: [u8; MAX_VALUE] = [0; MAX_VALUE];
 
-/// Puts the value that a text writes, two hexadecimal digits an octet, into an empty buffer:
-/// `BadHex` where it is not an even number of digits, or else `TooLong` where it has more than
-/// `MAX_VALUE` octets.
+/// Reads a value in hexadecimal into an empty buffer.
+///
+/// `BadHex`: not an even number of digits. `TooLong`: more than `MAX_VALUE` octets.
 pub fn read_value(text: &str, value: &mut ArrayVec<u8, MAX_VALUE>) -> Result<(), TableFault>
     requires { value.old.items ≡ [] }
     ensures { result_map_both (λ _. value.new.items) (λ fault. fault) result
@@ -36,23 +35,21 @@ pub fn read_value(text: &str, value: &mut ArrayVec<u8, MAX_VALUE>) -> Result<(),
     Ok(())
 }
 
-/// Whether a text is an even number of hexadecimal digits.
 fn is_hex(text: &str) -> bool
     ensures { result ≡ is_ok (decode_of text.now) }
 {
     text.len() % 2 == 0 && has_only_digits(text)
 }
 
-/// Whether each character of a text is a hexadecimal digit.
 fn has_only_digits(text: &str) -> bool
     ensures { result ≡ list_all is_ascii_hexdigit text.now }
 {
     text.bytes().all(|digit| digit.is_ascii_hexdigit())
 }
 
-/// The largest length that a value of this length may have, in octets: its length, unless `max`
-/// says another. `TooLong` where `max` is below the length or above `MAX_VALUE`, or is another
-/// length than that of a value whose length is fixed.
+/// Returns the largest length of a value in octets, `max` or else its length.
+///
+/// `TooLong`: `max` below the length, above `MAX_VALUE`, or not the length of a fixed value.
 pub fn read_largest(max: Option<i64>, fixed: bool, length: usize) -> Result<u16, TableFault>
     requires { length ≤ MAX_VALUE }
     ensures { result ≡ largest_of max fixed length }
@@ -70,8 +67,7 @@ pub fn read_largest(max: Option<i64>, fixed: bool, length: usize) -> Result<u16,
     Ok(largest)
 }
 
-/// The property that a word names, `None` where it names none. `command` is a write without
-/// response.
+/// Reads a property; `command` is a write without response.
 pub fn read_property(word: &str) -> Option<Properties>
     ensures { result ≡ property_named word.now }
 {
@@ -85,7 +81,7 @@ pub fn read_property(word: &str) -> Option<Properties>
     }
 }
 
-/// The key size that a need asks for, in octets: `BadSecurity` unless it is from 7 to 16.
+/// Returns the required key size in octets. `BadSecurity`: not 7 to 16.
 pub fn key_size(size: Option<i64>) -> Result<Option<u8>, TableFault>
     ensures { result ≡ key_size_asked size }
 {

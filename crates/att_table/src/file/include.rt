@@ -14,16 +14,14 @@ use att_attributes::{Attr, is_service};
 use att_numbers::attribute_type::INCLUDE;
 use toml::Value;
 
-/// A service of a table, by the handles of its first and its last attribute.
+/// The first and last handle of a service.
 #[derive(Clone, Copy)]
 pub struct ServiceHandles {
-    /// The handle of its declaration.
     pub first: u16,
-    /// The handle of its last attribute.
     pub last: u16,
 }
 
-/// An include of an earlier service: Core 5.0, Vol 3 Part G, 3.2.
+/// An include of an earlier service (Core 5.0, Vol 3 Part G, 3.2).
 pub struct Include;
 
 impl Part for Include {
@@ -39,8 +37,7 @@ impl Part for Include {
     }
 }
 
-/// The value of the declaration of an include: the service's first and last handle, and its type
-/// where that has 16 bits.
+/// Returns an include's value: first and last handle, and a 16-bit type.
 fn include_value(table: &TableBuilder, service: ServiceHandles) -> ArrayVec<u8, 6>
     requires { IsSome (attribute_at table.now.attributes service.first) }
     ensures { result.items ≡ include_value table.now.values service }
@@ -59,14 +56,13 @@ fn include_value(table: &TableBuilder, service: ServiceHandles) -> ArrayVec<u8, 
     octets
 }
 
-/// The service at a position, counted from 0, among those that another one follows.
+/// Returns a service by position from 0; the one being read does not count.
 pub fn earlier_service(attributes: &[Attr], position: i64) -> Option<ServiceHandles>
     ensures { result ≡ earlier_service attributes.now position }
 {
     service_at(attributes, usize::try_from(position).ok()?)
 }
 
-/// The service at a position among those that another one follows.
 #[tactic(auto, using(crate::proofs::Services::later_place))]
 fn service_at(attributes: &[Attr], position: usize) -> Option<ServiceHandles>
     ensures { result ≡ slice_get (earlier_services attributes.now) position }
@@ -84,7 +80,6 @@ fn service_at(attributes: &[Attr], position: usize) -> Option<ServiceHandles>
     None
 }
 
-/// The service that an attribute begins, if another one follows.
 fn followed_service(attr: Attr, rest: &[Attr]) -> Option<ServiceHandles>
     ensures { result ≡ followed_service attr rest.now }
 {
@@ -98,7 +93,6 @@ fn followed_service(attr: Attr, rest: &[Attr]) -> Option<ServiceHandles>
     })
 }
 
-/// The handle of the last attribute before the next service, if one follows.
 fn followed_end(handle: u16, rest: &[Attr]) -> Option<u16>
     ensures { result ≡ followed_end handle rest.now }
 {

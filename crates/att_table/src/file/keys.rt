@@ -1,14 +1,12 @@
-//! The keys that each table of a table file may have, and the TOML type of each.
+//! The allowed keys of a table file and their TOML types.
 
-use toml_tables::{Key, Shape};
+use toml_schema::{Key, Shape};
 
-/// The keys of the root.
 pub const ROOT: [Key; 1] = [Key {
     name: "service",
     shape: Shape::Tables,
 }];
 
-/// The keys of a service.
 pub const SERVICE: [Key; 4] = [
     Key {
         name: "uuid",
@@ -28,7 +26,6 @@ pub const SERVICE: [Key; 4] = [
     },
 ];
 
-/// The keys of a characteristic.
 pub const CHARACTERISTIC: [Key; 9] = [
     Key {
         name: "config",
@@ -68,7 +65,6 @@ pub const CHARACTERISTIC: [Key; 9] = [
     },
 ];
 
-/// The keys of a descriptor.
 pub const DESCRIPTOR: [Key; 7] = [
     Key {
         name: "uuid",
@@ -100,7 +96,7 @@ pub const DESCRIPTOR: [Key; 7] = [
     },
 ];
 
-/// The keys of a table of needs.
+/// The keys of a requirements table.
 pub const NEED: [Key; 5] = [
     Key {
         name: "encrypted",

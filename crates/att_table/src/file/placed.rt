@@ -1,10 +1,9 @@
-//! What the tables of a characteristic and of another descriptor have in common: a value, and who
-//! may use it.
+//! The common fields of characteristics and other descriptors: a value and its access rules.
 
 ghost use Rattle.std.specs.Prelude.{◌≡◌, ◌≤◌, true, [], length, IfOk};
 ghost use Rattle.std.specs.Result.{result_map_both};
 ghost use Rattle.toml.specs.View.{view, items_view, table_view};
-ghost use Rattle.toml_tables.specs.Reading.{each};
+ghost use Rattle.toml_schema.specs.Reading.{each};
 ghost use Rattle.att_table.specs.file.Fields.{attribute_type_in, value_type_at, no_properties, property_step, properties_at, value_read_at, placed_of};
 
 use crate::file::{field, needs, type_text};
@@ -16,15 +15,15 @@ use att_policy::{Guard, Properties};
 use bitflags::Flags;
 use toml::{Table, Value};
 
-/// The type at `uuid`.
+/// Reads the type at `uuid`.
 pub fn read_type(table: &Table) -> Result<u128, TableFault>
     ensures { result ≡ attribute_type_in (table_view table.now) }
 {
-    let uuid = toml_tables::text(table, "uuid").ok_or(TableFault::Missing(TableKey::Uuid))?;
+    let uuid = toml_schema::text(table, "uuid").ok_or(TableFault::Missing(TableKey::Uuid))?;
     type_text::read_type(uuid).ok_or(TableFault::BadUuid)
 }
 
-/// The type at `uuid`, where a value may have it.
+/// Reads the type at `uuid` and rejects those of declarations and CCCDs.
 fn read_value_type(table: &Table) -> Result<u128, TableFault>
     ensures { result ≡ value_type_at (table_view table.now) }
 {
@@ -35,17 +34,15 @@ fn read_value_type(table: &Table) -> Result<u128, TableFault>
     Ok(kind)
 }
 
-/// The properties at `properties`, each one of those that are allowed.
 fn read_properties(table: &Table, allowed: Properties) -> Result<Properties, TableFault>
     ensures { result ≡ properties_at allowed (table_view table.now) }
 {
-    let words = toml_tables::array(table, "properties").ok_or(TableFault::Missing(
+    let words = toml_schema::array(table, "properties").ok_or(TableFault::Missing(
         TableKey::Properties,
     ))?;
     properties_of(words, allowed)
 }
 
-/// The properties that all these words name.
 fn properties_of(words: &[Value], allowed: Properties) -> Result<Properties, TableFault>
     ensures { result ≡ each (property_step allowed) no_properties (items_view words.now) }
 {
@@ -56,7 +53,6 @@ fn properties_of(words: &[Value], allowed: Properties) -> Result<Properties, Tab
     Ok(properties)
 }
 
-/// The properties with the one that a word names.
 fn with_property(
     allowed: Properties,
     properties: Properties,
@@ -72,18 +68,16 @@ fn with_property(
     Ok(properties.union(property))
 }
 
-/// Puts the value at `value` into an empty buffer.
 fn read_value(table: &Table, value: &mut ArrayVec<u8, MAX_VALUE>) -> Result<(), TableFault>
     requires { value.old.items ≡ [] }
     ensures { result_map_both (λ _. value.new.items) (λ fault. fault) result
         ≡ value_read_at (table_view table.now) }
 {
-    let text = toml_tables::text(table, "value").ok_or(TableFault::Missing(TableKey::Value))?;
+    let text = toml_schema::text(table, "value").ok_or(TableFault::Missing(TableKey::Value))?;
     field::read_value(text, value)
 }
 
-/// The attribute that a table describes, at a handle, with its value put into an empty buffer. The
-/// fields are judged in the order of the format.
+/// Reads an attribute, its value into an empty buffer. Checks fields in the format's order.
 pub fn read_placed(
     table: &Table,
     role: Role,
@@ -104,8 +98,8 @@ pub fn read_placed(
     let kind = read_value_type(table)?;
     let properties = read_properties(table, allowed)?;
     read_value(table, value)?;
-    let fixed = toml_tables::flag(table, "fixed");
-    let largest = field::read_largest(toml_tables::integer(table, "max"), fixed, value.len())?;
+    let fixed = toml_schema::flag(table, "fixed");
+    let largest = field::read_largest(toml_schema::integer(table, "max"), fixed, value.len())?;
     let read = needs::read_need_at(table, "read")?;
     let write = needs::read_need_at(table, "write")?;
     Ok(Attr {

@@ -14,7 +14,7 @@ use att_attributes::type_octets;
 use att_numbers::attribute_type::{PRIMARY_SERVICE, SECONDARY_SERVICE};
 use toml::{Table, Value};
 
-/// A service: its declaration, its includes and its characteristics. (Core 5.0, Vol 3 Part G, 3.1)
+/// A service: declaration, includes and characteristics (Core 5.0, Vol 3 Part G, 3.1).
 pub struct Service;
 
 impl Part for Service {
@@ -22,21 +22,20 @@ impl Part for Service {
 
     fn read(draft: &mut Draft, element: &Value) -> Result<(), TableFault> {
         let table = element.as_table().ok_or(TableFault::Shape)?;
-        if !toml_tables::is_shaped(table, &keys::SERVICE) {
+        if !toml_schema::is_shaped(table, &keys::SERVICE) {
             return Err(TableFault::Shape);
         }
         let uuid = type_octets(placed::read_type(table)?);
         draft.declare(service_type(table), uuid.as_slice())?;
-        part::read_all::<Include>(draft, toml_tables::items(table, "include"))?;
-        part::read_all::<Characteristic>(draft, toml_tables::items(table, "characteristic"))
+        part::read_all::<Include>(draft, toml_schema::items(table, "include"))?;
+        part::read_all::<Characteristic>(draft, toml_schema::items(table, "characteristic"))
     }
 }
 
-/// The type of a service's declaration.
 fn service_type(table: &Table) -> u128
     ensures { result ≡ service_type_at (table_view table.now) }
 {
-    if toml_tables::flag(table, "secondary") {
+    if toml_schema::flag(table, "secondary") {
         SECONDARY_SERVICE
     } else {
         PRIMARY_SERVICE

@@ -10,15 +10,13 @@ use att_numbers::attribute_type::{
 };
 use uuid::Uuid;
 
-/// The type that a text names: four hexadecimal digits for one of 16 bits, or a UUID in any of its
-/// text forms. `None` where it is neither.
+/// Reads a type: four hexadecimal digits, or a UUID in any text form.
 pub fn read_type(text: &str) -> Option<u128>
     ensures { result ≡ type_named text.now }
 {
     read_short(text).or_else(|| read_long(text))
 }
 
-/// The type of 16 bits that four hexadecimal digits name.
 fn read_short(text: &str) -> Option<u128>
     ensures { result ≡ short_type_named text.now }
 {
@@ -27,7 +25,6 @@ fn read_short(text: &str) -> Option<u128>
     Some(attribute_type::from_16_bits(u16::from_be_bytes(octets)))
 }
 
-/// The type that a UUID names.
 fn read_long(text: &str) -> Option<u128>
     ensures { result ≡ long_type_named text.now }
 {
@@ -35,8 +32,9 @@ fn read_long(text: &str) -> Option<u128>
     Some(uuid.as_u128())
 }
 
-/// Whether a characteristic value or a descriptor may have this type: none has that of a
-/// declaration, and a client characteristic configuration is written in another way.
+/// Returns true if a value or descriptor in a file may have this type.
+///
+/// Declarations and CCCDs are written in other ways.
 pub fn is_type_of_value(kind: u128) -> bool
     ensures { result ≡ is_type_of_value kind }
 {

@@ -30,8 +30,8 @@ use Rattle.gatt_laws.specs.machine.Context.{Context, context_of}
 use Rattle.gatt_laws.specs.machine.Event.{Ordinal, Event, Happening, Update, Tick, Replaced}
 use Rattle.gatt_laws.specs.machine.Input.{Run, after_result, refusal_in}
 use Rattle.gatt_laws.specs.machine.State.{State, out}
-use Rattle.gatt_slots.specs.Slots.{Place}
-use Rattle.octets.specs.Number.{Octets}
+use Rattle.host_connections.specs.Slots.{Place}
+use Rattle.octet_io.specs.Number.{Octets}
 
 -- nothing that is put together is changed by what is asked
 abbrev LeavesFrames : Result (Happening Place) Refused → Type 0

@@ -17,9 +17,9 @@ use Rattle.gatt_laws.specs.machine.ConnectionState.{ConnectionState, is_there}
 use Rattle.gatt_laws.specs.laws.RowsOfTheTable.{HasRowsOfItsTable}
 use Rattle.gatt_laws.specs.laws.WaitingOfTheTable.{MayWait, HasWaitingOfItsTable}
 use Rattle.gatt_laws.specs.machine.State.{State}
-use Rattle.gatt_slots.specs.OfTable.{IsOfTable, SlotIsOfTable, HasBondsOfTable, AreOfTable}
-use Rattle.gatt_slots.specs.SlotState.{SlotState, slot_state_of}
-use Rattle.gatt_slots.specs.Slots.{slot_state_at}
+use Rattle.host_connections.specs.OfTable.{IsOfTable, SlotIsOfTable, HasBondsOfTable, AreOfTable}
+use Rattle.host_connections.specs.SlotState.{SlotState, slot_state_of}
+use Rattle.host_connections.specs.Slots.{slot_state_at}
 use Rattle.gatt_subs.specs.declared.bond.Bond.{Bond}
 use Rattle.le_security.specs.Keys.{is_known}
 

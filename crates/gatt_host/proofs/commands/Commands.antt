@@ -14,26 +14,9 @@ use Rattle.gatt_laws.specs.laws.Placed.{WaitsOnce, IsPlaced}
 use Rattle.gatt_laws.specs.machine.SharedState.{SharedState}
 use Rattle.gatt_laws.specs.laws.Settled.{has_slot, IsSettled}
 use Rattle.gatt_laws.specs.machine.State.{State, command_octets, with_commands_sent}
-use Rattle.gatt_slots.specs.Commands as slot_state
+use Rattle.host_connections.specs.Commands as slot_state
 use Rattle.le_hci.specs.Command.{Commanded}
 use Rattle.le_hci.specs.Init.{command_awaited}
-
--- tests
-pub left_false : (one other : Bool) → (one || other) ≡ false → one ≡ false
-left_false false other is = refl
-left_false true other is = cc is
-
-pub right_false : (one other : Bool) → (one || other) ≡ false → other ≡ false
-right_false false other is = is
-right_false true other is = cc is
-
-pub right_true : (one other : Bool) → other ≡ true → (one || other) ≡ true
-right_true true other is = refl
-right_true false other is = is
-
-pub left_true : (one other : Bool) → one ≡ true → (one || other) ≡ true
-left_true true other is = refl
-left_true false other is = cc is
 
 pub same_too : (one other : Ordinal) → (one == other) ≡ false → (other == one) ≡ false
 same_too one other is =

@@ -3,20 +3,20 @@ use Rattle.std.proofs.Common.{◌≡◌, ℕ, zero, suc, ◌+◌, ◌-◌, ◌<�
 use Rattle.std.specs.Prelude.{is_some, is_none, nat_lt, ◌&&◌, ◌||◌, ◌==◌, not, if◌then◌else◌}
 use Rattle.std.specs.Option.{option_map, option_or, option_to_list}
 use Rattle.std.proofs.Math.Bool.{or-false}
-use Rattle.std.proofs.lemmas.Bool.{cases_lt, eqb-true, le-ltb, lt-ltb, ltb-false, ltb-true}
-use Rattle.gatt_host.proofs.commands.Commands.{Touched, OneSent, Facts, command_goes, either_unchanged, none_after, right_true}
+use Rattle.std.proofs.lemmas.Bool.{cases_lt, eqb-true, le-ltb, lt-ltb, ltb-false, ltb-true, or_right}
+use Rattle.gatt_host.proofs.commands.Commands.{Touched, OneSent, Facts, command_goes, either_unchanged, none_after}
 use Rattle.gatt_host.proofs.owing.Nexts.{clash, some_of, takes_enabling, takes_init, takes_none, takes_slot}
 use Rattle.gatt_host.proofs.commands.SlotCommands.{NoneDue, Other, Behind, Without, FirstDue, NoCommand, ACommand, moved, other_part, own_part, room_same, search_slots, told_same}
 use Rattle.gatt_host.specs.GoingOut.{with_first, init_command, first_slot_command, command_next, has_free_slot, slots_commanded}
-use Rattle.gatt_slots.specs.Commands.{has_command}
+use Rattle.host_connections.specs.Commands.{has_command}
 use Rattle.gatt_host.specs.Owing.{Handed, slot_states_handed, left_of, SendsTheFirst}
 use Rattle.gatt_laws.specs.machine.Controller.{Controller, command_for, commands_for, command_of_init, commands_due, commands_sent, controller_after, count_before, disconnect_or, enabling, has_free, is_enabling, reply_due, without_command, after_sending}
 use Rattle.gatt_laws.specs.machine.Event.{Ordinal}
 use Rattle.gatt_laws.specs.machine.ConnectionState.{ConnectionState, KeyReply}
 use Rattle.gatt_laws.specs.laws.Settled.{has_slot}
 use Rattle.gatt_laws.specs.machine.State.{State, at_ordinal, command_octets, with_commands_sent}
-use Rattle.gatt_slots.specs.Commands as slot_state
-use Rattle.gatt_slots.specs.SlotState.{SlotState}
+use Rattle.host_connections.specs.Commands as slot_state
+use Rattle.host_connections.specs.SlotState.{SlotState}
 use Rattle.le_hci.specs.Command.{Commanded, LeSetAdvertiseEnable}
 use Rattle.le_hci.specs.Init.{command_awaited}
 
@@ -109,7 +109,7 @@ module _ (state : State) (handed : Handed) (facts : Facts state handed) where
       let none : state.slots ≡ [] = facts.settled.early (ap is_none effect.is) in
       let new : Controller = controller_after state.controller (command ∷ []) in
       let awaits : new.awaiting ≡ true =
-      (λ i. state.controller.awaiting || (is_some (effect.is i) && takes i)) ∙ right_true state.controller.awaiting true refl in
+      (λ i. state.controller.awaiting || (is_some (effect.is i) && takes i)) ∙ or_right state.controller.awaiting true refl in
       let old_due : commands_due state.controller state.connections state.slots ≡ command ∷ [] =
       λ i. (if effect.waits i then [] else option_to_list (effect.is i)) ++ commands_for state.connections (none i) ++ enabling state.controller (none i) in
       let new_due : commands_due new state.connections state.slots ≡ [] =
@@ -225,7 +225,7 @@ module _ (state : State) (handed : Handed) (facts : Facts state handed) where
       no-turn-later state.controller.awaiting (nat_lt 0 state.controller.credit) (command_awaited state.controller.init) init in
       let free : (has_free state.slots && not state.controller.advertising && not state.controller.refused) ≡ true =
       sym (ap (λ (free : Bool). free && not state.controller.advertising && not state.controller.refused) same-room) ∙ may in
-      let advertises : new.advertising ≡ true = right_true state.controller.advertising true refl in
+      let advertises : new.advertising ≡ true = or_right state.controller.advertising true refl in
       let not_again : (has_free state.slots && not new.advertising && not state.controller.refused) ≡ false =
       ap (λ (advertising : Bool). has_free state.slots && not advertising && not state.controller.refused) advertises ∙ and-false (has_free state.slots) (not state.controller.refused) in
       let old_due : commands_due state.controller state.connections state.slots ≡ LeSetAdvertiseEnable ∷ [] =

@@ -2,11 +2,11 @@
 use Rattle.std.proofs.Common.{◌≡◌, ℕ, ◌+◌, Bool, true, false, [], ◌∷◌, ◌++◌, length, map, Some, None, refl, sym, ap, ◌∙◌, arith}
 use Rattle.std.specs.Prelude.{is_some, is_none, ◌||◌, ◌==◌, if◌then◌else◌}
 use Rattle.std.specs.Option.{option_map, option_or, option_to_list}
-use Rattle.std.proofs.lemmas.Bool.{eq-eqb, eqb-true}
-use Rattle.gatt_host.proofs.commands.Commands.{left_false, left_true, none_after, right_false, right_true, same_too}
+use Rattle.std.proofs.lemmas.Bool.{eq-eqb, eqb-true, or_right, or_left}
+use Rattle.gatt_host.proofs.commands.Commands.{none_after, same_too}
 use Rattle.gatt_host.proofs.owing.Nexts.{clash}
 use Rattle.gatt_host.specs.GoingOut.{with_first, first_slot_command, has_free_slot}
-use Rattle.gatt_slots.specs.Commands.{has_command}
+use Rattle.host_connections.specs.Commands.{has_command}
 use Rattle.gatt_host.specs.Owing.{Handed, slot_state_handed}
 use Rattle.gatt_laws.specs.machine.Controller.{Controller, Slots, command_for, commands_for, count_before, has_free, without_command}
 use Rattle.gatt_laws.specs.machine.Event.{Ordinal}
@@ -14,9 +14,10 @@ use Rattle.gatt_laws.specs.machine.ConnectionState.{ConnectionState, is_there}
 use Rattle.gatt_laws.specs.laws.Placed.{WaitsOnce}
 use Rattle.gatt_laws.specs.laws.Settled.{has_slot, HaveOneSlotEach}
 use Rattle.gatt_laws.specs.machine.State.{State, at_ordinal}
-use Rattle.gatt_slots.specs.Commands as slot_state
-use Rattle.gatt_slots.specs.SlotState.{slot_state_of, slot_state_if_there}
+use Rattle.host_connections.specs.Commands as slot_state
+use Rattle.host_connections.specs.SlotState.{slot_state_of, slot_state_if_there}
 use Rattle.le_hci.specs.Command.{Commanded}
+use Rattle.octet_io.proofs.Choices.{or_false_left, or_false_right}
 
 -- a state with another part at one ordinal, and another controller
 abbrev pub moved : State → Ordinal → ConnectionState → Controller → State
@@ -34,16 +35,16 @@ module _ (parts : Ordinal → ConnectionState) (ordinal : Ordinal) (new : Connec
   commands-same [] lacks = refl
   commands-same (None ∷ slots) lacks = commands-same slots lacks
   commands-same (Some one ∷ slots) lacks = λ i.
-      option_to_list (command_for (other_part parts ordinal one new (left_false (one == ordinal) (has_slot ordinal slots) lacks) i))
-      ++ commands-same slots (right_false (one == ordinal) (has_slot ordinal slots) lacks) i
+      option_to_list (command_for (other_part parts ordinal one new (or_false_left (one == ordinal) (has_slot ordinal slots) lacks) i))
+      ++ commands-same slots (or_false_right (one == ordinal) (has_slot ordinal slots) lacks) i
 
   count-same : (other : Ordinal) (slots : Slots) → has_slot ordinal slots ≡ false → count_before other (at_ordinal ordinal new parts) slots ≡ count_before other parts slots
   count-same other [] lacks = refl
   count-same other (None ∷ slots) lacks = count-same other slots lacks
   count-same other (Some one ∷ slots) lacks = λ i.
       if one == other then 0
-      else length (option_to_list (command_for (other_part parts ordinal one new (left_false (one == ordinal) (has_slot ordinal slots) lacks) i)))
-      + count-same other slots (right_false (one == ordinal) (has_slot ordinal slots) lacks) i
+      else length (option_to_list (command_for (other_part parts ordinal one new (or_false_left (one == ordinal) (has_slot ordinal slots) lacks) i)))
+      + count-same other slots (or_false_right (one == ordinal) (has_slot ordinal slots) lacks) i
 
 module _ (state : State) (handed : Handed) where
   pub held_same : (ordinal : Ordinal) (new : ConnectionState) (controller : Controller) (slots : Slots) → has_slot ordinal slots ≡ false
@@ -51,8 +52,8 @@ module _ (state : State) (handed : Handed) where
   held_same ordinal new controller [] lacks = refl
   held_same ordinal new controller (None ∷ slots) lacks = ap (λ later. None ∷ later) (held_same ordinal new controller slots lacks)
   held_same ordinal new controller (Some one ∷ slots) lacks =
-      let same = sym (other_part state.connections ordinal one new (left_false (one == ordinal) (has_slot ordinal slots) lacks)) in
-      λ i. slot_state_if_there state.shared (same i) (handed one) ∷ held_same ordinal new controller slots (right_false (one == ordinal) (has_slot ordinal slots) lacks) i
+      let same = sym (other_part state.connections ordinal one new (or_false_left (one == ordinal) (has_slot ordinal slots) lacks)) in
+      λ i. slot_state_if_there state.shared (same i) (handed one) ∷ held_same ordinal new controller slots (or_false_right (one == ordinal) (has_slot ordinal slots) lacks) i
 
   abbrev pub AllThere : Slots → Type 0
   AllThere slots = (ordinal : Ordinal) → has_slot ordinal slots ≡ true → is_there (state.connections ordinal).mark ≡ true
@@ -91,8 +92,8 @@ module _ (state : State) (handed : Handed) where
   room_same [] there = refl
   room_same (None ∷ slots) there = refl
   room_same (Some one ∷ slots) there = λ i.
-      is_none (held_there one (there one (left_true (one == one) (has_slot one slots) (eq-eqb one one refl))) i)
-      || room_same slots (λ ordinal has. there ordinal (right_true (one == ordinal) (has_slot ordinal slots) has)) i
+      is_none (held_there one (there one (or_left (one == one) (has_slot one slots) (eq-eqb one one refl))) i)
+      || room_same slots (λ ordinal has. there ordinal (or_right (one == ordinal) (has_slot ordinal slots) has)) i
 
   -- with another controller
   pub told_same : (controller : Controller) (slots : Slots) → map (slot_state_handed state handed) slots ≡ map (slot_state_handed (record state { controller = controller }) handed) slots
@@ -171,7 +172,7 @@ module _ (state : State) (handed : Handed) where
           ordinal = one;
           command = command;
           due = due;
-          has = left_true (one == one) (has_slot one slots) (eq-eqb one one refl);
+          has = or_left (one == one) (has_slot one slots) (eq-eqb one one refl);
           found = ap (λ first. option_or first rest) is_due;
           commands = before ∙ (λ i. command ∷ (option_to_list (none_then i) ++ same_then i));
           server = first ∙ (λ i. kept_then i ∷ held_same one (without_command connection) controller slots lacks i);
@@ -229,7 +230,7 @@ module _ (state : State) (handed : Handed) where
           ordinal = first.ordinal;
           command = first.command;
           due = first.due;
-          has = right_true (one == first.ordinal) (has_slot first.ordinal slots) first.has;
+          has = or_right (one == first.ordinal) (has_slot first.ordinal slots) first.has;
           found = λ i. option_or (is_due i) (first.found i);
           commands = before ∙ (λ i. first.command ∷ (option_to_list (none_then i) ++ commands_for new slots));
           server = past ∙ (λ i. slot_state_if_there state.shared (same_then i) (handed one) ∷ first.server i);
@@ -255,8 +256,8 @@ module _ (state : State) (handed : Handed) where
     search_slots next [] each there = NoCommand (record { none = refl; commands = refl; each = λ other has. cc has })
     search_slots next (None ∷ slots) each there = past-free slots (search_slots next slots each there)
     search_slots next (Some one ∷ slots) each there =
-        let one_there : is_there (state.connections one).mark ≡ true = there one (left_true (one == one) (has_slot one slots) (eq-eqb one one refl)) in
-        let later = search_slots next slots each.2 (λ other has. there other (right_true (one == other) (has_slot other slots) has)) in
+        let one_there : is_there (state.connections one).mark ≡ true = there one (or_left (one == one) (has_slot one slots) (eq-eqb one one refl)) in
+        let later = search_slots next slots each.2 (λ other has. there other (or_right (one == other) (has_slot other slots) has)) in
         elim (command_for (state.connections one)) as (λ due. command_for (state.connections one) ≡ due → Search controller (Some one ∷ slots)) [
           | Some command ↦ λ due. ACommand (here one slots command one_there each.1 due)
           | None ↦ λ due. past-one one slots one_there due later

@@ -9,8 +9,8 @@ use Rattle.gatt_laws.specs.declared.TheConstants.{MAX_SLOTS}
 use Rattle.gatt_laws.specs.machine.Event.{Ordinal}
 use Rattle.gatt_laws.specs.machine.Input.{run_at_start, run}
 use Rattle.gatt_laws.specs.machine.Start.{Start, state_at, first_out}
-use Rattle.gatt_slots.specs.Arrivals.{no_arrivals}
-use Rattle.gatt_slots.specs.declared.arrivals.Arrivals.{Arrivals}
+use Rattle.host_connections.specs.Arrivals.{no_arrivals}
+use Rattle.host_connections.specs.declared.arrivals.Arrivals.{Arrivals}
 
 none-there : (place : ℕ) (ordinal : Ordinal) (slots : List (Option Ordinal)) → slots ≡ [] → slice_get slots place ≡ Some (Some ordinal) → ⊥
 none-there place ordinal slots none there = cc (none, there)

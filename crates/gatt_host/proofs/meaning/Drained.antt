@@ -7,7 +7,7 @@ use Rattle.gatt_host.specs.Meaning.{Frames}
 use Rattle.gatt_host.specs.RunRefinement.{ServerRefinesRun, IsDrainedIn}
 use Rattle.gatt_host.specs.StateRefinement.{RefinesState}
 use Rattle.gatt_laws.specs.machine.Input.{Run}
-use Rattle.octets.specs.Number.{Octets}
+use Rattle.octet_io.specs.Number.{Octets}
 
 module _ (run : Run) (sent : List Octets) (server : ServerState) (frames : Frames) (is : ServerRefinesRun run sent server frames)
     (drained : is_drained server.controller (open_slots server) ≡ true) where

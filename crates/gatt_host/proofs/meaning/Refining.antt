@@ -40,9 +40,9 @@ use Rattle.gatt_laws.specs.machine.Packets.{is_awaited}
 use Rattle.gatt_laws.specs.machine.Packets.{Recombination, recombinations_of, of_frame, of_octets}
 use Rattle.gatt_laws.specs.machine.Packets.{packet_event, status_of, with_arrival}
 use Rattle.gatt_laws.specs.machine.State.{State, out, step}
-use Rattle.gatt_slots.proofs.states.Places.{Finds}
-use Rattle.gatt_slots.specs.declared.arrivals.Arrivals.{Arrivals}
-use Rattle.gatt_slots.specs.Slots.{Place, place_serving}
+use Rattle.host_connections.proofs.states.Places.{Finds}
+use Rattle.host_connections.specs.declared.arrivals.Arrivals.{Arrivals}
+use Rattle.host_connections.specs.Slots.{Place, place_serving}
 use Rattle.le_acl.specs.Fragment.{Fragment, fragment_of}
 use Rattle.le_h4.specs.Packet.{Packet, AclPacket, EventPacket, ScoPacket}
 use Rattle.le_hci.specs.declared.event.BadEvent.{BadEvent}
@@ -54,7 +54,7 @@ use Rattle.le_hci.specs.Init.{init_outcome}
 use Rattle.le_l2cap.specs.declared.channel.TheConstants.{ATT, LE_SIGNALLING, SECURITY_MANAGER}
 use Rattle.le_l2cap.specs.declared.frame.Skip.{Skip}
 use Rattle.le_l2cap.specs.Frame.{BasicFrame, frame_of}
-use Rattle.octets.specs.Number.{Octets}
+use Rattle.octet_io.specs.Number.{Octets}
 
 abbrev pub IsAny : {A : Type 0} → A → Type 0
 IsAny x = Unit

@@ -2,7 +2,7 @@
 use Rattle.std.proofs.Common.{◌≡◌, ◌≢◌, ◌⊎◌, inl, inr, ℕ, zero, suc, ◌+◌, ◌≤◌, ◌<◌, Bool, true, false, List, [], ◌∷◌, length, map, set, get_or, slice_get, Option, Some, None, refl, sym, ap, subst, ◌∙◌, arith}
 use Rattle.std.specs.Prelude.{is_some, is_none, replicate, ◌==◌, ◌||◌, if◌then◌else◌}
 use Rattle.std.specs.Option.{option_map}
-use Rattle.std.proofs.lemmas.Bool.{eq-eqb}
+use Rattle.std.proofs.lemmas.Bool.{eq-eqb, or_right}
 use Rattle.std.proofs.lemmas.List.{get_or-set_same, get_or-set_other, length-set}
 use Rattle.gatt_host.proofs.meaning.Staying.{rooms_stay}
 use Rattle.gatt_host.proofs.owing.Nexts.{clash}
@@ -18,16 +18,17 @@ use Rattle.gatt_laws.specs.machine.Event.{Ordinal, Own, Event, Connected, Discon
 use Rattle.gatt_laws.specs.machine.Packets.{Fragments}
 use Rattle.gatt_laws.specs.laws.Settled.{has_slot}
 use Rattle.gatt_laws.specs.machine.State.{State, change_of, slots_when_ready, step}
-use Rattle.gatt_slots.proofs.states.Places.{position_step}
-use Rattle.gatt_slots.specs.Arrivals.{counted_on}
-use Rattle.gatt_slots.specs.SlotState.{SlotState}
-use Rattle.gatt_slots.specs.Slots.{place_free}
+use Rattle.host_connections.proofs.states.Places.{position_step}
+use Rattle.host_connections.specs.Arrivals.{counted_on}
+use Rattle.host_connections.specs.SlotState.{SlotState}
+use Rattle.host_connections.specs.Slots.{place_free}
 use Rattle.le_acl.specs.Fragment.{Fragment}
 use Rattle.le_acl.specs.Reassembler.{no_assembly, assembly_after}
 use Rattle.le_hci.specs.declared.buffers.Buffers.{Buffers}
 use Rattle.le_hci.specs.declared.init.Init.{Init}
 use Rattle.le_hci.specs.declared.init.Init.TheVariants.{Ready}
 use Rattle.le_hci.specs.declared.peer.Peer.{Peer}
+use Rattle.octet_io.proofs.Choices.{or_false_left, or_false_right}
 
 -- no more slots are opened than a host was opened with
 within : (slots : ℕ) (buffers : Option Buffers) → slots_with_buffers slots buffers ≤ slots
@@ -128,10 +129,6 @@ free-within [] has = absurd (clash has)
 free-within (None ∷ slots) has = omega arith
 free-within (Some ordinal ∷ slots) has = let later = free-within slots has in omega (arith, later)
 
-or-true : (one other : Bool) → other ≡ true → (one || other) ≡ true
-or-true true other is = refl
-or-true false other is = is
-
 module _ (keep : Option Ordinal → Option SlotState) (free : keep None ≡ None) where
   if-there : (slot : Option SlotState) (place : Option ℕ) → is_some slot ≡ true → (if is_none slot then Some 0 else place) ≡ place
   if-there None place there = absurd (clash there)
@@ -150,24 +147,15 @@ module _ (keep : Option Ordinal → Option SlotState) (free : keep None ≡ None
       ∙ if-there (keep (Some first)) (option_map suc (place_free (map keep slots)))
       (there first (ap (λ (own : Bool). own || has_slot first slots) (eq-eqb first first refl)))
       ∙ ap (λ (place : Option ℕ). option_map suc place)
-      (finds_free slots has (λ other other_has. there other (or-true (first == other) (has_slot other slots) other_has)))
-
--- which is that of the one that comes next
-or-false-left : (one other : Bool) → (one || other) ≡ false → one ≡ false
-or-false-left false other is = refl
-or-false-left true other is = absurd (clash (sym is))
-
-or-false-right : (one other : Bool) → (one || other) ≡ false → other ≡ false
-or-false-right false other is = is
-or-false-right true other is = absurd (clash (sym is))
+      (finds_free slots has (λ other other_has. there other (or_right (first == other) (has_slot other slots) other_has)))
 
 pub next_place : (next : Ordinal) (slots : Slots) → has_free slots ≡ true → has_slot next slots ≡ false → place_among (with_taken next slots) next ≡ first_free slots
 unfolding first_free
 next_place next [] free lacks = absurd (clash free)
 next_place next (None ∷ slots) free lacks = ap (λ (own : Bool). if own then 0 else suc (place_among slots next)) (eq-eqb next next refl)
 next_place next (Some first ∷ slots) free lacks =
-    ap (λ (own : Bool). if own then 0 else suc (place_among (with_taken next slots) next)) (or-false-left (first == next) (has_slot next slots) lacks)
-    ∙ ap (λ (place : ℕ). suc place) (next_place next slots free (or-false-right (first == next) (has_slot next slots) lacks))
+    ap (λ (own : Bool). if own then 0 else suc (place_among (with_taken next slots) next)) (or_false_left (first == next) (has_slot next slots) lacks)
+    ∙ ap (λ (place : ℕ). suc place) (next_place next slots free (or_false_right (first == next) (has_slot next slots) lacks))
 
 -- who has a slot once one is taken had it before, or has come to it
 abbrev CameOrWas : Ordinal → Slots → ℕ → Ordinal → Type 0

@@ -6,7 +6,7 @@ use Rattle.gatt_host.proofs.model.Feeds.{feeds_then, going_takes}
 use Rattle.gatt_host.proofs.model.Hearing.{hears_nothing, listens_then}
 use Rattle.gatt_host.specs.Asked.{refusal_in_result}
 use Rattle.gatt_host.specs.Calling.{Answers, IsCallRefusedAs, answer_told}
-use Rattle.gatt_app.specs.declared.app.AppFault.{AppFault}
+use Rattle.host_api.specs.declared.app.AppFault.{AppFault}
 use Rattle.gatt_host.specs.declared.fault.Fault.{Fault}
 use Rattle.gatt_host.specs.declared.fault.Fault.TheVariants as told
 use Rattle.gatt_host.specs.declared.host_fault.HostFault.{HostFault}
@@ -16,7 +16,7 @@ use Rattle.gatt_host.specs.HostModel.{HostModel}
 use Rattle.gatt_laws.specs.machine.Calls.{Call}
 use Rattle.gatt_laws.specs.machine.Input.{Item, ACall, call_refusal, run}
 use Rattle.gatt_laws.specs.machine.Notice.{Received}
-use Rattle.octets.specs.Number.{Octets}
+use Rattle.octet_io.specs.Number.{Octets}
 
 -- what an error is made of
 pub error_told : {P : Fault → Type 0} (result : Result Unit Fault) (fault : Fault) → IsErrAnd result P → ((found : Fault) → P found → found ≡ fault) → result ≡ Err fault

@@ -9,7 +9,7 @@ use Rattle.gatt_host.proofs.model.Silence.{stands_in_silence}
 use Rattle.gatt_host.proofs.model.Items.{drained_where, no_fault, takes_item}
 use Rattle.gatt_host.specs.Calls.{refused_of}
 use Rattle.gatt_host.specs.Asked.{call_happening, refusal_in_result, replacement_happening}
-use Rattle.gatt_app.specs.declared.app.AppFault.{AppFault}
+use Rattle.host_api.specs.declared.app.AppFault.{AppFault}
 use Rattle.gatt_host.specs.declared.host_fault.HostFault.{HostFault}
 use Rattle.gatt_host.specs.ServerState.{ServerState, after_replacing, without_notices}
 use Rattle.gatt_host.specs.Meaning.{Frames, IsAfter}
@@ -21,9 +21,9 @@ use Rattle.gatt_laws.specs.machine.Calls.{Call, NoServiceChanged, Refused, call_
 use Rattle.gatt_laws.specs.machine.Event.{Event, Happening, Replaced}
 use Rattle.gatt_laws.specs.machine.Input.{ACall, ATable, Run, after_event, after_result, call_refusal, refusal_in}
 use Rattle.gatt_laws.specs.machine.Packets.{Fault}
-use Rattle.gatt_slots.specs.Slots.{Place}
+use Rattle.host_connections.specs.Slots.{Place}
 use Rattle.le_h4.specs.Deframer.{Deframing}
-use Rattle.octets.specs.Number.{Octets}
+use Rattle.octet_io.specs.Number.{Octets}
 
 -- nothing but what is held changes
 pub record KeepsTheRest (old new : HostModel) : Type 0 where

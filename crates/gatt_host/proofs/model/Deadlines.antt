@@ -12,10 +12,10 @@ use Rattle.gatt_laws.specs.machine.Event.{Ordinal}
 use Rattle.gatt_laws.specs.machine.Input.{Run}
 use Rattle.gatt_laws.specs.machine.ConnectionState.{ConnectionState, is_there}
 use Rattle.gatt_laws.specs.machine.State.{State, with_commands_sent}
-use Rattle.gatt_slots.specs.SlotState.{slot_state_of}
-use Rattle.gatt_slots.specs.Slots.{slot_state_deadline, slots_deadline}
+use Rattle.host_connections.specs.SlotState.{slot_state_of}
+use Rattle.host_connections.specs.Slots.{slot_state_deadline, slots_deadline}
 use Rattle.gatt_subs.specs.Deadline.{deadline_of}
-use Rattle.octets.specs.Number.{Octets}
+use Rattle.octet_io.specs.Number.{Octets}
 
 -- a command that is sent leaves what is to be told
 sent-pending : (connection : ConnectionState) (sent reasoned : Bool)

@@ -4,7 +4,7 @@ use Rattle.std.proofs.lemmas.List.{drop_more}
 use Rattle.std.specs.Prelude.{if◌then◌else◌, is_err, is_some}
 use Rattle.gatt_host.proofs.model.Feeds.{feeds_past, feeds_then, takes_silently, takes_then}
 use Rattle.gatt_host.specs.Asked.{refusal_in_result}
-use Rattle.gatt_app.specs.declared.app.AppFault.{AppFault}
+use Rattle.host_api.specs.declared.app.AppFault.{AppFault}
 use Rattle.gatt_host.specs.declared.driving.Input.{Input}
 use Rattle.gatt_host.specs.declared.host_fault.HostFault.{HostFault}
 use Rattle.gatt_host.specs.Feeding.{CountsRefused, Feeds, TakesAll, is_of_feeding, input_items, items_of, octet_items, refused_at, refused_in}
@@ -13,7 +13,7 @@ use Rattle.gatt_laws.proofs.Inputs.{items_append}
 use Rattle.gatt_laws.specs.machine.Calls.{Call, Refused}
 use Rattle.gatt_laws.specs.machine.Input.{ACall, AnOctet, Run, Item, after_item, after_items, run_at_start, call_refusal, run}
 use Rattle.gatt_laws.specs.machine.Start.{Start}
-use Rattle.octets.specs.Number.{Octets}
+use Rattle.octet_io.specs.Number.{Octets}
 
 -- none of the octets is a call
 none-of-octets : (at_run : Run) (octets : Octets) → 0 ≡ refused_in at_run (octet_items octets)

@@ -15,8 +15,8 @@ use Rattle.gatt_laws.proofs.Inputs.{items_append}
 use Rattle.gatt_laws.proofs.Streams.{stays_stopped}
 use Rattle.gatt_laws.specs.machine.Input.{AnOctet, Run, Item, after_items, run_at_start, run}
 use Rattle.gatt_laws.specs.machine.Packets.{Fault}
-use Rattle.octets.specs.Number.{Octets}
-use Rattle.octets.specs.Stream.{CountsFailure, CountsIf, CountsNone, WritesFront}
+use Rattle.octet_io.specs.Number.{Octets}
+use Rattle.octet_io.specs.Stream.{CountsFailure, CountsIf, CountsNone, WritesFront}
 
 pub joined_append : (packets others : List Octets) → joined (packets ++ others) ≡ joined packets ++ joined others
 joined_append packets others = flat_map-append (λ (packet : Octets). packet) packets others

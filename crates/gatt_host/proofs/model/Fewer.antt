@@ -1,6 +1,6 @@
 -- Where something goes out, less may go out before more comes from the controller.
 use Rattle.std.proofs.Common.{◌≡◌, ℕ, ◌+◌, ◌<◌, Bool, true, false, IfSome, IsSome, List, [], ◌∷◌, Option, Some, None, refl, sym, ap, subst, ◌∙◌, arith}
-use Rattle.std.specs.Prelude.{◌&&◌, ◌==◌, not, nat_lt, is_some, length, take, if◌then◌else◌}
+use Rattle.std.specs.Prelude.{◌==◌, not, nat_lt, is_some, length, take, if◌then◌else◌}
 use Rattle.std.specs.Option.{option_and_then, option_map, option_map_or, option_or}
 use Rattle.std.proofs.lemmas.Bool.{ltb-true}
 use Rattle.gatt_host.proofs.owing.Nexts.{clash}
@@ -10,10 +10,11 @@ use Rattle.gatt_host.specs.GoingOut.{first_slot_command, command_next, controlle
 use Rattle.gatt_host.specs.ServerState.{ServerState, after_out, next_packet_out, open_slots}
 use Rattle.gatt_laws.specs.machine.Controller.{Controller, controller_after, is_ready}
 use Rattle.gatt_laws.specs.machine.State.{command_octets}
-use Rattle.gatt_slots.specs.Commands.{gives, slot_packet, slot_without_command, slot_without_packet, has_command}
-use Rattle.gatt_slots.specs.SlotState.{SlotState}
+use Rattle.host_connections.specs.Commands.{gives, slot_packet, slot_without_command, slot_without_packet, has_command}
+use Rattle.host_connections.specs.SlotState.{SlotState}
 use Rattle.le_hci.specs.Command.{Commanded}
-use Rattle.octets.specs.Number.{Octets}
+use Rattle.octet_io.proofs.Choices.{and_true_right}
+use Rattle.octet_io.specs.Number.{Octets}
 
 -- a command takes nothing of the quota of its slot
 same-kept : (slot_state : SlotState) (disconnects : Bool)
@@ -40,16 +41,11 @@ commanded-either : (slots : List (Option SlotState)) (init : Bool)
 commanded-either slots true = refl
 commanded-either slots false = same-commanded slots
 
--- a packet takes one of it
-right-true : (one other : Bool) → (one && other) ≡ true → other ≡ true
-right-true true other is = is
-right-true false other is = absurd (clash is)
-
 fewer-slot : (slot : Option SlotState) → gives slot ≡ true → packets_out (option_map slot_without_packet slot) < packets_out slot
 fewer-slot None is = absurd (clash is)
 fewer-slot (Some slot_state) is =
     let outgoing = slot_state.outgoing in
-    let less = ltb-true outgoing.outstanding outgoing.share (right-true (not (length outgoing.queue == 0)) (nat_lt outgoing.outstanding outgoing.share) is) in
+    let less = ltb-true outgoing.outstanding outgoing.share (and_true_right (not (length outgoing.queue == 0)) (nat_lt outgoing.outstanding outgoing.share) is) in
     omega (arith, less)
 
 fewer-by-slot : (slot : Option SlotState) (slots then_slots : List (Option SlotState)) (found octets : Option Octets) (test : Bool) → gives slot ≡ test

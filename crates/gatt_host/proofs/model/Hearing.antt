@@ -17,7 +17,7 @@ use Rattle.gatt_laws.proofs.StreamNotices.{stopped_silent}
 use Rattle.gatt_laws.specs.machine.Input.{Run, Item, after_item, after_items, run_at_start, run}
 use Rattle.gatt_laws.specs.machine.Notice.{Notice, Received, received_in, received_of, received_of_event, received_with}
 use Rattle.gatt_laws.specs.machine.Packets.{Fault}
-use Rattle.octets.specs.Number.{Octets}
+use Rattle.octet_io.specs.Number.{Octets}
 
 -- nothing is heard, and then more
 pub hears_none : (known : Option (List Received)) → Hears [] known known

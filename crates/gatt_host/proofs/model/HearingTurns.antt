@@ -15,7 +15,7 @@ use Rattle.gatt_host.specs.Listening.{HearsOf, Listens, ListensServing}
 use Rattle.gatt_host.specs.HostModel.{HostModel}
 use Rattle.gatt_laws.specs.machine.Input.{Item}
 use Rattle.gatt_laws.specs.machine.Notice.{Received}
-use Rattle.octets.specs.Number.{Octets}
+use Rattle.octet_io.specs.Number.{Octets}
 
 -- what is owed is written, and nothing is taken in
 pub nothing_heard : (old new : HostModel) (server holds : Option Octets) (known : Option (List Received)) (found : Option HostFault) → Feeds [] old new server holds found

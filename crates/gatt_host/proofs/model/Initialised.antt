@@ -1,10 +1,10 @@
 -- Whether the controller is initialised, wherever a host stands.
 use Rattle.std.proofs.Common.{◌≡◌, List, ap, ◌∙◌}
 use Rattle.gatt_host.specs.HostModel.{RefinesRun, HostModel}
-use Rattle.gatt_laws.specs.machine.Controller.{Controller, is_ready}
+use Rattle.gatt_laws.specs.machine.Controller.{is_ready}
 use Rattle.gatt_laws.specs.machine.Input.{Run}
 use Rattle.gatt_laws.specs.machine.State.{State}
-use Rattle.octets.specs.Number.{Octets}
+use Rattle.octet_io.specs.Number.{Octets}
 
 -- commands that are sent leave what is known of its initialisation
 pub initialised_where : (run : Run) (gone : List Octets) (host : HostModel) → RefinesRun run gone host

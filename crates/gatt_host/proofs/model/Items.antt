@@ -13,7 +13,7 @@ use Rattle.gatt_laws.proofs.RowsOfTheTable.{always_has_rows_of_its_table}
 use Rattle.gatt_laws.proofs.WaitingOfTheTable.{always_has_waiting_of_its_table}
 use Rattle.gatt_laws.specs.machine.Input.{Run, Item, after_item, run, taken, unless_stopped}
 use Rattle.gatt_laws.specs.machine.Packets.{Fault}
-use Rattle.octets.specs.Number.{Octets}
+use Rattle.octet_io.specs.Number.{Octets}
 
 -- where no fault stands at the host, none stands in the run
 none-where : (why : Option Fault) (fault : Option HostFault) → fault ≡ None → SameFault why fault → why ≡ None

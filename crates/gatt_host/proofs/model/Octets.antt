@@ -19,7 +19,7 @@ use Rattle.gatt_laws.specs.machine.Packets.{Fault, Desync}
 use Rattle.le_h4.specs.Deframer.{Deframing, lost_at, marks, still}
 use Rattle.le_h4.specs.Division.{Division, before, division, lost, unfinished}
 use Rattle.le_h4.specs.Packet.{Packet, NoneYet, first_of}
-use Rattle.octets.specs.Number.{Octets}
+use Rattle.octet_io.specs.Number.{Octets}
 
 -- whatever follows these octets, the packet that is marked then comes first
 abbrev pub Divides : Deframing → Octets → Deframing → Type 0

@@ -19,7 +19,7 @@ use Rattle.gatt_host.specs.Opening.{held_at_first, is_configured, start_of}
 use Rattle.gatt_host.specs.StateRefinement.{IsOpenedAs}
 use Rattle.gatt_host.specs.HostModel.{HasRowsOfTheStart, IsReached, SameFault, RefinesRun, HostModel}
 use Rattle.gatt_laws.specs.machine.Input.{run}
-use Rattle.gatt_slots.specs.Arrivals.{no_arrivals}
+use Rattle.host_connections.specs.Arrivals.{no_arrivals}
 use Rattle.gatt_subs.proofs.Supported.{supported_configuration}
 use Rattle.gatt_subs.specs.declared.bond.Bond.{Bond}
 use Rattle.gatt_subs.specs.Fit.{fitted_bond, fitted_rows, peers_of, with_entries, HasFittedBonds, IsListed}
@@ -29,7 +29,7 @@ use Rattle.le_h4.specs.Deframer.{Deframing, deframing_at_start, still}
 use Rattle.le_h4.specs.Division.{division}
 use Rattle.le_security.specs.declared.entry.Entry.{Entry}
 use Rattle.le_security.specs.Keys.{is_known}
-use Rattle.octets.specs.Number.{Octets}
+use Rattle.octet_io.specs.Number.{Octets}
 use Rattle.gatt_laws.specs.declared.TheConstants.{MAX_SLOTS}
 
 -- a row that is fitted to a table is one of it

@@ -18,9 +18,9 @@ use Rattle.le_h4.specs.Deframer.{Deframing}
 use Rattle.gatt_laws.specs.machine.Controller.{Controller, is_ready}
 use Rattle.gatt_laws.specs.machine.Input.{Run, Item, run}
 use Rattle.gatt_laws.specs.machine.State.{State}
-use Rattle.gatt_slots.specs.Commands.{gives, slot_without_command, slot_without_packet, has_command}
-use Rattle.gatt_slots.specs.SlotState.{SlotState}
-use Rattle.octets.specs.Number.{Octets}
+use Rattle.host_connections.specs.Commands.{gives, slot_without_command, slot_without_packet, has_command}
+use Rattle.host_connections.specs.SlotState.{SlotState}
+use Rattle.octet_io.specs.Number.{Octets}
 
 abbrev none : List (Option SlotState)
 none = []

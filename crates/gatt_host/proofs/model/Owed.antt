@@ -15,7 +15,7 @@ use Rattle.gatt_host.specs.Meaning.{Frames}
 use Rattle.gatt_host.specs.HostModel.{IsStateOfOne, IsReached, Refines, HostModel, going}
 use Rattle.gatt_laws.specs.machine.Input.{Item}
 use Rattle.le_h4.specs.Deframer.{Deframing}
-use Rattle.octets.specs.Number.{Octets}
+use Rattle.octet_io.specs.Number.{Octets}
 
 -- a packet goes out
 module _ (server new : ServerState) (octets : Octets) (next : next_packet_out server ≡ Some octets) (is_after : new ≡ after_out server) where

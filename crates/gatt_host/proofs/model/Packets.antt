@@ -23,7 +23,7 @@ use Rattle.le_h4.specs.Deframer.{Deframing}
 use Rattle.le_h4.specs.Division.{is_long}
 use Rattle.le_h4.specs.Packet.{Packet, AclPacket, EventPacket, ScoPacket}
 use Rattle.le_hci.specs.Event.{event_of}
-use Rattle.octets.specs.Number.{Octets}
+use Rattle.octet_io.specs.Number.{Octets}
 
 -- where all is out, what stands in the run of what is gone stands in that of all that is
 stands-all : (run after : Run) (sent : List Octets) (server new : ServerState) (frames then_frames : Frames) → ServerRefinesRun run sent server frames

@@ -5,8 +5,8 @@ use Rattle.std.specs.Option.{option_map, option_or}
 use Rattle.gatt_host.specs.GoingOut.{command_next, first_slot_command, has_free_slot, init_command, with_first}
 use Rattle.gatt_host.specs.ServerState.{ServerState, OwesPacketsAlone}
 use Rattle.gatt_laws.specs.machine.Controller.{Controller}
-use Rattle.gatt_slots.specs.Commands.{command_due, gives, slot_without_packet}
-use Rattle.gatt_slots.specs.SlotState.{SlotState}
+use Rattle.host_connections.specs.Commands.{command_due, gives, slot_without_packet}
+use Rattle.host_connections.specs.SlotState.{SlotState}
 use Rattle.le_hci.specs.Command.{Commanded, LeSetAdvertiseEnable}
 
 abbrev without-first : List (Option SlotState) → List (Option SlotState)

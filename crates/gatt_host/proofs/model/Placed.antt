@@ -2,8 +2,7 @@
 use Rattle.std.proofs.Common.{◌≡◌, ℕ, zero, suc, ◌+◌, Bool, true, false, List, [], ◌∷◌, map, slice_get, Option, Some, None, refl, sym, ap, subst, ◌∙◌, arith}
 use Rattle.std.specs.Prelude.{◌==◌, replicate, if◌then◌else◌}
 use Rattle.std.specs.List.{cons_option}
-use Rattle.std.proofs.lemmas.Bool.{eq-eqb}
-use Rattle.gatt_host.proofs.model.Slots.{or_left, or_right}
+use Rattle.std.proofs.lemmas.Bool.{eq-eqb, or_left, or_right}
 use Rattle.gatt_host.specs.ServerState.{ServerState, open_slots}
 use Rattle.gatt_host.specs.Owing.{Handed, IsOwing, slot_state_handed}
 use Rattle.gatt_host.specs.StateRefinement.{RefinesState}
@@ -12,9 +11,9 @@ use Rattle.gatt_laws.specs.machine.Event.{Ordinal}
 use Rattle.gatt_laws.specs.machine.ConnectionState.{is_there}
 use Rattle.gatt_laws.specs.laws.Settled.{has_slot}
 use Rattle.gatt_laws.specs.machine.State.{State, with_commands_sent}
-use Rattle.gatt_slots.specs.Connections.{read_from}
-use Rattle.gatt_slots.specs.SlotState.{SlotState}
-use Rattle.octets.specs.Number.{Octets}
+use Rattle.host_connections.specs.Connections.{read_from}
+use Rattle.host_connections.specs.SlotState.{SlotState}
+use Rattle.octet_io.specs.Number.{Octets}
 
 -- what holds of the connection of each slot by its place, of slots of which the first is at a place
 abbrev HoldsFrom : (ℕ → Ordinal → Type 0) → ℕ → Slots → Type 0

@@ -3,7 +3,7 @@ use Rattle.std.proofs.Common.{◌≡◌, List, [], ◌∷◌, Option, Some, None
 use Rattle.std.specs.Option.{option_map_or}
 use Rattle.gatt_host.specs.GoingOut.{command_next, controller_then}
 use Rattle.gatt_laws.specs.machine.Controller.{Controller, controller_after, is_ready}
-use Rattle.gatt_slots.specs.SlotState.{SlotState}
+use Rattle.host_connections.specs.SlotState.{SlotState}
 use Rattle.le_hci.specs.Command.{Commanded}
 
 ready-by : (controller : Controller) (found : Option Commanded)

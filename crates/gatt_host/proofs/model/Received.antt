@@ -1,10 +1,10 @@
 -- What a listener receives of what a host took in last, wherever the host was.
-use Rattle.std.proofs.Common.{◌≡◌, ℕ, false, List, [], ◌∷◌, ◌++◌, map, take, Option, Some, None, refl, sym, ap, subst, ◌∙◌, append-nil}
-use Rattle.std.specs.Prelude.{if◌then◌else◌, is_some}
+use Rattle.std.proofs.Common.{◌≡◌, ℕ, false, List, [], ◌∷◌, ◌++◌, map, take, Option, Some, None, refl, sym, ap, ◌∙◌, append-nil}
+use Rattle.std.specs.Prelude.{if◌then◌else◌}
 use Rattle.std.specs.Option.{option_map_or}
 use Rattle.gatt_host.proofs.model.Items.{no_fault}
-use Rattle.gatt_app.specs.declared.notice.Notice.{Notice as Lent}
-use Rattle.gatt_app.specs.declared.notice.Notice.TheVariants as lent
+use Rattle.host_api.specs.declared.notice.Notice.{Notice as Lent}
+use Rattle.host_api.specs.declared.notice.Notice.TheVariants as lent
 use Rattle.gatt_host.specs.Notices.{HasTheValue, notice_of, received_from}
 use Rattle.gatt_host.specs.Feeding.{IsUpToAPacket, TakesUpToAPacket, octet_items}
 use Rattle.gatt_host.specs.HostModel.{Refines, RefinesRun, HostModel}
@@ -25,7 +25,7 @@ use Rattle.gatt_laws.specs.laws.Laws.{after_packets}
 use Rattle.le_h4.specs.Division.{Division, End, Unfinished, Lost, division, is_long}
 use Rattle.att_table.specs.Table.{Contents}
 use Rattle.le_h4.specs.Packet.{Packet, NoneYet, first_of}
-use Rattle.octets.specs.Number.{Octets}
+use Rattle.octet_io.specs.Number.{Octets}
 
 -- a notice that lends the octets of a table
 pub lent_received : (table : Contents) (notice : Lent) → HasTheValue table notice → received_from notice ≡ received_with table (notice_of notice)

@@ -1,7 +1,7 @@
 -- The fault by which a host says why it refuses a call says just that.
 use Rattle.std.proofs.Common.{◌≡◌, refl}
-use Rattle.gatt_app.specs.declared.app.AppFault.{AppFault}
-use Rattle.gatt_app.specs.declared.app.AppFault.TheVariants.{NoSuchHandle, NotAValue, BadLength, NoSuchConnection, TimeWentBack, Stopped, NoServiceChanged}
+use Rattle.host_api.specs.declared.app.AppFault.{AppFault}
+use Rattle.host_api.specs.declared.app.AppFault.TheVariants.{NoSuchHandle, NotAValue, BadLength, NoSuchConnection, TimeWentBack, Stopped, NoServiceChanged}
 use Rattle.gatt_host.specs.Calls.{fault_of_refused, refused_of}
 
 pub fault_of_its_refusal : (fault : AppFault) → fault_of_refused (refused_of fault) ≡ fault

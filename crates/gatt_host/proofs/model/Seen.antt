@@ -13,13 +13,13 @@ use Rattle.gatt_laws.specs.machine.ConnectionState.{ConnectionState, is_live, is
 use Rattle.gatt_laws.specs.machine.SharedState.{SharedState}
 use Rattle.gatt_laws.specs.machine.Start.{Start}
 use Rattle.gatt_laws.specs.machine.State.{State, with_commands_sent}
-use Rattle.gatt_slots.specs.Arrivals.{counted_on}
-use Rattle.gatt_slots.specs.Connections.{slot_seen}
-use Rattle.gatt_slots.specs.declared.arrivals.Arrivals.{Arrivals}
-use Rattle.gatt_app.specs.declared.connection.Connection.{Connection}
-use Rattle.gatt_slots.specs.SlotState.{slot_state_of}
+use Rattle.host_connections.specs.Arrivals.{counted_on}
+use Rattle.host_connections.specs.Connections.{slot_seen}
+use Rattle.host_connections.specs.declared.arrivals.Arrivals.{Arrivals}
+use Rattle.host_api.specs.declared.connection.Connection.{Connection}
+use Rattle.host_connections.specs.SlotState.{slot_state_of}
 use Rattle.le_security.proofs.Links.{key_of_steps}
-use Rattle.octets.specs.Number.{Octets}
+use Rattle.octet_io.specs.Number.{Octets}
 
 -- a command that is sent leaves what can be seen
 module _ (ordinal : Ordinal) (place heard : ℕ) where

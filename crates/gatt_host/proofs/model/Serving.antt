@@ -18,8 +18,8 @@ use Rattle.gatt_host.specs.HostModel.{RefinesRun, Takes, HostModel, is_own_fault
 use Rattle.gatt_laws.specs.machine.Input.{Run, Item, TheEnd, run}
 use Rattle.le_h4.specs.Deframer.{deframing_at_start, still}
 use Rattle.le_h4.specs.Division.{division}
-use Rattle.octets.specs.Number.{Octets}
-use Rattle.octets.specs.Stream.{CountsIf, CountsMany, CountsNone, CountsOne}
+use Rattle.octet_io.specs.Number.{Octets}
+use Rattle.octet_io.specs.Stream.{CountsIf, CountsMany, CountsNone, CountsOne}
 
 -- where nothing is held, a stream divides from its start
 from-the-start : (rest : Octets) → still deframing_at_start rest ≡ division rest

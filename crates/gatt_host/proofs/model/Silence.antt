@@ -1,13 +1,12 @@
 -- A host of which nothing is told any more stands where it stood.
 use Rattle.std.proofs.Common.{List}
 use Rattle.gatt_host.proofs.refinement.Holding.{stands_without_notices}
-use Rattle.gatt_host.specs.declared.last_event.LastEvent.TheVariants as last
 use Rattle.gatt_host.specs.ServerState.{ServerState, without_notices}
 use Rattle.gatt_host.specs.Meaning.{Frames}
 use Rattle.gatt_host.specs.RunRefinement.{ServerRefinesRun}
 use Rattle.gatt_host.specs.HostModel.{RefinesRun, HostModel}
 use Rattle.gatt_laws.specs.machine.Input.{Run}
-use Rattle.octets.specs.Number.{Octets}
+use Rattle.octet_io.specs.Number.{Octets}
 
 -- nothing that a host stands by is changed where nothing is told
 pub stands_in_silence : (run : Run) (sent : List Octets) (server : ServerState) (frames : Frames) → ServerRefinesRun run sent server frames

@@ -1,8 +1,8 @@
 -- What is read of the slots, wherever a host stands.
 use Rattle.std.proofs.Common.{◌≡◌, ℕ, zero, suc, Bool, true, false, List, [], ◌∷◌, map, Option, Some, None, refl, sym, ap, ◌∙◌}
-use Rattle.std.specs.Prelude.{◌==◌, ◌||◌, replicate, filter_map, if◌then◌else◌}
+use Rattle.std.specs.Prelude.{◌==◌, replicate, filter_map, if◌then◌else◌}
 use Rattle.std.specs.List.{cons_option}
-use Rattle.std.proofs.lemmas.Bool.{eq-eqb}
+use Rattle.std.proofs.lemmas.Bool.{eq-eqb, or_left, or_right}
 use Rattle.gatt_host.specs.ServerState.{ServerState, open_slots}
 use Rattle.gatt_host.specs.Owing.{Handed, IsOwing, slot_state_handed}
 use Rattle.gatt_host.specs.StateRefinement.{RefinesState}
@@ -11,15 +11,8 @@ use Rattle.gatt_laws.specs.machine.Event.{Ordinal}
 use Rattle.gatt_laws.specs.machine.ConnectionState.{is_there}
 use Rattle.gatt_laws.specs.laws.Settled.{has_slot}
 use Rattle.gatt_laws.specs.machine.State.{State, with_commands_sent}
-use Rattle.gatt_slots.specs.SlotState.{SlotState}
-use Rattle.octets.specs.Number.{Octets}
-
-pub or_left : (one other : Bool) → one ≡ true → (one || other) ≡ true
-or_left one other is = ap (λ (it : Bool). it || other) is
-
-pub or_right : (one other : Bool) → other ≡ true → (one || other) ≡ true
-or_right true other is = refl
-or_right false other is = is
+use Rattle.host_connections.specs.SlotState.{SlotState}
+use Rattle.octet_io.specs.Number.{Octets}
 
 -- what is read of a slot is what is read of its connection in the state, also while commands are still to go out
 pub record ReadsTheSame {A : Type 0} (keep : Option SlotState → Option A) (of : State → Option Ordinal → Option A) : Type 0 where

@@ -24,7 +24,7 @@ use Rattle.gatt_laws.specs.machine.Packets.{Fault, packet_event}
 use Rattle.le_h4.specs.Deframer.{Deframing, marks, still}
 use Rattle.le_h4.specs.Division.{Division, before, division, is_long, lost, unfinished}
 use Rattle.le_h4.specs.Packet.{Packet}
-use Rattle.octets.specs.Number.{Octets}
+use Rattle.octet_io.specs.Number.{Octets}
 
 -- whatever follows, these packets come first, and nothing whole is held back
 pub record EndsIn (packets : List Packet) (old new : Deframing) (octets : Octets) : Type 0 where

@@ -1,6 +1,6 @@
 -- What a deframer says of the octets that it took.
 use Rattle.std.proofs.Common.{◌≡◌, ℕ, Bool, true, false, List, [], ◌∷◌, ◌++◌, take, Option, Some, None, Result, Err, refl, sym, ap, subst, ◌∙◌}
-use Rattle.std.specs.Prelude.{IfSome, IsSome, IsTrue, is_some, not, ◌↔◌}
+use Rattle.std.specs.Prelude.{IfSome, IsSome, IsTrue, is_some, ◌↔◌}
 use Rattle.std.specs.Option.{option_to_list}
 use Rattle.gatt_host.proofs.owing.Nexts.{clash, is_none_where}
 use Rattle.gatt_host.proofs.model.Octets.{octets_lost}
@@ -18,7 +18,7 @@ use Rattle.le_h4.specs.declared.packet.WholePacket.{WholePacket}
 use Rattle.le_h4.specs.Deframer.{Deframing, lost_at, marks, still}
 use Rattle.le_h4.specs.Division.{before, lost as lost_at_once, unfinished}
 use Rattle.le_h4.specs.Packet.{Packet, packet_of_ref}
-use Rattle.octets.specs.Number.{Octets}
+use Rattle.octet_io.specs.Number.{Octets}
 
 abbrev failing : H4Fault → Result Fed H4Fault
 failing fault = Err fault
@@ -42,10 +42,6 @@ lost_silent old new octets (lost.Desync indicator) why stopped divides = lost_to
 pub none_marked : {A : Type 0} (packet : Bool) (marked : Option A) → packet ≡ false → (IsTrue packet ↔ IsSome marked) → marked ≡ None
 none_marked packet None lacks marks = refl
 none_marked packet (Some found) lacks marks = cc (lacks, marks.1 refl)
-
-pub not_true : (packet : Bool) → not packet ≡ true → packet ≡ false
-not_true true is = sym is
-not_true false is = refl
 
 -- so many octets end this packet, whether it is lent or marked
 pub record EndsPacket (old : Deframing) (octets : Octets) (new : Deframing) (used : ℕ) (packet : Packet) : Type 0 where

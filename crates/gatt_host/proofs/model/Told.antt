@@ -18,7 +18,7 @@ use Rattle.gatt_laws.specs.machine.Packets.{Fault, Fragments, packet_event}
 use Rattle.gatt_laws.specs.machine.State.{State}
 use Rattle.le_h4.specs.Division.{is_long}
 use Rattle.le_h4.specs.Packet.{Packet}
-use Rattle.octets.specs.Number.{Octets}
+use Rattle.octet_io.specs.Number.{Octets}
 
 pub result_told : {E : Type 0} (state : State) (result : Result Event E) → noticed_in state result ≡ option_map_or (noticed state) (event_if result) []
 result_told state (Ok event) = refl

@@ -1,5 +1,5 @@
 -- A packet that goes out changes no notice.
-use Rattle.std.proofs.Common.{◌≡◌, ℕ, zero, suc, Bool, true, false, cond, List, [], ◌∷◌, map, Option, Some, None, refl, sym, ap, subst, ◌∙◌, ◌++◌}
+use Rattle.std.proofs.Common.{◌≡◌, ℕ, zero, suc, Bool, true, false, cond, List, [], ◌∷◌, map, Option, Some, None, refl, ap, ◌∙◌, ◌++◌}
 use Rattle.std.specs.Prelude.{if◌then◌else◌, is_some}
 use Rattle.std.specs.Option.{option_map, option_map_or, option_to_list}
 use Rattle.att_numbers.specs.Types.{Row}
@@ -13,10 +13,10 @@ use Rattle.gatt_host.specs.Telling.{notices_told}
 use Rattle.gatt_laws.specs.machine.Controller.{Controller, is_ready}
 use Rattle.gatt_laws.specs.machine.Notice.{Notice, Confirmed, Ending, write_told}
 use Rattle.gatt_laws.specs.machine.Effect.{remote_user_terminated}
-use Rattle.gatt_slots.specs.Commands.{gives, has_command, slot_without_command, slot_without_packet}
-use Rattle.gatt_slots.specs.Hearing.{slot_row_in_force}
-use Rattle.gatt_slots.specs.SlotState.{SlotState}
-use Rattle.gatt_slots.specs.Slots.{SlotStates, slot_row_at}
+use Rattle.host_connections.specs.Commands.{gives, has_command, slot_without_command, slot_without_packet}
+use Rattle.host_connections.specs.Hearing.{slot_row_in_force}
+use Rattle.host_connections.specs.SlotState.{SlotState}
+use Rattle.host_connections.specs.Slots.{SlotStates, slot_row_at}
 use Rattle.gatt_subs.specs.Rows.{Subscriptions, row_of}
 
 -- the row of a slot

@@ -8,9 +8,9 @@ use Rattle.std.proofs.lemmas.Iterator.Adapters.{position_from-zero}
 use Rattle.std.proofs.lemmas.List.Quantifiers.{position-Some}
 use Rattle.std.proofs.Math.ListN.{set}
 use Rattle.gatt_host.specs.GoingOut.{with_first, first_slot_command, first_slot_packet}
-use Rattle.gatt_slots.specs.Commands.{command_due, gives, slot_packet, has_command}
-use Rattle.gatt_slots.specs.SlotState.{SlotState}
-use Rattle.gatt_slots.specs.Slots.{slot_state_at, slots_at}
+use Rattle.host_connections.specs.Commands.{command_due, gives, slot_packet, has_command}
+use Rattle.host_connections.specs.SlotState.{SlotState}
+use Rattle.host_connections.specs.Slots.{slot_state_at, slots_at}
 use Rattle.le_hci.specs.Command.{Commanded}
 
 module _ {A : Type 0} (test : A → Bool) where

@@ -1,17 +1,17 @@
 -- Nothing goes out where no command is due and no slot gives a packet.
 use Rattle.std.proofs.Common.{◌≡◌, Bool, true, false, List, [], Option, None, refl, sym, ap, ◌∙◌}
-use Rattle.std.specs.Prelude.{nat_lt, ◌&&◌, ◌||◌, not, is_none, is_some, if◌then◌else◌}
+use Rattle.std.specs.Prelude.{nat_lt, ◌&&◌, not, is_none, is_some, if◌then◌else◌}
 use Rattle.std.specs.Bool.{OnFalse}
 use Rattle.std.specs.List.{list_any}
-use Rattle.std.proofs.lemmas.Bool.{OnFalse_at}
+use Rattle.std.proofs.lemmas.Bool.{OnFalse_at, or_right}
 use Rattle.gatt_host.proofs.owing.Firsts.{any_command}
 use Rattle.gatt_host.proofs.owing.Nexts.{is_none_where, takes_enabling, takes_none}
 use Rattle.gatt_host.specs.GoingOut.{first_slot_command, command_next, has_free_slot, init_command, is_drained}
 use Rattle.gatt_host.specs.ServerState.{ServerState, open_slots}
 use Rattle.gatt_host.specs.HostModel.{HostModel, all_out}
 use Rattle.gatt_laws.specs.machine.Controller.{Controller, is_ready}
-use Rattle.gatt_slots.specs.Commands.{gives, has_command}
-use Rattle.gatt_slots.specs.SlotState.{SlotState}
+use Rattle.host_connections.specs.Commands.{gives, has_command}
+use Rattle.host_connections.specs.SlotState.{SlotState}
 
 closed : (free shared advertising refused : Bool) → OnFalse free (shared ≡ false) → (free && not advertising && not refused) ≡ false
     → (shared && not advertising && not refused) ≡ false
@@ -33,7 +33,7 @@ none_due controller slots free ready idle shared still =
     by init slot quiet true takes = takes_enabling controller slots false takes init slot quiet
     by init slot quiet false takes = takes_none controller slots takes
 
--- and nothing is, where no slot gives a packet either
+-- and nothing is, where no slot gives a packet or_right
 pub drained_where : (controller : Controller) (slots : List (Option SlotState)) → command_next controller slots ≡ None → list_any gives slots ≡ false
     → is_drained controller slots ≡ true
 drained_where controller slots none idle = λ i. is_none (none i) && not (idle i)
@@ -42,8 +42,4 @@ pub open_drained : (server : ServerState) → is_ready server.controller ≡ tru
 open_drained server ready drained = ap (λ (is : Bool). is_drained server.controller (if is then server.slots else [])) ready ∙ drained
 
 pub out_where : (host : HostModel) → is_drained host.server.controller (open_slots host.server) ≡ true → all_out host ≡ true
-out_where host drained = either (is_some host.fault) (is_drained host.server.controller (open_slots host.server)) drained
-  where
-    either : (fault out : Bool) → out ≡ true → (fault || out) ≡ true
-    either true out is = refl
-    either false out is = is
+out_where host drained = or_right (is_some host.fault) (is_drained host.server.controller (open_slots host.server)) drained

@@ -7,8 +7,8 @@ use Rattle.std.proofs.lemmas.Bool.{OnFalse_at}
 use Rattle.gatt_laws.specs.machine.Controller.{Controller, controller_after}
 use Rattle.gatt_host.specs.GoingOut.{init_command, first_slot_command, has_free_slot, enabling_command, command_next, controller_then, next_out, first_slot_packet, slots_commanded, with_first}
 use Rattle.gatt_laws.specs.machine.State.{command_octets}
-use Rattle.gatt_slots.specs.Commands.{has_command, slot_without_command}
-use Rattle.gatt_slots.specs.SlotState.{SlotState}
+use Rattle.host_connections.specs.Commands.{has_command, slot_without_command}
+use Rattle.host_connections.specs.SlotState.{SlotState}
 use Rattle.le_hci.specs.Command.{Commanded, LeSetAdvertiseEnable, opcode_of}
 
 pub is_none_where : {A : Type 0} (found : Option A) → is_some found ≡ false → found ≡ None

@@ -13,10 +13,10 @@ use Rattle.gatt_host.specs.Owing.{Handed, IsPartway, slot_states_handed, slot_le
 use Rattle.gatt_laws.specs.machine.Controller.{Controller}
 use Rattle.gatt_laws.specs.machine.Event.{Ordinal}
 use Rattle.gatt_laws.specs.machine.State.{State, command_octets, with_commands_sent}
-use Rattle.gatt_slots.specs.Commands.{gives, slot_without_packet}
-use Rattle.gatt_slots.specs.SlotState.{SlotState}
+use Rattle.host_connections.specs.Commands.{gives, slot_without_packet}
+use Rattle.host_connections.specs.SlotState.{SlotState}
 use Rattle.le_hci.specs.Command.{Commanded}
-use Rattle.octets.specs.Number.{Octets}
+use Rattle.octet_io.specs.Number.{Octets}
 
 module _ (state : State) (handed : Handed) (facts : Facts state handed) where
   abbrev Goes : Option Octets → Type 0

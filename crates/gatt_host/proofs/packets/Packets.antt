@@ -3,10 +3,9 @@ use Rattle.std.proofs.Common.{◌≡◌, ℕ, ◌+◌, ◌<◌, ◌≤◌, Bool,
 use Rattle.std.specs.Prelude.{nat_lt, ◌||◌, ◌==◌, if◌then◌else◌}
 use Rattle.std.specs.List.{flat_map, list_any}
 use Rattle.std.specs.Option.{option_and_then, option_map, option_to_list}
-use Rattle.std.proofs.lemmas.Bool.{eq-eqb, eqb-true, ltb-false, ltb-true}
+use Rattle.std.proofs.lemmas.Bool.{eq-eqb, eqb-true, ltb-false, ltb-true, or_right, or_left}
 use Rattle.std.proofs.lemmas.List.{drop_all, length-drop, length-take, take-append-drop, take-take}
 use Rattle.std.proofs.Math.Seq.{drop-append-add}
-use Rattle.gatt_host.proofs.commands.Commands.{left_false, left_true, right_false, right_true}
 use Rattle.gatt_host.proofs.commands.SlotCommands.{held_there}
 use Rattle.gatt_host.specs.GoingOut.{with_first, first_slot_packet}
 use Rattle.gatt_host.specs.Owing.{Handed, slot_state_handed, packets_left, slot_left, IsPartway, all_given}
@@ -16,14 +15,15 @@ use Rattle.gatt_laws.specs.machine.ConnectionState.{ConnectionState, is_live, is
 use Rattle.gatt_laws.specs.machine.SharedState.{SharedState, quota_of, fragment_size_of}
 use Rattle.gatt_laws.specs.laws.Settled.{has_slot, HaveOneSlotEach}
 use Rattle.gatt_laws.specs.machine.State.{State, at_ordinal}
-use Rattle.gatt_slots.specs.Commands.{gives, slot_packet, slot_without_packet}
-use Rattle.gatt_slots.specs.SlotState.{slot_state_of, slot_state_if_there, outgoing_of}
+use Rattle.host_connections.specs.Commands.{gives, slot_packet, slot_without_packet}
+use Rattle.host_connections.specs.SlotState.{slot_state_of, slot_state_if_there, outgoing_of}
 use Rattle.le_acl.proofs.Histories.{follows_history}
 use Rattle.le_acl.specs.Fragment.{Fragment}
 use Rattle.le_acl.specs.History.{packets_allowed, IsAfterHistory}
 use Rattle.le_acl.specs.Outgoing.{Outgoing, outgoing_after, acl_octets, after_next, may_give, next_of, without_pdus}
 use Rattle.le_acl.specs.Packets.{packets_of}
-use Rattle.octets.specs.Number.{Octets}
+use Rattle.octet_io.proofs.Choices.{or_false_left, or_false_right}
+use Rattle.octet_io.specs.Number.{Octets}
 
 -- what is left once so many are handed out
 drop-taken : {A : Type 0} (xs ys : List A) (n : ℕ) → length xs ≡ n → drop n (xs ++ ys) ≡ ys
@@ -151,15 +151,15 @@ module _ (state : State) (handed : Handed) where
   held-same ordinal [] lacks = refl
   held-same ordinal (None ∷ slots) lacks = ap (λ later. None ∷ later) (held-same ordinal slots lacks)
   held-same ordinal (Some one ∷ slots) lacks =
-      let same = sym (other-handed ordinal one (left_false (one == ordinal) (has_slot ordinal slots) lacks)) in
-      λ i. slot_state_if_there state.shared (state.connections one) (same i) ∷ held-same ordinal slots (right_false (one == ordinal) (has_slot ordinal slots) lacks) i
+      let same = sym (other-handed ordinal one (or_false_left (one == ordinal) (has_slot ordinal slots) lacks)) in
+      λ i. slot_state_if_there state.shared (state.connections one) (same i) ∷ held-same ordinal slots (or_false_right (one == ordinal) (has_slot ordinal slots) lacks) i
 
   left-same : (ordinal : Ordinal) (slots : Slots) → has_slot ordinal slots ≡ false → flat_map (slot_left state handed) slots ≡ flat_map (slot_left state (with_handed ordinal)) slots
   left-same ordinal [] lacks = refl
   left-same ordinal (None ∷ slots) lacks = left-same ordinal slots lacks
   left-same ordinal (Some one ∷ slots) lacks =
-      let same = sym (other-handed ordinal one (left_false (one == ordinal) (has_slot ordinal slots) lacks)) in
-      λ i. packets_left state.shared (state.connections one) (same i) ++ left-same ordinal slots (right_false (one == ordinal) (has_slot ordinal slots) lacks) i
+      let same = sym (other-handed ordinal one (or_false_left (one == ordinal) (has_slot ordinal slots) lacks)) in
+      λ i. packets_left state.shared (state.connections one) (same i) ++ left-same ordinal slots (or_false_right (one == ordinal) (has_slot ordinal slots) lacks) i
 
   pub record NonePacket (slots : Slots) : Type 0 where
     pub any : list_any gives (map (slot_state_handed state handed) slots) ≡ false
@@ -219,8 +219,8 @@ module _ (state : State) (handed : Handed) where
       record {
         ordinal = one;
         octets = gave.octets;
-        has = left_true (one == one) (has_slot one slots) (eq-eqb one one refl);
-        any = left_true (gives server) (list_any gives later) is;
+        has = or_left (one == one) (has_slot one slots) (eq-eqb one one refl);
+        any = or_left (gives server) (list_any gives later) is;
         found = found ∙ ap (option_and_then slot_packet) kept_now ∙ gave.packet;
         left = left_then ∙ (λ i. gave.octets ∷ (packets_left state.shared connection (own i) ++ flat_map (slot_left state (with_handed one)) slots));
         server = first ∙ (λ i. kept_then i ∷ same_held i);
@@ -265,8 +265,8 @@ module _ (state : State) (handed : Handed) where
       APacket (record {
         ordinal = first.ordinal;
         octets = first.octets;
-        has = right_true (one == first.ordinal) (has_slot first.ordinal slots) first.has;
-        any = right_true (gives server) (list_any gives later) first.any;
+        has = or_right (one == first.ordinal) (has_slot first.ordinal slots) first.has;
+        any = or_right (gives server) (list_any gives later) first.any;
         found = (λ i. if is i then option_and_then slot_packet server else first_slot_packet later) ∙ first.found;
         left = before ∙ (λ i. first.octets ∷ (empty_then i ++ flat_map (slot_left state (with_handed first.ordinal)) slots));
         server = past ∙ (λ i. slot_state_if_there state.shared connection (same i) ∷ first.server i);
@@ -279,9 +279,9 @@ module _ (state : State) (handed : Handed) where
   search_packets next [] each there ways = NoPacket (record { any = refl; none = refl; left = refl; server = refl })
   search_packets next (None ∷ slots) each there ways = past-free slots (search_packets next slots each there ways)
   search_packets next (Some one ∷ slots) each there ways =
-      let has : has_slot one (Some one ∷ slots) ≡ true = left_true (one == one) (has_slot one slots) (eq-eqb one one refl) in
-      let later = search_packets next slots each.2 (λ other is. there other (right_true (one == other) (has_slot other slots) is))
-      (λ other is. ways other (right_true (one == other) (has_slot other slots) is)) in
+      let has : has_slot one (Some one ∷ slots) ≡ true = or_left (one == one) (has_slot one slots) (eq-eqb one one refl) in
+      let later = search_packets next slots each.2 (λ other is. there other (or_right (one == other) (has_slot other slots) is))
+      (λ other is. ways other (or_right (one == other) (has_slot other slots) is)) in
       elim (may_give (outgoing_of state.shared (state.connections one) (handed one))) as
       (λ (may : Bool). may_give (outgoing_of state.shared (state.connections one) (handed one)) ≡ may → Packeting (Some one ∷ slots)) [
         | true ↦ λ may. APacket (here one slots (there one has) each.1 (ways one has) may)

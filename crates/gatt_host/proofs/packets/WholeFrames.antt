@@ -1,5 +1,5 @@
 -- A fragment that begins a frame and is a whole one gives it, and leaves nothing.
-use Rattle.std.proofs.Common.{◌≡◌, ◌==◌, Bool, true, false, ◌&&◌, nat_le, [], ◌∷◌, ◌++◌, length, Option, Some, None, refl, subst, arith}
+use Rattle.std.proofs.Common.{◌≡◌, ◌==◌, Bool, true, false, nat_le, [], ◌∷◌, ◌++◌, length, Option, Some, None, refl, subst, arith}
 use Rattle.std.proofs.lemmas.Bool.Decides.{nat_tests}
 use Rattle.std.specs.Prelude.{IsSome}
 use Rattle.std.specs.Option.{option_and_then, option_map_or}
@@ -9,16 +9,13 @@ use Rattle.le_acl.specs.Frame.{is_enough, is_frame}
 use Rattle.le_acl.specs.Fragment.{Fragment, Beginning, Continuation}
 use Rattle.le_acl.specs.declared.frame.TheConstants.{MAX_FRAME}
 use Rattle.le_acl.specs.Reassembler.{Assembly, assembled_of, no_assembly, with_more}
-use Rattle.octets.specs.Number.{Octets, from_two}
-
-both : (x y : Bool) → (x && y) ≡ true → x ≡ true
-both true y is = refl
-both false y is = is
+use Rattle.octet_io.proofs.Choices.{and_true_left}
+use Rattle.octet_io.specs.Number.{Octets, from_two}
 
 pub enough : (octets : Octets) → is_frame octets ≡ true → is_enough octets ≡ true
 enough (low ∷ high ∷ channel_low ∷ channel_high ∷ payload) is =
     let states : (length payload == from_two low high) ≡ true =
-    both (length payload == from_two low high) (nat_le (length (low ∷ high ∷ channel_low ∷ channel_high ∷ payload)) MAX_FRAME) is in
+    and_true_left (length payload == from_two low high) (nat_le (length (low ∷ high ∷ channel_low ∷ channel_high ∷ payload)) MAX_FRAME) is in
     grind (arith, nat_tests, states)
 enough [] is = cc is
 enough (a ∷ []) is = cc is

@@ -5,7 +5,7 @@ use Rattle.gatt_host.specs.ServerState.{ServerState, server_after_command_comple
 use Rattle.gatt_host.specs.Meaning.{IsAfter}
 use Rattle.gatt_laws.specs.machine.Event.{Happening, Credit}
 use Rattle.gatt_laws.specs.machine.Packets.{Fault}
-use Rattle.gatt_slots.specs.Slots.{Place}
+use Rattle.host_connections.specs.Slots.{Place}
 use Rattle.le_hci.specs.declared.init.Init.{Init}
 
 pub credited : (result : Result (Happening Place) Fault) (allowed opcode : ℕ) (status : Option ℕ)

@@ -27,7 +27,7 @@ use Rattle.gatt_laws.specs.machine.Effect.{effect_on_connection, served, is_full
 use Rattle.gatt_subs.specs.Indications.{after_replacement}
 use Rattle.le_acl.specs.History.{packets_allowed}
 use Rattle.le_security.specs.Link.{Step, Encryption, Refresh}
-use Rattle.octets.specs.Number.{Octets}
+use Rattle.octet_io.specs.Number.{Octets}
 
 -- before its end an event gives nothing
 abbrev Same : ConnectionState → ConnectionState → Type 0

@@ -9,17 +9,17 @@ use Rattle.gatt_host.specs.ServerState.{ServerState, ServesRequest, brought_by, 
 use Rattle.gatt_laws.specs.machine.Controller.{Controller}
 use Rattle.gatt_laws.specs.machine.Event.{Connected}
 use Rattle.gatt_laws.specs.machine.State.{advertising_after}
-use Rattle.gatt_slots.specs.declared.request.Brought.{Brought}
-use Rattle.gatt_slots.specs.SlotState.{SlotState}
-use Rattle.gatt_slots.specs.Request.{bond_served, confirmed_of, handles_written_by, overflows, slot_after_request, table_after}
-use Rattle.gatt_slots.specs.declared.skipped.Skipped.{Skipped}
-use Rattle.gatt_slots.specs.Skips.{all_skipped}
-use Rattle.gatt_slots.specs.Slots.{all_heard, at_place, slots_at}
-use Rattle.gatt_slots.specs.SlotEffects.{new_slot_state}
+use Rattle.host_connections.specs.declared.request.Brought.{Brought}
+use Rattle.host_connections.specs.SlotState.{SlotState}
+use Rattle.host_connections.specs.Request.{bond_served, confirmed_of, handles_written_by, overflows, slot_after_request, table_after}
+use Rattle.host_connections.specs.declared.skipped.Skipped.{Skipped}
+use Rattle.host_connections.specs.Skips.{all_skipped}
+use Rattle.host_connections.specs.Slots.{all_heard, at_place, slots_at}
+use Rattle.host_connections.specs.SlotEffects.{new_slot_state}
 use Rattle.gatt_subs.specs.Rows.{Subscriptions, ChangesBond}
 use Rattle.le_hci.specs.declared.peer.Peer.{Peer}
 use Rattle.le_security.specs.Keys.{is_known}
-use Rattle.octets.specs.Number.{Octets}
+use Rattle.octet_io.specs.Number.{Octets}
 
 -- a PDU of the Attribute Protocol is served, and then all hear
 module _ (old : ServerState) (place : ℕ) (pdu : Octets) (table : Contents) (rows : Subscriptions) (written : List Handle) (handle : ℕ) (brought : Brought) (changed slots : List (Option SlotState)) (skipped : List Skipped)

@@ -12,11 +12,8 @@ use Rattle.le_hci.specs.declared.init.Init.{Init}
 use Rattle.le_hci.specs.declared.init.InitFault.{InitFault}
 use Rattle.le_hci.specs.declared.init.InitFault.TheVariants.{Refused}
 use Rattle.le_hci.specs.Init.{handed_back, next_by, opcode_awaited, outcome_by, init_outcome}
-use Rattle.octets.specs.Number.{Octets}
-
-right-of : (left right : Bool) → (left && right) ≡ true → right ≡ true
-right-of true right is = is
-right-of false right is = absurd (clash is)
+use Rattle.octet_io.proofs.Choices.{and_true_right}
+use Rattle.octet_io.specs.Number.{Octets}
 
 abbrev refusal : ℕ → ℕ → Result (Option Init) Fault
 refusal opcode status = Err (InitFailed (Refused opcode status))
@@ -38,7 +35,7 @@ stops_where_refused controller status allowed opcode is other =
     ap (λ (awaits : Bool). stop_of (answered allowed opcode (Some status) (if awaits && not (status == 0) then leads else Ok None))) is
     ∙ ap (λ (zero : Bool). stop_of (answered allowed opcode (Some status) (if not zero then leads else Ok None))) other
     ∙ ap (λ (result : Result (Option Init) Fault). stop_of (answered allowed opcode (Some status) result))
-    (leads-to (opcode_awaited controller.init) controller.init opcode status (right-of controller.awaiting _ is) other)
+    (leads-to (opcode_awaited controller.init) controller.init opcode status (and_true_right controller.awaiting _ is) other)
 
 -- what stops initialisation stops the host
 pub stops_where_told : (allowed opcode : ℕ) (status : Option ℕ) (following : Result (Option Init) Fault) → stop_of (answered allowed opcode status following) ≡ following_stop following

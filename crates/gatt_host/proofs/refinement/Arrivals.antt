@@ -20,8 +20,8 @@ use Rattle.gatt_laws.specs.machine.Context.{context_of, serving}
 use Rattle.gatt_laws.specs.machine.Event.{Ordinal}
 use Rattle.gatt_laws.specs.machine.Packets.{Fragments, arrival_of, recombinations_of, with_arrival}
 use Rattle.gatt_laws.specs.machine.State.{State}
-use Rattle.gatt_slots.proofs.states.Places.{Finds}
-use Rattle.gatt_slots.specs.Slots.{Place, place_serving}
+use Rattle.host_connections.proofs.states.Places.{Finds}
+use Rattle.host_connections.specs.Slots.{Place, place_serving}
 use Rattle.le_acl.proofs.Frames.{assembled_frame}
 use Rattle.le_acl.specs.Fragment.{Fragment, Beginning, Continuation, fragment_of}
 use Rattle.le_acl.specs.Reassembler.{Assembly, no_assembly, assembly_after}

@@ -17,7 +17,7 @@ use Rattle.gatt_laws.specs.machine.ConnectionState.{no_connection}
 use Rattle.gatt_laws.specs.machine.SharedState.{Bonds, ServiceChangedPending}
 use Rattle.gatt_laws.specs.machine.Start.{before_first_command, state_at, first_out}
 use Rattle.gatt_laws.specs.machine.State.{State}
-use Rattle.gatt_slots.specs.SlotState.{SlotState}
+use Rattle.host_connections.specs.SlotState.{SlotState}
 use Rattle.gatt_subs.specs.declared.bond.Bond.{Bond}
 use Rattle.gatt_subs.specs.Fit.{fitted_bond, HasFittedBonds, IsListed}
 use Rattle.gatt_subs.specs.Rows.{Subscriptions, bond_of}

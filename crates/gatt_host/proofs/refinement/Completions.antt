@@ -15,9 +15,9 @@ use Rattle.gatt_laws.specs.machine.Event.{Ordinal, Completed}
 use Rattle.gatt_laws.specs.machine.Notice.{event_told}
 use Rattle.gatt_laws.specs.machine.ConnectionState.{ConnectionState}
 use Rattle.gatt_laws.specs.machine.State.{State, with_packets_completed, after_packets_completed, change_of}
-use Rattle.gatt_slots.proofs.states.Found.{all_completed}
-use Rattle.gatt_slots.specs.SlotState.{SlotState}
-use Rattle.gatt_slots.specs.Slots.{Place, after_completions}
+use Rattle.host_connections.proofs.states.Found.{all_completed}
+use Rattle.host_connections.specs.SlotState.{SlotState}
+use Rattle.host_connections.specs.Slots.{Place, after_completions}
 
 one-link : (connection : ConnectionState) (count : ℕ) (own : Bool) → SameLink connection (if own then with_packets_completed connection count else connection)
 one-link connection count true = (refl, refl)

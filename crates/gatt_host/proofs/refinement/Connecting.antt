@@ -23,11 +23,11 @@ use Rattle.gatt_laws.specs.machine.ConnectionState.{ConnectionState, no_connecti
 use Rattle.gatt_laws.specs.machine.SharedState.{quota_of, fragment_size_of}
 use Rattle.gatt_laws.specs.laws.Settled.{has_slot}
 use Rattle.gatt_laws.specs.machine.State.{State, change_of, advertising_after}
-use Rattle.gatt_slots.proofs.states.SlotStates.{kept_there}
-use Rattle.gatt_slots.proofs.states.Places.{one_freed, takes_the_first}
-use Rattle.gatt_slots.specs.SlotState.{SlotState, slot_state_if_there}
-use Rattle.gatt_slots.specs.Slots.{place_free, at_place}
-use Rattle.gatt_slots.specs.SlotEffects.{new_slot_state}
+use Rattle.host_connections.proofs.states.SlotStates.{kept_there}
+use Rattle.host_connections.proofs.states.Places.{one_freed, takes_the_first}
+use Rattle.host_connections.specs.SlotState.{SlotState, slot_state_if_there}
+use Rattle.host_connections.specs.Slots.{place_free, at_place}
+use Rattle.host_connections.specs.SlotEffects.{new_slot_state}
 use Rattle.le_hci.specs.declared.buffers.Buffers.{Buffers}
 use Rattle.le_hci.specs.declared.peer.Peer.{Peer}
 use Rattle.le_hci.specs.InitTold.{told_in}

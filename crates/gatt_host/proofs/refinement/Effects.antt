@@ -9,7 +9,7 @@ use Rattle.gatt_host.proofs.owing.Nexts.{clash}
 use Rattle.gatt_host.proofs.refinement.Holding.{Holds}
 use Rattle.gatt_host.proofs.refinement.OneSlot.{ready_where, changed_one}
 use Rattle.gatt_host.specs.ServerState.{ServerState, server_slot_at}
-use Rattle.gatt_slots.specs.Slots.{slots_at}
+use Rattle.host_connections.specs.Slots.{slots_at}
 use Rattle.gatt_host.specs.Owing.{all_given, slot_state_handed, slot_states_handed}
 use Rattle.gatt_host.specs.StateRefinement.{HoldsBonds, HasKeysOfItsPeer}
 use Rattle.gatt_laws.specs.machine.Controller.{is_ready}
@@ -19,8 +19,8 @@ use Rattle.gatt_laws.specs.machine.SharedState.{Bonds, ServiceChangedPending}
 use Rattle.gatt_laws.specs.laws.Settled.{IsSettled}
 use Rattle.gatt_laws.specs.machine.State.{State, at_ordinal, at_peer, with_values}
 use Rattle.gatt_laws.specs.machine.Effect.{Effect}
-use Rattle.gatt_slots.proofs.states.SlotStates.{kept_there, live_there}
-use Rattle.gatt_slots.specs.SlotState.{SlotState, slot_state_of, slot_state_if_there}
+use Rattle.host_connections.proofs.states.SlotStates.{kept_there, live_there}
+use Rattle.host_connections.specs.SlotState.{SlotState, slot_state_of, slot_state_if_there}
 use Rattle.gatt_subs.specs.Rows.{Subscriptions}
 use Rattle.le_hci.specs.declared.peer.Peer.{Peer}
 use Rattle.le_security.proofs.Peers.{equal_peers}

@@ -18,11 +18,11 @@ use Rattle.gatt_laws.specs.machine.Notice.{event_told}
 use Rattle.gatt_laws.specs.machine.ConnectionState.{ConnectionState, is_there}
 use Rattle.gatt_laws.specs.machine.SharedState.{SharedState}
 use Rattle.gatt_laws.specs.machine.State.{State, change_of}
-use Rattle.gatt_slots.specs.SlotState.{SlotState, slot_state_of, slot_state_if_there}
-use Rattle.gatt_slots.specs.Slots.{all_after_time, late_handles}
-use Rattle.gatt_slots.specs.SlotEffects.{after_time}
+use Rattle.host_connections.specs.SlotState.{SlotState, slot_state_of, slot_state_if_there}
+use Rattle.host_connections.specs.Slots.{all_after_time, late_handles}
+use Rattle.host_connections.specs.SlotEffects.{after_time}
 use Rattle.gatt_subs.specs.Indications.{after_tick}
-use Rattle.octets.specs.Number.{Octets}
+use Rattle.octet_io.specs.Number.{Octets}
 
 -- slots of which each is changed
 pub slots_each : (old new : State) (handed : Handed) (change : Option SlotState → Option SlotState) → change None ≡ None

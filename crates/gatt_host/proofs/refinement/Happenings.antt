@@ -29,10 +29,10 @@ use Rattle.gatt_laws.specs.machine.Event.{Credit, Update, Tick, Replaced, Nothin
 use Rattle.gatt_laws.specs.machine.ConnectionState.{ConnectionState}
 use Rattle.gatt_laws.specs.machine.State.{State}
 use Rattle.gatt_laws.specs.machine.Effect.{effect_of}
-use Rattle.gatt_slots.specs.SlotState.{SlotState, slot_state_of}
-use Rattle.gatt_slots.specs.Slots.{place_free}
+use Rattle.host_connections.specs.SlotState.{SlotState, slot_state_of}
+use Rattle.host_connections.specs.Slots.{place_free}
 use Rattle.le_hci.specs.declared.peer.Peer.{Peer}
-use Rattle.octets.specs.Number.{Octets}
+use Rattle.octet_io.specs.Number.{Octets}
 
 module _ (state : State) (server : ServerState) (sound : IsSound state) (refines : RefinesState state [] server) where
   is : Holds state (all_given state) server

@@ -5,7 +5,7 @@ use Rattle.std.specs.List.{flat_map}
 use Rattle.std.specs.Option.{option_map, option_map_or}
 use Rattle.att_numbers.specs.Types.{Handle, Row}
 use Rattle.att_table.specs.Table.{Contents}
-use Rattle.std.proofs.lemmas.Bool.{eq-eqb}
+use Rattle.std.proofs.lemmas.Bool.{eq-eqb, or_right}
 use Rattle.gatt_host.proofs.places.Entering.{change-same, owes_what_an_event_brings}
 use Rattle.gatt_host.proofs.owing.Owing.{hands_out_what_is_owed}
 use Rattle.gatt_host.specs.GoingOut.{next_out}
@@ -25,13 +25,13 @@ use Rattle.gatt_laws.specs.laws.Queued.{IsWithinBounds}
 use Rattle.gatt_laws.specs.machine.SharedState.{SharedState, Bonds, ServiceChangedPending, quota_of, fragment_size_of}
 use Rattle.gatt_laws.specs.laws.Settled.{has_slot, is_slot_of}
 use Rattle.gatt_laws.specs.machine.State.{State, Change, change_of, finished, connections_finished, before_commands, step, out}
-use Rattle.gatt_slots.proofs.states.Heard.{finished_kept}
-use Rattle.gatt_slots.specs.Hearing.{delivery_of, hearer_facts_of, slot_after_hearing, slot_hearer}
-use Rattle.gatt_slots.specs.SlotState.{SlotState, slot_state_of, slot_state_if_there}
-use Rattle.gatt_slots.proofs.states.Skips.{skips_kept}
-use Rattle.gatt_slots.specs.declared.skipped.Skipped as noted
-use Rattle.gatt_slots.specs.Skips.{all_skipped, skip_of, skips_from, slot_skips}
-use Rattle.gatt_slots.specs.Slots.{handles_for, slot_heard, heard_from}
+use Rattle.host_connections.proofs.states.Heard.{finished_kept}
+use Rattle.host_connections.specs.Hearing.{delivery_of, hearer_facts_of, slot_after_hearing, slot_hearer}
+use Rattle.host_connections.specs.SlotState.{SlotState, slot_state_of, slot_state_if_there}
+use Rattle.host_connections.proofs.states.Skips.{skips_kept}
+use Rattle.host_connections.specs.declared.skipped.Skipped as noted
+use Rattle.host_connections.specs.Skips.{all_skipped, skip_of, skips_from, slot_skips}
+use Rattle.host_connections.specs.Slots.{handles_for, slot_heard, heard_from}
 use Rattle.gatt_subs.specs.declared.bond.Bond.{Bond}
 use Rattle.gatt_subs.specs.Rows.{Subscriptions, row_of}
 use Rattle.le_acl.specs.History.{packets_allowed}
@@ -39,7 +39,7 @@ use Rattle.le_hci.specs.InitTold.{told_in}
 use Rattle.le_security.specs.Keys.{is_known}
 use Rattle.le_security.specs.Link.{key_after, last_asked}
 use Rattle.le_security.specs.declared.entry.Entry.{Entry}
-use Rattle.octets.specs.Number.{Octets}
+use Rattle.octet_io.specs.Number.{Octets}
 
 -- a host holds a state, where so many packets of each connection are handed out
 pub record Holds (state : State) (handed : Handed) (server : ServerState) : Type 0 where
@@ -58,10 +58,6 @@ pub record Holds (state : State) (handed : Handed) (server : ServerState) : Type
 
 pub some-is : {A : Type 0} {x y : A} → Some x ≡ Some y → x ≡ y
 some-is {x = x} e = ap (λ found. option_map_or (λ it. it) found x) e
-
-or-right : (one other : Bool) → other ≡ true → (one || other) ≡ true
-or-right true other is = refl
-or-right false other is = is
 
 -- where nothing is owed, all is done
 no-octets : (final : State) (controller : Controller) (slots : List (Option SlotState)) (found : Option Octets) → SendsTheNext final [] controller slots found
@@ -185,7 +181,7 @@ has_slot_there ordinal [] place there = cc there
 has_slot_there ordinal (slot ∷ slots) zero there =
     let first : is_slot_of ordinal slot ≡ true = ap (is_slot_of ordinal) (some-is there) ∙ eq-eqb ordinal ordinal refl in
     ap (λ (own : Bool). own || has_slot ordinal slots) first
-has_slot_there ordinal (slot ∷ slots) (suc place) there = or-right (is_slot_of ordinal slot) (has_slot ordinal slots) (has_slot_there ordinal slots place there)
+has_slot_there ordinal (slot ∷ slots) (suc place) there = or_right (is_slot_of ordinal slot) (has_slot ordinal slots) (has_slot_there ordinal slots place there)
 
 -- the link of a connection and its peer stay as they are at the end of an event
 abbrev pub SameLink : ConnectionState → ConnectionState → Type 0

@@ -17,10 +17,10 @@ use Rattle.gatt_laws.specs.machine.ConnectionState.{ConnectionState, is_live, ke
 use Rattle.gatt_laws.specs.machine.SharedState.{Bonds, ServiceChangedPending}
 use Rattle.gatt_laws.specs.machine.State.{State, all_to_notify, at_ordinal, change_of, step}
 use Rattle.gatt_laws.specs.machine.Effect.{Effect, live_effect, effect_of, effect_on_connection, with_step, lost_encryption, gained_encryption, authentication_failure}
-use Rattle.gatt_slots.proofs.states.Effects.{encrypted_kept, encrypted_raised, refreshed_kept, refreshed_raised, live_turned}
-use Rattle.gatt_slots.specs.SlotState.{SlotState, slot_state_of}
-use Rattle.gatt_slots.specs.Slots.{handles_for, slots_at}
-use Rattle.gatt_slots.specs.SlotEffects.{after_link_step}
+use Rattle.host_connections.proofs.states.Effects.{encrypted_kept, encrypted_raised, refreshed_kept, refreshed_raised, live_turned}
+use Rattle.host_connections.specs.SlotState.{SlotState, slot_state_of}
+use Rattle.host_connections.specs.Slots.{handles_for, slots_at}
+use Rattle.host_connections.specs.SlotEffects.{after_link_step}
 use Rattle.gatt_subs.specs.declared.bond.Bond.{Bond}
 use Rattle.gatt_subs.specs.Rows.{Subscriptions, owes}
 use Rattle.gatt_subs.specs.Unfitted.{has_peer}
@@ -29,6 +29,7 @@ use Rattle.le_security.proofs.Links.{key_of_steps}
 use Rattle.le_security.specs.Keys.{is_known}
 use Rattle.le_security.specs.Link.{Step, Encryption, Refresh, after_step, last_asked}
 use Rattle.le_security.specs.declared.entry.Entry.{Entry}
+use Rattle.octet_io.proofs.Choices.{and_true_right}
 
 -- a step with the key that was answered
 key-if : (keys : List Entry) (peer : Peer) (asked : Option KeyFacts) (encrypted : Bool) → (is_some asked ≡ true → is_known keys peer ≡ true)
@@ -53,10 +54,6 @@ same-owed : (keys : List Entry) (rows : Subscriptions) (bonds : Bonds) (owed : S
 same-owed keys rows bonds owed peer holds known =
     ap (λ (found : Option Bond). unwrap_or (option_map (λ (bond : Bond). bond.owed) found) (has_peer rows.unfitted.owed peer))
     (holds.known peer ∙ ap (λ (is : Bool). if is then Some (bond_in bonds owed peer) else None) known)
-
-and-right : (one other : Bool) → (one && other) ≡ true → other ≡ true
-and-right true other is = is
-and-right false other is = cc is
 
 and-same : (test one other : Bool) → (test ≡ true → one ≡ other) → (test && one) ≡ (test && other)
 and-same true one other same = same refl
@@ -94,7 +91,7 @@ module _ (state : State) (server : ServerState) (place : ℕ) (ordinal : Ordinal
   gained-known : (step : Step) → HasKeysOfItsPeer state.shared.keys (with_step connection step) → gained step ≡ true → is_known state.shared.keys connection.peer ≡ true
   gained-known step keyed is =
       keyed.key (sym (ap (λ (key : Option KeyFacts). is_some key) (key_of_steps (step ∷ connection.steps)))
-      ∙ and-right (not (is_some slot_state.link.key)) (is_some (after_step slot_state.link step).key) is)
+      ∙ and_true_right (not (is_some slot_state.link.key)) (is_some (after_step slot_state.link step).key) is)
 
   told-here : (step : Step) → HasKeysOfItsPeer state.shared.keys (with_step connection step)
       → told_here step ≡ (if gained step && state.owed connection.peer then option_to_list state.shared.changer else [])

@@ -21,11 +21,12 @@ use Rattle.gatt_laws.specs.machine.Controller.{Slots, has_free, is_ready, with_t
 use Rattle.gatt_laws.specs.machine.Event.{Ordinal}
 use Rattle.gatt_laws.specs.machine.ConnectionState.{is_live}
 use Rattle.gatt_laws.specs.machine.State.{State}
-use Rattle.gatt_slots.proofs.states.Found.{finds_holding, finds_serving}
-use Rattle.gatt_slots.proofs.states.SlotStates.{kept_there}
-use Rattle.gatt_slots.proofs.states.Places.{Finds, none_free, position_step}
-use Rattle.gatt_slots.specs.SlotState.{SlotState}
-use Rattle.gatt_slots.specs.Slots.{Place, is_serving, place_free, place_holding, place_serving}
+use Rattle.host_connections.proofs.states.Found.{finds_holding, finds_serving}
+use Rattle.host_connections.proofs.states.SlotStates.{kept_there}
+use Rattle.host_connections.proofs.states.Places.{Finds, none_free, position_step}
+use Rattle.host_connections.specs.SlotState.{SlotState}
+use Rattle.host_connections.specs.Slots.{Place, is_serving, place_free, place_holding, place_serving}
+use Rattle.octet_io.proofs.Choices.{or_false_right}
 
 -- who has a slot is at its place
 first-or-later : (first ordinal : Ordinal) (rest : Bool) (slots : Slots) (later : Place)
@@ -48,10 +49,6 @@ at-its-place ordinal (Some first ∷ slots) has =
     first-or-later first ordinal (has_slot ordinal slots) slots (place_among slots ordinal) has
     (at-its-place ordinal slots)
 
-or-false-right : (one other : Bool) → (one || other) ≡ false → other ≡ false
-or-false-right false other is = is
-or-false-right true other is = cc is
-
 still-there : (next ordinal : Ordinal) (slots : Slots) → has_slot next slots ≡ false
     → has_slot ordinal slots ≡ true
     → slice_get slots (place_among (with_taken next slots) ordinal) ≡ Some (Some ordinal)
@@ -63,7 +60,7 @@ still-there next ordinal (None ∷ slots) lacks has =
 still-there next ordinal (Some first ∷ slots) lacks has =
     first-or-later first ordinal (has_slot ordinal slots) slots
     (place_among (with_taken next slots) ordinal) has
-    (still-there next ordinal slots (or-false-right (first == next) (has_slot next slots) lacks))
+    (still-there next ordinal slots (or_false_right (first == next) (has_slot next slots) lacks))
 
 -- none is found where all slots are free
 none-found : (test : Option SlotState → Bool) → test None ≡ false → (count : ℕ)

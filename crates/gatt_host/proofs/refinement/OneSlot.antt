@@ -1,6 +1,6 @@
 -- Each connection that has a slot has one, so that what is done at its place is done to it and to no other.
 use Rattle.std.proofs.Common.{◌≡◌, ℕ, zero, suc, Bool, true, false, List, [], ◌∷◌, map, set, slice_get, Option, Some, None, refl, sym, ap, ◌∙◌}
-use Rattle.std.specs.Prelude.{◌==◌, ◌||◌, if◌then◌else◌}
+use Rattle.std.specs.Prelude.{◌==◌, if◌then◌else◌}
 use Rattle.std.specs.Option.{option_map, option_map_or}
 use Rattle.std.proofs.lemmas.Bool.{eq-eqb, eqb-true}
 use Rattle.std.proofs.lemmas.Option.{slice_get-map}
@@ -12,8 +12,9 @@ use Rattle.gatt_laws.specs.machine.Controller.{Slots, is_ready}
 use Rattle.gatt_laws.specs.machine.Event.{Ordinal}
 use Rattle.gatt_laws.specs.laws.Settled.{has_slot, HaveOneSlotEach, IsSettled}
 use Rattle.gatt_laws.specs.machine.State.{State, at_ordinal, all_to_notify}
-use Rattle.gatt_slots.specs.SlotState.{SlotState}
-use Rattle.gatt_slots.specs.Slots.{handles_for, at_place}
+use Rattle.host_connections.specs.SlotState.{SlotState}
+use Rattle.host_connections.specs.Slots.{handles_for, at_place}
+use Rattle.octet_io.proofs.Choices.{or_false_left, or_false_right}
 
 -- a slot is taken only once the controller is initialised
 ready-slots : (state : State) (settled : IsSettled state) (place : ℕ) (ordinal : Ordinal) (ready : Bool) → is_ready state.controller ≡ ready
@@ -27,15 +28,6 @@ ready-slots state settled place ordinal false is there =
 
 pub ready_where : (state : State) (settled : IsSettled state) (place : ℕ) (ordinal : Ordinal) → slice_get state.slots place ≡ Some (Some ordinal) → is_ready state.controller ≡ true
 ready_where state settled place ordinal there = ready-slots state settled place ordinal (is_ready state.controller) refl there
-
--- another has another slot
-or-false-left : (one other : Bool) → (one || other) ≡ false → one ≡ false
-or-false-left false other is = refl
-or-false-left true other is = is
-
-or-false-right : (one other : Bool) → (one || other) ≡ false → other ≡ false
-or-false-right false other is = is
-or-false-right true other is = cc is
 
 pub apart : (one other : Ordinal) (slots : Slots) → has_slot one slots ≡ false → has_slot other slots ≡ true → (one == other) ≡ false
 apart one other slots lacks has =
@@ -66,8 +58,8 @@ module _ (old new : Option Ordinal → Option SlotState) (ordinal : Ordinal) (no
   map_lacking [] lacks = refl
   map_lacking (None ∷ slots) lacks = λ i. none i ∷ map_lacking slots lacks i
   map_lacking (Some other ∷ slots) lacks =
-      let first : old (Some other) ≡ new (Some other) = others other (or-false-left (other == ordinal) (has_slot ordinal slots) lacks) in
-      let later : map old slots ≡ map new slots = map_lacking slots (or-false-right (other == ordinal) (has_slot ordinal slots) lacks) in
+      let first : old (Some other) ≡ new (Some other) = others other (or_false_left (other == ordinal) (has_slot ordinal slots) lacks) in
+      let later : map old slots ≡ map new slots = map_lacking slots (or_false_right (other == ordinal) (has_slot ordinal slots) lacks) in
       λ i. first i ∷ later i
 
   lacks-later : (next : Ordinal) (slot : Option Ordinal) (slots : Slots) → HaveOneSlotEach next (slot ∷ slots) → slot ≡ Some ordinal → has_slot ordinal slots ≡ false

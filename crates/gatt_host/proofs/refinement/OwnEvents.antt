@@ -1,7 +1,7 @@
 -- What happens to one connection leads a host on: it is authorized, or ended by the application, its key is asked for, or a
 -- PDU of another channel comes.
 use Rattle.std.proofs.Common.{◌≡◌, ℕ, Bool, true, false, List, [], ◌∷◌, Option, Some, None, refl, sym, ap, subst, ◌∙◌}
-use Rattle.std.specs.Prelude.{is_some, if◌then◌else◌, ◌||◌, ◌&&◌}
+use Rattle.std.specs.Prelude.{is_some, if◌then◌else◌, ◌||◌}
 use Rattle.std.specs.List.{find}
 use Rattle.std.specs.Option.{option_map, option_map_or}
 use Rattle.gatt_host.proofs.owing.Nexts.{clash}
@@ -11,27 +11,23 @@ use Rattle.gatt_host.proofs.refinement.Told.{authorized_told, disconnected_told,
 use Rattle.gatt_host.proofs.refinement.Effects.{holds_alone}
 use Rattle.gatt_host.specs.declared.last_event.LastEvent.TheVariants as last
 use Rattle.gatt_host.specs.ServerState.{ServerState, server_slot_at, end_event, other_channel_event, after_authorize, after_ask_key, after_disconnect, server_after_other_channel}
-use Rattle.gatt_slots.specs.Slots.{slots_at}
+use Rattle.host_connections.specs.Slots.{slots_at}
 use Rattle.gatt_host.specs.Owing.{all_given}
 use Rattle.gatt_host.specs.StateRefinement.{HasKeysOfItsPeer, IsServing, RefinesStep, RefinesState, IsSound}
 use Rattle.gatt_laws.specs.machine.Event.{Ordinal, Own, Of, Authorized, Ended, KeyAsked, OtherChannel}
 use Rattle.gatt_laws.specs.machine.ConnectionState.{ConnectionState, is_live, is_there, with_pdus, after_ending}
 use Rattle.gatt_laws.specs.machine.State.{State, change_of}
 use Rattle.gatt_laws.specs.machine.Effect.{Effect, live_effect, effect_of, effect_on_connection, with_key_asked, after_other_channel, channel_answer, is_full, remote_user_terminated}
-use Rattle.gatt_slots.proofs.states.Effects.{authorized_kept, disconnected_kept, key_asked_kept, live_turned, other_channel_kept}
-use Rattle.gatt_slots.specs.SlotState.{SlotState, slot_state_of, slot_state_if_there}
-use Rattle.gatt_slots.specs.SlotEffects.{after_authorizing, slot_after_ending, after_key_asked, slot_after_other_channel}
+use Rattle.host_connections.proofs.states.Effects.{authorized_kept, disconnected_kept, key_asked_kept, live_turned, other_channel_kept}
+use Rattle.host_connections.specs.SlotState.{SlotState, slot_state_of, slot_state_if_there}
+use Rattle.host_connections.specs.SlotEffects.{after_authorizing, slot_after_ending, after_key_asked, slot_after_other_channel}
 use Rattle.le_hci.specs.declared.peer.Peer.{Peer}
 use Rattle.le_security.specs.Entry.{is_for, same_peer}
 use Rattle.le_security.specs.Keys.{key_asked_for, is_known}
 use Rattle.le_security.specs.declared.entry.Entry.{Entry}
 use Rattle.le_security.specs.declared.entry.Key.{Key}
-use Rattle.octets.specs.Number.{Octets}
-
--- a key that is found is one of its peer
-and-left : (one other : Bool) → (one && other) ≡ true → one ≡ true
-and-left true other is = refl
-and-left false other is = is
+use Rattle.octet_io.proofs.Choices.{and_true_left}
+use Rattle.octet_io.specs.Number.{Octets}
 
 answered-known : (keys : List Entry) (peer : Peer) (random_number : Octets) (diversifier : ℕ) → is_some (key_asked_for keys peer random_number diversifier) ≡ true → is_known keys peer ≡ true
 answered-known [] peer random_number diversifier is = is
@@ -40,7 +36,7 @@ answered-known (entry ∷ keys) peer random_number diversifier is =
       | true ↦ λ same. refl
       | false ↦ λ differs.
           answered-known keys peer random_number diversifier
-          (later (is_for peer random_number diversifier entry) (λ own. clash (sym differs ∙ and-left (same_peer entry.peer peer) _ own)) is)
+          (later (is_for peer random_number diversifier entry) (λ own. clash (sym differs ∙ and_true_left (same_peer entry.peer peer) _ own)) is)
     ] refl
   where
     later : (own : Bool) → (own ≡ true → ⊥)

@@ -19,9 +19,9 @@ use Rattle.gatt_laws.specs.machine.Notice.{event_told}
 use Rattle.gatt_laws.specs.machine.ConnectionState.{ConnectionState, is_live}
 use Rattle.gatt_laws.specs.machine.SharedState.{Bonds, ServiceChangedPending}
 use Rattle.gatt_laws.specs.machine.State.{State, announced, bonds_replaced, owed_by, connection_after_replacement, change_of}
-use Rattle.gatt_slots.proofs.states.Events.{replaced_kept}
-use Rattle.gatt_slots.specs.SlotState.{SlotState}
-use Rattle.gatt_slots.specs.SlotEffects.{after_table}
+use Rattle.host_connections.proofs.states.Events.{replaced_kept}
+use Rattle.host_connections.specs.SlotState.{SlotState}
+use Rattle.host_connections.specs.SlotEffects.{after_table}
 use Rattle.gatt_subs.proofs.Fitted.{kept_each}
 use Rattle.gatt_subs.specs.declared.bond.Bond.{Bond}
 use Rattle.gatt_subs.specs.Changes.{with_changes_owed}

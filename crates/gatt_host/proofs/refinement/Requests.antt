@@ -25,15 +25,15 @@ use Rattle.gatt_laws.specs.machine.ConnectionState.{ConnectionState, bearer_of, 
 use Rattle.gatt_laws.specs.machine.SharedState.{SharedState, Bonds, ServiceChangedPending}
 use Rattle.gatt_laws.specs.machine.State.{State, all_to_notify, at_ordinal, at_peer, before_commands, change_of, finished, with_values}
 use Rattle.gatt_laws.specs.machine.Effect.{Effect, live_effect, effect_of, effect_on_connection, served, is_full, remote_user_terminated, handles_written}
-use Rattle.gatt_slots.proofs.states.Heard.{hears_of_values}
-use Rattle.gatt_slots.proofs.states.Skips.{skipped_of_values}
-use Rattle.gatt_slots.proofs.states.SlotStates.{connection_kept, link_key, live_there, row_kept}
-use Rattle.gatt_slots.proofs.states.Requests.{served_bond, served_kept, served_owed, served_raised, served_raised_here, served_values}
-use Rattle.gatt_slots.proofs.states.Effects.{full_kept, live_turned}
-use Rattle.gatt_slots.specs.Hearing.{slot_after_hearing, slot_row_in_force}
-use Rattle.gatt_slots.specs.SlotState.{SlotState, slot_state_of, slot_state_if_there}
-use Rattle.gatt_slots.specs.Request.{overflows, bond_after, bond_served, confirmed_of, confirms_changes, handles_written_by, slot_after_request, stored_of, table_after, with_owed_after}
-use Rattle.gatt_slots.specs.Slots.{handles_for, slots_at}
+use Rattle.host_connections.proofs.states.Heard.{hears_of_values}
+use Rattle.host_connections.proofs.states.Skips.{skipped_of_values}
+use Rattle.host_connections.proofs.states.SlotStates.{connection_kept, link_key, live_there, row_kept}
+use Rattle.host_connections.proofs.states.Requests.{served_bond, served_kept, served_owed, served_raised, served_raised_here, served_values}
+use Rattle.host_connections.proofs.states.Effects.{full_kept, live_turned}
+use Rattle.host_connections.specs.Hearing.{slot_row_in_force}
+use Rattle.host_connections.specs.SlotState.{SlotState, slot_state_of, slot_state_if_there}
+use Rattle.host_connections.specs.Request.{overflows, bond_after, bond_served, confirmed_of, confirms_changes, handles_written_by, slot_after_request, stored_of, table_after, with_owed_after}
+use Rattle.host_connections.specs.Slots.{handles_for, slots_at}
 use Rattle.gatt_subs.specs.declared.bond.Bond.{Bond}
 use Rattle.gatt_subs.specs.declared.pending.Unconfirmed.{Unconfirmed}
 use Rattle.gatt_subs.specs.Indications.{confirmed_handle, handle_if_current}
@@ -44,7 +44,7 @@ use Rattle.le_security.specs.Entry.{same_peer}
 use Rattle.le_security.specs.Keys.{is_known}
 use Rattle.le_security.specs.Link.{key_after}
 use Rattle.le_security.specs.declared.entry.Entry.{Entry}
-use Rattle.octets.specs.Number.{Octets}
+use Rattle.octet_io.specs.Number.{Octets}
 
 -- the bond of a peer is changed, and no other
 differs-too : (one other : Peer) → same_peer one other ≡ false → same_peer other one ≡ false

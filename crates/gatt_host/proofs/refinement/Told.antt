@@ -1,9 +1,9 @@
 -- What a host tells of an event is what the state machine has, kind by kind.
 use Rattle.std.proofs.Common.{◌≡◌, ℕ, zero, suc, Bool, true, false, List, [], ◌∷◌, ◌++◌, map, slice_get, Option, Some, None, refl, sym, ap, ◌∙◌}
-use Rattle.std.specs.Prelude.{if◌then◌else◌, replicate, ◌==◌, ◌||◌}
+use Rattle.std.specs.Prelude.{if◌then◌else◌, replicate, ◌==◌}
 use Rattle.std.specs.List.{flat_map}
 use Rattle.std.specs.Option.{option_map_or, option_to_list}
-use Rattle.std.proofs.lemmas.Bool.{eq-eqb}
+use Rattle.std.proofs.lemmas.Bool.{eq-eqb, or_left, or_right}
 use Rattle.gatt_host.proofs.refinement.Holding.{Holds, has_slot_there, holds, were_open}
 use Rattle.gatt_host.proofs.refinement.Effects.{kept_at_place}
 use Rattle.gatt_host.specs.declared.last_event.LastEvent.{LastEvent}
@@ -20,15 +20,15 @@ use Rattle.gatt_laws.specs.machine.ConnectionState.{ConnectionState, is_live, is
 use Rattle.gatt_laws.specs.laws.Settled.{has_slot}
 use Rattle.gatt_laws.specs.machine.State.{State}
 use Rattle.gatt_laws.specs.machine.Effect.{Effect, authentication_failure, remote_user_terminated, after_other_channel, channel_answer, is_full, live_effect, lost_encryption, effect_of, effect_on_connection, with_step}
-use Rattle.gatt_slots.proofs.states.SlotStates.{live_there}
-use Rattle.gatt_slots.proofs.states.Effects.{full_kept, live_turned}
-use Rattle.gatt_slots.specs.SlotState.{SlotState, slot_state_of}
-use Rattle.gatt_slots.specs.Slots.{late_handle, late_handles}
-use Rattle.gatt_slots.specs.SlotEffects.{has_no_room}
+use Rattle.host_connections.proofs.states.SlotStates.{live_there}
+use Rattle.host_connections.proofs.states.Effects.{full_kept, live_turned}
+use Rattle.host_connections.specs.SlotState.{SlotState, slot_state_of}
+use Rattle.host_connections.specs.Slots.{late_handle, late_handles}
+use Rattle.host_connections.specs.SlotEffects.{has_no_room}
 use Rattle.gatt_subs.specs.Indications.{times_out}
 use Rattle.le_security.proofs.Links.{key_of_steps}
 use Rattle.le_security.specs.Link.{Step, Encryption, Refresh, after_step}
-use Rattle.octets.specs.Number.{Octets}
+use Rattle.octet_io.specs.Number.{Octets}
 
 -- of a connection that serves on, no end is told
 serves-on : (handle : ℕ) (connection : ConnectionState) → is_live connection.mark ≡ true → end_told handle connection ≡ []
@@ -183,13 +183,6 @@ map-append : (one other : List ℕ) → map TimedOut (one ++ other) ≡ map Time
 map-append [] other = refl
 map-append (handle ∷ one) other = ap (λ (rest : List Notice). TimedOut handle ∷ rest) (map-append one other)
 
-or-left : (one other : Bool) → one ≡ true → (one || other) ≡ true
-or-left one other is = ap (λ (it : Bool). it || other) is
-
-or-right : (one other : Bool) → other ≡ true → (one || other) ≡ true
-or-right true other is = refl
-or-right false other is = is
-
 slots-late : (state : State) (now : ℕ) (slots : Slots)
     → ((ordinal : Ordinal) → has_slot ordinal slots ≡ true → is_there (state.connections ordinal).mark ≡ true)
     → map TimedOut (late_handles now (map (slot_state_handed state (all_given state)) slots))
@@ -199,8 +192,8 @@ slots-late state now (None ∷ slots) there = slots-late state now slots there
 slots-late state now (Some ordinal ∷ slots) there =
     let keep : Option Ordinal → Option SlotState = slot_state_handed state (all_given state) in
     map-append (option_map_or (late_handle now) (keep (Some ordinal)) []) (late_handles now (map keep slots))
-    ∙ λ i. slot-late state now ordinal (there ordinal (or-left (ordinal == ordinal) (has_slot ordinal slots) (eq-eqb ordinal ordinal refl))) i
-    ++ slots-late state now slots (λ other has. there other (or-right (ordinal == other) (has_slot other slots) has)) i
+    ∙ λ i. slot-late state now ordinal (there ordinal (or_left (ordinal == ordinal) (has_slot ordinal slots) (eq-eqb ordinal ordinal refl))) i
+    ++ slots-late state now slots (λ other has. there other (or_right (ordinal == other) (has_slot other slots) has)) i
 
 none-late : (now count : ℕ) → late_handles now (replicate count None) ≡ []
 none-late now zero = refl

@@ -7,7 +7,7 @@ use Rattle.gatt_laws.specs.machine.Input.{run, after_item}
 use Rattle.gatt_laws.specs.machine.Packets.{packet_event, Desync}
 use Rattle.gatt_laws.specs.machine.State.{step, change_of, out}
 use Rattle.gatt_laws.specs.machine.Effect.{live_effect}
-use Rattle.octets.specs.Number.{Octets}
+use Rattle.octet_io.specs.Number.{Octets}
 use Rattle.gatt_laws.specs.machine.Heard.{after_hearing}
 
 -- nothing is received yet, and Reset is sent

@@ -23,7 +23,7 @@ use Rattle.gatt_laws.specs.machine.Effect.{live_effect}
 use Rattle.le_acl.specs.Frame.{frame_at}
 use Rattle.le_acl.specs.Packets.{pieces}
 use Rattle.le_hci.specs.declared.peer.Peer.{Peer}
-use Rattle.octets.specs.Number.{Octets}
+use Rattle.octet_io.specs.Number.{Octets}
 
 -- what is told of what comes in once a peer has connected, by the handle 0040
 abbrev told_of : Contents → Peer → List Item → List Notice

@@ -25,7 +25,7 @@ use Rattle.gatt_laws.specs.machine.State.{State, step, change_of}
 use Rattle.gatt_laws.specs.machine.Effect.{live_effect}
 use Rattle.le_acl.specs.Frame.{frame_at}
 use Rattle.le_acl.specs.Packets.{pieces}
-use Rattle.octets.specs.Number.{Octets}
+use Rattle.octet_io.specs.Number.{Octets}
 
 prepares : ℕ → Octets
 prepares digit = 0x16 ∷ 0x15 ∷ 0x00 ∷ 0x00 ∷ 0x00 ∷ digit ∷ []

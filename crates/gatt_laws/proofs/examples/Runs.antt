@@ -6,7 +6,7 @@ use Rattle.gatt_laws.specs.machine.Input.{Item, AnOctet, ACall, run}
 use Rattle.gatt_laws.specs.machine.Start.{Start}
 use Rattle.gatt_laws.proofs.examples.Tables.{keys}
 use Rattle.le_hci.specs.declared.peer.Peer.{Peer}
-use Rattle.octets.specs.Number.{Octets, two_octets}
+use Rattle.octet_io.specs.Number.{Octets, two_octets}
 
 -- a host of a table, with so many slots
 abbrev pub host : Contents → ℕ → Start

@@ -30,7 +30,8 @@ use Rattle.le_hci.specs.declared.peer.Peer.{Peer}
 use Rattle.att_pdu.specs.Form.{form_of}
 use Rattle.att_writes.specs.Applied.{after_entries}
 use Rattle.att_reads.specs.Answer.{value_answer}
-use Rattle.octets.specs.Number.{Octets}
+use Rattle.octet_io.proofs.Choices.{and_true_left, and_true_right}
+use Rattle.octet_io.specs.Number.{Octets}
 
 -- a value of two octets, the first of which differs, that is read where the client is authorized, and written by all
 abbrev safe : ℕ → Contents
@@ -98,14 +99,6 @@ are_spared : Peer → Run → List Item → Bool
 are_spared peer run [] = true
 are_spared peer run (item ∷ items) = is_spared peer run.intake.state (event_at run.intake item) && are_spared peer (after_item run item) items
 
-first-true : (one other : Bool) → (one && other) ≡ true → one ≡ true
-first-true true other is = refl
-first-true false other is = cc is
-
-second-true : (one other : Bool) → (one && other) ≡ true → other ≡ true
-second-true true other is = is
-second-true false other is = cc is
-
 or-not : (one other : Bool) → (one || not other) ≡ true → one ≡ false → other ≡ false
 or-not false false is none = refl
 or-not false true is none = cc is
@@ -126,8 +119,8 @@ spared-all : (peer : Peer) (run : Run) (items : List Item) → are_spared peer r
 unfolding are_spared
 spared-all peer run [] is = tt
 spared-all peer run (item ∷ items) is = (
-  spared-one peer run.intake.state (event_at run.intake item) (first-true (is_spared peer run.intake.state (event_at run.intake item)) _ is),
-  spared-all peer (after_item run item) items (second-true (is_spared peer run.intake.state (event_at run.intake item)) _ is),
+  spared-one peer run.intake.state (event_at run.intake item) (and_true_left (is_spared peer run.intake.state (event_at run.intake item)) _ is),
+  spared-all peer (after_item run item) items (and_true_right (is_spared peer run.intake.state (event_at run.intake item)) _ is),
 )
 
 -- no table is replaced here

@@ -9,7 +9,7 @@ use Rattle.att_attributes.specs.declared.attr.Role.TheVariants.{Declaration, Val
 use Rattle.att_table.specs.Table.{Contents}
 use Rattle.le_hci.specs.declared.peer.Peer.{Peer}
 use Rattle.le_security.specs.declared.entry.Entry as Key
-use Rattle.octets.specs.Number.{Octets}
+use Rattle.octet_io.specs.Number.{Octets}
 
 abbrev pub no_need : Need
 no_need = record { encrypted = false; authenticated = false; key_size = None; secure = false; authorized = false }

@@ -21,7 +21,7 @@ use Rattle.gatt_laws.specs.laws.View.{View, Happens, Updates, Writes, shown, vie
 use Rattle.le_acl.specs.Frame.{frame_at}
 use Rattle.le_acl.specs.Packets.{pieces}
 use Rattle.le_hci.specs.declared.peer.Peer.{Peer}
-use Rattle.octets.specs.Number.{Octets}
+use Rattle.octet_io.specs.Number.{Octets}
 
 -- a connection of this handle comes, and sends a PDU
 abbrev pub comes : ℕ → Peer → Octets

@@ -1,4 +1,4 @@
--- What is told was allowed: no write that was not, and nothing of what is refused or ignored.
+-- Each write with a notice was permitted, and nothing refused or ignored causes one.
 use Rattle.std.specs.Prelude.{◌≡◌, ℕ, true, false, All, [], length, Some, Ok, Err}
 use Rattle.att_numbers.specs.Types.{Handle, Opcode, Code}
 use Rattle.att_pdu.specs.Grammar.{request_of}
@@ -19,11 +19,10 @@ use Rattle.gatt_laws.specs.machine.ConnectionState.{is_live, connection_mtu, sta
 use Rattle.gatt_laws.specs.laws.Silence.{is_for_all}
 use Rattle.gatt_laws.specs.machine.State.{State}
 use Rattle.gatt_laws.specs.machine.Effect.{is_full}
-use Rattle.octets.specs.Number.{Octets}
+use Rattle.octet_io.specs.Number.{Octets}
 
--- The event is a PDU by which a connection of this handle, which serves, asks to write there, and it may
--- write there by the access that this PDU asks for: as a request by a Write Request and by an Execute Write
--- Request, as a command by a Write Command.
+-- A connection with this handle that serves sends a PDU that asks to write there, and it may write
+-- there in the way that it asks.
 pub record MayWrite (state : State) (event : Event) (handle : ℕ) (attribute : Handle) : Type 0 where
   pub ordinal : Ordinal
   pub pdu : Octets
@@ -42,23 +41,23 @@ WasAllowed state event (Written handle attribute) = MayWrite state event handle 
 WasAllowed state event (Configured handle attribute bits) = MayWrite state event handle attribute
 WasAllowed state event notice = Unit
 
--- each write and each configuration that is told was allowed when it came
 abbrev pub TellsWhatWasAllowed : Type 0
 TellsWhatWasAllowed = (state : State) (event : Event) →
     All (WasAllowed state event) (noticed state event)
 
--- nothing is told of a request that is refused, where there is room for the refusal
+-- A request that is refused causes no notice, if there is space for the refusal.
 abbrev pub TellsNoRefusals : Type 0
 TellsNoRefusals = (state : State) (ordinal : Ordinal) (pdu : Octets)
     (request : Opcode) (handle : Handle) (code : Code) →
     let connection = state.connections ordinal in
     is_full state.shared connection ≡ false
-    → answer_to state.shared.table (row_of_connection state ordinal) (bearer_of state.shared connection)
-    (request_of pdu (connection_mtu state.shared connection)) ≡ Some (ErrorResponse request handle code)
+    → answer_to state.shared.table (row_of_connection state ordinal)
+    (bearer_of state.shared connection)
+    (request_of pdu (connection_mtu state.shared connection))
+    ≡ Some (ErrorResponse request handle code)
     → noticed state (Of ordinal (Asks pdu)) ≡ []
 
--- A Write Command that is refused causes no notice; it has no answer (Core 5.0, Vol 3 Part F, 3.4.5.3). It
--- is refused if the connection breaks a rule of the policy, or if the value does not fit the attribute.
+-- A refused Write Command, which has no answer (Core 5.0, Vol 3 Part F, 3.4.5.3), causes no notice.
 abbrev pub TellsNoRefusedCommands : Type 0
 TellsNoRefusedCommands = (state : State) (ordinal : Ordinal) (pdu : Octets)
     (handle : Handle) (value : Octets) (code : Code) →
@@ -69,13 +68,12 @@ TellsNoRefusedCommands = (state : State) (ordinal : Ordinal) (pdu : Octets)
     (length (value_at table.values handle)) (whole_value handle value) ≡ Some code
     → noticed state (Of ordinal (Asks pdu)) ≡ []
 
--- a PDU that is ignored causes no notice
 abbrev pub TellsNothingIgnored : Type 0
 TellsNothingIgnored = (state : State) (ordinal : Ordinal) (pdu : Octets) →
     request_of pdu (connection_mtu state.shared (state.connections ordinal)) ≡ Err Ignored
     → noticed state (Of ordinal (Asks pdu)) ≡ []
 
--- nor of what happens to a connection that does not serve, but for coming and going
+-- An event of a connection that does not serve causes no notice, unless it connects or disconnects.
 abbrev pub TellsOnlyOfTheLive : Type 0
 TellsOnlyOfTheLive = (state : State) (ordinal : Ordinal) (own : Own) →
     is_live (state.connections ordinal).mark ≡ false → is_for_all own ≡ false

@@ -1,4 +1,4 @@
--- When an indication of any connection is late, and when an authorization ends: this profile's own.
+-- The times at which indications are late and authorizations end (this profile's own).
 use Rattle.std.specs.Prelude.{◌≡◌, ℕ, ◌<◌, ◌≤◌, ◌==◌, ◌^◌, min, nat_le, nat_lt, if◌then◌else◌}
 use Rattle.std.specs.Prelude.{All, Bool, true, false, List, [], filter_map, Option, Some, None}
 use Rattle.std.specs.List.{list_any, reduce}
@@ -21,25 +21,20 @@ use Rattle.gatt_subs.specs.Deadline.{deadline_of}
 use Rattle.gatt_subs.specs.Hearing.{may_hear_at}
 use Rattle.gatt_subs.specs.Indications.{Milliseconds, times_out}
 
--- The time at which the indication of the connection of a slot is late.
 abbrev pub slot_indication_deadline : State → Option Ordinal → Option Milliseconds
 slot_indication_deadline state None = None
 slot_indication_deadline state (Some ordinal) = deadline_of (state.connections ordinal).pending
 
--- The least of these times: none if each indication is confirmed.
 abbrev pub indication_deadline : State → Option Milliseconds
 indication_deadline state = reduce min (filter_map (slot_indication_deadline state) state.slots)
 
--- The time at which an authorization ends, if it has not ended.
 abbrev pub end_after : Milliseconds → Milliseconds → Option Milliseconds
 end_after now until = if nat_lt now until then Some until else None
 
--- The time at which the authorization of a connection ends, if it serves and is authorized.
 abbrev pub authorization_end : Milliseconds → ConnectionState → Option Milliseconds
 authorization_end now connection =
     if is_live connection.mark then end_after now connection.until else None
 
--- The earlier of two times, of which either may be absent.
 abbrev pub earlier_of : Option Milliseconds → Option Milliseconds → Option Milliseconds
 earlier_of None other = other
 earlier_of (Some one) None = Some one
@@ -56,7 +51,7 @@ slot_deadline now state (Some ordinal) =
 abbrev pub deadline : State → Option Milliseconds
 deadline state = reduce min (filter_map (slot_deadline state.shared.time state) state.slots)
 
--- A time below the deadline of indications notifies of no late indication, and one from it on does.
+-- Exactly the times from the deadline of indications on notify of a late indication.
 abbrev pub is_late_told : Notice → Bool
 is_late_told (TimedOut handle) = true
 is_late_told other = false
@@ -68,12 +63,10 @@ abbrev pub TellsFromTheDeadlineOn : Type 0
 TellsFromTheDeadlineOn = (state : State) (time : Milliseconds) → time < 2 ^ 64 →
     list_any is_late_told (noticed state (Tick time)) ≡ is_reached (indication_deadline state) time
 
--- The shared state at another time.
 abbrev pub at_time : Milliseconds → SharedState → SharedState
 at_time time shared = record shared { time = time }
 
--- Two shared states allow a connection the same: the same answer to each request, the same values and
--- configurations after it, the same handles written, and the same values to be notified of.
+-- Two shared states allow a connection the same, for any table and row.
 pub record IsAllowedTheSame (one other : SharedState) (connection : ConnectionState) : Type 0 where
   pub answers : (table : Contents) (row : Row) (asked : Question) →
       answer_to table row (bearer_of one connection) asked
@@ -88,7 +81,7 @@ pub record IsAllowedTheSame (one other : SharedState) (connection : ConnectionSt
       may_hear_at attributes row (standing_of one connection) handle
       ≡ may_hear_at attributes row (standing_of other connection) handle
 
--- A Tick before the deadline causes no notice and no packet that Nothing would not cause. It allows each
+-- A Tick before the deadline causes no notice and the same packets as `Nothing`; it allows each
 -- connection that has a slot and serves the same as before.
 pub record IsQuietAt (state : State) (time : Milliseconds) : Type 0 where
   pub notices : noticed state (Tick time) ≡ []
@@ -108,7 +101,6 @@ EndsAuthorizations = (state : State) (time : Milliseconds) (ordinal : Ordinal) (
     (state.connections ordinal).until ≤ time → need.authorized ≡ true
     → is_unmet need (standing_of new.shared (new.connections ordinal)) Authorization ≡ true
 
--- A connection that has a slot and this handle did not confirm an indication in time.
 pub record IsLateInASlot (state : State) (time : Milliseconds) (handle : ℕ) : Type 0 where
   pub ordinal : Ordinal
   pub has : has_slot ordinal state.slots ≡ true
@@ -119,12 +111,12 @@ abbrev pub IsNoticeOfLate : State → Milliseconds → Notice → Type 0
 IsNoticeOfLate state time (TimedOut handle) = IsLateInASlot state time handle
 IsNoticeOfLate state time notice = ⊥
 
--- At a Tick the application is notified of such connections, and of nothing else,
+-- A Tick notifies only of connections in a slot whose indication is late.
 abbrev pub NoticesOnlyWhoIsLate : Type 0
 NoticesOnlyWhoIsLate = (state : State) (time : Milliseconds) →
     All (IsNoticeOfLate state time) (noticed state (Tick time))
 
--- and of each of them.
+-- A Tick notifies of each of these connections.
 abbrev pub is_late_notice_of : ℕ → Notice → Bool
 is_late_notice_of handle (TimedOut other) = other == handle
 is_late_notice_of handle other = false

@@ -1,5 +1,5 @@
--- What an answer promises, in the words of the policy: what it sends may be read, what it writes may be written, and a
--- refusal changes nothing.
+-- An answer sends only what may be read, writes only what may be written, and changes nothing if it
+-- is a refusal.
 use Rattle.std.specs.Prelude.{◌≡◌, IfSome, if◌then◌else◌, List, [], ◌∷◌, map, Some}
 use Rattle.att_numbers.specs.Types.{Handle, Opcode, Code, Row}
 use Rattle.att_pdu.specs.Request.{Asked, ExchangeMtuRequest, FindInformationRequest, FindByTypeValueRequest, ReadByTypeRequest, ReadRequest, ReadBlobRequest, ReadMultipleRequest, ReadByGroupTypeRequest, WriteRequest, PrepareWriteRequest, ExecuteWriteRequest, ConfirmationPdu, WriteCommandPdu}
@@ -16,21 +16,20 @@ use Rattle.gatt_conn.specs.Answer.{Question, response_to, answer_to, writing_ask
 use Rattle.gatt_conn.specs.Connection.{Bearer}
 use Rattle.gatt_conn.specs.Transcript.{asks_execution}
 
--- each of some handles is so
 abbrev pub Each : (Handle → Type 0) → List Handle → Type 0
 Each P [] = Unit
 Each P (handle ∷ handles) = P handle × Each P handles
 
--- no rule of the policy is broken at a handle
+-- No rule of the policy is broken at a handle.
 abbrev pub MayUse : Access → List Attr → Standing → Handle → Type 0
 MayUse access attributes standing handle = IsPermitted access (guard_at attributes handle) standing
 
--- the handle whose value an element of a response has, or tells to be equal to one that the client named
+-- The handle whose value an element contains, or declares to be equal to one that the client named.
 abbrev pub element_handle : Element → Handle
 element_handle (OfAttribute handle octets) = handle
 element_handle (OfGroup first last value) = first
 
--- the handles that a request names, where its response has their values and no handles
+-- The handles that a request names, if its response has their values but no handles.
 abbrev pub handles_asked : Asked → List Handle
 handles_asked (ReadRequest handle) = handle ∷ []
 handles_asked (ReadBlobRequest handle offset) = handle ∷ []
@@ -46,7 +45,6 @@ handles_asked (ExecuteWriteRequest flags) = []
 handles_asked ConfirmationPdu = []
 handles_asked (WriteCommandPdu handle value) = []
 
--- the handles of the values that a response has
 abbrev pub handles_sent : Asked → Response → List Handle
 handles_sent asked (ReadResponse value) = handles_asked asked
 handles_sent asked (ReadBlobResponse part) = handles_asked asked
@@ -63,21 +61,26 @@ handles_sent asked ExecuteWriteResponse = []
 handles_sent asked (HandleValueNotification handle value) = []
 handles_sent asked (HandleValueIndication handle value) = []
 
--- each value that is sent is one that the client may then read
+-- The client may then read each value that is sent.
 abbrev pub SendsWhatMayBeRead : Type 0
 SendsWhatMayBeRead = (table : Contents) (row : Row) (conn : Bearer) (asked : Asked) →
     IfSome (response_to table row conn asked)
     (λ response. Each (MayUse Read table.attributes conn.standing) (handles_sent asked response))
 
--- each handle that is written is one that the client may then write, in the way in which it asks to
+-- The client may then write each handle that is written, in the way that it asks.
 abbrev pub WritesWhatMayBeWritten : Type 0
 WritesWhatMayBeWritten = (table : Contents) (row : Row) (conn : Bearer) (asked : Question) →
     IfSome (writing_asked conn.queue asked)
-    (λ writing. Each (MayUse writing.access table.attributes conn.standing) (handles_by table row conn asked))
+    (λ writing. Each (MayUse writing.access table.attributes conn.standing)
+    (handles_by table row conn asked))
 
--- a refusal changes no value, no configuration and no ATT_MTU, and of what is prepared only an execution leaves nothing
+-- A refusal changes no value, configuration, ATT_MTU or prepared write, except that an execution
+-- leaves nothing prepared.
 abbrev pub RefusalsChangeNothing : Type 0
-RefusalsChangeNothing = (table : Contents) (row : Row) (conn : Bearer) (asked : Question) (request : Opcode) (handle : Handle) (code : Code) →
+RefusalsChangeNothing =
+    (table : Contents) (row : Row) (conn : Bearer) (asked : Question) (request : Opcode)
+    (handle : Handle) (code : Code) →
     answer_to table row conn asked ≡ Some (ErrorResponse request handle code) →
     (stored_by table row conn asked ≡ stored_in table row)
-    × (conn_after table.attributes conn asked ≡ (if asks_execution asked then record conn { queue = [] } else conn))
+    × (conn_after table.attributes conn asked
+    ≡ (if asks_execution asked then record conn { queue = [] } else conn))

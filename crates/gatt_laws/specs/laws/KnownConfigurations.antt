@@ -19,8 +19,7 @@ use Rattle.gatt_laws.specs.machine.State.{State}
 use Rattle.le_hci.specs.declared.peer.Peer.{Peer}
 use Rattle.le_security.specs.Entry.{same_peer}
 
--- by the handle of a connection its peer, the key of its link, and the bits of its own configurations; and
--- the bits of the configurations of each peer's bond
+-- Own bits are known by connection handle, those of bonds by peer.
 pub record Known : Type 0 where
   pub present : Present
   pub keys : KnownKeys
@@ -31,8 +30,8 @@ abbrev pub is_peer_of : Peer → Option Peer → Bool
 is_peer_of peer None = false
 is_peer_of peer (Some other) = same_peer peer other
 
--- A connection has configured nothing when it connects. Its configurations are its own while its link
--- has no key, and of its peer's bond while it has one.
+-- A connection has configured nothing when it connects. Its configurations are its own while its
+-- link has no key, else its bond's.
 abbrev pub own_bits_after : Known → Notice → ℕ → Handle → ℕ
 own_bits_after known (Connected handle peer) other attribute =
     if handle == other then 0 else known.own other attribute
@@ -43,7 +42,8 @@ own_bits_after known notice other attribute = known.own other attribute
 
 abbrev pub bond_bits_after : Known → Notice → Peer → Handle → ℕ
 bond_bits_after known (Configured handle at bits) peer attribute =
-    if is_some (known.keys handle) && is_peer_of peer (known.present handle) && (at == attribute) then bits
+    if is_some (known.keys handle) && is_peer_of peer (known.present handle) && (at == attribute)
+    then bits
     else known.bonds peer attribute
 bond_bits_after known notice peer attribute = known.bonds peer attribute
 
@@ -55,7 +55,7 @@ known_after_notice known notice = record {
   bonds = bond_bits_after known notice;
 }
 
--- At first nobody is connected, and the bonds are those that the host is opened with.
+-- At first nobody is connected, and the bonds are those of the start.
 abbrev pub known_at_start : Start → Known
 known_at_start start = record {
   present = nobody_present;
@@ -64,11 +64,12 @@ known_at_start start = record {
   bonds = λ peer attribute. bits_at (start.bonds peer) attribute;
 }
 
--- The configurations are read again after the application has replaced the table.
+-- The configurations are read again after the table is replaced.
 abbrev pub with_bits_read : State → Known → Known
 with_bits_read state known = record known {
   own = λ handle attribute.
-      option_map_or (λ ordinal. bits_at (state.connections ordinal).row attribute) (holding state handle) 0;
+      option_map_or (λ ordinal. bits_at (state.connections ordinal).row attribute)
+      (holding state handle) 0;
   bonds = λ peer attribute. bits_at (state.bonds peer) attribute;
 }
 
@@ -77,7 +78,8 @@ is_replacing event = option_map_or is_replacement event false
 
 abbrev pub known_after_item : Run → Known → Item → Known
 known_after_item run known item =
-    if is_replacing (event_at run.intake item) then with_bits_read (after_item run item).intake.state known
+    if is_replacing (event_at run.intake item)
+    then with_bits_read (after_item run item).intake.state known
     else fold known_after_notice known (notices_of run item)
 
 abbrev pub known_after_items : Run → Known → List Item → Known
@@ -85,23 +87,25 @@ known_after_items run known [] = known
 known_after_items run known (item ∷ items) =
     known_after_items (after_item run item) (known_after_item run known item) items
 
--- the bits that are in force for a connection
 abbrev pub bits_known_of : Known → ℕ → Handle → ℕ
 bits_known_of known handle attribute =
     if is_some (known.keys handle)
     then option_map_or (λ peer. known.bonds peer attribute) (known.present handle) 0
     else known.own handle attribute
 
--- what is known is what the state has: own bits and bits in force of each connection that is there, and bonds
 pub record AreConfigurationsKnown (state : State) (known : Known) : Type 0 where
-  pub own : (ordinal : Ordinal) (attribute : Handle) → is_there (state.connections ordinal).mark ≡ true
-      → known.own (state.connections ordinal).handle attribute ≡ bits_at (state.connections ordinal).row attribute
-  pub bonds : (peer : Peer) (attribute : Handle) → known.bonds peer attribute ≡ bits_at (state.bonds peer) attribute
-  pub in_force : (ordinal : Ordinal) (attribute : Handle) → is_there (state.connections ordinal).mark ≡ true
+  pub own : (ordinal : Ordinal) (attribute : Handle) → is_there (state.connections ordinal).mark
+      ≡ true
+      → known.own (state.connections ordinal).handle attribute
+      ≡ bits_at (state.connections ordinal).row attribute
+  pub bonds : (peer : Peer) (attribute : Handle) → known.bonds peer attribute
+      ≡ bits_at (state.bonds peer) attribute
+  pub in_force : (ordinal : Ordinal) (attribute : Handle)
+      → is_there (state.connections ordinal).mark ≡ true
       → bits_known_of known (state.connections ordinal).handle attribute
       ≡ bits_at (row_of_connection state ordinal) attribute
 
--- in every run a listener knows each configuration
+-- In every run a listener knows each configuration.
 abbrev pub KnowsTheConfigurations : Type 0
 KnowsTheConfigurations = (start : Start) (input : List Item) →
     AreConfigurationsKnown (run start input).intake.state

@@ -8,14 +8,13 @@ use Rattle.gatt_laws.specs.machine.Notice.{Notice, Connected, Secured, Unsecured
 use Rattle.gatt_laws.specs.machine.Start.{Start}
 use Rattle.gatt_laws.specs.machine.State.{State}
 
--- By the handle of a connection the facts of the key of its link, if it has one.
 abbrev pub KnownKeys : Type 0
 KnownKeys = ℕ → Option KeyFacts
 
 abbrev pub with_key : ℕ → Option KeyFacts → KnownKeys → KnownKeys
 with_key handle key known other = if handle == other then key else known other
 
--- A link has no key when its connection connects, and then the key of the last notice of it.
+-- A link has no key when its connection connects, then the key of the last notice of it.
 abbrev pub known_keys_after : KnownKeys → Notice → KnownKeys
 known_keys_after known (Connected handle peer) = with_key handle None known
 known_keys_after known (Secured handle facts) = with_key handle (Some facts) known
@@ -25,12 +24,12 @@ known_keys_after known notice = known
 abbrev pub no_keys_known : KnownKeys
 no_keys_known handle = None
 
--- For each connection that is there, these are the facts of the key of its link.
 abbrev pub AreKeysKnown : State → KnownKeys → Type 0
 AreKeysKnown state known = (ordinal : Ordinal) → is_there (state.connections ordinal).mark ≡ true
     → known (state.connections ordinal).handle ≡ key_of (state.connections ordinal)
 
--- In every run a listener knows what the key of each link is worth.
+-- In every run a listener knows the facts of each link's key.
 abbrev pub KnowsTheKeys : Type 0
 KnowsTheKeys = (start : Start) (input : List Item) →
-    AreKeysKnown (run start input).intake.state (fold known_keys_after no_keys_known (all_notices start input))
+    AreKeysKnown (run start input).intake.state
+    (fold known_keys_after no_keys_known (all_notices start input))

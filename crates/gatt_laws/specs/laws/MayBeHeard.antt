@@ -1,4 +1,4 @@
--- What a connection is told unasked it may then hear of.
+-- Each value that a connection is sent unasked is one that `may_hear_at` then permits.
 use Rattle.std.specs.Prelude.{◌≡◌, ℕ, true, List, [], ◌∷◌, ◌++◌}
 use Rattle.att_numbers.specs.Types.{Handle, Values}
 use Rattle.att_pdu.specs.Response.{Response, HandleValueNotification, HandleValueIndication}
@@ -8,7 +8,6 @@ use Rattle.gatt_laws.specs.machine.Heard.{heard_in_turn}
 use Rattle.gatt_subs.specs.Hearing.{may_hear_at}
 use Rattle.gatt_subs.specs.Told.{Hearer}
 
--- the handles of the values that are told
 abbrev pub handle_told : Response → List Handle
 handle_told (HandleValueNotification handle value) = handle ∷ []
 handle_told (HandleValueIndication handle value) = handle ∷ []
@@ -18,8 +17,8 @@ abbrev pub handles_told : List Response → List Handle
 handles_told [] = []
 handles_told (response ∷ responses) = handle_told response ++ handles_told responses
 
--- each of them is one that the connection may then hear of
 abbrev pub TellsWhatMayBeHeard : Type 0
-TellsWhatMayBeHeard = (attributes : List Attr) (values : Values) (hearer : Hearer) (now : ℕ) (handles : List Handle) →
+TellsWhatMayBeHeard =
+    (attributes : List Attr) (values : Values) (hearer : Hearer) (now : ℕ) (handles : List Handle) →
     Each (λ handle. may_hear_at attributes hearer.row hearer.standing handle ≡ true)
     (handles_told (heard_in_turn attributes values hearer now handles).responses)

@@ -1,5 +1,5 @@
--- Nothing crosses: two inputs that differ in the octets of values that no connection of a peer may know, and in nothing else,
--- give the same packets to its connections.
+-- Two inputs with the same octets, packets and calls, whose tables differ only in the octets of
+-- values that no connection of a peer may know, give its connections the same packets.
 use Rattle.std.specs.Prelude.{◌≡◌, Bool, true, false, ◌&&◌, ◌||◌, not, is_some, if◌then◌else◌, List, [], ◌∷◌, Option, Some, None}
 use Rattle.std.specs.List.{list_any}
 use Rattle.att_numbers.specs.Types.{Handle}
@@ -20,16 +20,18 @@ use Rattle.gatt_laws.specs.laws.Runs.{events_in}
 use Rattle.gatt_laws.specs.laws.TwoWorlds.{Spared, packets_given_in}
 use Rattle.gatt_subs.specs.Hearing.{may_hear_at}
 use Rattle.le_hci.specs.declared.peer.Peer.{Peer}
-use Rattle.octets.specs.Number.{Octets}
+use Rattle.octet_io.specs.Number.{Octets}
 
--- a connection of the peer serves, and may read the value at a handle or hear of it
+-- A connection of the peer that serves may read the value or be sent it unasked.
 abbrev pub knows : Peer → State → Handle → Ordinal → Bool
 knows peer state handle ordinal =
     let connection = state.connections ordinal in
     let attributes = state.shared.table.attributes in
     let standing = standing_of state.shared connection in
     let row = row_in_force (state.bonds connection.peer) connection in
-    is_live connection.mark && (is_of peer connection && (may_read_at attributes standing handle || may_hear_at attributes row standing handle))
+    is_live connection.mark
+    && (is_of peer connection
+    && (may_read_at attributes standing handle || may_hear_at attributes row standing handle))
 
 abbrev pub knows_in : Peer → State → Handle → Option Ordinal → Bool
 knows_in peer state handle None = false
@@ -38,27 +40,27 @@ knows_in peer state handle (Some ordinal) = knows peer state handle ordinal
 abbrev pub is_value_known : Peer → State → Handle → Bool
 is_value_known peer state handle = list_any (knows_in peer state handle) state.slots
 
--- a table that is handed in stands from then on
 abbrev pub is_replaced : Intake → Item → Bool
 is_replaced intake (ATable table) = is_some (event_at intake (ATable table))
 is_replaced intake item = false
 
--- a connection of the peer knows it at some moment while the table stands that stands now
 abbrev pub known_while : Peer → Run → List Item → Handle → Bool
 known_while peer run [] handle = is_value_known peer run.intake.state handle
 known_while peer run (item ∷ items) handle =
     is_value_known peer run.intake.state handle
-    || (if is_replaced run.intake item then false else known_while peer (after_item run item) items handle)
+    || (if is_replaced run.intake item then false
+    else known_while peer (after_item run item) items handle)
 
--- what no connection of the peer may know at any moment while that table stands
+-- The values that no connection of the peer may know at any moment before the table is replaced.
 abbrev pub hidden_while : Peer → Run → List Item → Handle → Bool
 hidden_while peer run items handle = not (known_while peer run items handle)
 
--- tables agree but for the octets of what is hidden. Values that name services are the same: no characteristic value and no
--- descriptor is one
+-- Tables agree if they differ only in octets of hidden values that declare no service.
 pub record TablesAgree (hidden : Handle → Bool) (one other : Contents) : Type 0 where
   pub attributes : one.attributes ≡ other.attributes
-  pub values : SameBut (λ handle. hidden handle && not (is_service_type (type_at one.attributes handle))) one.values other.values
+  pub values : SameBut
+      (λ handle. hidden handle && not (is_service_type (type_at one.attributes handle))) one.values
+      other.values
 
 pub record StartsAgree (hidden : Handle → Bool) (one other : Start) : Type 0 where
   pub table : TablesAgree hidden one.table other.table
@@ -69,7 +71,7 @@ pub record IsTableToo (hidden : Handle → Bool) (table : Contents) (item : Item
   pub is : item ≡ ATable its
   pub agree : TablesAgree hidden table its
 
--- items are the same, but for the tables that replace others
+-- Items agree if they are equal, except for tables that replace others.
 abbrev pub ItemsAgree : (Handle → Bool) → Bool → Item → Item → Type 0
 ItemsAgree hidden true (ATable table) its = IsTableToo hidden table its
 ItemsAgree hidden replaced item its = item ≡ its
@@ -79,15 +81,16 @@ InputsAgree peer run [] [] = Unit
 InputsAgree peer run (item ∷ items) [] = ⊥
 InputsAgree peer run [] (its ∷ others) = ⊥
 InputsAgree peer run (item ∷ items) (its ∷ others) =
-    ItemsAgree (hidden_while peer (after_item run item) items) (is_replaced run.intake item) item its
+    ItemsAgree (hidden_while peer (after_item run item) items) (is_replaced run.intake item) item
+    its
     × InputsAgree peer (after_item run item) items others
 
--- two starts and inputs agree for a peer: what is hidden follows from the first of them alone
+-- Two starts and inputs agree for a peer; the first alone decides what is hidden.
 pub record Agree (peer : Peer) (one other : Start) (input its : List Item) : Type 0 where
   pub starts : StartsAgree (hidden_while peer (run_at_start one) input) one other
   pub inputs : InputsAgree peer (run_at_start one) input its
 
--- no connection of another peer is ended for want of room
+-- No connection of another peer is ended because its queue is full.
 abbrev pub SparedIf : Peer → State → Option Event → Type 0
 SparedIf peer state None = Unit
 SparedIf peer state (Some event) = Spared peer state event
@@ -95,21 +98,29 @@ SparedIf peer state (Some event) = Spared peer state event
 abbrev pub SparedIn : Peer → Run → List Item → Type 0
 SparedIn peer run [] = Unit
 SparedIn peer run (item ∷ items) =
-    SparedIf peer run.intake.state (event_at run.intake item) × SparedIn peer (after_item run item) items
+    SparedIf peer run.intake.state (event_at run.intake item)
+    × SparedIn peer (after_item run item) items
 
--- the packets that are given to a connection while it is one of the peer, by the events of items
 abbrev pub packets_given_by : Peer → Ordinal → Run → List Item → List Octets
-packets_given_by peer ordinal run items = packets_given_in peer ordinal run.intake.state (events_in run items)
+packets_given_by peer ordinal run items =
+    packets_given_in peer ordinal run.intake.state (events_in run items)
 
--- whatever is hidden from a peer, its connections are given the same
+-- The connections of the peer are then given the same packets.
 abbrev pub NothingCrosses : Type 0
-NothingCrosses = (peer : Peer) (one other : Start) (input its : List Item) → IsTable one.table → AllTables IsTable input →
-    Agree peer one other input its → SparedIn peer (run_at_start one) input → SparedIn peer (run_at_start other) its →
-    (ordinal : Ordinal) → packets_given_by peer ordinal (run_at_start one) input ≡ packets_given_by peer ordinal (run_at_start other) its
+NothingCrosses = (peer : Peer) (one other : Start) (input its : List Item) → IsTable one.table
+    → AllTables IsTable input →
+    Agree peer one other input its → SparedIn peer (run_at_start one) input
+    → SparedIn peer (run_at_start other) its →
+    (ordinal : Ordinal) → packets_given_by peer ordinal (run_at_start one) input
+    ≡ packets_given_by peer ordinal (run_at_start other) its
 
--- and are the same at the end, with all that is queued for them
+-- At the end the connections of the peer are the same, with all that is queued for them.
 abbrev pub LeavesConnectionsTheSame : Type 0
-LeavesConnectionsTheSame = (peer : Peer) (one other : Start) (input its : List Item) → IsTable one.table → AllTables IsTable input →
-    Agree peer one other input its → SparedIn peer (run_at_start one) input → SparedIn peer (run_at_start other) its →
+LeavesConnectionsTheSame =
+    (peer : Peer) (one other : Start) (input its : List Item) → IsTable one.table
+    → AllTables IsTable input →
+    Agree peer one other input its → SparedIn peer (run_at_start one) input
+    → SparedIn peer (run_at_start other) its →
     (ordinal : Ordinal) → is_of peer ((run one input).intake.state.connections ordinal) ≡ true →
-    (run one input).intake.state.connections ordinal ≡ (run other its).intake.state.connections ordinal
+    (run one input).intake.state.connections ordinal
+    ≡ (run other its).intake.state.connections ordinal

@@ -1,4 +1,4 @@
--- What an application knows that listens to what it is told, in each state and at each event.
+-- The values as a listener knows them, in each state and at each event.
 use Rattle.std.specs.Prelude.{◌≡◌, ◌<◌, ◌==◌, ◌||◌, Bool, true, false, if◌then◌else◌}
 use Rattle.std.specs.Prelude.{List, [], ◌∷◌}
 use Rattle.std.specs.List.{list_any}
@@ -12,9 +12,8 @@ use Rattle.gatt_laws.specs.machine.Notice.{Notice, Written, noticed, notices_of}
 use Rattle.gatt_laws.specs.laws.Possible.{Possible}
 use Rattle.gatt_laws.specs.machine.Start.{Start}
 use Rattle.gatt_laws.specs.machine.State.{State, step}
-use Rattle.octets.specs.Number.{Octets}
+use Rattle.octet_io.specs.Number.{Octets}
 
--- it is told that the value of an attribute was written
 abbrev pub tells_value : Handle → Notice → Bool
 tells_value attribute (Written handle other) = other == attribute
 tells_value attribute notice = false
@@ -22,13 +21,12 @@ tells_value attribute notice = false
 abbrev pub is_value_told : Handle → List Notice → Bool
 is_value_told attribute notices = list_any (tells_value attribute) notices
 
--- the application itself writes it, or replaces the table
 abbrev pub sets_value : Handle → Event → Bool
 sets_value attribute (Update handle value) = handle == attribute
 sets_value attribute (Replaced table) = true
 sets_value attribute event = false
 
--- a value that the application does not set, and of which it is told nothing, is the one before
+-- A value that the application does not set, and of which there is no notice, does not change.
 abbrev pub TellsEachValue : Type 0
 TellsEachValue = (state : State) (event : Event) (attribute : Handle) → 0 < attribute
     → Possible (λ table. Unit) state event
@@ -36,8 +34,8 @@ TellsEachValue = (state : State) (event : Event) (attribute : Handle) → 0 < at
     → value_at (step state event).shared.table.values attribute
     ≡ value_at state.shared.table.values attribute
 
--- The values, as a listener knows them: those of the table at first, and then each that it sets or
--- is told of, as it is then.
+-- The listener knows the values of the first table, then each that it sets or is notified of, as it
+-- is then.
 abbrev pub KnownValues : Type 0
 KnownValues = Handle → Octets
 
@@ -59,7 +57,7 @@ known_in run known [] = known
 known_in run known (item ∷ items) =
     known_in (after_item run item) (known_after run known item) items
 
--- a listener knows each value
+-- In every run a listener knows each value.
 abbrev pub KnowsTheValues : Type 0
 KnowsTheValues = (start : Start) (input : List Item) (attribute : Handle) → 0 < attribute
     → known_in (run_at_start start) (value_at start.table.values) input attribute

@@ -1,4 +1,4 @@
--- Who has a slot is there, and waits for one command at most.
+-- A connection with a slot is there, and waits for at most one command.
 use Rattle.std.specs.Prelude.{◌≡◌, true, false, List, None}
 use Rattle.gatt_laws.specs.machine.Event.{Ordinal}
 use Rattle.gatt_laws.specs.machine.Input.{Item, run}
@@ -7,13 +7,14 @@ use Rattle.gatt_laws.specs.laws.Settled.{has_slot}
 use Rattle.gatt_laws.specs.machine.Start.{Start}
 use Rattle.gatt_laws.specs.machine.State.{State}
 
--- a connection that serves is not to be disconnected, and one that does not is sent no reply
+-- A connection that serves has no pending Disconnect, and any other no pending key reply.
 pub record WaitsOnce (connection : ConnectionState) : Type 0 where
   pub serving : is_live connection.mark ≡ true → connection.reason ≡ None
   pub others : is_live connection.mark ≡ false → connection.reply ≡ None
 
 pub record IsPlaced (state : State) : Type 0 where
-  pub there : (ordinal : Ordinal) → has_slot ordinal state.slots ≡ true → is_there (state.connections ordinal).mark ≡ true
+  pub there : (ordinal : Ordinal) → has_slot ordinal state.slots ≡ true
+      → is_there (state.connections ordinal).mark ≡ true
   pub once : (ordinal : Ordinal) → WaitsOnce (state.connections ordinal)
 
 abbrev pub IsAlwaysPlaced : Type 0

@@ -1,4 +1,4 @@
--- Which events may come in a state, since a packet or a call means them.
+-- The events that may come in a state, because a packet or call means them.
 use Rattle.std.specs.Prelude.{◌≡◌, ℕ, ◌≤◌, true, false, List, [], ◌∷◌, length, Some, None}
 use Rattle.att_numbers.specs.Types.{Handle}
 use Rattle.att_attributes.specs.declared.attr.Attr.{Attr}
@@ -13,9 +13,8 @@ use Rattle.gatt_laws.specs.machine.Event.{Credit, Update, Tick, Replaced, Nothin
 use Rattle.gatt_laws.specs.machine.Input.{Item, AnOctet, APacket, ACall, ATable, TheEnd}
 use Rattle.gatt_laws.specs.machine.ConnectionState.{is_live}
 use Rattle.gatt_laws.specs.machine.State.{State}
-use Rattle.octets.specs.Number.{Octets}
+use Rattle.octet_io.specs.Number.{Octets}
 
--- a connection that comes is the next one, and a slot is free for it
 pub record MayConnect (state : State) (ordinal : Ordinal) : Type 0 where
   pub next : ordinal ≡ state.next
   pub free : has_free state.slots ≡ true
@@ -24,14 +23,13 @@ abbrev pub OwnIsPossible : State → Ordinal → Own → Type 0
 OwnIsPossible state ordinal (Connected handle peer) = MayConnect state ordinal
 OwnIsPossible state ordinal own = Unit
 
--- a value that is written is there, and has a length that it may have
 pub record MayBeUpdated (state : State) (handle : Handle) (value : Octets) : Type 0 where
   pub attr : Attr
   pub there : attribute_at state.shared.table.attributes handle ≡ Some attr
   pub fits : has_length attr (length value) ≡ true
 
--- a state of initialisation follows only before the controller is initialised, and what is so of
--- each table that is handed in is so of the one that replaces another
+-- Initialisation continues only before the controller is initialised. `Fine` is a property of all
+-- tables that are handed in.
 abbrev pub Possible : (Contents → Type 0) → State → Event → Type 0
 Possible Fine state (Of ordinal own) = OwnIsPossible state ordinal own
 Possible Fine state (Completed entries) = Unit
@@ -42,9 +40,9 @@ Possible Fine state (Tick time) = state.shared.time ≤ time
 Possible Fine state (Replaced table) = Fine table
 Possible Fine state Nothing = Unit
 
--- An event that is meant is more than possible. A connection that comes has a handle that is not in
--- use; one that goes has a slot; and what else happens to a connection happens while it serves.
--- Packets are completed of connections that have slots, once the controller is initialised.
+-- An event that is meant is more than possible. A new connection has an unused handle; one that
+-- disconnects has a slot; all else happens to connections that serve. Packets complete of
+-- connections with slots, once the controller is initialised.
 pub record ConnectsUnusedNext (state : State) (ordinal : Ordinal) (handle : ℕ) : Type 0 where
   pub may : MayConnect state ordinal
   pub unused : holding state handle ≡ None
@@ -68,7 +66,7 @@ IsMeant Fine state (Completed entries) =
     (is_ready state.controller ≡ true) × HaveSlots state.slots entries
 IsMeant Fine state event = Possible Fine state event
 
--- it is so of a table that is handed in, and of each
+-- `Fine` holds of the table of an item, and of all tables of an input.
 abbrev pub IsFine : (Contents → Type 0) → Item → Type 0
 IsFine Fine (ATable table) = Fine table
 IsFine Fine item = Unit

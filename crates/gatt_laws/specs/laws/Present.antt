@@ -1,4 +1,4 @@
--- Who is there, as a listener knows it.
+-- The connected peers, as a listener knows them.
 use Rattle.std.specs.Prelude.{◌≡◌, ℕ, ◌==◌, true, if◌then◌else◌, List, [], ◌∷◌, Option, Some, None}
 use Rattle.std.specs.Option.{option_map}
 use Rattle.gatt_laws.specs.machine.Context.{holding}
@@ -13,11 +13,9 @@ use Rattle.gatt_laws.specs.machine.Start.{Start}
 use Rattle.gatt_laws.specs.machine.State.{State, step}
 use Rattle.le_hci.specs.declared.peer.Peer.{Peer}
 
--- by the handle of a connection its peer
 abbrev pub Present : Type 0
 Present = ℕ → Option Peer
 
--- a connection comes with its peer, and is gone
 abbrev pub present_after : Present → Notice → Present
 present_after present (Connected handle peer) =
     λ other. if handle == other then Some peer else present other
@@ -32,17 +30,17 @@ present_in present (notice ∷ notices) = present_in (present_after present noti
 abbrev pub nobody_present : Present
 nobody_present handle = None
 
--- the peer of the connection of a handle that has a slot
 abbrev pub peers_in : State → Present
-peers_in state handle = option_map (λ ordinal. (state.connections ordinal).peer) (holding state handle)
+peers_in state handle =
+    option_map (λ ordinal. (state.connections ordinal).peer) (holding state handle)
 
--- a listener knows who has a slot, by its handle, and with which peer
+-- A listener knows which handles have a slot, and with which peer.
 abbrev pub KnowsWhoIsThere : Type 0
 KnowsWhoIsThere = (start : Start) (input : List Item) (handle : ℕ) →
     present_in nobody_present (all_notices start input) handle
     ≡ peers_in (run start input).intake.state handle
 
--- no two connections that have a slot have one handle
+-- No two connections with a slot have the same handle.
 abbrev pub HasOneHandleEach : State → Type 0
 HasOneHandleEach state = (one other : Ordinal) → has_slot one state.slots ≡ true
     → has_slot other state.slots ≡ true
@@ -52,18 +50,16 @@ abbrev pub AlwaysHasOneHandleEach : Type 0
 AlwaysHasOneHandleEach = (start : Start) (input : List Item) →
     HasOneHandleEach (run start input).intake.state
 
--- what the state knows of who is there
 pub record IsKnowing (state : State) : Type 0 where
   pub settled : IsSettled state
   pub placed : IsPlaced state
   pub handles : HasOneHandleEach state
 
--- a connection that comes has a handle that is not in use
 abbrev pub ConnectsUnused : State → Event → Type 0
 ConnectsUnused state (Of ordinal (event.Connected handle peer)) = holding state handle ≡ None
 ConnectsUnused state event = Unit
 
--- at each event that may come, who is there afterwards is who was there, by what is told
+-- The notices of each possible event turn the peers before it into those after it.
 abbrev pub TellsWhoIsThere : Type 0
 TellsWhoIsThere = (state : State) (event : Event) (handle : ℕ) → IsKnowing state
     → Possible (λ table. Unit) state event → ConnectsUnused state event

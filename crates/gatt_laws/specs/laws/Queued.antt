@@ -1,4 +1,4 @@
--- How much is queued for a connection, and how much of it is given and done, in every state.
+-- The bounds of each connection's queue, in every state.
 use Rattle.std.specs.Prelude.{ℕ, ◌+◌, ◌≤◌, List, length, map}
 use Rattle.gatt_laws.specs.machine.Event.{Ordinal}
 use Rattle.gatt_laws.specs.machine.Input.{Item, run}
@@ -8,8 +8,8 @@ use Rattle.gatt_laws.specs.machine.Start.{Start}
 use Rattle.gatt_laws.specs.machine.State.{State}
 use Rattle.le_acl.specs.Packets.{fragments_of, total, rest}
 
--- at most 16 PDUs wait; of the packets of what was queued some are given, no more than a quota beyond those that are done,
--- and of these some are done
+-- At most 16 PDUs wait. The given packets were queued and are at most a quota beyond those that
+-- completed; the completed ones were given.
 pub record IsWithinBounds (quota size : ℕ) (connection : ConnectionState) : Type 0 where
   pub few : length (rest connection.given (map (fragments_of size) connection.pdus)) ≤ most_pdus
   pub given : connection.given ≤ total size connection.pdus
@@ -18,7 +18,10 @@ pub record IsWithinBounds (quota size : ℕ) (connection : ConnectionState) : Ty
 
 abbrev pub HasBoundedQueues : State → Type 0
 HasBoundedQueues state =
-    (ordinal : Ordinal) → IsWithinBounds (quota_of state.shared.slots state.shared.buffers) (fragment_size_of state.shared.buffers) (state.connections ordinal)
+    (ordinal : Ordinal)
+    → IsWithinBounds (quota_of state.shared.slots state.shared.buffers)
+    (fragment_size_of state.shared.buffers) (state.connections ordinal)
 
 abbrev pub AlwaysHasBoundedQueues : Type 0
-AlwaysHasBoundedQueues = (start : Start) (input : List Item) → HasBoundedQueues (run start input).intake.state
+AlwaysHasBoundedQueues =
+    (start : Start) (input : List Item) → HasBoundedQueues (run start input).intake.state

@@ -1,4 +1,4 @@
--- What is refused, and by which code: the first rule that is broken, at the first handle that breaks one.
+-- A refusal has the code of the first broken rule, at the first handle that breaks one.
 use Rattle.std.specs.Prelude.{◌≡◌, IfSome, List, ◌∷◌, ◌++◌, length, Option, Some, None, Ok, Err}
 use Rattle.att_numbers.specs.declared.opcode.TheConstants.{READ_BY_TYPE_REQUEST, READ_REQUEST, READ_BLOB_REQUEST, READ_MULTIPLE_REQUEST, WRITE_REQUEST, PREPARE_WRITE_REQUEST}
 use Rattle.att_numbers.specs.Types.{Handle, Opcode, Code, Row}
@@ -23,17 +23,20 @@ use Rattle.gatt_conn.specs.Answer.{response_to}
 use Rattle.gatt_conn.specs.Connection.{Bearer}
 use Rattle.gatt_laws.specs.laws.Headline.{Each, MayUse}
 
--- a request that names one attribute: its opcode, the handle, and how it would use it
 pub record Named : Type 0 where
   pub request : Opcode
   pub handle : Handle
   pub access : Access
 
 abbrev pub named_by : Asked → Option Named
-named_by (ReadRequest handle) = Some (record { request = READ_REQUEST; handle = handle; access = Read })
-named_by (ReadBlobRequest handle offset) = Some (record { request = READ_BLOB_REQUEST; handle = handle; access = Read })
-named_by (WriteRequest handle value) = Some (record { request = WRITE_REQUEST; handle = handle; access = Write })
-named_by (PrepareWriteRequest handle offset part) = Some (record { request = PREPARE_WRITE_REQUEST; handle = handle; access = Write })
+named_by (ReadRequest handle) =
+    Some (record { request = READ_REQUEST; handle = handle; access = Read })
+named_by (ReadBlobRequest handle offset) =
+    Some (record { request = READ_BLOB_REQUEST; handle = handle; access = Read })
+named_by (WriteRequest handle value) =
+    Some (record { request = WRITE_REQUEST; handle = handle; access = Write })
+named_by (PrepareWriteRequest handle offset part) =
+    Some (record { request = PREPARE_WRITE_REQUEST; handle = handle; access = Write })
 named_by (ExchangeMtuRequest client_rx_mtu) = None
 named_by (FindInformationRequest first last) = None
 named_by (FindByTypeValueRequest first last type value) = None
@@ -44,33 +47,44 @@ named_by (ExecuteWriteRequest flags) = None
 named_by ConfirmationPdu = None
 named_by (WriteCommandPdu handle value) = None
 
--- it is refused with its handle by the code of the first rule that is broken
+-- A request that names one attribute is refused with its handle, by the first broken rule.
 abbrev pub RefusesByTheFirstBrokenRule : Type 0
-RefusesByTheFirstBrokenRule = (table : Contents) (row : Row) (conn : Bearer) (asked : Asked) (rule : Rule) →
+RefusesByTheFirstBrokenRule =
+    (table : Contents) (row : Row) (conn : Bearer) (asked : Asked) (rule : Rule) →
     IfSome (named_by asked) (λ named.
-    first_broken_rule_of named.access (guard_at table.attributes named.handle) conn.standing ≡ Some rule →
-    response_to table row conn asked ≡ Some (ErrorResponse named.request named.handle (code_of named.access conn.standing rule)))
+    first_broken_rule_of named.access (guard_at table.attributes named.handle) conn.standing
+    ≡ Some rule →
+    response_to table row conn asked
+    ≡ Some (ErrorResponse named.request named.handle (code_of named.access conn.standing rule)))
 
--- a list of values is refused with its first attribute, where the client may not read that
+-- A list of values is refused with its first attribute, if the client may not read that.
 abbrev pub RefusesTheFirstListed : Type 0
-RefusesTheFirstListed = (table : Contents) (row : Row) (conn : Bearer) (first last : Handle) (type : Uuid) (handle : Handle) (rest : List Handle) (rule : Rule) →
+RefusesTheFirstListed =
+    (table : Contents) (row : Row) (conn : Bearer) (first last : Handle) (type : Uuid)
+    (handle : Handle) (rest : List Handle) (rule : Rule) →
     range_refusal first last ≡ None →
     handles_of_type table.attributes (uuid_number type) first last ≡ handle ∷ rest →
     first_broken_rule_of Read (guard_at table.attributes handle) conn.standing ≡ Some rule →
     response_to table row conn (ReadByTypeRequest first last type)
     ≡ Some (ErrorResponse READ_BY_TYPE_REQUEST handle (code_of Read conn.standing rule))
 
--- several values are refused with the first handle of the request that is, and prepared writes with the first that is
--- refused against what those before it leave
+-- Several values are refused with the first handle that is refused, prepared writes with the first
+-- entry that is refused after those before it.
 abbrev pub RefusesTheFirstHandle : Type 0
-RefusesTheFirstHandle = (table : Contents) (row : Row) (conn : Bearer) (before after : List Handle) (handle : Handle) (rule : Rule) →
+RefusesTheFirstHandle =
+    (table : Contents) (row : Row) (conn : Bearer) (before after : List Handle) (handle : Handle)
+    (rule : Rule) →
     Each (MayUse Read table.attributes conn.standing) before →
     first_broken_rule_of Read (guard_at table.attributes handle) conn.standing ≡ Some rule →
     response_to table row conn (ReadMultipleRequest (before ++ handle ∷ after))
     ≡ Some (ErrorResponse READ_MULTIPLE_REQUEST handle (code_of Read conn.standing rule))
 
 abbrev pub RefusesTheFirstEntry : Type 0
-RefusesTheFirstEntry = (access : Access) (attributes : List Attr) (standing : Standing) (stored by : Stored) (before after : List Entry) (entry : Entry) (code : Code) →
+RefusesTheFirstEntry =
+    (access : Access) (attributes : List Attr) (standing : Standing) (stored by : Stored)
+    (before after : List Entry) (entry : Entry) (code : Code) →
     after_entries access attributes standing stored before ≡ Ok by →
-    entry_fault access attributes standing (length (value_at by.values entry.handle)) entry ≡ Some code →
-    after_entries access attributes standing stored (before ++ entry ∷ after) ≡ Err (record { handle = entry.handle; code = code })
+    entry_fault access attributes standing (length (value_at by.values entry.handle)) entry
+    ≡ Some code →
+    after_entries access attributes standing stored (before ++ entry ∷ after)
+    ≡ Err (record { handle = entry.handle; code = code })

@@ -1,4 +1,4 @@
--- What a packet and a call mean is the same whatever the names of connections are.
+-- Packets and calls mean the same for any names of connections.
 use Rattle.std.specs.Prelude.{◌≡◌, ℕ, true, map, Some, Result, Ok, Err}
 use Rattle.std.specs.Option.{option_map}
 use Rattle.att_table.specs.Table.{Contents}
@@ -11,7 +11,6 @@ use Rattle.gatt_laws.specs.machine.Packets.{Recombination, packet_meaning}
 use Rattle.le_acl.specs.Fragment.{Fragment}
 use Rattle.le_h4.specs.Packet.{Packet}
 
--- what happens, by other names
 abbrev pub renamed_entry : {C D : Type 0} → (C → D) → C × ℕ → D × ℕ
 renamed_entry names entry = (names entry.0, entry.1)
 
@@ -28,8 +27,8 @@ abbrev pub renamed_if : {C D E : Type 0} → (C → D) → Result (Happening C) 
 renamed_if names (Ok happening) = Ok (renamed names happening)
 renamed_if names (Err fault) = Err fault
 
--- the same is known, but for the names. Who has a handle, and who comes next, counts once the
--- controller is initialised
+-- Two contexts are alike if they differ only in names; `holding` and `next_free` count once the
+-- controller is initialised.
 pub record AreAlike (C D : Type 0) (names : C → D) (one : Context C) (other : Context D)
     : Type 0 where
   pub controller : other.controller ≡ one.controller
@@ -41,7 +40,7 @@ pub record AreAlike (C D : Type 0) (names : C → D) (one : Context C) (other : 
       → other.holding handle ≡ option_map names (one.holding handle)
   pub next_free : is_ready one.controller ≡ true → other.next_free ≡ option_map names one.next_free
 
--- so a call and a table mean the same
+-- Calls and tables mean the same in contexts that are alike.
 abbrev pub CallsMeanTheSame : Type 1
 CallsMeanTheSame = (C D : Type 0) (names : C → D) (one : Context C) (other : Context D)
     → AreAlike C D names one other
@@ -52,7 +51,7 @@ ReplacementsMeanTheSame = (C D : Type 0) (names : C → D) (one : Context C) (ot
     → AreAlike C D names one other → (table : Contents)
     → replacement_meaning other table ≡ renamed_if names (replacement_meaning one table)
 
--- and so does a packet, where each fragment makes the same frame whole
+-- Packets mean the same too, if each fragment completes the same frame.
 abbrev pub RecombineAlike : (C D : Type 0) → (C → D) → Context C → (C → Recombination)
     → (D → Recombination) → Type 0
 RecombineAlike C D names one recombinations others =

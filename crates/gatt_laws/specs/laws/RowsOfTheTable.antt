@@ -1,4 +1,4 @@
--- What peers and connections have configured is of the table that stands.
+-- The configurations of peers and connections are of the current table.
 use Rattle.std.specs.Prelude.{List}
 use Rattle.att_table.specs.ConfigRow.{IsRowOf}
 use Rattle.gatt_laws.specs.machine.Event.{Ordinal, Event}
@@ -9,13 +9,16 @@ use Rattle.le_hci.specs.declared.peer.Peer.{Peer}
 
 pub record HasRowsOfItsTable (state : State) : Type 0 where
   pub bonds : (peer : Peer) → IsRowOf state.shared.table.attributes (state.bonds peer)
-  pub own : (ordinal : Ordinal) → IsRowOf state.shared.table.attributes (state.connections ordinal).row
+  pub own : (ordinal : Ordinal)
+      → IsRowOf state.shared.table.attributes (state.connections ordinal).row
 
--- each event keeps it so
+-- Each event preserves this.
 abbrev pub KeepsRowsOfItsTable : Type 0
-KeepsRowsOfItsTable = (state : State) (event : Event) → HasRowsOfItsTable state → HasRowsOfItsTable (step state event)
+KeepsRowsOfItsTable =
+    (state : State) (event : Event) → HasRowsOfItsTable state → HasRowsOfItsTable (step state event)
 
--- and each state has such rows, where a host is opened with rows that were fitted to its table
+-- Each state has such rows, if the host is opened with rows of its table.
 abbrev pub AlwaysHasRowsOfItsTable : Type 0
 AlwaysHasRowsOfItsTable = (start : Start) (input : List Item) →
-    ((peer : Peer) → IsRowOf start.table.attributes (start.bonds peer)) → HasRowsOfItsTable (run start input).intake.state
+    ((peer : Peer) → IsRowOf start.table.attributes (start.bonds peer))
+    → HasRowsOfItsTable (run start input).intake.state

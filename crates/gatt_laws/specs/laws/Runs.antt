@@ -1,4 +1,4 @@
--- The events of an input, and the states that they lead to.
+-- The events of an input, and the states to which they lead.
 use Rattle.std.specs.Prelude.{◌≡◌, List, [], ◌∷◌, ◌++◌}
 use Rattle.std.specs.Option.{option_to_list}
 use Rattle.att_table.specs.Table.{Contents}
@@ -8,28 +8,27 @@ use Rattle.gatt_laws.specs.machine.Input.{Item, Run, after_item, run_at_start, r
 use Rattle.gatt_laws.specs.machine.ItemEvents.{event_at}
 use Rattle.gatt_laws.specs.machine.Start.{Start, first_out, state_at}
 use Rattle.gatt_laws.specs.machine.State.{State, out, step}
-use Rattle.octets.specs.Number.{Octets}
+use Rattle.octet_io.specs.Number.{Octets}
 
--- the state after events, in their order
 abbrev pub after_events : State → List Event → State
 after_events state [] = state
 after_events state (event ∷ events) = after_events (step state event) events
 
--- the events that items of an input mean, after a fault none
+-- The events that items mean: none after a fault.
 abbrev pub events_in : Run → List Item → List Event
 events_in run [] = []
-events_in run (item ∷ items) = option_to_list (event_at run.intake item) ++ events_in (after_item run item) items
+events_in run (item ∷ items) =
+    option_to_list (event_at run.intake item) ++ events_in (after_item run item) items
 
--- the events of an input, from a start
 unfoldable pub events_of : Start → List Item → List Event
 events_of start input = events_in (run_at_start start) input
 
--- the state to which an input leads is that to which its events lead
+-- An input leads to the state to which its events lead.
 abbrev pub IsAfterItsEvents : Type 0
 IsAfterItsEvents = (start : Start) (input : List Item) →
     (run start input).intake.state ≡ after_events (state_at start) (events_of start input)
 
--- and what has gone out is what goes out at first, and then what they bring, in their order
+-- The packets sent are the first output, then those of the events in their order.
 abbrev pub out_in : State → List Event → List Octets
 out_in state [] = []
 out_in state (event ∷ events) = out state event ++ out_in (step state event) events
@@ -38,10 +37,11 @@ abbrev pub HasSentByEvents : Type 0
 HasSentByEvents = (start : Start) (input : List Item) →
     (run start input).sent ≡ first_out start ++ out_in (state_at start) (events_of start input)
 
--- each of some events may come in the state that those before it lead to
+-- Each event may come in the state to which those before it lead.
 abbrev pub ArePossible : (Contents → Type 0) → State → List Event → Type 0
 ArePossible Fine state [] = Unit
-ArePossible Fine state (event ∷ events) = Possible Fine state event × ArePossible Fine (step state event) events
+ArePossible Fine state (event ∷ events) =
+    Possible Fine state event × ArePossible Fine (step state event) events
 
 abbrev pub MeansPossibleEvents : (Contents → Type 0) → Type 0
 MeansPossibleEvents Fine = (start : Start) (input : List Item) → AllTables Fine input

@@ -15,8 +15,7 @@ use Rattle.gatt_subs.specs.Indications.{Indications}
 use Rattle.le_hci.specs.declared.buffers.Buffers.{Buffers}
 use Rattle.le_hci.specs.declared.peer.Peer.{Peer}
 
--- all that decides what a connection is given: the shared state, the row of its peer's bond, whether its peer is owed, and what is
--- kept of the connection itself, but for the commands that wait for it
+-- Everything that decides what a connection is given; its pending commands do not.
 pub record Seen : Type 0 where
   pub shared : SharedState
   pub bond : Row
@@ -26,7 +25,7 @@ pub record Seen : Type 0 where
 abbrev pub without_commands : ConnectionState → ConnectionState
 without_commands connection = record connection { reply = None; reason = None }
 
--- of a connection of a peer, once the controller has told its buffers
+-- A connection of a peer is seen with the buffers that the controller has reported.
 abbrev pub seen_of : Option Buffers → Peer → Ordinal → State → Seen
 seen_of buffers peer ordinal state = record {
   shared = record state.shared { buffers = buffers };
@@ -35,80 +34,98 @@ seen_of buffers peer ordinal state = record {
   connection = without_commands (state.connections ordinal);
 }
 
--- no indication waits that nothing holds back: one that is unconfirmed does
+-- Indications wait only while one is unconfirmed.
 abbrev pub IsIndicated : Indications → Type 0
 IsIndicated pending = is_some pending.unconfirmed ≡ false → pending.waiting ≡ []
 
--- a connection that is there is of this peer, and the controller has told these buffers; of one that is not, nothing is
--- kept; no indication waits that nothing holds back; and all that may be given is given
-pub record IsKnown (buffers : Option Buffers) (peer : Peer) (ordinal : Ordinal) (state : State) : Type 0 where
-  pub peers : is_there (state.connections ordinal).mark ≡ true → (state.connections ordinal).peer ≡ peer
+-- A connection that is there is of this peer, and the controller has reported these buffers; of any
+-- other nothing is retained. No indication waits without a cause, and all is given that may be.
+pub record IsKnown (buffers : Option Buffers) (peer : Peer) (ordinal : Ordinal)
+    (state : State) : Type 0 where
+  pub peers : is_there (state.connections ordinal).mark ≡ true → (state.connections ordinal).peer
+      ≡ peer
   pub told : is_there (state.connections ordinal).mark ≡ true → state.shared.buffers ≡ buffers
-  pub absent : is_there (state.connections ordinal).mark ≡ false → state.connections ordinal ≡ no_connection
+  pub absent : is_there (state.connections ordinal).mark ≡ false → state.connections ordinal
+      ≡ no_connection
   pub released : IsIndicated (state.connections ordinal).pending
   pub given : IsAllGiven state.shared (state.connections ordinal)
 
--- an event of which a connection sees nothing leaves what decides, and gives it nothing
-pub record LeavesAlone (buffers : Option Buffers) (peer : Peer) (ordinal : Ordinal) (state : State) (event : Event) : Type 0 where
+-- An event of which a connection sees nothing leaves its `Seen` and gives it nothing.
+pub record LeavesAlone (buffers : Option Buffers) (peer : Peer) (ordinal : Ordinal) (state : State)
+    (event : Event) : Type 0 where
   pub seen : seen_of buffers peer ordinal (step state event) ≡ seen_of buffers peer ordinal state
   pub packets : packets_at ordinal state event ≡ []
 
 abbrev pub LeavesWhoSeesNothing : Type 0
-LeavesWhoSeesNothing = (buffers : Option Buffers) (peer : Peer) (ordinal : Ordinal) (state : State) (event : Event)
+LeavesWhoSeesNothing =
+    (buffers : Option Buffers) (peer : Peer) (ordinal : Ordinal) (state : State) (event : Event)
     → IsKnown buffers peer ordinal state → IsKnown buffers peer ordinal (step state event)
     → shown peer ordinal state event ≡ None → LeavesAlone buffers peer ordinal state event
 
--- events of which two connections see the same, where the same decides, leave that the same, and give the same packets
-pub record DoesTheSame (buffers : Option Buffers) (peer : Peer) (one other : Ordinal) (state another : State) (event further : Event)
+-- Events that two connections see alike, from the same `Seen`, leave the same and give the same
+-- packets.
+pub record DoesTheSame (buffers : Option Buffers) (peer : Peer) (one other : Ordinal)
+    (state another : State) (event further : Event)
     : Type 0 where
-  pub seen : seen_of buffers peer one (step state event) ≡ seen_of buffers peer other (step another further)
+  pub seen : seen_of buffers peer one (step state event)
+      ≡ seen_of buffers peer other (step another further)
   pub packets : packets_at one state event ≡ packets_at other another further
 
 abbrev pub DoesTheSameToWhoSeesTheSame : Type 0
 DoesTheSameToWhoSeesTheSame =
-    (buffers : Option Buffers) (peer : Peer) (one other : Ordinal) (state another : State) (event further : Event) (item : ShownEvent)
+    (buffers : Option Buffers) (peer : Peer) (one other : Ordinal) (state another : State)
+    (event further : Event) (item : ShownEvent)
     → IsKnown buffers peer one state → IsKnown buffers peer one (step state event)
     → IsKnown buffers peer other another → IsKnown buffers peer other (step another further)
     → seen_of buffers peer one state ≡ seen_of buffers peer other another
     → shown peer one state event ≡ Some item → shown peer other another further ≡ Some item
     → DoesTheSame buffers peer one other state another event further
 
--- so in every run
+-- `IsKnown` holds before and after each event.
 abbrev pub IsKnownThroughout : Option Buffers → Peer → Ordinal → State → List Event → Type 0
 IsKnownThroughout buffers peer ordinal state [] = IsKnown buffers peer ordinal state
 IsKnownThroughout buffers peer ordinal state (event ∷ events) =
-    IsKnown buffers peer ordinal state × IsKnownThroughout buffers peer ordinal (step state event) events
+    IsKnown buffers peer ordinal state
+    × IsKnownThroughout buffers peer ordinal (step state event) events
 
--- runs that lead to the same and give the same packets
-pub record EndsTheSame (buffers : Option Buffers) (peer : Peer) (one other : Ordinal) (state another : State) (events further : List Event)
+pub record EndsTheSame (buffers : Option Buffers) (peer : Peer) (one other : Ordinal)
+    (state another : State) (events further : List Event)
     : Type 0 where
-  pub seen : seen_of buffers peer one (after_events state events) ≡ seen_of buffers peer other (after_events another further)
-  pub packets : packets_given_in_order one state events ≡ packets_given_in_order other another further
+  pub seen : seen_of buffers peer one (after_events state events)
+      ≡ seen_of buffers peer other (after_events another further)
+  pub packets : packets_given_in_order one state events
+      ≡ packets_given_in_order other another further
 
 abbrev pub SameViewSamePacketsOfEvents : Type 0
 SameViewSamePacketsOfEvents =
-    (buffers : Option Buffers) (peer : Peer) (one other : Ordinal) (state another : State) (events further : List Event)
-    → IsKnownThroughout buffers peer one state events → IsKnownThroughout buffers peer other another further
+    (buffers : Option Buffers) (peer : Peer) (one other : Ordinal) (state another : State)
+    (events further : List Event)
+    → IsKnownThroughout buffers peer one state events
+    → IsKnownThroughout buffers peer other another further
     → seen_of buffers peer one state ≡ seen_of buffers peer other another
     → shown_in peer one state events ≡ shown_in peer other another further
     → EndsTheSame buffers peer one other state another events further
 
--- and in every run: no event ends with an indication that waits for the connection and that nothing holds back
+-- No event ends with an indication that waits without a cause.
 abbrev pub IsIndicatedThroughout : Ordinal → State → List Event → Type 0
 IsIndicatedThroughout ordinal state [] = Unit
 IsIndicatedThroughout ordinal state (event ∷ events) =
-    IsIndicated ((step state event).connections ordinal).pending × IsIndicatedThroughout ordinal (step state event) events
+    IsIndicated ((step state event).connections ordinal).pending
+    × IsIndicatedThroughout ordinal (step state event) events
 
 abbrev pub IsAlwaysIndicated : Ordinal → Start → List Item → Type 0
-IsAlwaysIndicated ordinal start input = IsIndicatedThroughout ordinal (state_at start) (events_of start input)
+IsAlwaysIndicated ordinal start input =
+    IsIndicatedThroughout ordinal (state_at start) (events_of start input)
 
--- two connections are given the same packets, and in the end have the same, but for the commands that wait for them
-pub record AreServedAlike (start : Start) (one other : Ordinal) (input another : List Item) : Type 0 where
-  pub packets : packets_to one start input ≡ packets_to other start another
-  pub connection : without_commands ((run start input).intake.state.connections one)
-      ≡ without_commands ((run start another).intake.state.connections other)
+-- Two connections are given the same packets, and are the same at the end, except for pending
+-- commands.
+pub record AreServedAlike (start : Start) (one other : Ordinal) (input another : List Item) : Type 0
+  where
+    pub packets : packets_to one start input ≡ packets_to other start another
+    pub connection : without_commands ((run start input).intake.state.connections one)
+        ≡ without_commands ((run start another).intake.state.connections other)
 
--- equal views from one start give the same packets, whichever connections they are of
+-- Equal views from one start give the same packets, for any connections.
 abbrev pub SameViewSamePackets : Type 0
 SameViewSamePackets = (start : Start) (one other : Ordinal) (input another : List Item)
     → view one start input ≡ view other start another

@@ -1,4 +1,4 @@
--- When the Service Changed indication of a peer is no longer pending (Core 5.0, Vol 3 Part G, 7.1).
+-- The end of a peer's pending Service Changed indication (Core 5.0, Vol 3 Part G, 7.1).
 use Rattle.std.specs.Prelude.{◌≡◌, ℕ, ◌==◌, ◌&&◌, Bool, true, false, is_some, Some}
 use Rattle.std.specs.List.{list_any}
 use Rattle.att_numbers.specs.Types.{Handle}
@@ -10,18 +10,18 @@ use Rattle.gatt_laws.specs.machine.State.{State, step}
 use Rattle.le_hci.specs.declared.peer.Peer.{Peer}
 use Rattle.le_security.specs.Entry.{same_peer}
 
--- a notice tells that the connection of this handle confirmed an indication of this value
 abbrev pub is_confirmed_notice : ℕ → Handle → Notice → Bool
 is_confirmed_notice handle attribute (Confirmed other at) = (other == handle) && (at == attribute)
 is_confirmed_notice handle attribute notice = false
 
--- An event changes only in two cases whether the indication of a peer is pending. Either it replaces the
--- table, or the application is notified that a connection of this peer confirmed the Service Changed value.
--- The link of this connection has a key.
+-- A peer's pending Service Changed changes only if the table is replaced, or with a notice that a
+-- connection of this peer, whose link has a key, confirmed the value.
 abbrev pub NoticesServiceChangedConfirmed : Type 0
 NoticesServiceChangedConfirmed = (state : State) (event : Event) (peer : Peer) →
     is_replacement event ≡ false
-    → ((ordinal : Ordinal) (changer : Handle) → same_peer peer (state.connections ordinal).peer ≡ true
+    → ((ordinal : Ordinal) (changer : Handle) → same_peer peer (state.connections ordinal).peer
+    ≡ true
     → is_some (key_of (state.connections ordinal)) ≡ true → state.shared.changer ≡ Some changer
-    → list_any (is_confirmed_notice (state.connections ordinal).handle changer) (noticed state event) ≡ false)
+    → list_any (is_confirmed_notice (state.connections ordinal).handle changer)
+    (noticed state event) ≡ false)
     → (step state event).owed peer ≡ state.owed peer

@@ -1,4 +1,4 @@
--- What holds of each connection at the end of each event.
+-- Laws of each connection at the end of each event.
 use Rattle.std.specs.Prelude.{◌≡◌, Bool, true, false, List}
 use Rattle.att_numbers.specs.Types.{Handle, Row}
 use Rattle.gatt_laws.specs.machine.Event.{Ordinal, Own, Event, Connected, Disconnected}
@@ -8,25 +8,30 @@ use Rattle.gatt_laws.specs.machine.State.{State, finished, step}
 use Rattle.gatt_laws.specs.machine.Effect.{effect_on_connection, effect_of}
 use Rattle.le_acl.specs.History.{packets_allowed}
 
--- nothing is queued and nothing given where a connection is not there, or is ending
+-- Nothing is queued for or given to a connection that is absent or ending.
 abbrev pub OnlyServesTheLive : Type 0
-OnlyServesTheLive = (shared : SharedState) (bonds : Bonds) (handles : List Handle) (connection : ConnectionState) →
+OnlyServesTheLive =
+    (shared : SharedState) (bonds : Bonds) (handles : List Handle) (connection : ConnectionState) →
     is_live connection.mark ≡ false → finished shared bonds handles connection ≡ connection
 
--- but for coming and going, nothing that happens to it changes anything
+-- Only connecting and disconnecting change anything of such a connection.
 abbrev pub is_for_all : Own → Bool
 is_for_all (Connected handle peer) = true
 is_for_all Disconnected = true
 is_for_all own = false
 
 abbrev pub OnlyTheLiveAct : Type 0
-OnlyTheLiveAct = (shared : SharedState) (bond : Row) (owed : Bool) (connection : ConnectionState) (own : Own) →
-    is_live connection.mark ≡ false → is_for_all own ≡ false → effect_of shared bond owed connection own ≡ effect_on_connection shared bond owed connection
+OnlyTheLiveAct =
+    (shared : SharedState) (bond : Row) (owed : Bool) (connection : ConnectionState) (own : Own) →
+    is_live connection.mark ≡ false → is_for_all own ≡ false
+    → effect_of shared bond owed connection own ≡ effect_on_connection shared bond owed connection
 
--- a connection that serves was given all that it may be given
+-- A connection that serves was given all that it may be given.
 abbrev pub IsAllGiven : SharedState → ConnectionState → Type 0
 IsAllGiven shared connection =
-    is_live connection.mark ≡ true → connection.given ≡ packets_allowed (quota_of shared.slots shared.buffers) (fragment_size_of shared.buffers) connection.pdus connection.done
+    is_live connection.mark ≡ true
+    → connection.given ≡ packets_allowed (quota_of shared.slots shared.buffers)
+    (fragment_size_of shared.buffers) connection.pdus connection.done
 
 abbrev pub GivesAllThatItMay : Type 0
 GivesAllThatItMay = (state : State) (event : Event) (ordinal : Ordinal) →

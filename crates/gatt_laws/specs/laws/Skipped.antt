@@ -1,5 +1,5 @@
--- No value that an event notifies is lost without a notice. When a value is skipped is this
--- profile's own.
+-- No value that an event notifies is lost without a notice; when one is skipped is this profile's
+-- own.
 use Rattle.std.specs.Prelude.{◌≡◌, ℕ, ◌+◌, ◌≤◌, ◌==◌, ◌||◌, ◌&&◌, Bool, true, false}
 use Rattle.std.specs.Prelude.{All, List, length}
 use Rattle.std.specs.List.{list_any}
@@ -18,8 +18,8 @@ use Rattle.gatt_subs.specs.Told.{Hearer}
 abbrev pub is_among : Handle → List Handle → Bool
 is_among handle handles = list_any (λ other. other == handle) handles
 
--- When values are notified to a connection that serves and is not timed out, each of them that it
--- may hear is sent to it in a notification or an indication, or waits to be indicated, or is skipped.
+-- If a connection serves, has not timed out and may be sent a notified value, then the value is
+-- sent, waits to be indicated, or is skipped.
 abbrev pub is_accounted_for : List Attr → Values → Hearer → ℕ → List Handle → Handle → Bool
 is_accounted_for attributes values hearer now handles handle =
     let heard = heard_in_turn attributes values hearer now handles in
@@ -33,7 +33,6 @@ AccountsForEachValue = (attributes : List Attr) (values : Values) (hearer : Hear
     → may_hear_at attributes hearer.row hearer.standing handle ≡ true
     → is_accounted_for attributes values hearer now handles handle ≡ true
 
--- a connection as a hearer at the end of an event, and what it hears then
 abbrev pub hearer_at : Change → Ordinal → Hearer
 hearer_at change ordinal =
     let connection = change.state.connections ordinal in
@@ -45,8 +44,6 @@ heard_at change ordinal =
     heard_in_turn shared.table.attributes shared.table.values (hearer_at change ordinal) shared.time
     (change.to_notify ordinal)
 
--- An event notifies a value to a connection that has a slot, serves, is not timed out, and may hear
--- it.
 pub record IsToHear (change : Change) (ordinal : Ordinal) (attribute : Handle) : Type 0 where
   pub has : has_slot ordinal change.state.slots ≡ true
   pub live : (hearer_at change ordinal).live ≡ true
@@ -59,8 +56,7 @@ abbrev pub is_skip_of : ℕ → Handle → Notice → Bool
 is_skip_of handle attribute (Skipped other skipped) = other == handle && skipped == attribute
 is_skip_of handle attribute notice = false
 
--- Then the connection is sent the value, or the value waits after the event, or the application is
--- notified that the connection is not sent it.
+-- Each value of `IsToHear` is sent, waits, or causes a notice that it is skipped.
 abbrev pub NoticesEachSkipped : Type 0
 NoticesEachSkipped = (state : State) (event : Event) (ordinal : Ordinal) (attribute : Handle) →
     let change = change_of state event in
@@ -70,8 +66,8 @@ NoticesEachSkipped = (state : State) (event : Event) (ordinal : Ordinal) (attrib
     || list_any (is_skip_of (change.state.connections ordinal).handle attribute)
     (noticed state event)) ≡ true
 
--- Such a notice is of a connection that has this handle and is to hear the value, by a notification,
--- and for which MAX_BACKLOG PDUs or more are queued.
+-- A notice of a skipped value names a connection of `IsToHear` for which MAX_BACKLOG PDUs or more
+-- are queued.
 pub record IsSkippedFor (change : Change) (handle : ℕ) (attribute : Handle) : Type 0 where
   pub ordinal : Ordinal
   pub named : (change.state.connections ordinal).handle ≡ handle

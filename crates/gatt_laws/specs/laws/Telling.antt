@@ -1,4 +1,4 @@
--- What is promised of the notices that an application receives.
+-- The promise about the notices that an application receives.
 use Rattle.gatt_laws.specs.laws.AllowedNotices.{TellsNoRefusals, TellsNoRefusedCommands, TellsNothingIgnored}
 use Rattle.gatt_laws.specs.laws.AllowedNotices.{TellsOnlyOfTheLive, TellsWhatWasAllowed}
 use Rattle.gatt_laws.specs.laws.Deadline.{EndsAuthorizations, IsQuietBeforeTheDeadline}
@@ -13,14 +13,13 @@ use Rattle.gatt_laws.specs.laws.Skipped.{NoticesEachSkipped, NoticesOnlyWhatIsSk
 use Rattle.gatt_laws.specs.laws.StreamNotices.{ReceivesOfTheDivision, TellsOfTheDivision}
 use Rattle.gatt_laws.specs.laws.ToldIsSo.{TellsWhatIsSo}
 
--- In every run a listener knows each value, the key of each link, each configuration, and who is there.
--- At each event: what a notice says is so; and no value, configuration, key or pending Service Changed
--- indication changes without a notice or a call of the application.
--- Each write that the application is notified of was allowed. Nothing refused or ignored causes a notice.
--- A Tick causes notices of late indications, of each and of nothing else. A Tick before the deadline
--- causes none and no packet; one at the end of an authorization or later ends it. Each value that an event
--- notifies and that a connection is not sent causes a notice, and nothing else causes one of that
--- kind. The cuts of the octets do not matter.
+-- In every run a listener knows each value, key and configuration, and who is connected. At each
+-- event a notice is true, and no value, configuration, key or pending Service Changed changes
+-- without a notice or a call of the application. Writes with a notice were permitted, and nothing
+-- refused or ignored causes one. A Tick notifies of each late indication and of nothing else. A
+-- Tick before the deadline causes no notice, and only the packets that the event `Nothing` would;
+-- one at the end of an authorization ends it. Each skipped value causes a notice, and nothing else
+-- causes one of that kind. The cuts of octets do not matter.
 pub record TellsTheApplication : Type 0 where
   pub knows_values : KnowsTheValues
   pub knows_keys : KnowsTheKeys

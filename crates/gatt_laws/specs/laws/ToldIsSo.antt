@@ -1,4 +1,4 @@
--- What a notice says is so after its event.
+-- A notice is true after its event.
 use Rattle.std.specs.Prelude.{◌≡◌, ℕ, true, false, All, [], Some, None}
 use Rattle.att_table.specs.ConfigRow.{bits_at}
 use Rattle.gatt_laws.specs.machine.Event.{Ordinal, Event}
@@ -9,35 +9,35 @@ use Rattle.gatt_laws.specs.machine.ConnectionState.{ConnectionState, is_live, is
 use Rattle.gatt_laws.specs.machine.State.{State, step}
 use Rattle.le_hci.specs.declared.peer.Peer.{Peer}
 
--- It holds of a connection that is there and has this handle. Neither an ordinal that was never used
--- nor a connection that disconnected counts: both have the handle 0, which a connection may have too. In
--- each state that a run leads to, a connection that is there has a slot (IsAlwaysSettled).
+-- It holds of a connection that is there and has this handle. An unused or disconnected one has the
+-- handle 0, which a connection may have too. A connection that is there has a slot
+-- (`IsAlwaysSettled`).
 pub record OfOne (state : State) (handle : ℕ) (Holds : Ordinal → Type 0) : Type 0 where
   pub ordinal : Ordinal
   pub there : is_there (state.connections ordinal).mark ≡ true
   pub named : (state.connections ordinal).handle ≡ handle
   pub holds : Holds ordinal
 
--- a connection of this peer that has just connected: its link has no key, and it has configured nothing
+-- A new connection of this peer: its link has no key, and it has configured nothing.
 pub record IsNewOf (of : Peer) (connection : ConnectionState) : Type 0 where
   pub peer : connection.peer ≡ of
   pub key : key_of connection ≡ None
   pub row : connection.row ≡ []
 
--- it has just connected; its link has a key of these facts, or none; it has configured these bits in the
--- row that is in force; or it does not serve any more
+-- `Configured` has the bits of the row in force, and an `Ending` connection no longer serves.
 abbrev pub IsSo : State → Notice → Type 0
-IsSo state (Connected handle peer) = OfOne state handle (λ ordinal. IsNewOf peer (state.connections ordinal))
+IsSo state (Connected handle peer) =
+    OfOne state handle (λ ordinal. IsNewOf peer (state.connections ordinal))
 IsSo state (Secured handle facts) =
     OfOne state handle (λ ordinal. key_of (state.connections ordinal) ≡ Some facts)
-IsSo state (Unsecured handle) = OfOne state handle (λ ordinal. key_of (state.connections ordinal) ≡ None)
+IsSo state (Unsecured handle) =
+    OfOne state handle (λ ordinal. key_of (state.connections ordinal) ≡ None)
 IsSo state (Configured handle attribute bits) =
     OfOne state handle (λ ordinal. bits_at (row_of_connection state ordinal) attribute ≡ bits)
 IsSo state (Ending handle reason) =
     OfOne state handle (λ ordinal. is_live (state.connections ordinal).mark ≡ false)
 IsSo state notice = Unit
 
--- all that is told of an event is so in the state that it leads to
 abbrev pub TellsWhatIsSo : Type 0
 TellsWhatIsSo = (state : State) (event : Event) →
     All (IsSo (step state event)) (noticed state event)

@@ -1,6 +1,6 @@
--- Nothing crosses from one connection to those of another peer: two runs that differ in what the connections of a peer may
--- not know are the same to them.
-use Rattle.std.specs.Prelude.{◌≡◌, Bool, true, false, ◌&&◌, is_some, if◌then◌else◌, List, [], ◌++◌}
+-- Two runs with the same events, except for the contents of tables that the connections of a peer
+-- may not know, are the same to these.
+use Rattle.std.specs.Prelude.{◌≡◌, Bool, true, false, ◌&&◌, is_some, if◌then◌else◌, List, []}
 use Rattle.att_numbers.specs.Types.{Handle}
 use Rattle.att_pdu.specs.Grammar.{request_of, is_due}
 use Rattle.att_table.specs.Changer.{changer_of}
@@ -14,47 +14,50 @@ use Rattle.gatt_laws.specs.machine.SharedState.{SharedState}
 use Rattle.gatt_laws.specs.machine.State.{State, step}
 use Rattle.gatt_laws.specs.machine.Effect.{channel_answer, is_full}
 use Rattle.le_hci.specs.declared.peer.Peer.{Peer}
-use Rattle.octets.specs.Number.{Octets}
+use Rattle.octet_io.specs.Number.{Octets}
 
--- tables that differ in the octets of hidden values alone, and tell of changes by the same value
+-- Tables that differ only in octets of hidden values and have the same changer.
 pub record SameTable (hidden : Handle → Bool) (one other : Contents) : Type 0 where
   pub attributes : one.attributes ≡ other.attributes
   pub changer : changer_of one ≡ changer_of other
   pub values : SameBut hidden one.values other.values
 
--- the table is replaced in both
 pub record IsReplacedToo (hidden : Handle → Bool) (table : Contents) (event : Event) : Type 0 where
   pub its : Contents
   pub is : event ≡ Replaced its
   pub same : SameTable hidden table its
 
--- what happens in one and in the other: the same, or replacements by tables that differ in what is hidden from then on
+-- The two runs have the same event, or replacements by tables that differ in what is hidden from
+-- then on.
 abbrev pub Matched : (hidden following : Handle → Bool) → Event → Event → Type 0
 Matched hidden following (Replaced table) other = IsReplacedToo following table other
 Matched hidden following event other = (event ≡ other) × (hidden ≡ following)
 
--- an answer to what happens is due, and there is no room for it
 abbrev pub is_answer_due : SharedState → ConnectionState → Own → Bool
-is_answer_due shared connection (Asks pdu) = is_due (request_of pdu (connection_mtu shared connection))
-is_answer_due shared connection (OtherChannel channel payload) = is_some (channel_answer channel payload)
+is_answer_due shared connection (Asks pdu) =
+    is_due (request_of pdu (connection_mtu shared connection))
+is_answer_due shared connection (OtherChannel channel payload) =
+    is_some (channel_answer channel payload)
 is_answer_due shared connection own = false
 
 abbrev pub finds_no_room : SharedState → ConnectionState → Own → Bool
-finds_no_room shared connection own = is_live connection.mark && (is_answer_due shared connection own && is_full shared connection)
+finds_no_room shared connection own =
+    is_live connection.mark && (is_answer_due shared connection own && is_full shared connection)
 
--- no connection of another peer is ended for want of room
+-- No connection of another peer is ended because its queue is full.
 abbrev pub Spared : Peer → State → Event → Type 0
 Spared peer state (Of ordinal own) =
-    is_of peer (state.connections ordinal) ≡ false → finds_no_room state.shared (state.connections ordinal) own ≡ false
+    is_of peer (state.connections ordinal) ≡ false
+    → finds_no_room state.shared (state.connections ordinal) own ≡ false
 Spared peer state event = Unit
 
--- while a connection is there it is one of the peer
 abbrev pub BelongsTo : Peer → ConnectionState → Type 0
 BelongsTo peer connection = is_there connection.mark ≡ true → is_of peer connection ≡ true
 
--- what happens in both, where no connection of the peer may know what is hidden, before or after, and no connection of another
--- peer is ended for want of room
-pub record Agrees (peer : Peer) (hidden : Handle → Bool) (one other : State) (event its : Event) : Type 0 where
+-- No connection of the peer may know what is hidden, before or after, and no connection of another
+-- peer is ended because its queue is full.
+pub record Agrees (peer : Peer) (hidden : Handle → Bool) (one other : State)
+    (event its : Event) : Type 0 where
   pub following : Handle → Bool
   pub matched : Matched hidden following event its
   pub hides : Hides peer hidden one
@@ -62,24 +65,30 @@ pub record Agrees (peer : Peer) (hidden : Handle → Bool) (one other : State) (
   pub spared : Spared peer one event
   pub spared_too : Spared peer other its
 
--- one event from states that are alike leaves states that are alike, and gives the same packets to each connection of the peer
+-- States that are alike stay so at an event, which gives each connection of the peer the same
+-- packets.
 abbrev pub KeepsAlike : Type 0
-KeepsAlike = (peer : Peer) (hidden : Handle → Bool) (one other : State) (event its : Event) → Alike peer hidden one other →
-    (agrees : Agrees peer hidden one other event its) → Alike peer agrees.following (step one event) (step other its)
+KeepsAlike = (peer : Peer) (hidden : Handle → Bool) (one other : State) (event its : Event)
+    → Alike peer hidden one other →
+    (agrees : Agrees peer hidden one other event its)
+    → Alike peer agrees.following (step one event) (step other its)
 
 abbrev pub GivesTheSame : Type 0
-GivesTheSame = (peer : Peer) (hidden : Handle → Bool) (one other : State) (event its : Event) → Alike peer hidden one other →
-    Agrees peer hidden one other event its → (ordinal : Ordinal) → BelongsTo peer (one.connections ordinal) →
+GivesTheSame = (peer : Peer) (hidden : Handle → Bool) (one other : State) (event its : Event)
+    → Alike peer hidden one other →
+    Agrees peer hidden one other event its → (ordinal : Ordinal)
+    → BelongsTo peer (one.connections ordinal) →
     packets_at ordinal one event ≡ packets_at ordinal other its
 
--- nothing is given to a connection that is not there when it happens
 abbrev pub GivesNothingToTheAbsent : Type 0
-GivesNothingToTheAbsent = (state : State) (event : Event) (ordinal : Ordinal) → is_there (state.connections ordinal).mark ≡ false →
+GivesNothingToTheAbsent =
+    (state : State) (event : Event) (ordinal : Ordinal) → is_there (state.connections ordinal).mark
+    ≡ false →
     packets_at ordinal state event ≡ []
 
--- the packets that are given to a connection while it is one of the peer: at an event, and in a run of events
 abbrev pub packets_given_at : Peer → Ordinal → State → Event → List Octets
-packets_given_at peer ordinal state event = if is_of peer (state.connections ordinal) then packets_at ordinal state event else []
+packets_given_at peer ordinal state event =
+    if is_of peer (state.connections ordinal) then packets_at ordinal state event else []
 
 abbrev pub packets_given_in : Peer → Ordinal → State → List Event → List Octets
 packets_given_in peer ordinal = packets_in (packets_given_at peer ordinal)

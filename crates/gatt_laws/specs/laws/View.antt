@@ -1,4 +1,4 @@
--- What one connection sees of a run: what happens to it and to the table, and of what happens to others what they write.
+-- The view of one connection in a run: its events, the table's, and what others write.
 use Rattle.std.specs.Prelude.{ℕ, ◌==◌, Bool, true, false, ◌&&◌, not, is_some, if◌then◌else◌, List, [], ◌∷◌, ◌++◌, filter, map, Option, Some, None}
 use Rattle.std.specs.Option.{option_map_or, option_to_list}
 use Rattle.att_numbers.specs.Types.{Handle, Row, Values}
@@ -16,17 +16,17 @@ use Rattle.gatt_laws.specs.machine.Effect.{handles_written, effect_of}
 use Rattle.le_hci.specs.declared.buffers.Buffers.{Buffers}
 use Rattle.le_hci.specs.declared.peer.Peer.{Peer}
 use Rattle.le_security.specs.Entry.{same_peer}
-use Rattle.octets.specs.Number.{Octets}
+use Rattle.octet_io.specs.Number.{Octets}
 
--- what another connection wrote: the handles of values with these, and the configurations of the bond of one peer with
--- their bits, both in the order of first entries; and whether the peer is no longer to be told that the table was replaced
+-- `values` and `bits`, those of one peer's bond, are in the order of first entries; `ceases`:
+-- Service Changed is no longer pending for the peer.
 pub record WrittenByOthers : Type 0 where
   pub values : List (Handle × Octets)
   pub bits : List (Handle × ℕ)
   pub ceases : Bool
 
--- what a connection sees: what happens to it; how many of its packets are completed; a value that the application writes;
--- the time; a table in place of the old one; and what another connection wrote. No ordinal is in it
+-- A connection sees its own events and completed packets, the application's values, times and
+-- tables, and what others write. No ordinal is in this.
 pub data ShownEvent : Type 0 where
   Happens : (own : Own) → ShownEvent
   Completes : (counts : List ℕ) → ShownEvent
@@ -35,15 +35,17 @@ pub data ShownEvent : Type 0 where
   Replaces : (table : Contents) → ShownEvent
   Writes : (written : WrittenByOthers) → ShownEvent
 
--- of handles those of values, with what is there afterwards, and those of configurations
 abbrev pub values_there : List Attr → Values → List Handle → List (Handle × Octets)
 values_there attributes values handles =
-    map (λ handle. (handle, value_at values handle)) (filter (λ handle. not (is_configuration_at attributes handle)) handles)
+    map (λ handle. (handle, value_at values handle))
+    (filter (λ handle. not (is_configuration_at attributes handle)) handles)
 
 abbrev pub bits_there : List Attr → Row → List Handle → List (Handle × ℕ)
-bits_there attributes row handles = map (λ handle. (handle, bits_at row handle)) (filter (is_configuration_at attributes) handles)
+bits_there attributes row handles =
+    map (λ handle. (handle, bits_at row handle)) (filter (is_configuration_at attributes) handles)
 
--- what a connection wrote, as a connection of this peer sees it: a bond's row is written only while the link has a key
+-- A connection sees what another writes to values and to its own peer's bond, which needs a link
+-- with a key.
 abbrev pub written_in : State → Peer → Ordinal → Own → WrittenByOthers
 written_in state peer at own =
     let connection = state.connections at in
@@ -52,7 +54,8 @@ written_in state peer at own =
     let handles = handles_written state.shared bond connection own in
     record {
       values = values_there state.shared.table.attributes effect.values handles;
-      bits = if same_peer peer connection.peer && is_some (key_of connection) then bits_there state.shared.table.attributes effect.bond handles else [];
+      bits = if same_peer peer connection.peer && is_some (key_of connection)
+          then bits_there state.shared.table.attributes effect.bond handles else [];
       ceases = same_peer peer connection.peer && state.owed connection.peer && not effect.owed;
     }
 
@@ -60,24 +63,23 @@ abbrev pub are_none : {A : Type 0} → List A → Bool
 are_none [] = true
 are_none (x ∷ xs) = false
 
--- what wrote nothing of that is not seen
 abbrev pub is_unseen : WrittenByOthers → Bool
 is_unseen written = are_none written.values && are_none written.bits && not written.ceases
 
 abbrev pub shown_written : WrittenByOthers → Option ShownEvent
 shown_written written = if is_unseen written then None else Some (Writes written)
 
--- of completed packets its own are seen
 abbrev pub own_counts : Ordinal → List (Ordinal × ℕ) → List ℕ
 own_counts ordinal [] = []
-own_counts ordinal (entry ∷ entries) = if entry.0 == ordinal then entry.1 ∷ own_counts ordinal entries else own_counts ordinal entries
+own_counts ordinal (entry ∷ entries) =
+    if entry.0 == ordinal then entry.1 ∷ own_counts ordinal entries else own_counts ordinal entries
 
 abbrev pub shown_counts : List ℕ → Option ShownEvent
 shown_counts counts = if are_none counts then None else Some (Completes counts)
 
--- what a connection of a peer sees of an event
 unfoldable pub shown : Peer → Ordinal → State → Event → Option ShownEvent
-shown peer ordinal state (Of at own) = if ordinal == at then Some (Happens own) else shown_written (written_in state peer at own)
+shown peer ordinal state (Of at own) =
+    if ordinal == at then Some (Happens own) else shown_written (written_in state peer at own)
 shown peer ordinal state (Completed entries) = shown_counts (own_counts ordinal entries)
 shown peer ordinal state (Credit allowed opcode status following) = None
 shown peer ordinal state (Update handle value) = Some (Updates handle value)
@@ -85,13 +87,12 @@ shown peer ordinal state (Tick time) = Some (Tells time)
 shown peer ordinal state (Replaced table) = Some (Replaces table)
 shown peer ordinal state Nothing = None
 
--- and of events, in their order
 abbrev pub shown_in : Peer → Ordinal → State → List Event → List ShownEvent
 shown_in peer ordinal state [] = []
 shown_in peer ordinal state (event ∷ events) =
-    option_to_list (shown peer ordinal state event) ++ shown_in peer ordinal (step state event) events
+    option_to_list (shown peer ordinal state event)
+    ++ shown_in peer ordinal (step state event) events
 
--- the peer of a connection, by the event with which it comes
 abbrev pub own_connecting : Own → Option Peer
 own_connecting (Connected handle peer) = Some peer
 own_connecting own = None
@@ -102,9 +103,10 @@ peer_connecting ordinal event = None
 
 abbrev pub peer_in : Ordinal → List Event → Peer
 peer_in ordinal [] = nobody
-peer_in ordinal (event ∷ events) = option_map_or (λ peer. peer) (peer_connecting ordinal event) (peer_in ordinal events)
+peer_in ordinal (event ∷ events) =
+    option_map_or (λ peer. peer) (peer_connecting ordinal event) (peer_in ordinal events)
 
--- the view of a connection: the buffers that the controller told, and then what it sees of the events
+-- The buffers that the controller reported, then what a connection sees of the events.
 pub record View : Type 0 where
   pub buffers : Option Buffers
   pub items : List ShownEvent

@@ -1,5 +1,5 @@
--- What the host keeps of one connection: what happened to it, and what follows from that. Where no other source is
--- named, it is this profile's own.
+-- The state that a host retains of one connection (this profile's own, if no other source is
+-- named).
 use Rattle.std.specs.Prelude.{ℕ, Bool, true, false, is_some, if◌then◌else◌, List, [], ◌∷◌, ◌++◌, length, map, Option, Some, None}
 use Rattle.att_numbers.specs.Types.{Mtu, Row}
 use Rattle.att_policy.specs.declared.standing.KeyFacts.{KeyFacts}
@@ -14,10 +14,10 @@ use Rattle.le_acl.specs.Packets.{Pdu, fragments_of, rest}
 use Rattle.le_hci.specs.declared.peer.Peer.{Peer}
 use Rattle.le_security.specs.Keys.{is_known}
 use Rattle.le_security.specs.Link.{Step, key_after}
-use Rattle.octets.specs.Number.{Octets}
+use Rattle.octet_io.specs.Number.{Octets}
 use Rattle.le_acl.specs.declared.pdus.TheConstants.{MAX_PDUS}
 
--- a connection is not there, serves, or is ending: it is told to disconnect, and nothing more is sent on it
+-- An ending connection is being disconnected, and nothing more is sent on it.
 pub data Mark : Type 0 where
   Absent : Mark
   Live : Mark
@@ -33,14 +33,14 @@ is_there Absent = false
 is_there Live = true
 is_there Ending = true
 
--- the reply that is due to a request for a key: the key, or that there is none
+-- The reply to a request for a key: the key, or that there is none.
 abbrev pub KeyReply : Type 0
 KeyReply = Option Octets
 
--- its handle and its peer; the moment up to which it is authorized; its own configurations. The steps of its link and what
--- it said, both newest first. What it is still to be told by indications. The PDUs queued for it, each with its channel,
--- the oldest first; how many of their packets were given to the controller, and how many of these completed. The reply to
--- a request for its key, and the reason of a Disconnect, which are not sent yet
+-- The connection is authorized while the time is below `until`. `steps` and `said` have the newest
+-- first, `pdus` the oldest first. `given` counts their packets that the controller was given,
+-- `done` those of them that completed. The key `reply` and the `reason` of a Disconnect are not
+-- sent yet.
 pub record ConnectionState : Type 0 where
   pub mark : Mark
   pub handle : ℕ
@@ -76,32 +76,33 @@ no_connection = record {
   reason = None;
 }
 
--- a connection that has just come
 abbrev pub fresh_connection : ℕ → Peer → ConnectionState
 fresh_connection handle peer = record no_connection { mark = Live; handle = handle; peer = peer }
 
--- the key of its link: Core 5.0, Vol 3 Part C, 10.2
+-- The key of the link (Core 5.0, Vol 3 Part C, 10.2).
 abbrev pub key_of : ConnectionState → Option KeyFacts
 key_of connection = key_after connection.steps
 
--- what the policy sees of it
 abbrev pub standing_of : SharedState → ConnectionState → Standing
 standing_of shared connection =
-    record { key = key_of connection; key_known = is_known shared.keys connection.peer; until = connection.until; now = shared.time }
+    record {
+      key = key_of connection;
+      key_known = is_known shared.keys connection.peer;
+      until = connection.until;
+      now = shared.time;
+    }
 
--- the row in force: that of its peer's bond while the link has a key, else its own (this profile's own, by Core 5.0, Vol
--- 3 Part G, 3.3.3.3)
+-- The row of the peer's bond while the link has a key, else the connection's own (this profile's
+-- own, by Core 5.0, Vol 3 Part G, 3.3.3.3).
 abbrev pub row_in_force : Row → ConnectionState → Row
 row_in_force bond connection = if is_some (key_of connection) then bond else connection.row
 
--- its ATT_MTU and its prepared writes, by what it said
 abbrev pub connection_mtu : SharedState → ConnectionState → Mtu
 connection_mtu shared connection = mtu_in shared.rx_mtu connection.said
 
 abbrev pub prepared_of : ConnectionState → List Entry
 prepared_of connection = prepared_in connection.said
 
--- what the server sees of it
 abbrev pub bearer_of : SharedState → ConnectionState → Bearer
 bearer_of shared connection = record {
   standing = standing_of shared connection;
@@ -111,27 +112,30 @@ bearer_of shared connection = record {
   queue = prepared_of connection;
 }
 
--- how many PDUs have a packet that is not given
+-- The number of PDUs with a packet that is not given yet.
 abbrev pub backlog_of : SharedState → ConnectionState → ℕ
-backlog_of shared connection = length (rest connection.given (map (fragments_of (fragment_size_of shared.buffers)) connection.pdus))
+backlog_of shared connection =
+    length (rest connection.given
+    (map (fragments_of (fragment_size_of shared.buffers)) connection.pdus))
 
--- so many PDUs are kept for one connection, and no more: this profile's own
+-- The largest backlog of a connection.
 abbrev pub most_pdus : ℕ
 most_pdus = MAX_PDUS
 
--- with PDUs queued behind the others
 abbrev pub with_pdus : ConnectionState → List Pdu → ConnectionState
 with_pdus connection pdus = record connection { pdus = connection.pdus ++ pdus }
 
--- once all packets are given that may be: a quota beyond those that are completed
+-- The connection after all packets are given that may be: a quota beyond those that completed.
 abbrev pub after_giving : SharedState → ConnectionState → ConnectionState
 after_giving shared connection =
     if is_live connection.mark
-    then record connection { given = packets_allowed (quota_of shared.slots shared.buffers) (fragment_size_of shared.buffers) connection.pdus connection.done }
+    then record connection {
+      given = packets_allowed (quota_of shared.slots shared.buffers)
+          (fragment_size_of shared.buffers) connection.pdus connection.done;
+    }
     else connection
 
--- a connection that is ended for this reason: what it prepared and what waited is dropped, nothing more is given, and no
--- reply to a request for a key is sent
+-- Ending drops what a connection prepared, what waits for it and the key reply.
 abbrev pub after_ending : ConnectionState → ℕ → ConnectionState
 after_ending connection reason = record connection {
   mark = Ending;

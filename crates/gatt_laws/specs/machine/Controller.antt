@@ -1,5 +1,5 @@
--- What the host knows of its controller, and the commands that are due to it: Core 5.0, Vol 2 Part E, 4.4; their order is
--- this profile's own.
+-- The controller as a host knows it, and its pending commands (Core 5.0, Vol 2 Part E, 4.4; their
+-- order is this profile's own).
 use Rattle.std.specs.Prelude.{ℕ, ◌+◌, ◌-◌, ◌==◌, nat_lt, Bool, ◌&&◌, ◌||◌, not, is_some, is_none, if◌then◌else◌, List, [], ◌∷◌, ◌++◌, length, take, Option, Some, None}
 use Rattle.std.specs.List.{list_any}
 use Rattle.std.specs.Option.{option_to_list}
@@ -9,8 +9,9 @@ use Rattle.le_hci.specs.Command.{Commanded, Disconnect, LeSetAdvertiseEnable, Le
 use Rattle.le_hci.specs.Init.{command_awaited}
 use Rattle.le_hci.specs.declared.init.Init.{Init}
 
--- how many commands it takes now; the state of its initialisation, and whether the command that this awaits was sent;
--- whether it advertises as far as the host knows, and whether it refused to since a connection last ended
+-- `credit` counts the commands that it accepts now. `awaiting`: the command that initialisation
+-- awaits was sent. `advertising`: it advertises as far as the host knows. `refused`: it refused to
+-- since a connection last ended.
 pub record Controller : Type 0 where
   pub credit : ℕ
   pub init : Init
@@ -18,18 +19,16 @@ pub record Controller : Type 0 where
   pub advertising : Bool
   pub refused : Bool
 
--- the controller is initialised
 abbrev pub is_ready : Controller → Bool
 is_ready controller = is_none (command_awaited controller.init)
 
--- the slots of connections, each with the connection that has it, if one has
 abbrev pub Slots : Type 0
 Slots = List (Option Ordinal)
 
 abbrev pub has_free : Slots → Bool
 has_free slots = list_any (λ slot. is_none slot) slots
 
--- the lowest free slot is taken, and a slot is freed
+-- A connection takes the lowest free slot.
 abbrev pub with_taken : Ordinal → Slots → Slots
 with_taken ordinal [] = []
 with_taken ordinal (None ∷ slots) = Some ordinal ∷ slots
@@ -38,9 +37,10 @@ with_taken ordinal (Some other ∷ slots) = Some other ∷ with_taken ordinal sl
 abbrev pub with_freed : Ordinal → Slots → Slots
 with_freed ordinal [] = []
 with_freed ordinal (None ∷ slots) = None ∷ with_freed ordinal slots
-with_freed ordinal (Some other ∷ slots) = (if other == ordinal then None else Some other) ∷ with_freed ordinal slots
+with_freed ordinal (Some other ∷ slots) =
+    (if other == ordinal then None else Some other) ∷ with_freed ordinal slots
 
--- the command that one connection waits for: to be disconnected, else the reply to the request for its key
+-- The command for a connection is a Disconnect, else the reply to the request for its key.
 abbrev pub key_reply_of : ℕ → KeyReply → Commanded
 key_reply_of handle (Some key) = LeLongTermKeyRequestReply handle key
 key_reply_of handle None = LeLongTermKeyRequestNegativeReply handle
@@ -54,56 +54,63 @@ disconnect_or handle (Some reason) other = Some (Disconnect handle reason)
 disconnect_or handle None other = other
 
 abbrev pub command_for : ConnectionState → Option Commanded
-command_for connection = disconnect_or connection.handle connection.reason (reply_due connection.handle connection.reply)
+command_for connection =
+    disconnect_or connection.handle connection.reason (reply_due connection.handle connection.reply)
 
--- the commands that connections wait for, by their slots
 abbrev pub commands_for : (Ordinal → ConnectionState) → Slots → List Commanded
 commands_for connections [] = []
 commands_for connections (None ∷ slots) = commands_for connections slots
-commands_for connections (Some ordinal ∷ slots) = option_to_list (command_for (connections ordinal)) ++ commands_for connections slots
+commands_for connections (Some ordinal ∷ slots) =
+    option_to_list (command_for (connections ordinal)) ++ commands_for connections slots
 
--- the next command of initialisation, once its turn has come
 abbrev pub command_of_init : Controller → List Commanded
-command_of_init controller = if controller.awaiting then [] else option_to_list (command_awaited controller.init)
+command_of_init controller =
+    if controller.awaiting then [] else option_to_list (command_awaited controller.init)
 
--- advertising is enabled where a slot is free and it is off, but after a refusal only once a connection has ended
+-- Advertising is enabled if it is off and a slot is free; after a refusal, only once a connection
+-- has ended.
 abbrev pub enabling : Controller → Slots → List Commanded
 enabling controller slots =
-    if has_free slots && not controller.advertising && not controller.refused then LeSetAdvertiseEnable ∷ [] else []
+    if has_free slots && not controller.advertising && not controller.refused
+    then LeSetAdvertiseEnable ∷ [] else []
 
--- all commands that are due, in their order
 unfoldable pub commands_due : Controller → (Ordinal → ConnectionState) → Slots → List Commanded
-commands_due controller connections slots = command_of_init controller ++ commands_for connections slots ++ enabling controller slots
+commands_due controller connections slots =
+    command_of_init controller ++ commands_for connections slots ++ enabling controller slots
 
--- those of them that the controller takes
 abbrev pub commands_sent : Controller → (Ordinal → ConnectionState) → Slots → List Commanded
-commands_sent controller connections slots = take controller.credit (commands_due controller connections slots)
+commands_sent controller connections slots =
+    take controller.credit (commands_due controller connections slots)
 
--- how many commands stand before that of a connection
 abbrev pub count_before : Ordinal → (Ordinal → ConnectionState) → Slots → ℕ
 count_before ordinal connections [] = 0
 count_before ordinal connections (None ∷ slots) = count_before ordinal connections slots
 count_before ordinal connections (Some other ∷ slots) =
     if other == ordinal then 0
-    else length (option_to_list (command_for (connections other))) + count_before ordinal connections slots
+    else length (option_to_list (command_for (connections other)))
+    + count_before ordinal connections slots
 
--- a connection after its command was sent
 abbrev pub without_command : ConnectionState → ConnectionState
 without_command connection =
-    if is_some connection.reason then record connection { reason = None } else record connection { reply = None }
+    if is_some connection.reason then record connection { reason = None }
+    else record connection { reply = None }
 
-abbrev pub after_sending : Controller → (Ordinal → ConnectionState) → Slots → Ordinal → ConnectionState
+abbrev pub after_sending : Controller → (Ordinal → ConnectionState) → Slots → Ordinal
+    → ConnectionState
 after_sending controller connections slots ordinal =
-    if nat_lt (length (command_of_init controller) + count_before ordinal connections slots) controller.credit
+    if nat_lt (length (command_of_init controller) + count_before ordinal connections slots)
+    controller.credit
     then without_command (connections ordinal) else connections ordinal
 
 abbrev pub is_enabling : Commanded → Bool
 is_enabling command = opcode_of command == opcode_of LeSetAdvertiseEnable
 
--- the controller after commands were sent: it counts as advertising once it is told to
+-- The controller counts as advertising once the command to enable that is sent.
 abbrev pub controller_after : Controller → List Commanded → Controller
 controller_after controller commands = record controller {
   credit = controller.credit - length commands;
-  awaiting = controller.awaiting || (is_some (command_awaited controller.init) && nat_lt 0 controller.credit);
+  awaiting =
+      controller.awaiting
+      || (is_some (command_awaited controller.init) && nat_lt 0 controller.credit);
   advertising = controller.advertising || list_any is_enabling commands;
 }

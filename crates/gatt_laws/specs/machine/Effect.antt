@@ -1,5 +1,5 @@
--- What happens to one connection by itself: each kind of event, and what it leaves. The requests are those of Core 5.0,
--- Vol 3 Part F; when a connection is ended, and what is then dropped, is this profile's own.
+-- The effect of each kind of event on its connection. Requests are those of Core 5.0, Vol 3 Part F;
+-- the end of a connection is this profile's own.
 use Rattle.std.specs.Prelude.{ℕ, ◌==◌, nat_le, Bool, false, ◌&&◌, not, is_some, if◌then◌else◌, List, [], ◌∷◌, filter, map, Option, Some, None}
 use Rattle.std.specs.Option.{option_map, option_map_or, option_to_list}
 use Rattle.att_numbers.specs.Types.{Handle, Row, Values}
@@ -21,11 +21,11 @@ use Rattle.le_l2cap.specs.declared.channel.TheConstants.{LE_SIGNALLING, SECURITY
 use Rattle.le_security.specs.declared.entry.Key.{Key}
 use Rattle.le_security.specs.Keys.{key_asked_for}
 use Rattle.le_security.specs.Link.{Step, Request, Encryption, Refresh}
-use Rattle.octets.specs.Number.{Octets}
+use Rattle.octet_io.specs.Number.{Octets}
 use Rattle.le_hci.specs.declared.reason.TheConstants.{AUTHENTICATION_FAILURE, REMOTE_USER_TERMINATED}
 
--- what is left: the values of the table and the row of the peer's bond; whether the peer is still to be told that the table
--- was replaced; the values that are notified to the other connections, and those for this one; and the connection
+-- `bond` is the row of the peer's bond, `owed` whether Service Changed is pending for the peer,
+-- `to_notify` the values for the other connections, and `to_notify_here` those for this one.
 pub record Effect : Type 0 where
   pub values : Values
   pub bond : Row
@@ -34,50 +34,59 @@ pub record Effect : Type 0 where
   pub to_notify_here : List Handle
   pub connection : ConnectionState
 
--- nothing but the connection is changed
 abbrev pub effect_on_connection : SharedState → Row → Bool → ConnectionState → Effect
 effect_on_connection shared bond owed connection =
-    record { values = shared.table.values; bond = bond; owed = owed; to_notify = []; to_notify_here = []; connection = connection }
+    record {
+      values = shared.table.values;
+      bond = bond;
+      owed = owed;
+      to_notify = [];
+      to_notify_here = [];
+      connection = connection;
+    }
 
--- Why a Disconnect is sent: Authentication Failure, where a link lost its encryption, and Remote User Terminated
--- Connection, where there is no room for an answer or the application ends the connection (Core 5.0, Vol 2 Part D, 2; which
--- of them is this profile's own).
+-- The reasons of a Disconnect: Authentication Failure if a link lost its encryption, Remote User
+-- Terminated Connection if an answer finds no space or the application ends the connection (Core
+-- 5.0, Vol 2 Part D, 2; the choice is this profile's own).
 abbrev pub authentication_failure : ℕ
 authentication_failure = AUTHENTICATION_FAILURE
 
 abbrev pub remote_user_terminated : ℕ
 remote_user_terminated = REMOTE_USER_TERMINATED
 
--- an answer is due, and there is no room for it
+-- The queue of a connection has no space for an answer.
 abbrev pub is_full : SharedState → ConnectionState → Bool
 is_full shared connection = nat_le most_pdus (backlog_of shared connection)
 
--- Requests of the Attribute Protocol.
-
--- the row in force after it is written, in its place: the bond or the connection itself
+-- A written row belongs to the bond while the link has a key, else to the connection.
 abbrev pub bond_row_after : ConnectionState → Row → Row → Row
 bond_row_after connection bond row = if is_some (key_of connection) then row else bond
 
 abbrev pub own_row_after : ConnectionState → Row → Row
 own_row_after connection row = if is_some (key_of connection) then connection.row else row
 
--- only values are notified: a configuration is nobody else's
+-- Only values are notified: a configuration concerns no other client.
 abbrev pub values_among : List Attr → List Handle → List Handle
 values_among attributes handles = filter (is_value_at attributes) handles
 
--- a peer has been told that the table was replaced once a connection with a key confirms the indication of it, unless
--- it waits again
+-- A connection with a key confirms Service Changed for its peer, unless the value waits again.
 abbrev pub owed_after : SharedState → ConnectionState → Octets → Bool → Bool
 owed_after shared connection pdu owed =
-    owed && not (is_confirmation pdu && is_some (key_of connection) && option_map_or (is_told connection.pending) shared.changer false)
+    owed && not
+    (is_confirmation pdu && is_some (key_of connection)
+    && option_map_or (is_told connection.pending) shared.changer false)
 
 abbrev pub after_answer : ConnectionState → Question → Option Response → ConnectionState
 after_answer connection asked answer =
-    with_pdus (record connection { said = Answered asked answer ∷ connection.said }) (map att_pdu (option_to_list answer))
+    with_pdus (record connection { said = Answered asked answer ∷ connection.said })
+    (map att_pdu (option_to_list answer))
 
 abbrev pub with_confirmation : Octets → ConnectionState → ConnectionState
 with_confirmation pdu connection =
-    record connection { pending = if is_confirmation pdu then after_confirmation connection.pending else connection.pending }
+    record connection {
+      pending = if is_confirmation pdu then after_confirmation connection.pending
+          else connection.pending;
+    }
 
 abbrev pub served : SharedState → Row → Bool → ConnectionState → Octets → Question → Effect
 served shared bond owed connection pdu asked =
@@ -90,20 +99,20 @@ served shared bond owed connection pdu asked =
       owed = owed_after shared connection pdu owed;
       to_notify = values_among shared.table.attributes (handles_by shared.table row conn asked);
       to_notify_here = [];
-      connection = record (with_confirmation pdu (after_answer connection asked (answer_to shared.table row conn asked))) {
-        row = own_row_after connection stored.row;
-      };
+      connection =
+          record (with_confirmation pdu
+          (after_answer connection asked (answer_to shared.table row conn asked))) {
+            row = own_row_after connection stored.row;
+          };
     }
 
 abbrev pub request_effect : SharedState → Row → Bool → ConnectionState → Octets → Effect
 request_effect shared bond owed connection pdu =
     let asked = request_of pdu (connection_mtu shared connection) in
-    if is_due asked && is_full shared connection then effect_on_connection shared bond owed (after_ending connection remote_user_terminated)
+    if is_due asked && is_full shared connection
+    then effect_on_connection shared bond owed (after_ending connection remote_user_terminated)
     else served shared bond owed connection pdu asked
 
--- Other channels.
-
--- what is answered on a channel that is not that of the Attribute Protocol
 abbrev pub channel_answer : ℕ → Octets → Option Octets
 channel_answer channel payload =
     if channel == LE_SIGNALLING then option_map command_reject (rejected_identifier payload)
@@ -113,11 +122,9 @@ channel_answer channel payload =
 abbrev pub after_other_channel : SharedState → ConnectionState → ℕ → Option Octets → ConnectionState
 after_other_channel shared connection channel None = connection
 after_other_channel shared connection channel (Some answer) =
-    if is_full shared connection then after_ending connection remote_user_terminated else with_pdus connection ((channel, answer) ∷ [])
+    if is_full shared connection then after_ending connection remote_user_terminated
+    else with_pdus connection ((channel, answer) ∷ [])
 
--- Keys.
-
--- a request is answered from the keys: with the key that it names, or that there is none
 abbrev pub with_key_asked : ConnectionState → Option Key → ConnectionState
 with_key_asked connection found = record connection {
   steps = Request (option_map (λ (key : Key). key.facts) found) ∷ connection.steps;
@@ -127,7 +134,8 @@ with_key_asked connection found = record connection {
 abbrev pub with_step : ConnectionState → Step → ConnectionState
 with_step connection step = record connection { steps = step ∷ connection.steps }
 
--- a link that had a key and has none is ended; where it has one and had none, its peer is told what it is owed
+-- A connection whose link loses its key is ended; if the link gains one, a pending Service Changed
+-- is notified.
 abbrev pub lost_encryption : Option KeyFacts → Option KeyFacts → Bool
 lost_encryption old new = is_some old && not (is_some new)
 
@@ -137,32 +145,49 @@ gained_encryption old new = not (is_some old) && is_some new
 abbrev pub link_effect : SharedState → Row → Bool → ConnectionState → Step → Effect
 link_effect shared bond owed connection step =
     let new = with_step connection step in
-    record (effect_on_connection shared bond owed (if lost_encryption (key_of connection) (key_of new) then after_ending new authentication_failure else new)) {
-      to_notify_here = if gained_encryption (key_of connection) (key_of new) && owed then option_to_list shared.changer else [];
+    record (effect_on_connection shared bond owed
+    (if lost_encryption (key_of connection) (key_of new)
+    then after_ending new authentication_failure else new)) {
+      to_notify_here =
+          if gained_encryption (key_of connection) (key_of new) && owed
+          then option_to_list shared.changer else [];
     }
 
--- what a connection that serves makes of what happens to it
 unfoldable pub live_effect : SharedState → Row → Bool → ConnectionState → Own → Effect
 live_effect shared bond owed connection (Asks pdu) = request_effect shared bond owed connection pdu
 live_effect shared bond owed connection (OtherChannel channel payload) =
-    effect_on_connection shared bond owed (after_other_channel shared connection channel (channel_answer channel payload))
+    effect_on_connection shared bond owed
+    (after_other_channel shared connection channel (channel_answer channel payload))
 live_effect shared bond owed connection (KeyAsked random_number diversifier) =
-    effect_on_connection shared bond owed (with_key_asked connection (key_asked_for shared.keys connection.peer random_number diversifier))
-live_effect shared bond owed connection (Encrypted status enabled) = link_effect shared bond owed connection (Encryption status enabled)
-live_effect shared bond owed connection (Refreshed status) = link_effect shared bond owed connection (Refresh status)
-live_effect shared bond owed connection (Authorized until) = effect_on_connection shared bond owed (record connection { until = until })
-live_effect shared bond owed connection Ended = effect_on_connection shared bond owed (after_ending connection remote_user_terminated)
-live_effect shared bond owed connection (Connected handle peer) = effect_on_connection shared bond owed connection
-live_effect shared bond owed connection Disconnected = effect_on_connection shared bond owed connection
+    effect_on_connection shared bond owed
+    (with_key_asked connection
+    (key_asked_for shared.keys connection.peer random_number diversifier))
+live_effect shared bond owed connection (Encrypted status enabled) =
+    link_effect shared bond owed connection (Encryption status enabled)
+live_effect shared bond owed connection (Refreshed status) =
+    link_effect shared bond owed connection (Refresh status)
+live_effect shared bond owed connection (Authorized until) =
+    effect_on_connection shared bond owed (record connection { until = until })
+live_effect shared bond owed connection Ended =
+    effect_on_connection shared bond owed (after_ending connection remote_user_terminated)
+live_effect shared bond owed connection (Connected handle peer) =
+    effect_on_connection shared bond owed connection
+live_effect shared bond owed connection Disconnected =
+    effect_on_connection shared bond owed connection
 
--- a connection comes where none is, and goes where one is, also one that is ending; all else is for one that serves
+-- A connection connects only if it is absent; all other events except a disconnection need one that
+-- serves.
 abbrev pub effect_of : SharedState → Row → Bool → ConnectionState → Own → Effect
-effect_of shared bond owed connection (Connected handle peer) = effect_on_connection shared bond owed (if is_there connection.mark then connection else fresh_connection handle peer)
-effect_of shared bond owed connection Disconnected = effect_on_connection shared bond owed no_connection
+effect_of shared bond owed connection (Connected handle peer) =
+    effect_on_connection shared bond owed
+    (if is_there connection.mark then connection else fresh_connection handle peer)
+effect_of shared bond owed connection Disconnected =
+    effect_on_connection shared bond owed no_connection
 effect_of shared bond owed connection own =
-    if is_live connection.mark then live_effect shared bond owed connection own else effect_on_connection shared bond owed connection
+    if is_live connection.mark then live_effect shared bond owed connection own
+    else effect_on_connection shared bond owed connection
 
--- the handles that a connection writes, each once: those of a PDU that is served
+-- The handles that a served PDU writes, each once.
 abbrev pub handles_written : SharedState → Row → ConnectionState → Own → List Handle
 handles_written shared bond connection (Asks pdu) =
     let asked = request_of pdu (connection_mtu shared connection) in

@@ -1,18 +1,17 @@
--- What happens to the host, one whole packet or one call at a time: this profile's own.
+-- The events of a host, each one whole packet or one call (this profile's own).
 use Rattle.std.specs.Prelude.{ℕ, List, Option}
 use Rattle.att_numbers.specs.Types.{Handle}
 use Rattle.att_table.specs.Table.{Contents}
 use Rattle.le_hci.specs.declared.init.Init.{Init}
 use Rattle.le_hci.specs.declared.peer.Peer.{Peer}
-use Rattle.octets.specs.Number.{Octets}
+use Rattle.octet_io.specs.Number.{Octets}
 
--- a connection by its place in the order of those that were accepted, which no other ever has
+-- A connection, by its place in the order of acceptance, which no other ever has.
 abbrev pub Ordinal : Type 0
 Ordinal = ℕ
 
--- what happens to one connection: it comes, and goes; its key is asked for, its link is encrypted, or its key refreshed;
--- a PDU of the Attribute Protocol or of another channel comes from it; or the application authorizes it up to a moment, or
--- ends it
+-- The events of one connection; `Asks` is a PDU of the Attribute Protocol, and the application
+-- causes `Authorized` and `Ended`.
 pub data Own : Type 0 where
   Connected : (handle : ℕ) (peer : Peer) → Own
   Disconnected : Own
@@ -24,10 +23,9 @@ pub data Own : Type 0 where
   Authorized : (until : ℕ) → Own
   Ended : Own
 
--- what happens, where connections have names of some kind: to one connection; packets of connections are completed; a
--- command is answered, with the commands that the controller takes now, with the status if there is one, and with the state of
--- initialisation that follows where it was awaited; the application writes a value, tells the time, or replaces the table; or
--- nothing that counts
+-- The events of a host, by any names of connections. `Credit` answers a command, with the number of
+-- commands that the controller now accepts, and with the next state of initialisation if that
+-- awaited the answer.
 pub data Happening (C : Type 0) : Type 0 where
   Of : (connection : C) (own : Own) → Happening C
   Completed : (entries : List (C × ℕ)) → Happening C
@@ -37,6 +35,5 @@ pub data Happening (C : Type 0) : Type 0 where
   Replaced : (table : Contents) → Happening C
   Nothing : Happening C
 
--- to the whole host it happens by ordinals
 abbrev pub Event : Type 0
 Event = Happening Ordinal

@@ -1,5 +1,5 @@
--- What a connection hears unasked at an event: what is notified to it, and what is indicated at the end. When is this
--- profile's own, by Core 5.0, Vol 3 Part F, 3.4.7.
+-- The values that a connection is sent unasked at an event (this profile's own, by Core 5.0, Vol 3
+-- Part F, 3.4.7).
 use Rattle.std.specs.Prelude.{ℕ, ◌+◌, nat_lt, Bool, ◌&&◌, not, if◌then◌else◌, List, [], ◌∷◌, ◌++◌, length, map}
 use Rattle.std.specs.Option.{option_to_list}
 use Rattle.att_numbers.specs.Types.{Handle, Row, Values}
@@ -14,7 +14,6 @@ use Rattle.gatt_subs.specs.Told.{Hearer, notify_tells, pending_after_notify, ind
 use Rattle.le_acl.specs.Packets.{Pdu}
 use Rattle.le_l2cap.specs.declared.channel.TheConstants.{ATT}
 
--- a connection as a hearer, where its peer's bond has this row
 abbrev pub hearer_of : SharedState → Row → ConnectionState → Hearer
 hearer_of shared bond connection = record {
   live = is_live connection.mark;
@@ -25,7 +24,7 @@ hearer_of shared bond connection = record {
   pending = connection.pending;
 }
 
--- what a hearer is sent, in its order, and its indications then
+-- The responses that a hearer is sent, and its indications afterwards.
 pub record Heard : Type 0 where
   pub responses : List Response
   pub pending : Indications
@@ -42,28 +41,27 @@ heard_when_indicating attributes values hearer now = record {
   pending = pending_after_indicate attributes hearer now;
 }
 
--- a hearer after that, and what it was sent before
 abbrev pub hearer_after : Hearer → Heard → Hearer
-hearer_after hearer heard = record hearer { pending = heard.pending; backlog = hearer.backlog + length heard.responses }
+hearer_after hearer heard =
+    record hearer { pending = heard.pending; backlog = hearer.backlog + length heard.responses }
 
 abbrev pub after_responses : List Response → Heard → Heard
 after_responses first heard = record heard { responses = first ++ heard.responses }
 
--- Values are notified in their order, and then what is due is indicated.
+-- Values are notified in their order, then an indication is sent if one may be.
 abbrev pub heard_in_turn : List Attr → Values → Hearer → ℕ → List Handle → Heard
 heard_in_turn attributes values hearer now [] = heard_when_indicating attributes values hearer now
 heard_in_turn attributes values hearer now (handle ∷ handles) =
     let first = heard_when_notifying attributes values hearer handle in
-    after_responses first.responses (heard_in_turn attributes values (hearer_after hearer first) now handles)
+    after_responses first.responses
+    (heard_in_turn attributes values (hearer_after hearer first) now handles)
 
--- A value is skipped if a notification of it would be sent, but MAX_BACKLOG PDUs or more are queued
--- for the connection: then the connection is not sent the value.
+-- A value is skipped if it would be notified, but MAX_BACKLOG PDUs or more are queued.
 abbrev pub is_skipped : List Attr → Hearer → Handle → Bool
 is_skipped attributes hearer handle =
     hearer.live && hears hearer.pending attributes hearer.row hearer.standing handle
     && not (wants_indications hearer.row handle) && not (nat_lt hearer.backlog MAX_BACKLOG)
 
--- The values that are skipped when these values are notified in their order.
 abbrev pub skipped_in_turn : List Attr → Values → Hearer → List Handle → List Handle
 skipped_in_turn attributes values hearer [] = []
 skipped_in_turn attributes values hearer (handle ∷ handles) =
@@ -71,14 +69,15 @@ skipped_in_turn attributes values hearer (handle ∷ handles) =
     ++ skipped_in_turn attributes values
     (hearer_after hearer (heard_when_notifying attributes values hearer handle)) handles
 
--- a response as a PDU on its channel
 abbrev pub att_pdu : Response → Pdu
 att_pdu response = (ATT, sent response)
 
 abbrev pub with_heard : ConnectionState → Heard → ConnectionState
-with_heard connection heard = record (with_pdus connection (map att_pdu heard.responses)) { pending = heard.pending }
+with_heard connection heard =
+    record (with_pdus connection (map att_pdu heard.responses)) { pending = heard.pending }
 
--- a connection after these values are notified to it, and what is due is indicated
 unfoldable pub after_hearing : SharedState → Row → List Handle → ConnectionState → ConnectionState
 after_hearing shared bond handles connection =
-    with_heard connection (heard_in_turn shared.table.attributes shared.table.values (hearer_of shared bond connection) shared.time handles)
+    with_heard connection
+    (heard_in_turn shared.table.attributes shared.table.values (hearer_of shared bond connection)
+    shared.time handles)

@@ -1,5 +1,5 @@
--- What the host takes in, in the order in which it comes, and what goes out: this profile's own, over the stream of Core
--- 5.0, Vol 4 Part A, 2.
+-- The input of a host in its order, and the output (this profile's own, over the stream of Core
+-- 5.0, Vol 4 Part A, 2).
 use Rattle.std.specs.Prelude.{ℕ, if◌then◌else◌, List, [], ◌∷◌, ◌++◌, Option, Some, None, Result, Ok, Err}
 use Rattle.att_table.specs.Table.{Contents}
 use Rattle.gatt_laws.specs.machine.Calls.{Call, Refused, Stopped, call_event, replacement_event}
@@ -9,9 +9,9 @@ use Rattle.gatt_laws.specs.machine.Start.{Start, state_at, first_out}
 use Rattle.gatt_laws.specs.machine.State.{State, step, out}
 use Rattle.le_h4.specs.Division.{is_long}
 use Rattle.le_h4.specs.Packet.{Packet, First, FirstPacket, NoneYet, NoPacket, first_of}
-use Rattle.octets.specs.Number.{Octets}
+use Rattle.octet_io.specs.Number.{Octets}
 
--- an octet of the stream, a packet that is whole, a call, a table in place of the one that stands, or the end of a stream
+-- A table replaces the current one; the end is that of a stream of octets.
 pub data Item : Type 0 where
   AnOctet : (octet : ℕ) → Item
   APacket : (packet : Packet) → Item
@@ -19,14 +19,13 @@ pub data Item : Type 0 where
   ATable : (table : Contents) → Item
   TheEnd : Item
 
--- the state; the octets of a packet that is unfinished; the fragments of each connection; and the fault, if one stands
+-- `unfinished` has the octets of a packet that is not whole yet.
 pub record Intake : Type 0 where
   pub state : State
   pub unfinished : Octets
   pub fragments : Fragments
   pub fault : Option Fault
 
--- and what has gone out, packet by packet
 pub record Run : Type 0 where
   pub intake : Intake
   pub sent : List Octets
@@ -49,21 +48,21 @@ packet_taken run packet (Err fault) = stopped run fault
 packet_taken run packet (Ok event) =
     let intake = run.intake in
     after_event (record run {
-      intake = record intake { fragments = with_arrival intake.fragments (arrival intake.state packet) };
+      intake =
+          record intake { fragments = with_arrival intake.fragments (arrival intake.state packet) };
     }) event
 
 abbrev pub after_packet : Run → Packet → Run
 after_packet run packet =
     packet_taken run packet (packet_event run.intake.state run.intake.fragments packet)
 
--- a packet that is too long is as if it were not there
+-- A packet that is too long is ignored.
 abbrev pub after_whole : Run → Packet → Run
 after_whole run packet = if is_long packet then run else after_packet run packet
 
 abbrev pub with_unfinished : Run → Octets → Run
 with_unfinished run octets = record run { intake = record run.intake { unfinished = octets } }
 
--- octets that begin with a whole packet, with less than one, or with none
 abbrev pub run_after_first : Run → Octets → First → Run
 run_after_first run octets (FirstPacket packet rest) = after_whole (with_unfinished run rest) packet
 run_after_first run octets NoneYet = with_unfinished run octets
@@ -79,7 +78,6 @@ taken run (ACall call) = after_result run (call_event run.intake.state call)
 taken run (ATable table) = after_result run (replacement_event run.intake.state table)
 taken run TheEnd = with_unfinished run []
 
--- why a call is refused, or a table that would replace the one that stands, if it is
 abbrev pub refusal_in : {A : Type 0} → Option Fault → Result A Refused → Option Refused
 refusal_in (Some fault) result = Some Stopped
 refusal_in None (Ok event) = None
@@ -91,7 +89,7 @@ call_refusal intake call = refusal_in intake.fault (call_event intake.state call
 abbrev pub replacement_refusal : Intake → Contents → Option Refused
 replacement_refusal intake table = refusal_in intake.fault (replacement_event intake.state table)
 
--- after a fault nothing changes
+-- Nothing changes after a fault.
 abbrev pub unless_stopped : Option Fault → Run → Run → Run
 unless_stopped (Some fault) run new = run
 unless_stopped None run new = new
@@ -105,10 +103,11 @@ after_items run (item ∷ items) = after_items (after_item run item) items
 
 abbrev pub run_at_start : Start → Run
 run_at_start start = record {
-  intake = record { state = state_at start; unfinished = []; fragments = λ ordinal. []; fault = None };
+  intake =
+      record { state = state_at start; unfinished = []; fragments = λ ordinal. []; fault = None };
   sent = first_out start;
 }
 
--- a start and an input lead so far
+-- The run to which a start and an input lead.
 unfoldable pub run : Start → List Item → Run
 run start input = after_items (run_at_start start) input

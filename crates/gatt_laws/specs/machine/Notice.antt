@@ -1,5 +1,5 @@
--- What the application is told: this profile's own. The reasons are those of Core 5.0, Vol 2
--- Part D, 2: 05 (Authentication Failure), and 13 (Remote User Terminated Connection).
+-- The notices that the application receives (this profile's own). The reasons are 05
+-- (Authentication Failure) and 13 (Remote User Terminated Connection) of Core 5.0, Vol 2 Part D, 2.
 use Rattle.std.specs.Prelude.{ℕ, ◌==◌, Bool, false, ◌&&◌, not, is_some, if◌then◌else◌}
 use Rattle.std.specs.Prelude.{List, [], ◌∷◌, ◌++◌, map, Option, Some, None}
 use Rattle.std.specs.List.{flat_map}
@@ -24,13 +24,11 @@ use Rattle.gatt_laws.specs.machine.Effect.{Effect, effect_of, handles_written}
 use Rattle.gatt_subs.specs.declared.pending.Unconfirmed.{Unconfirmed}
 use Rattle.gatt_subs.specs.Indications.{is_late}
 use Rattle.le_hci.specs.declared.peer.Peer.{Peer}
-use Rattle.octets.specs.Number.{Octets}
+use Rattle.octet_io.specs.Number.{Octets}
 
--- Of a connection, by the handle that it has in HCI: it comes with its peer, or is gone, also one
--- that was ending; its link has a key that is worth another thing than before, or no key any more;
--- it wrote the value of an attribute, or a configuration, which has these bits then; it confirmed
--- an indication of a value, or did not in time; it is ended for a reason; and it is not sent a
--- notification of a value, since too many PDUs are queued for it.
+-- `handle` is the connection's in HCI. `Disconnected` includes a connection that was ending,
+-- `Secured` a key with other facts than before, and `Skipped` means that too many PDUs are queued
+-- to notify a value.
 pub data Notice : Type 0 where
   Connected : (handle : ℕ) (peer : Peer) → Notice
   Disconnected : (handle : ℕ) → Notice
@@ -43,7 +41,7 @@ pub data Notice : Type 0 where
   Ending : (handle : ℕ) (reason : ℕ) → Notice
   Skipped : (handle : ℕ) (attribute : Handle) → Notice
 
--- what a key is worth is its facts, and not its octets
+-- Keys are compared by their facts, not by their octets.
 abbrev pub are_both : Bool → Bool → Bool
 are_both one other = if one then other else not other
 
@@ -52,7 +50,6 @@ are_same_facts one other =
     (one.size == other.size) && are_both one.authenticated other.authenticated
     && are_both one.secure other.secure
 
--- the key of a link before and after
 abbrev pub link_told : ℕ → Option KeyFacts → Option KeyFacts → List Notice
 link_told handle None None = []
 link_told handle None (Some new) = Secured handle new ∷ []
@@ -60,38 +57,37 @@ link_told handle (Some old) None = Unsecured handle ∷ []
 link_told handle (Some old) (Some new) =
     if are_same_facts old new then [] else Secured handle new ∷ []
 
--- what a connection wrote, by the attributes of the table and its row in force afterwards
+-- A configuration has the bits of the row in force afterwards.
 abbrev pub write_told : List Attr → Row → ℕ → Handle → Notice
 write_told attributes row handle attribute =
     if is_configuration_at attributes attribute
     then Configured handle attribute (bits_at row attribute) else Written handle attribute
 
--- a confirmation of the indication that is unconfirmed, but of none from before a replacement of
--- the table
+-- A confirmation of an indication from before a replacement of the table causes no notice.
 abbrev pub confirmation_told : ℕ → Option Unconfirmed → List Notice
 confirmation_told handle None = []
 confirmation_told handle (Some unconfirmed) =
     if unconfirmed.outdated then [] else Confirmed handle unconfirmed.handle ∷ []
 
--- a connection that served is ended
 abbrev pub end_told : ℕ → ConnectionState → List Notice
 end_told handle new =
     if is_live new.mark then [] else map (Ending handle) (option_to_list new.reason)
 
--- what happens to a connection that serves, where its peer's bond has this row, and leaves this
+-- The notices of a connection that serves, by its bond's row and by the effect of the event.
 abbrev pub live_told : SharedState → Row → ConnectionState → Own → Effect → List Notice
 live_told shared bond connection (Asks pdu) effect =
-    map (write_told shared.table.attributes (row_in_force effect.bond effect.connection) connection.handle)
+    map (write_told shared.table.attributes (row_in_force effect.bond effect.connection)
+    connection.handle)
     (handles_written shared bond connection (Asks pdu))
-    ++ (if is_confirmation pdu then confirmation_told connection.handle connection.pending.unconfirmed else [])
+    ++ (if is_confirmation pdu
+    then confirmation_told connection.handle connection.pending.unconfirmed else [])
 live_told shared bond connection (Encrypted status enabled) effect =
     link_told connection.handle (key_of connection) (key_of effect.connection)
 live_told shared bond connection (Refreshed status) effect =
     link_told connection.handle (key_of connection) (key_of effect.connection)
 live_told shared bond connection own effect = []
 
--- a connection comes where none is, and goes where one is; all else is for one that serves, and its
--- end is told last
+-- The notice of the connection's end is the last.
 abbrev pub own_told : SharedState → Row → ConnectionState → Own → Effect → List Notice
 own_told shared bond connection (event.Connected handle peer) effect =
     if is_there connection.mark then [] else Connected handle peer ∷ []
@@ -99,15 +95,14 @@ own_told shared bond connection event.Disconnected effect =
     if is_there connection.mark then Disconnected connection.handle ∷ [] else []
 own_told shared bond connection own effect =
     if is_live connection.mark
-    then live_told shared bond connection own effect ++ end_told connection.handle effect.connection else []
+    then live_told shared bond connection own effect ++ end_told connection.handle effect.connection
+    else []
 
--- at this time an indication is late
 abbrev pub late_told : ℕ → ConnectionState → List Notice
 late_told time connection =
     if option_map_or (is_late time) connection.pending.unconfirmed false
     then TimedOut connection.handle ∷ [] else []
 
--- of the connection of a slot
 abbrev pub slot_told : State → ℕ → Option Ordinal → List Notice
 slot_told state time None = []
 slot_told state time (Some ordinal) = late_told time (state.connections ordinal)
@@ -117,11 +112,11 @@ unfoldable pub event_told : State → Event → List Notice
 event_told state (Of ordinal own) =
     let connection = state.connections ordinal in
     let bond = state.bonds connection.peer in
-    own_told state.shared bond connection own (effect_of state.shared bond (state.owed connection.peer) connection own)
+    own_told state.shared bond connection own
+    (effect_of state.shared bond (state.owed connection.peer) connection own)
 event_told state (Tick time) = flat_map (slot_told state time) state.slots
 event_told state event = []
 
--- The values that an event notifies and that are skipped, for one connection and for each slot.
 abbrev pub values_skipped : Change → Ordinal → List Handle
 values_skipped change ordinal =
     let shared = change.state.shared in
@@ -137,20 +132,19 @@ slot_skips_told change (Some ordinal) =
 abbrev pub skips_told : Change → List Notice
 skips_told change = flat_map (slot_skips_told change) change.state.slots
 
--- The notices of an event: of what happens, and then of what is skipped.
+-- The notices of what happens, then of what is skipped.
 unfoldable pub noticed : State → Event → List Notice
 noticed state event = event_told state event ++ skips_told (change_of state event)
 
--- what is read of an item of the input by its event: nothing if it means none
+-- An item that means no event gives nothing.
 abbrev pub of_item : {A : Type 0} → (State → Event → List A) → Run → Item → List A
 of_item of_event run item = option_map_or (of_event run.intake.state) (event_at run.intake item) []
 
--- and of items, in their order
 abbrev pub of_items : {A : Type 0} → (State → Event → List A) → Run → List Item → List A
 of_items of_event run [] = []
-of_items of_event run (item ∷ items) = of_item of_event run item ++ of_items of_event (after_item run item) items
+of_items of_event run (item ∷ items) =
+    of_item of_event run item ++ of_items of_event (after_item run item) items
 
--- the notices of an item, and of items
 abbrev pub notices_of : Run → Item → List Notice
 notices_of = of_item noticed
 
@@ -160,27 +154,26 @@ notices_in = of_items noticed
 abbrev pub all_notices : Start → List Item → List Notice
 all_notices start input = notices_in (run_at_start start) input
 
--- a notice as a listener receives it: with the octets of the value that was written, and with none if
--- it is of anything else
+-- A notice as a listener receives it: with the octets of a written value, else with none.
 pub record Received : Type 0 where
   pub notice : Notice
   pub value : Octets
 
--- the octets of a notice by the values of a table: none if it has no such attribute
+-- A handle without an attribute gives no octets.
 abbrev pub octets_of_notice : Contents → Notice → Octets
 octets_of_notice table (Written handle attribute) =
-    if is_some (attribute_at table.attributes attribute) then value_at table.values attribute else []
+    if is_some (attribute_at table.attributes attribute) then value_at table.values attribute
+    else []
 octets_of_notice table notice = []
 
 abbrev pub received_with : Contents → Notice → Received
 received_with table notice = record { notice = notice; value = octets_of_notice table notice }
 
--- what a listener receives of an event: its notices, with the values that the event leaves
+-- A listener receives the values as the event leaves them.
 abbrev pub received_of_event : State → Event → List Received
 received_of_event state event =
     map (received_with (step state event).shared.table) (noticed state event)
 
--- of an item, and of items
 abbrev pub received_of : Run → Item → List Received
 received_of = of_item received_of_event
 

@@ -1,4 +1,4 @@
--- What all connections share, and nothing of any connection: this profile's own.
+-- The state that all connections share (this profile's own).
 use Rattle.std.specs.Prelude.{ℕ, Bool, List, Option, Some, None}
 use Rattle.att_numbers.specs.Types.{Handle, Mtu, Row}
 use Rattle.att_table.specs.Table.{Contents}
@@ -7,8 +7,8 @@ use Rattle.le_hci.specs.declared.buffers.Buffers.{Buffers}
 use Rattle.le_hci.specs.declared.peer.Peer.{Peer}
 use Rattle.le_security.specs.declared.entry.Entry.{Entry}
 
--- the table, with the handle of the value that tells of its changes; the keys of peers; how many connections there may
--- be, and the largest PDU that the server receives; the time; and the buffers that the controller told
+-- `changer` is the handle of the table's Service Changed value, `slots` the largest number of
+-- connections, and `rx_mtu` the largest PDU that the server receives.
 pub record SharedState : Type 0 where
   pub table : Contents
   pub changer : Option Handle
@@ -18,7 +18,8 @@ pub record SharedState : Type 0 where
   pub time : ℕ
   pub buffers : Option Buffers
 
--- how many packets of one connection may be with the controller, and how many octets of data each has at most
+-- The packets of one connection that the controller may have at once, and the octets of data in
+-- each.
 abbrev pub quota_of : ℕ → Option Buffers → ℕ
 quota_of slots None = 0
 quota_of slots (Some buffers) = quota slots buffers.packets
@@ -27,7 +28,6 @@ abbrev pub fragment_size_of : Option Buffers → ℕ
 fragment_size_of None = 0
 fragment_size_of (Some buffers) = acl_len buffers.length
 
--- what each peer has configured, and whether it is still to be told that the table was replaced
 abbrev pub Bonds : Type 0
 Bonds = Peer → Row
 

@@ -1,4 +1,4 @@
--- Where a host begins: this profile's own.
+-- The start of a host (this profile's own).
 use Rattle.std.specs.Prelude.{ℕ, false, List, [], Option, None, Bool, true, nat_le, ◌&&◌, slice_index_or}
 use Rattle.std.specs.Option.{option_map_or}
 use Rattle.arrayvec.specs.ArrayVec.{ArrayVec}
@@ -11,12 +11,13 @@ use Rattle.gatt_laws.specs.machine.SharedState.{SharedState, Bonds, ServiceChang
 use Rattle.gatt_laws.specs.machine.State.{State, with_commands_sent, commands_out}
 use Rattle.le_hci.specs.Init.{first_state}
 use Rattle.le_security.specs.declared.entry.Entry.{Entry}
-use Rattle.octets.specs.Number.{Octets}
+use Rattle.octet_io.specs.Number.{Octets}
 use Rattle.att_pdu.specs.declared.pdu_buf.TheConstants.{MAX_MTU, MIN_MTU}
 use Rattle.gatt_laws.specs.declared.TheConstants.{MAX_SLOTS}
 
--- what a host is opened with: a table and keys; what each peer has configured, and whether it is owed; how many connections
--- there may be, the largest PDU that is received, a random address or the public one, and advertising data
+-- `owed` has the peers with a pending Service Changed, `slots` is the largest number of
+-- connections, `rx_mtu` the largest PDU that is received; the address is random, or else the public
+-- one.
 pub record Start : Type 0 where
   pub table : Contents
   pub keys : List Entry
@@ -27,16 +28,17 @@ pub record Start : Type 0 where
   pub address : Option Octets
   pub advertising : ArrayVec ℕ
 
--- whether a host may be opened so: a static random address has its two most significant bits set (Core 5.0, Vol 6 Part B,
--- 1.3.2.1), and the other limits are this profile's own
+-- A static random address has its two most significant bits set (Core 5.0, Vol 6 Part B, 1.3.2.1);
+-- the other limits are this profile's own.
 abbrev pub is_static : Octets → Bool
 is_static address = nat_le 0xC0 (slice_index_or address 5 0)
 
 abbrev pub may_be_opened : ℕ → Mtu → Option Octets → Bool
 may_be_opened slots rx_mtu address =
-    nat_le 1 slots && nat_le slots MAX_SLOTS && nat_le MIN_MTU rx_mtu && nat_le rx_mtu MAX_MTU && option_map_or is_static address true
+    nat_le 1 slots && nat_le slots MAX_SLOTS && nat_le MIN_MTU rx_mtu && nat_le rx_mtu MAX_MTU
+    && option_map_or is_static address true
 
--- the controller takes one command before it answers any: Core 5.0, Vol 2 Part E, 4.4
+-- The controller accepts one command before it answers any (Core 5.0, Vol 2 Part E, 4.4).
 abbrev pub new_controller : Start → Controller
 new_controller start = record {
   credit = 1;
@@ -68,7 +70,6 @@ before_first_command start = record {
   controller = new_controller start;
 }
 
--- the state at first, and what goes out at once
 abbrev pub state_at : Start → State
 state_at start = with_commands_sent (before_first_command start)
 

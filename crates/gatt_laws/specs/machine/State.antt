@@ -1,4 +1,4 @@
--- The state of the whole host, and what one event makes of it. Where no other source is named, it is this profile's own.
+-- The state of a host and the step of an event (this profile's own, if no other source is named).
 use Rattle.std.specs.Prelude.{ℕ, ◌+◌, ◌-◌, ◌==◌, min, Bool, true, false, ◌&&◌, not, if◌then◌else◌, List, [], ◌∷◌, ◌++◌, map, drop, take, replicate, Option, Some, None}
 use Rattle.std.specs.List.{flat_map}
 use Rattle.std.specs.Option.{option_map_or, option_to_list}
@@ -24,11 +24,11 @@ use Rattle.le_hci.specs.declared.init.Init.{Init}
 use Rattle.le_hci.specs.declared.init.Init.TheVariants.{Ready}
 use Rattle.le_hci.specs.declared.peer.Peer.{Peer}
 use Rattle.le_security.specs.Entry.{same_peer}
-use Rattle.octets.specs.Number.{Octets, two_octets}
+use Rattle.octet_io.specs.Number.{Octets, two_octets}
 use Rattle.le_h4.specs.declared.indicator.TheConstants.{COMMAND}
 
--- what all connections share; what each peer has configured and is owed; each connection, by its ordinal; the slots, and
--- the ordinal that comes next; and the controller
+-- `owed` has the peers with a pending Service Changed, and `next` the ordinal of the next
+-- connection.
 pub record State : Type 0 where
   pub shared : SharedState
   pub bonds : Bonds
@@ -38,7 +38,7 @@ pub record State : Type 0 where
   pub next : Ordinal
   pub controller : Controller
 
--- an event as it is before its end: the state, and the values that it notifies for each connection
+-- The state before the end of an event, and the values that the event notifies to each connection.
 pub record Change : Type 0 where
   pub state : State
   pub to_notify : Ordinal → List Handle
@@ -49,8 +49,6 @@ none_to_notify ordinal = []
 abbrev pub all_to_notify : List Handle → Ordinal → List Handle
 all_to_notify handles ordinal = handles
 
--- To one connection.
-
 abbrev pub at_peer : {A : Type 0} → Peer → A → (Peer → A) → Peer → A
 at_peer peer new old other = if same_peer other peer then new else old other
 
@@ -60,8 +58,8 @@ at_ordinal ordinal new old other = if other == ordinal then new else old other
 abbrev pub with_values : SharedState → Values → SharedState
 with_values shared values = record shared { table = record shared.table { values = values } }
 
--- a connection that comes takes a slot, and the controller stops advertising; one that goes frees its slot, and enabling
--- may be tried again
+-- A connection takes a slot and ends advertising; a disconnection frees its slot, and advertising
+-- may be enabled again.
 abbrev pub slots_after : Own → Ordinal → Slots → Slots
 slots_after (Connected handle peer) ordinal slots = with_taken ordinal slots
 slots_after Disconnected ordinal slots = with_freed ordinal slots
@@ -95,30 +93,30 @@ after_effect state ordinal own effect =
 abbrev pub own_change : State → Ordinal → Own → Change
 own_change state ordinal own =
     let connection = state.connections ordinal in
-    after_effect state ordinal own (effect_of state.shared (state.bonds connection.peer) (state.owed connection.peer) connection own)
+    after_effect state ordinal own
+    (effect_of state.shared (state.bonds connection.peer) (state.owed connection.peer) connection
+    own)
 
--- Packets are completed.
-
--- a count is cut to the packets that were given and are not completed
+-- A count is cut to the packets that were given and have not completed.
 abbrev pub with_packets_completed : ConnectionState → ℕ → ConnectionState
-with_packets_completed connection count = record connection { done = connection.done + min count (connection.given - connection.done) }
+with_packets_completed connection count =
+    record connection { done = connection.done + min count (connection.given - connection.done) }
 
-abbrev pub after_packets_completed : Ordinal → List (Ordinal × ℕ) → ConnectionState → ConnectionState
+abbrev pub after_packets_completed : Ordinal → List (Ordinal × ℕ) → ConnectionState
+    → ConnectionState
 after_packets_completed ordinal [] connection = connection
 after_packets_completed ordinal (entry ∷ entries) connection =
-    after_packets_completed ordinal entries (if entry.0 == ordinal then with_packets_completed connection entry.1 else connection)
+    after_packets_completed ordinal entries
+    (if entry.0 == ordinal then with_packets_completed connection entry.1 else connection)
 
--- A command is answered.
-
--- the slots, once the controller is initialised
 abbrev pub slots_when_ready : ℕ → Init → Slots → Slots
 slots_when_ready count (Ready length packets) slots = replicate (usable count packets) None
 slots_when_ready count init slots = slots
 
--- enabling is refused by any status but 0
 abbrev pub is_refusal : ℕ → Option ℕ → Bool
 is_refusal opcode status =
-    opcode == opcode_of LeSetAdvertiseEnable && option_map_or (λ status. not (status == 0)) status false
+    opcode == opcode_of LeSetAdvertiseEnable
+    && option_map_or (λ status. not (status == 0)) status false
 
 abbrev pub after_command_complete : State → ℕ → ℕ → Option ℕ → Option Init → State
 after_command_complete state allowed opcode status (Some init) = record state {
@@ -128,35 +126,39 @@ after_command_complete state allowed opcode status (Some init) = record state {
 }
 after_command_complete state allowed opcode status None = record state {
   controller =
-      if is_ready state.controller && is_refusal opcode status then record state.controller { credit = allowed; advertising = false; refused = true }
+      if is_ready state.controller && is_refusal opcode status
+      then record state.controller { credit = allowed; advertising = false; refused = true }
       else record state.controller { credit = allowed };
 }
 
--- The table is replaced.
-
--- all attributes have changed: Core 5.0, Vol 3 Part G, 7.1
+-- All attributes have changed (Core 5.0, Vol 3 Part G, 7.1).
 abbrev pub all_changed : Octets
 all_changed = two_octets 1 ++ two_octets 65535
 
 abbrev pub announced : Contents → Contents
 announced table =
-    option_map_or (λ changer. record table { values = with_value table.values changer all_changed }) (changer_of table) table
+    option_map_or (λ changer. record table { values = with_value table.values changer all_changed })
+    (changer_of table) table
 
--- of its row a connection keeps what is of the new table too; what it prepared and what waits for it is dropped
+-- A connection that serves loses what it prepared and what waits for it, and its unconfirmed
+-- indication becomes outdated. Each row retains a configuration if the new table has one at the
+-- same handle, of the same value type, and supports its bits.
 abbrev pub connection_dropped : ConnectionState → ConnectionState
 connection_dropped connection =
     if is_live connection.mark
-    then record connection { said = Dropped ∷ connection.said; pending = after_replacement connection.pending }
+    then record connection
+    { said = Dropped ∷ connection.said; pending = after_replacement connection.pending }
     else connection
 
 abbrev pub connection_after_replacement : Contents → Contents → ConnectionState → ConnectionState
 connection_after_replacement old new connection =
-    record (connection_dropped connection) { row = kept_row old.attributes new.attributes connection.row }
+    record (connection_dropped connection)
+    { row = kept_row old.attributes new.attributes connection.row }
 
 abbrev pub bonds_replaced : Contents → Contents → Bonds → Bonds
 bonds_replaced old new bonds peer = kept_row old.attributes new.attributes (bonds peer)
 
--- a peer is owed where its row asks for indications of the changer
+-- Service Changed is pending for a peer if its row asks for indications of the changer.
 abbrev pub owed_by : Option Handle → Bonds → ServiceChangedPending
 owed_by changer bonds peer = wants_changes changer (bonds peer)
 
@@ -165,73 +167,89 @@ after_replaced state table = record state {
   shared = record state.shared { table = announced table; changer = changer_of table };
   bonds = bonds_replaced state.shared.table table state.bonds;
   owed = owed_by (changer_of table) (bonds_replaced state.shared.table table state.bonds);
-  connections = λ ordinal. connection_after_replacement state.shared.table table (state.connections ordinal);
+  connections =
+      λ ordinal. connection_after_replacement state.shared.table table (state.connections ordinal);
 }
 
--- what each event changes before its end
+-- The change of each event before its end.
 unfoldable pub change_of : State → Event → Change
 change_of state (Of ordinal own) = own_change state ordinal own
 change_of state (Completed entries) = record {
-  state = record state { connections = λ ordinal. after_packets_completed ordinal entries (state.connections ordinal) };
+  state = record state {
+    connections = λ ordinal. after_packets_completed ordinal entries (state.connections ordinal);
+  };
   to_notify = none_to_notify;
 }
 change_of state (Credit allowed opcode status following) =
-    record { state = after_command_complete state allowed opcode status following; to_notify = none_to_notify }
+    record {
+      state = after_command_complete state allowed opcode status following;
+      to_notify = none_to_notify;
+    }
 change_of state (Update handle value) = record {
-  state = record state { shared = with_values state.shared (with_value state.shared.table.values handle value) };
+  state = record state
+      { shared = with_values state.shared (with_value state.shared.table.values handle value) };
   to_notify = all_to_notify (handle ∷ []);
 }
 change_of state (Tick time) = record {
   state = record state {
     shared = record state.shared { time = time };
-    connections = λ ordinal. let connection = state.connections ordinal in record connection { pending = after_tick connection.pending time };
+    connections = λ ordinal. let connection = state.connections ordinal in
+        record connection { pending = after_tick connection.pending time };
   };
   to_notify = none_to_notify;
 }
 change_of state (Replaced table) =
-    record { state = after_replaced state table; to_notify = all_to_notify (option_to_list (changer_of table)) }
+    record {
+      state = after_replaced state table;
+      to_notify = all_to_notify (option_to_list (changer_of table));
+    }
 change_of state Nothing = record { state = state; to_notify = none_to_notify }
 
--- a connection at the end of an event: it hears what is notified and what is indicated, and packets are given
+-- The end of an event: values are notified, an indication is sent, and packets are given.
 abbrev pub finished : SharedState → Bonds → List Handle → ConnectionState → ConnectionState
-finished shared bonds handles connection = after_giving shared (after_hearing shared (bonds connection.peer) handles connection)
+finished shared bonds handles connection =
+    after_giving shared (after_hearing shared (bonds connection.peer) handles connection)
 
 abbrev pub connections_finished : Change → Ordinal → ConnectionState
 connections_finished change ordinal =
-    finished change.state.shared change.state.bonds (change.to_notify ordinal) (change.state.connections ordinal)
+    finished change.state.shared change.state.bonds (change.to_notify ordinal)
+    (change.state.connections ordinal)
 
--- and then the commands go out that the controller takes
 abbrev pub with_commands_sent : State → State
 with_commands_sent state = record state {
   connections = after_sending state.controller state.connections state.slots;
-  controller = controller_after state.controller (commands_sent state.controller state.connections state.slots);
+  controller =
+      controller_after state.controller
+      (commands_sent state.controller state.connections state.slots);
 }
 
 abbrev pub before_commands : State → Event → State
 before_commands state event =
-    let change = change_of state event in record change.state { connections = connections_finished change }
+    let change = change_of state event in
+    record change.state { connections = connections_finished change }
 
 unfoldable pub step : State → Event → State
 step state event = with_commands_sent (before_commands state event)
-
--- What goes out at an event.
 
 abbrev pub command_octets : Commanded → Octets
 command_octets command = COMMAND ∷ packet_of command
 
 abbrev pub commands_out : State → List Octets
-commands_out state = map command_octets (commands_sent state.controller state.connections state.slots)
+commands_out state =
+    map command_octets (commands_sent state.controller state.connections state.slots)
 
--- the packets that were given to one connection
 abbrev pub packets_given : SharedState → ConnectionState → ConnectionState → List Octets
 packets_given shared old new =
-    map (acl_octets new.handle) (drop old.given (take new.given (packets_of (fragment_size_of shared.buffers) new.pdus)))
+    map (acl_octets new.handle)
+    (drop old.given (take new.given (packets_of (fragment_size_of shared.buffers) new.pdus)))
 
 abbrev pub slot_out : State → State → Option Ordinal → List Octets
 slot_out old new None = []
-slot_out old new (Some ordinal) = packets_given new.shared (old.connections ordinal) (new.connections ordinal)
+slot_out old new (Some ordinal) =
+    packets_given new.shared (old.connections ordinal) (new.connections ordinal)
 
--- the commands that the controller takes, and then the packets of the slots in their order
+-- The commands that the controller accepts, then the packets of the slots in their order.
 unfoldable pub out : State → Event → List Octets
 out state event =
-    let new = before_commands state event in commands_out new ++ flat_map (slot_out state new) new.slots
+    let new = before_commands state event in
+    commands_out new ++ flat_map (slot_out state new) new.slots

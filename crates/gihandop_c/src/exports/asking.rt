@@ -1,4 +1,4 @@
-//! What the program has its host do, beside what the controller brings.
+//! Calls of the application.
 
 ghost use Rattle.std.specs.Prelude.{◌≡◌, ◌≢◌, ◌+◌, ◌<◌, ◌∷◌, [], IfSome, IsSome, None, Ok, Err};
 ghost use Rattle.att_table.specs.declared.table_fault.TableFault.{TableFault};
@@ -11,14 +11,13 @@ ghost use Rattle.gihandop_c.specs.Boundary.{AnswersCall, AnswersTable, HostFalls
 ghost use Rattle.gihandop_c.specs.Opening.{IsNotOfMemory};
 ghost use Rattle.gihandop_c.specs.Statuses.{WaitsForOutput};
 ghost use Rattle.gihandop_c.specs.declared.status.TheConstants.{BAD_TABLE, CLOSED, DONE, HAS_STOPPED, OUTPUT_OWED};
-ghost use Rattle.host_files.specs.Files.{table_in};
+ghost use Rattle.att_table.specs.file.TableFile.{table_in};
 
 use crate::host_pointer::HostPointer;
 use crate::{asking, status};
 use gatt_host::App;
 use std::alloc::Global;
 
-/// Makes a call of the application.
 fn ask(host: &mut HostPointer, call: App<'_>) -> u32
     ensures closed { host.old.host ≡ None → result ≡ CLOSED }
     ensures takes { result ≢ OUTPUT_OWED
@@ -41,7 +40,7 @@ fn ask(host: &mut HostPointer, call: App<'_>) -> u32
     asking::call(open, call)
 }
 
-/// Writes the characteristic value at a handle, as the application does.
+/// Writes the characteristic value at a handle.
 #[unsafe(no_mangle)]
 pub extern "C" fn gh_update(host: &mut HostPointer, handle: u16, value: &[u8]) -> u32
     ensures closed { host.old.host ≡ None → result ≡ CLOSED }
@@ -63,8 +62,7 @@ pub extern "C" fn gh_update(host: &mut HostPointer, handle: u16, value: &[u8]) -
     ask(host, App::Update(handle, value))
 }
 
-/// Authorizes the connection with a handle while the time is below a moment, in milliseconds: 0
-/// withdraws it.
+/// Authorizes a connection while the time is below `until`, in milliseconds; 0 ends that.
 #[unsafe(no_mangle)]
 pub extern "C" fn gh_authorize(host: &mut HostPointer, connection: u16, until: u64) -> u32
     ensures closed { host.old.host ≡ None → result ≡ CLOSED }
@@ -86,7 +84,7 @@ pub extern "C" fn gh_authorize(host: &mut HostPointer, connection: u16, until: u
     ask(host, App::Authorize(connection, until))
 }
 
-/// Ends the connection with a handle.
+/// Ends a connection.
 #[unsafe(no_mangle)]
 pub extern "C" fn gh_disconnect(host: &mut HostPointer, connection: u16) -> u32
     ensures closed { host.old.host ≡ None → result ≡ CLOSED }
@@ -107,7 +105,7 @@ pub extern "C" fn gh_disconnect(host: &mut HostPointer, connection: u16) -> u32
     ask(host, App::Disconnect(connection))
 }
 
-/// Takes in the time, in milliseconds, which never goes back.
+/// Passes the time in milliseconds, which never goes back.
 #[unsafe(no_mangle)]
 pub extern "C" fn gh_tick(host: &mut HostPointer, time: u64) -> u32
     ensures closed { host.old.host ≡ None → result ≡ CLOSED }
@@ -128,8 +126,7 @@ pub extern "C" fn gh_tick(host: &mut HostPointer, time: u64) -> u32
     ask(host, App::Tick(time))
 }
 
-/// Replaces the table by that of another table file: what peers have configured stays where it
-/// fits.
+/// Replaces the table by that of another table file. Subscriptions stay if they fit.
 #[unsafe(no_mangle)]
 pub extern "C" fn gh_replace(alloc: Global, host: &mut HostPointer, table: &[u8]) -> u32
     ensures closed { host.old.host ≡ None → result ≡ CLOSED }

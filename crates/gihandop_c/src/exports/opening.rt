@@ -1,4 +1,4 @@
-//! A host is opened and closed, and why it is not opened is explained.
+//! Opening and closing a host, and explaining faults.
 
 ghost use Rattle.std.specs.Prelude.{◌≡◌, ◌≢◌, ◌≤◌, length, take, IfSome, IsSome, None};
 ghost use Rattle.gihandop_c.specs.Explaining.{first_faulty, name_of, BeginsWith};
@@ -11,9 +11,10 @@ use crate::host_pointer::HostPointer;
 use crate::{explaining, opening, status};
 use std::alloc::Global;
 
-/// Opens a host with the octets of a table file, a key file, a rows file and a values text. How many
-/// values do not fit the table goes into `left_out`. Where it answers another status than that it is
-/// done, everything else is as it was, and `left_out` is 0.
+/// Opens a host with a table file, a key file, a subscriptions file and a values text.
+///
+/// Writes the number of values that do not fit the table to `left_out`. If the status is not
+/// `DONE`, nothing else changes and `left_out` is 0.
 #[unsafe(no_mangle)]
 pub extern "C" fn gh_open(
     alloc: Global,
@@ -50,7 +51,7 @@ pub extern "C" fn gh_open(
     status::DONE
 }
 
-/// Ends a host, and gives its memory back.
+/// Closes a host, and frees its memory.
 #[unsafe(no_mangle)]
 pub extern "C" fn gh_close(alloc: Global, host: &mut HostPointer) -> u32
     ensures closed { host.old.host ≡ None → result ≡ CLOSED }
@@ -63,9 +64,9 @@ pub extern "C" fn gh_close(alloc: Global, host: &mut HostPointer) -> u32
     }
 }
 
-/// Puts the words for the first fault of a table file, a key file, a rows file and a values text, with
-/// its place, at the front of `out`, where they fit, and their length into `count`. There is nothing
-/// where `gh_open` accepts them all.
+/// Writes the words for the first fault of the texts to `out`, and their length to `count`.
+///
+/// Returns `NOTHING` if `gh_open` accepts all texts.
 #[unsafe(no_mangle)]
 pub extern "C" fn gh_explain(
     alloc: Global,

@@ -1,8 +1,8 @@
-//! What the program looks up in its host.
+//! Queries of the program.
 
 ghost use Rattle.std.specs.Prelude.{◌≡◌, ◌≢◌, ◌≤◌, length, take, IfSome, Some, None};
 ghost use Rattle.att_table.specs.Table.{value_at};
-ghost use Rattle.gatt_slots.specs.Slots.{slots_deadline};
+ghost use Rattle.host_connections.specs.Slots.{slots_deadline};
 ghost use Rattle.gatt_subs.specs.RowsText.{rows_text};
 ghost use Rattle.gihandop_c.specs.Seeing.{connection_at, found_by};
 ghost use Rattle.gihandop_c.specs.Statuses.{connection_status, deadline_status, find_status, if_open, rows_text_status, text_status, value_status, values_text_status};
@@ -14,11 +14,12 @@ use crate::host_pointer::HostPointer;
 use crate::{connections, reading, status, stream, text};
 use std::alloc::Global;
 
-/// The version 0.2.0: the major number times 1,000,000, the minor one times 1,000, and the patch.
+/// The version 0.2.0, as `gh_version` returns it.
 const VERSION: u32 = 2_000;
 
-/// Puts the value at a handle at the front of `out`, where it fits, and its length into `count`.
-/// Of a client characteristic configuration it is empty.
+/// Writes the value at a handle to `out`, and its length to `count`.
+///
+/// A client characteristic configuration has no octets here.
 #[unsafe(no_mangle)]
 pub extern "C" fn gh_value(
     host: &mut HostPointer,
@@ -43,9 +44,11 @@ pub extern "C" fn gh_value(
     reading::value(open, handle, out, count)
 }
 
-/// Puts the handle of a value into `handle`: of those of a characteristic's type in services of a
-/// type, in the order of their handles, the one with this number, from 1. Types are UUIDs as octets,
-/// the lowest first: 2 for one of 16 bits, or 16.
+/// Writes the handle of a value to `handle`: the one with this number, from 1, in the order of
+/// handles.
+///
+/// It counts values of a characteristic type in services of a type. A type is a UUID of 2 or 16
+/// octets, least significant first.
 #[unsafe(no_mangle)]
 pub extern "C" fn gh_find(
     host: &mut HostPointer,
@@ -69,8 +72,9 @@ pub extern "C" fn gh_find(
     reading::find(open, service, characteristic, number, handle)
 }
 
-/// Puts the connection at a place, counted from 0, in the order of the slots, into `connection`,
-/// if there are so many and its `size` is that of the structure at least.
+/// Writes the connection at a place, from 0 in the order of slots, to `connection`.
+///
+/// Returns `NOTHING` if no connection has the place, and `BAD_SIZE` if its `size` is too small.
 #[unsafe(no_mangle)]
 pub extern "C" fn gh_connection(
     host: &mut HostPointer,
@@ -90,9 +94,9 @@ pub extern "C" fn gh_connection(
     connections::connection(open, place, connection)
 }
 
-/// Puts the earliest time, in milliseconds, at which an indication that is not confirmed is late or
-/// the authorization of a connection that serves ends into `time`. No tick is needed before it.
-/// Returns `NOTHING` if there is neither.
+/// Writes the earliest time at which a tick is necessary to `time`, in milliseconds.
+///
+/// An indication is then late, or an authorization ends. Returns `NOTHING` if neither is pending.
 #[unsafe(no_mangle)]
 pub extern "C" fn gh_deadline(host: &mut HostPointer, time: &mut u64) -> u32
     ensures status { result ≡ if_open deadline_status host.old.host }
@@ -107,8 +111,10 @@ pub extern "C" fn gh_deadline(host: &mut HostPointer, time: &mut u64) -> u32
     reading::deadline(open, time)
 }
 
-/// Puts what peers have configured, and who is owed that the table has changed, at the front of
-/// `out` as a rows file, where it fits, and its length into `count`.
+/// Writes the subscriptions of peers, and pending Service Changed, to `out` as a subscriptions
+/// file.
+///
+/// Writes its length to `count`.
 #[unsafe(no_mangle)]
 pub extern "C" fn gh_rows_text(
     alloc: Global,
@@ -135,9 +141,10 @@ pub extern "C" fn gh_rows_text(
     reading::rows_text(alloc, open, out, count)
 }
 
-/// Puts the characteristic values and descriptors that differ from those of the table file at the
-/// front of `out` as a values text, where it fits, and its length into `count`: those that a peer may
-/// write, or, if `all` is not 0, all.
+/// Writes the values that differ from those of the table file to `out`, and their length to
+/// `count`.
+///
+/// These are those that a peer may write, or all if `all` is not 0, descriptors included.
 #[unsafe(no_mangle)]
 pub extern "C" fn gh_values_text(
     alloc: Global,
@@ -165,8 +172,9 @@ pub extern "C" fn gh_values_text(
     reading::values_text(alloc, open, all, out, count)
 }
 
-/// Puts what a status says, a line of ASCII, at the front of `out`, where it fits, and its length
-/// into `count`. There is nothing of a number that no function answers.
+/// Writes the meaning of a status, a line of ASCII, to `out`, and its length to `count`.
+///
+/// Returns `NOTHING` for a number that no function returns.
 #[unsafe(no_mangle)]
 pub extern "C" fn gh_text(status: u32, out: &mut [u8], count: &mut usize) -> u32
     ensures status { result ≡ text_status status count.new (length out.old) }
@@ -179,8 +187,7 @@ pub extern "C" fn gh_text(status: u32, out: &mut [u8], count: &mut usize) -> u32
     }
 }
 
-/// Returns the version of the library: the major number times 1,000,000, the minor one times 1,000, and the
-/// patch.
+/// Returns the version: major number times 1,000,000, plus minor times 1,000, plus patch.
 #[unsafe(no_mangle)]
 pub extern "C" fn gh_version() -> u32
     ensures version { result ≡ 2000 }

@@ -1,4 +1,4 @@
-//! Octets of the controller go in, and what they bring comes out.
+//! Input from the controller, output and notices.
 
 ghost use Rattle.std.specs.Prelude.{◌≡◌, ◌≢◌, ◌<◌, ◌≤◌, ◌∷◌, [], length, take, IfSome, Some, None};
 ghost use Rattle.gatt_host.specs.Feeding.{octet_items, TakesUpToAPacket};
@@ -12,8 +12,9 @@ use crate::host_pointer::HostPointer;
 use crate::notices::NoticeFields;
 use crate::{notices, status, stream};
 
-/// Takes in octets of the stream from the controller, which may begin and end anywhere: up to the
-/// end of the next packet, and that packet, or all of them where none ends in them. Says how many.
+/// Takes bytes from the controller up to the end of the next packet, or all if none ends in them.
+///
+/// They may begin and end anywhere. Writes the number of bytes taken to `used`.
 #[unsafe(no_mangle)]
 pub extern "C" fn gh_take(host: &mut HostPointer, octets: &[u8], used: &mut usize) -> u32
     ensures closed { host.old.host ≡ None → result ≡ CLOSED }
@@ -43,9 +44,9 @@ pub extern "C" fn gh_take(host: &mut HostPointer, octets: &[u8], used: &mut usiz
     stream::take(open, octets, used)
 }
 
-/// Puts the next packet that is to go to the controller at the front of `out`, which has room for
-/// 260 octets, and its length into `count`, and takes in that it has gone; or answers that nothing
-/// is to go out.
+/// Writes the next packet for the controller to `out`, and its length to `count`.
+///
+/// The packet counts as sent. `out` needs 260 bytes. Returns `NOTHING` if no packet is pending.
 #[unsafe(no_mangle)]
 pub extern "C" fn gh_next_out(host: &mut HostPointer, out: &mut [u8], count: &mut usize) -> u32
     ensures status { result ≡ if_open (out_status (length out.old)) host.old.host }
@@ -68,8 +69,7 @@ pub extern "C" fn gh_next_out(host: &mut HostPointer, out: &mut [u8], count: &mu
     stream::next_out(open, out, count)
 }
 
-/// Puts the next notice of what was taken in last into `notice`, if its `size` is that of the
-/// structure at least.
+/// Writes the next notice of the last input to `notice`, if its `size` is large enough.
 #[unsafe(no_mangle)]
 pub extern "C" fn gh_next_notice(host: &mut HostPointer, notice: &mut NoticeFields) -> u32
     ensures status { result ≡ if_open (notice_status notice.old.size) host.old.host }

@@ -1,6 +1,6 @@
 use Rattle.std.proofs.Common.{◌≡◌, ◌++◌, map, sym, subst, OnOk}
 use Rattle.std.proofs.lemmas.List.{take_all}
-use Rattle.octets.specs.Number.{Octets}
+use Rattle.octet_io.specs.Number.{Octets}
 use Rattle.app_lines.specs.Wrong.{printable}
 use Rattle.app_lines.proofs.wrong.add_quoted.Goals as goal
 

@@ -4,9 +4,10 @@ use Rattle.std.specs.List.{list_any}
 use Rattle.att_pdu.specs.PduBuf.{contents, mtu_of}
 use Rattle.att_reads.specs.Answer.{is_match, with_groups}
 use Rattle.att_reads.proofs.Found.{groups_next}
-use Rattle.att_reads.proofs.Lists.{drop_next, filter_taken, filter_passed, any_here, any_later, or_true}
+use Rattle.att_reads.proofs.Lists.{drop_next, filter_taken, filter_passed, any_here, any_later}
 use Rattle.att_reads.proofs.find.append_matches.Goals as goal
 use Rattle.att_reads.proofs.find.append_matches.Goals.{then-is_match+else-not-append_group, else-is_match}
+use Rattle.octet_io.proofs.Choices.{or_with_true}
 
 pub loop-handle-preserved : goal.loop-handle-preserved
 loop-handle-preserved c =
@@ -31,7 +32,7 @@ loop-handle-preserved c =
               mtu = w.append_group.ensures.same_buffer.mtu ∙ c.loop-handle.invariant.same.mtu;
             };
             any =
-                sym (or_true c.loop-handle.found)
+                sym (or_with_true c.loop-handle.found)
                 ∙ ap (λ any. c.loop-handle.found || any) (sym (any_here test handle left is))
                 ∙ ap (λ hs. c.loop-handle.found || list_any test hs) (sym at)
                 ∙ c.loop-handle.invariant.any;

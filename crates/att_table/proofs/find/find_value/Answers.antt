@@ -1,8 +1,9 @@
 use Rattle.std.proofs.Common.{◌∙◌, sym}
 use Rattle.att_table.specs.Table.{Contents, values_of}
-use Rattle.att_table.proofs.Found.{found_here, found_later, inside_next, passed, value_at_handle, both}
+use Rattle.att_table.proofs.Found.{found_here, found_later, inside_next, passed, value_at_handle}
 use Rattle.att_table.proofs.find.find_value.Goals as goal
 use Rattle.att_table.proofs.find.find_value.Goals.{then-is_wanted+else-left-eq1, else-is_wanted}
+use Rattle.octet_io.proofs.Choices.{and_true_left}
 
 pub returns-then-left-eq1-clause-found : goal.returns-then-left-eq1-clause-found
 returns-then-left-eq1-clause-found c =
@@ -13,7 +14,7 @@ returns-then-left-eq1-clause-found c =
 pub returns-then-left-eq1-clause-value : goal.returns-then-left-eq1-clause-value
 returns-then-left-eq1-clause-value c =
     value_at_handle c.args.attributes.now c.loop-attr.attr-index _ c.args.characteristic c.requires.kept.numbered.handles c.loop-attr-test.true
-    (both _ c.loop-attr.is_inside (sym c.is_wanted.ensures ∙ c.if-is_wanted.true))
+    (and_true_left _ c.loop-attr.is_inside (sym c.is_wanted.ensures ∙ c.if-is_wanted.true))
 
 pub loop-attr-preserved : goal.loop-attr-preserved
 loop-attr-preserved c =

@@ -6,7 +6,7 @@ use Rattle.att_writes.specs.Entry.{Entry, entry_of}
 use Rattle.att_writes.specs.Fits.{EntriesFit, EntryFits, after_all}
 use Rattle.att_writes.specs.Queue.{entries_in}
 use Rattle.att_writes.proofs.Laid.{no_place, entry_at, entries_left, part_within, sizes_left}
-use Rattle.octets.specs.Number.{Octets}
+use Rattle.octet_io.specs.Number.{Octets}
 use Rattle.att_writes.proofs.execution.put_all.Goals as goal
 
 pub split_at-requires : goal.split_at-requires

@@ -1,8 +1,8 @@
 use Rattle.std.proofs.Common.{subst, sym}
 use Rattle.std.specs.Io.KnownBytes.{Appends}
-use Rattle.octets.proofs.Writing.{counts_none}
-use Rattle.octets.specs.Number.{Octets}
-use Rattle.octets.specs.Stream.{WritesFront}
+use Rattle.octet_io.proofs.Writing.{counts_none}
+use Rattle.octet_io.specs.Number.{Octets}
+use Rattle.octet_io.specs.Stream.{WritesFront}
 use Rattle.btsnoop.specs.Record.{record_of}
 use Rattle.btsnoop.proofs.Capturing.{SoFar, so_far-recorded, captures_front, captures_up_to}
 use Rattle.btsnoop.proofs.capture.record_each.Goals as goal

@@ -1,5 +1,5 @@
 use Rattle.std.proofs.Common.{◌+◌, ◌*◌, length}
-use Rattle.octets.specs.Stream.{CountsNone}
+use Rattle.octet_io.specs.Stream.{CountsNone}
 use Rattle.btsnoop.proofs.Capturing.{SoFar}
 use Rattle.btsnoop.proofs.capture.record_each.Given as goal
 

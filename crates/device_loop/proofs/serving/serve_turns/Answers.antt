@@ -14,15 +14,15 @@ use Rattle.gatt_host.specs.Feeding.{octet_items}
 use Rattle.gatt_host.specs.HostModel.{HostModel}
 use Rattle.gatt_laws.specs.machine.Input.{ACall}
 use Rattle.gatt_laws.specs.machine.Notice.{Received}
-use Rattle.octets.proofs.Writing.{counts_none}
-use Rattle.octets.specs.Number.{Octets}
+use Rattle.octet_io.proofs.Writing.{counts_none}
+use Rattle.octet_io.specs.Number.{Octets}
 
 pub returns-in_err-feed-clause-serves : goal.returns-in_err-feed-clause-serves
 returns-in_err-feed-clause-serves g c = λ none.
     let stopped = err_from_is_err_and c.from_residual.result c.from_residual.ensures.1 in
     serves_nothing c.from_residual.result c.args.turns stopped.0 c.args.host.now c.feed.new.host
     (known (g.H.Happenings.octets c.args.happenings.now) (g.H.Happenings.calls c.args.happenings.now) (g.H.Happenings.history c.args.happenings.now))
-    (g.W.Sink.contents c.args.out.now) (g.W.Sink.contents c.feed.new.out) (g.L.Listener.heard c.args.listener.now) stopped.1 none (c.feed.ensures.feeds none)
+    (g.W.Sink.contents c.args.out.now) (g.W.Sink.contents c.feed.new.out) (g.L.Listener.heard c.args.listener.now) stopped.1 none (c.feed.ensures.processes none).feeds
 
 pub loop-turn-init : goal.loop-turn-init
 loop-turn-init g c =
@@ -35,12 +35,12 @@ loop-turn-init g c =
     record {
       served = served_none old new
           (known (g.H.Happenings.octets c.args.happenings.now) (g.H.Happenings.calls c.args.happenings.now) (g.H.Happenings.history c.args.happenings.now))
-          before after (g.L.Listener.heard c.args.listener.now) (going_takes [] old new before after new.fault still (c.feed.ensures.feeds none));
+          before after (g.L.Listener.heard c.args.listener.now) (going_takes [] old new before after new.fault still (c.feed.ensures.processes none).feeds);
       began = none;
       few = omega arith;
       none = still;
-      drained = c.in_ok-feed.ensures.out (refl {a = true});
-      failures = counts_where_going new.fault _ _ still (c.feed.ensures.failures none);
+      drained = (c.in_ok-feed.ensures.processes none).out (refl {a = true});
+      failures = counts_where_going new.fault _ _ still (c.feed.ensures.processes none).failures;
     }
 
 pub returns-in_err-feed_to-in-Octets-clause-serves : goal.returns-in_err-feed_to-in-Octets-clause-serves
@@ -55,10 +55,10 @@ returns-in_err-feed_to-in-Octets-clause-serves g c = λ none.
     (g.W.Sink.contents c.feed_to.new.out) (g.L.Listener.heard c.feed_to.new.listener) stopped.1 (omega (arith, c.loop-turn-test.true)) c.loop-turn.invariant.none
     (octets_come c.in-Octets.octets.now c.deadline.result c.loop-turn.host between comes c.deadline.ensures.run
     c.in-Octets.ensures.octets c.in-Octets.ensures.calls c.in-Octets.ensures.history)
-    (c.feed_to.ensures.feeds c.loop-turn.invariant.none) (c.feed_to.ensures.heard c.loop-turn.invariant.none)
+    (c.feed_to.ensures.processes c.loop-turn.invariant.none).feeds (c.feed_to.ensures.heard c.loop-turn.invariant.none)
 
 pub returns-in_err-feed_to-in-Octets-clause-failures : goal.returns-in_err-feed_to-in-Octets-clause-failures
-returns-in_err-feed_to-in-Octets-clause-failures g c = λ none. counts_at_end _ _ _ _ c.loop-turn.invariant.failures (c.feed_to.ensures.failures c.loop-turn.invariant.none)
+returns-in_err-feed_to-in-Octets-clause-failures g c = λ none. counts_at_end _ _ _ _ c.loop-turn.invariant.failures (c.feed_to.ensures.processes c.loop-turn.invariant.none).failures
 
 pub returns-in_err-take_call-in-Call-clause-serves : goal.returns-in_err-take_call-in-Call-clause-serves
 returns-in_err-take_call-in-Call-clause-serves g c = λ none.
@@ -135,11 +135,11 @@ loop-turn-preserved g c =
             served = served_more c.loop-turn._turn old mid come between before written heard so_far c.loop-turn.invariant.served (Came octets) new asks after hears
                 (octets_come octets c.deadline.result mid between asks c.deadline.ensures.run
                 w.in-Octets.ensures.octets w.in-Octets.ensures.calls w.in-Octets.ensures.history)
-                (going_takes (octet_items octets) mid new written after new.fault none (w.feed_to.ensures.feeds c.loop-turn.invariant.none))
+                (going_takes (octet_items octets) mid new written after new.fault none (w.feed_to.ensures.processes c.loop-turn.invariant.none).feeds)
                 (going_hears (octet_items octets) mid new so_far hears new.fault none (w.feed_to.ensures.heard c.loop-turn.invariant.none));
             none = none;
-            drained = w.in_ok-feed_to-in-Octets.ensures.out (refl {a = true});
-            failures = counts_none _ _ _ c.loop-turn.invariant.failures (counts_where_going new.fault _ _ none (w.feed_to.ensures.failures c.loop-turn.invariant.none));
+            drained = (w.in_ok-feed_to-in-Octets.ensures.processes c.loop-turn.invariant.none).out (refl {a = true});
+            failures = counts_none _ _ _ c.loop-turn.invariant.failures (counts_where_going new.fault _ _ none (w.feed_to.ensures.processes c.loop-turn.invariant.none).failures);
           })
       | in-Call+in_ok-take_call-in-Call w ↦
           let new : HostModel = w.take_call.new.host in

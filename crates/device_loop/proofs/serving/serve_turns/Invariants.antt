@@ -3,7 +3,7 @@ use Rattle.device_loop.proofs.serving.serve_turns.Given as goal
 use Rattle.device_loop.proofs.Happened.{HasServed}
 use Rattle.device_loop.specs.Serving.{known}
 use Rattle.gatt_host.specs.HostModel.{all_out}
-use Rattle.octets.specs.Stream.{CountsNone}
+use Rattle.octet_io.specs.Stream.{CountsNone}
 
 abbrev pub invariant-loop-turn : goal.invariant-loop-turn
 invariant-loop-turn g l = record {

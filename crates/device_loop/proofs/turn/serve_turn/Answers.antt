@@ -5,7 +5,7 @@ use Rattle.device_loop.proofs.Turns.{serves_as, waits_unsaved}
 use Rattle.device_loop.proofs.turn.serve_turn.Goals as goal
 use Rattle.device_loop.specs.Outside.{Sends, waits_after}
 use Rattle.device_loop.specs.Serving.{known}
-use Rattle.octets.specs.Number.{Octets}
+use Rattle.octet_io.specs.Number.{Octets}
 
 pub returns-clause-turn : goal.returns-clause-turn
 returns-clause-turn g c =

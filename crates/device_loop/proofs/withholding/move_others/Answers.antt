@@ -1,7 +1,7 @@
 use Rattle.std.proofs.Common.{◌≡◌, ℕ, ◌+◌, ◌-◌, ◌++◌, List, Some, take, drop, sym, ap, subst, ◌∙◌, arith, length-drop}
 use Rattle.std.proofs.lemmas.List.{take_rest}
 use Rattle.std.specs.List.{copy_within}
-use Rattle.octets.specs.Number.{Octets}
+use Rattle.octet_io.specs.Number.{Octets}
 use Rattle.device_loop.specs.Withholding.{first_size, is_data_for, without_data_for}
 use Rattle.device_loop.proofs.Packets.{IsWithin, ends, moves, passes, within}
 use Rattle.device_loop.proofs.withholding.move_others.Goals as goal

@@ -1,7 +1,7 @@
 use Rattle.std.proofs.Common.{ℕ, Some, sym, ap, ◌∙◌}
 use Rattle.gatt_host.specs.Calls.{call_of}
 use Rattle.gatt_commands.proofs.Doing.{called, told_of}
-use Rattle.script_lines.specs.declared.refused.Refused.TheVariants.{Call}
+use Rattle.gatt_commands.specs.declared.refused.Refused.TheVariants.{Call}
 use Rattle.gatt_commands.proofs.acts.call.Goals as goal
 
 pub returns-in-Ok-clause-calls : goal.returns-in-Ok-clause-calls

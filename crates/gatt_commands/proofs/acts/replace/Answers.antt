@@ -1,7 +1,7 @@
 use Rattle.std.proofs.Common.{ℕ, Some, sym, ap, ◌∙◌}
 use Rattle.att_table.specs.Table.{Contents}
 use Rattle.gatt_commands.proofs.Doing.{replaced, told_by}
-use Rattle.script_lines.specs.declared.refused.Refused.TheVariants.{Call}
+use Rattle.gatt_commands.specs.declared.refused.Refused.TheVariants.{Call}
 use Rattle.gatt_commands.proofs.acts.replace.Goals as goal
 
 pub returns-in-Ok-clause-replaces : goal.returns-in-Ok-clause-replaces

@@ -1,6 +1,6 @@
 use Rattle.std.proofs.Common.{rules, ap, Err, ◌≡◌, ◌∙◌}
 use Rattle.std.proofs.lemmas.Result.{err_from_is_err_and}
-use Rattle.gatt_files.specs.declared.fault.ShellFault.{ShellFault}
+use Rattle.shell_files.specs.declared.fault.ShellFault.{ShellFault}
 use Rattle.gatt_commands.proofs.Exchanging.{exchanges_all, exchanges_ended, exchanges_next}
 use Rattle.gatt_commands.specs.Exchange.{pair_of}
 use Rattle.gatt_commands.proofs.exchange.exchange.Goals as goal

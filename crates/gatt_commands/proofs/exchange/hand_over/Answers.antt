@@ -1,7 +1,7 @@
 use Rattle.std.proofs.Common.{ap, Err, inl, inr, refl, rules, subst, true, ◌≡◌, ◌∙◌}
 use Rattle.std.proofs.lemmas.Result.{err_from_is_err_and}
 use Rattle.gatt_commands.proofs.Exchanging.{gives_next, hands_refused}
-use Rattle.gatt_files.specs.declared.fault.ShellFault.{ShellFault}
+use Rattle.shell_files.specs.declared.fault.ShellFault.{ShellFault}
 use Rattle.gatt_commands.specs.Exchange.{ControllerGives, HostTakes, pair_of}
 use Rattle.gatt_host.specs.HostModel.{HostModel, all_out}
 use Rattle.gatt_commands.proofs.exchange.hand_over.Goals as goal

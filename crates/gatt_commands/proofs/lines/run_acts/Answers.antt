@@ -2,7 +2,7 @@ use Rattle.std.proofs.Common.{refl}
 use Rattle.std.proofs.lemmas.List.{drop_all}
 use Rattle.gatt_commands.proofs.Running.{run_all, run_ends, run_more}
 use Rattle.gatt_commands.specs.Doing.{stage_of}
-use Rattle.script_lines.specs.Echo.{lines_left, shown_of}
+use Rattle.gatt_commands.specs.Echo.{lines_left, shown_of}
 use Rattle.gatt_commands.proofs.lines.run_acts.Goals as goal
 
 pub loop-act-preserved : goal.loop-act-preserved

@@ -1,7 +1,7 @@
 use Rattle.std.proofs.Common.{◌≡◌, true, drop}
 use Rattle.gatt_host.specs.HostModel.{all_out}
 use Rattle.gatt_commands.specs.Doing.{stage_of}
-use Rattle.script_lines.specs.Echo.{lines_left, shown_of}
+use Rattle.gatt_commands.specs.Echo.{lines_left, shown_of}
 use Rattle.gatt_commands.proofs.Running.{HasRun}
 use Rattle.gatt_commands.proofs.lines.run_acts.Given as goal
 

@@ -1,8 +1,8 @@
 use Rattle.std.proofs.Common.{refl, inl}
 use Rattle.gatt_commands.proofs.Running.{keeps_all, passed_on, runs_script, script_ends}
-use Rattle.gatt_files.specs.declared.fault.ShellFault.{ShellFault}
+use Rattle.shell_files.specs.declared.fault.ShellFault.{ShellFault}
 use Rattle.gatt_commands.specs.Doing.{stage_of}
-use Rattle.script_lines.specs.Echo.{lines_left, shown_of}
+use Rattle.gatt_commands.specs.Echo.{lines_left, shown_of}
 use Rattle.gatt_commands.specs.Runs.{EndsEarly}
 use Rattle.gatt_commands.proofs.lines.run_lines.Goals as goal
 

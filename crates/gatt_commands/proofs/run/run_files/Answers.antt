@@ -1,7 +1,7 @@
 use Rattle.std.proofs.Common.{◌≡◌}
 use Rattle.std.specs.Prelude.{is_some, IsOk, Err}
 use Rattle.scripts.specs.declared.script_fault.ScriptFault.TheVariants.{BadLine}
-use Rattle.gatt_files.specs.ScriptFile.{script_in}
+use Rattle.shell_files.specs.ScriptFile.{script_in}
 use Rattle.gatt_commands.proofs.RunEnds.{or_more}
 use Rattle.gatt_commands.proofs.RunOrders.{known_all, runs_all}
 use Rattle.gatt_commands.proofs.run.run_files.Goals as goal

@@ -1,10 +1,10 @@
 use Rattle.std.specs.Prelude.{is_some}
-use Rattle.gatt_files.specs.KeyFile.{keys_in}
-use Rattle.gatt_files.specs.RowsFile.{rows_in}
-use Rattle.gatt_files.specs.TableFile.{table_in}
+use Rattle.shell_files.specs.KeyFile.{keys_in}
+use Rattle.shell_files.specs.RowsFile.{rows_in}
+use Rattle.shell_files.specs.TableFile.{table_in}
 use Rattle.gatt_commands.proofs.RunEnds.{or_more}
 use Rattle.gatt_commands.proofs.RunFaults.{no_keys, no_next, no_rows, no_table, run_at_all}
-use Rattle.gatt_files.proofs.Turns.{accepted}
+use Rattle.shell_files.proofs.Turns.{accepted}
 use Rattle.gatt_commands.proofs.RunOrders.{script_accepted, script_refused}
 use Rattle.gatt_commands.proofs.run.run_script.Goals as goal
 use Rattle.gatt_commands.proofs.Loop.{closes_the_loop}

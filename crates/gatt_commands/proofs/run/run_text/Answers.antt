@@ -1,11 +1,11 @@
 use Rattle.std.proofs.Common.{refl}
 use Rattle.std.specs.Prelude.{is_some, Ok, Err, Some}
 use Rattle.scripts.specs.declared.script_fault.ScriptFault.TheVariants.{BadLine}
-use Rattle.script_lines.specs.Echo.{lines_left}
-use Rattle.gatt_files.specs.ScriptFile.{script_in}
+use Rattle.gatt_commands.specs.Echo.{lines_left}
+use Rattle.shell_files.specs.ScriptFile.{script_in}
 use Rattle.gatt_commands.proofs.RunEnds.{or_more}
 use Rattle.gatt_commands.proofs.RunFaults.{judged_at_all, ran_at_all}
-use Rattle.gatt_files.proofs.Turns.{accepted}
+use Rattle.shell_files.proofs.Turns.{accepted}
 use Rattle.gatt_commands.proofs.RunOrders.{judged_all, refused_at, never_past}
 use Rattle.gatt_commands.proofs.run.run_text.Goals as goal
 

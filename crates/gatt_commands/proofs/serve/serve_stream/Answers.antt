@@ -1,5 +1,5 @@
 use Rattle.std.proofs.Common.{ap}
-use Rattle.octets.specs.Streams.{reader_of, writer_of}
+use Rattle.octet_io.specs.Streams.{reader_of, writer_of}
 use Rattle.gatt_commands.proofs.WriterLent.{served_by}
 use Rattle.gatt_commands.proofs.serve.serve_stream.Goals as goal
 

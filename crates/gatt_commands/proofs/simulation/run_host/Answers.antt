@@ -1,4 +1,4 @@
-use Rattle.script_lines.specs.Echo.{lines_left, shown_of}
+use Rattle.gatt_commands.specs.Echo.{lines_left, shown_of}
 use Rattle.gatt_commands.proofs.RunEnds.{host_runs}
 use Rattle.gatt_commands.proofs.simulation.run_host.Goals as goal
 

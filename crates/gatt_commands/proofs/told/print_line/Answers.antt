@@ -1,8 +1,8 @@
 use Rattle.std.proofs.Common.{List, ℕ, subst}
 use Rattle.std.specs.Prelude.{OnErr}
-use Rattle.gatt_files.proofs.Fronts.{at_error, front_first, front_rest}
-use Rattle.octets.specs.Stream.{WritesFront}
-use Rattle.script_lines.specs.Lines.{outcome_text}
+use Rattle.shell_files.proofs.Fronts.{at_error, front_first, front_rest}
+use Rattle.octet_io.specs.Stream.{WritesFront}
+use Rattle.gatt_commands.specs.Lines.{outcome_text}
 use Rattle.gatt_commands.proofs.told.print_line.Goals as goal
 
 pub returns-in_err-print_outcome-clause-front : goal.returns-in_err-print_outcome-clause-front

@@ -8,7 +8,7 @@ use Rattle.att_writes.specs.Queue.{prepare_fault}
 use Rattle.gatt_conn.specs.Answer.{entry_at, prepare_response}
 use Rattle.gatt_conn.proofs.Prepared.{denied, accepted}
 use Rattle.gatt_conn.proofs.writing.prepare.Goals as goal
-use Rattle.octets.specs.Number.{two_octets}
+use Rattle.octet_io.specs.Number.{two_octets}
 
 pub returns-in-Denied-clause-served : goal.returns-in-Denied-clause-served
 returns-in-Denied-clause-served c =

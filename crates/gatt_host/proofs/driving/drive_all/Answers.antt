@@ -1,7 +1,8 @@
-use Rattle.std.proofs.Common.{◌≡◌, ℕ, ◌≤◌, ◌+◌, true, List, [], drop, Option, None, refl, sym, subst, ap, arith, ◌∙◌}
+use Rattle.std.proofs.Common.{◌≡◌, ℕ, ◌≤◌, ◌+◌, true, List, [], drop, Option, None, refl, sym, subst, ap, arith, rules, ◌∙◌}
 use Rattle.std.proofs.lemmas.List.{drop_all}
 use Rattle.std.specs.Prelude.{if◌then◌else◌}
 use Rattle.gatt_host.proofs.model.Driving.{HasDriven, driven_counts, driven_more, driven_none, driven_stops, past_fault, no_more, one_more}
+use Rattle.std.proofs.lemmas.Grind.{common_steps}
 use Rattle.gatt_host.proofs.model.Due.{due_where_out}
 use Rattle.gatt_host.proofs.model.Hearing.{going_hears, hears_nothing, past_heard}
 use Rattle.gatt_host.proofs.model.HearingTurns.{HasDrivenTo, driven_to_all, driven_to_more, driven_to_stops, nothing_heard}
@@ -9,22 +10,43 @@ use Rattle.gatt_host.proofs.model.Feeds.{counts_where_going, fault_answered, goi
 use Rattle.gatt_host.specs.Feeding.{is_of_feeding, TakesAll, items_of}
 use Rattle.gatt_host.specs.HostModel.{HostModel}
 use Rattle.gatt_laws.specs.machine.Notice.{Received}
-use Rattle.octets.proofs.Writing.{counts_none}
-use Rattle.octets.specs.Number.{Octets}
+use Rattle.octet_io.proofs.Writing.{counts_none}
+use Rattle.octet_io.specs.Number.{Octets}
 use Rattle.gatt_host.proofs.driving.drive_all.Goals as goal
 use Rattle.gatt_host.proofs.driving.drive_all.Goals.{then-branch, else-branch}
 
-pub returns-in_err-write_out-clause-feeds : goal.returns-in_err-write_out-clause-feeds
-returns-in_err-write_out-clause-feeds g c =
-    let new : HostModel = c.write_out.new.host in
-    past_fault [] (items_of c.args.inputs.now) c.args.host.now new (g.W.Sink.contents c.args.out.now) (g.W.Sink.contents c.write_out.new.out) c.in_err-write_out.field-0.0
-    (fault_answered new.fault c.in_err-write_out.field-0.0 c.in_err-write_out.ensures.fault) (ap is_of_feeding c.in_err-write_out.ensures.write) c.write_out.ensures.feeds
+pub returns-in_err-write_out-clause-processes : goal.returns-in_err-write_out-clause-processes
+returns-in_err-write_out-clause-processes g c = record {
+  feeds = (
+      let new : HostModel = c.write_out.new.host in
+      past_fault [] (items_of c.args.inputs.now) c.args.host.now new (g.W.Sink.contents c.args.out.now) (g.W.Sink.contents c.write_out.new.out) c.in_err-write_out.field-0.0
+      (fault_answered new.fault c.in_err-write_out.field-0.0 c.in_err-write_out.ensures.fault) (ap is_of_feeding c.in_err-write_out.ensures.write) c.write_out.ensures.feeds);
+  out = search rules;
+  due = search rules;
+  feeding = search rules;
+  failures = search rules;
+}
 
-pub returns-in_err-take_input-clause-feeds : goal.returns-in_err-take_input-clause-feeds
-returns-in_err-take_input-clause-feeds g c =
-    driven_stops c.args.inputs.now c.loop-input.input-index _ c.loop-input-test.true c.loop-input.refused c.args.host.now c.loop-input.host c.take_input.new.host
-    (g.W.Sink.contents c.args.out.now) (g.W.Sink.contents c.loop-input.out) (g.W.Sink.contents c.take_input.new.out) c.loop-input.invariant.driven
-    c.in_err-take_input.field-0.0 c.in_err-take_input.ensures.fault c.in_err-take_input.ensures.feeding c.take_input.ensures.feeds
+pub returns-in_err-take_input-clause-processes : goal.returns-in_err-take_input-clause-processes
+returns-in_err-take_input-clause-processes g c = record {
+  feeds = (
+      driven_stops c.args.inputs.now c.loop-input.input-index _ c.loop-input-test.true c.loop-input.refused c.args.host.now c.loop-input.host c.take_input.new.host
+      (g.W.Sink.contents c.args.out.now) (g.W.Sink.contents c.loop-input.out) (g.W.Sink.contents c.take_input.new.out) c.loop-input.invariant.driven
+      c.in_err-take_input.field-0.0 c.in_err-take_input.ensures.fault c.in_err-take_input.ensures.feeding c.take_input.ensures.feeds);
+  out = search rules;
+  due = search rules;
+  feeding = search rules;
+  failures = search rules;
+}
+
+pub returns-clause-processes : goal.returns-clause-processes
+returns-clause-processes g c = record {
+  feeds = grind (arith, common_steps);
+  out = search rules;
+  due = (due_where_out c.loop-input.host c.loop-input.invariant.none c.loop-input.invariant.drained);
+  feeding = search rules;
+  failures = search rules;
+}
 
 pub loop-input-preserved : goal.loop-input-preserved
 loop-input-preserved g c =
@@ -67,9 +89,6 @@ pub returns-clause-refused : goal.returns-clause-refused
 returns-clause-refused g c =
     driven_counts c.loop-input.refused c.args.inputs.now (drop c.loop-input.input-index c.args.inputs.now) c.args.host.now c.loop-input.host
     (g.W.Sink.contents c.args.out.now) (g.W.Sink.contents c.loop-input.out) (drop_all c.loop-input.input-index c.args.inputs.now c.loop-input-test.false) c.loop-input.invariant.driven
-
-pub returns-clause-due : goal.returns-clause-due
-returns-clause-due g c = due_where_out c.loop-input.host c.loop-input.invariant.none c.loop-input.invariant.drained
 
 pub returns-in_err-write_out-clause-heard : goal.returns-in_err-write_out-clause-heard
 returns-in_err-write_out-clause-heard g c =

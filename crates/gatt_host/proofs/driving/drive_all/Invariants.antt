@@ -3,7 +3,7 @@ use Rattle.gatt_host.proofs.driving.drive_all.Given as goal
 use Rattle.gatt_host.proofs.model.Driving.{HasDriven}
 use Rattle.gatt_host.proofs.model.HearingTurns.{HasDrivenTo}
 use Rattle.gatt_host.specs.HostModel.{all_out}
-use Rattle.octets.specs.Stream.{CountsNone}
+use Rattle.octet_io.specs.Stream.{CountsNone}
 
 abbrev pub invariant-loop-input : goal.invariant-loop-input
 invariant-loop-input g l = record {

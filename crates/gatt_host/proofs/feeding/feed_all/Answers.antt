@@ -1,4 +1,5 @@
-use Rattle.std.proofs.Common.{◌≡◌, true, List, [], Option, Some, None, refl, sym, subst, ap, drop, ◌∙◌}
+use Rattle.std.proofs.Common.{◌≡◌, true, List, [], Option, Some, None, refl, sym, subst, ap, drop, ◌∙◌, arith, rules}
+use Rattle.std.proofs.lemmas.Grind.{common_steps}
 use Rattle.gatt_host.proofs.model.Due.{due_where_held, due_where_out}
 use Rattle.gatt_host.proofs.model.Feeds.{broken_before, counts_where_going, fault_answered, going_takes, none_answered, taken_breaks, taken_none, taken_silently, taken_stops, taken_then, HasTaken}
 use Rattle.gatt_host.proofs.model.Hearing.{HasHeard, breaks_heard, heard_all, heard_breaks, heard_none, heard_stops, heard_then, hears_nothing}
@@ -8,20 +9,62 @@ use Rattle.gatt_host.proofs.model.Serving.{empty_where}
 use Rattle.gatt_host.specs.Feeding.{TakesAll, octet_items}
 use Rattle.gatt_host.specs.HostModel.{HostModel}
 use Rattle.gatt_laws.specs.machine.Notice.{Received}
-use Rattle.octets.proofs.Writing.{counts_none}
-use Rattle.octets.specs.Number.{Octets}
+use Rattle.octet_io.proofs.Writing.{counts_none}
+use Rattle.octet_io.specs.Number.{Octets}
 use Rattle.gatt_host.proofs.feeding.feed_all.Goals as goal
 
-pub returns-in_err-write_out-clause-feeds : goal.returns-in_err-write_out-clause-feeds
-returns-in_err-write_out-clause-feeds g c =
-    broken_before [] (octet_items c.args.octets.now) c.args.host.now c.write_out.new.host (g.W.Sink.contents c.args.out.now) (g.W.Sink.contents c.write_out.new.out)
-    c.write_out.new.host.fault (fault_answered c.write_out.new.host.fault c.in_err-write_out.field-0.0 c.in_err-write_out.ensures.fault ∙ ap (λ (why : HostFault). Some why) c.in_err-write_out.ensures.write)
-    c.write_out.ensures.feeds
+pub returns-in_err-write_out-clause-processes : goal.returns-in_err-write_out-clause-processes
+returns-in_err-write_out-clause-processes g c = record {
+  feeds = (
+      broken_before [] (octet_items c.args.octets.now) c.args.host.now c.write_out.new.host (g.W.Sink.contents c.args.out.now) (g.W.Sink.contents c.write_out.new.out)
+      c.write_out.new.host.fault (fault_answered c.write_out.new.host.fault c.in_err-write_out.field-0.0 c.in_err-write_out.ensures.fault ∙ ap (λ (why : HostFault). Some why) c.in_err-write_out.ensures.write)
+      c.write_out.ensures.feeds);
+  out = search rules;
+  due = search rules;
+  feeding = search rules;
+  failures = search rules;
+}
 
-pub returns-in-Err-clause-feeds : goal.returns-in-Err-clause-feeds
-returns-in-Err-clause-feeds g c =
-    taken_stops c.args.octets.now c.loop-rest.rest.now c.args.host.now c.loop-rest.host c.take.new.host (g.W.Sink.contents c.args.out.now) (g.W.Sink.contents c.loop-rest.out)
-    c.take.new.host.fault c.in-Err.field-0 c.loop-rest.invariant.takes c.in-Err.ensures.refines c.in-Err.ensures.fault c.in-Err.ensures.not_own
+pub returns-in-Err-clause-processes : goal.returns-in-Err-clause-processes
+returns-in-Err-clause-processes g c = record {
+  feeds = (
+      taken_stops c.args.octets.now c.loop-rest.rest.now c.args.host.now c.loop-rest.host c.take.new.host (g.W.Sink.contents c.args.out.now) (g.W.Sink.contents c.loop-rest.out)
+      c.take.new.host.fault c.in-Err.field-0 c.loop-rest.invariant.takes c.in-Err.ensures.refines c.in-Err.ensures.fault c.in-Err.ensures.not_own);
+  out = search rules;
+  due = (due_where_held c.loop-rest.host c.take.new.host c.take.new.host.fault c.loop-rest.invariant.none c.loop-rest.invariant.drained c.in-Err.ensures.unchanged);
+  feeding = search rules;
+  failures = search rules;
+}
+
+pub returns-in_err-write_out-2-clause-processes : goal.returns-in_err-write_out-2-clause-processes
+returns-in_err-write_out-2-clause-processes g c = record {
+  feeds = (
+      let old : HostModel = c.args.host.now in
+      let mid : HostModel = c.take.new.host in
+      let new : HostModel = c.write_out-in-loop-rest.new.host in
+      let used = c.in-Ok.used in
+      let rest : Octets = c.loop-rest.rest.now in
+      let before : Option Octets = g.W.Sink.contents c.args.out.now in
+      let between : Option Octets = g.W.Sink.contents c.loop-rest.out in
+      let after : Option Octets = g.W.Sink.contents c.write_out-in-loop-rest.new.out in
+      taken_breaks c.args.octets.now (drop used rest) old mid new before between after new.fault
+      (taken_silently c.args.octets.now rest used old c.loop-rest.host mid before between c.loop-rest.invariant.takes c.in-Ok.ensures.refines)
+      (fault_answered new.fault c.in_err-write_out-2.field-0.0 c.in_err-write_out-2.ensures.fault ∙ ap (λ (why : HostFault). Some why) c.in_err-write_out-2.ensures.write)
+      c.write_out-in-loop-rest.ensures.feeds);
+  out = search rules;
+  due = search rules;
+  feeding = search rules;
+  failures = search rules;
+}
+
+pub returns-clause-processes : goal.returns-clause-processes
+returns-clause-processes g c = record {
+  feeds = grind (arith, common_steps);
+  out = search rules;
+  due = (due_where_out c.loop-rest.host c.loop-rest.invariant.none c.loop-rest.invariant.drained);
+  feeding = search rules;
+  failures = search rules;
+}
 
 pub loop-rest-preserved : goal.loop-rest-preserved
 loop-rest-preserved g c =
@@ -48,28 +91,6 @@ loop-rest-preserved g c =
           (g.L.Listener.heard c.deliver_notices.new.listener) c.loop-rest.invariant.heard c.loop-rest.invariant.none c.in-Ok.ensures.refines c.in-Ok.ensures.told c.in-Ok.ensures.up_to c.deliver_notices.ensures.hears
           (going_takes [] mid new between after new.fault none c.write_out-in-loop-rest.ensures.feeds));
     }
-
-pub returns-in_err-write_out-2-clause-feeds : goal.returns-in_err-write_out-2-clause-feeds
-returns-in_err-write_out-2-clause-feeds g c =
-    let old : HostModel = c.args.host.now in
-    let mid : HostModel = c.take.new.host in
-    let new : HostModel = c.write_out-in-loop-rest.new.host in
-    let used = c.in-Ok.used in
-    let rest : Octets = c.loop-rest.rest.now in
-    let before : Option Octets = g.W.Sink.contents c.args.out.now in
-    let between : Option Octets = g.W.Sink.contents c.loop-rest.out in
-    let after : Option Octets = g.W.Sink.contents c.write_out-in-loop-rest.new.out in
-    taken_breaks c.args.octets.now (drop used rest) old mid new before between after new.fault
-    (taken_silently c.args.octets.now rest used old c.loop-rest.host mid before between c.loop-rest.invariant.takes c.in-Ok.ensures.refines)
-    (fault_answered new.fault c.in_err-write_out-2.field-0.0 c.in_err-write_out-2.ensures.fault ∙ ap (λ (why : HostFault). Some why) c.in_err-write_out-2.ensures.write)
-    c.write_out-in-loop-rest.ensures.feeds
-
-pub returns-in-Err-clause-due : goal.returns-in-Err-clause-due
-returns-in-Err-clause-due g c =
-    due_where_held c.loop-rest.host c.take.new.host c.take.new.host.fault c.loop-rest.invariant.none c.loop-rest.invariant.drained c.in-Err.ensures.unchanged
-
-pub returns-clause-due : goal.returns-clause-due
-returns-clause-due g c = due_where_out c.loop-rest.host c.loop-rest.invariant.none c.loop-rest.invariant.drained
 
 pub returns-in_err-write_out-clause-heard : goal.returns-in_err-write_out-clause-heard
 returns-in_err-write_out-clause-heard g c =

@@ -3,7 +3,7 @@ use Rattle.gatt_host.proofs.feeding.feed_all.Given as goal
 use Rattle.gatt_host.proofs.model.Feeds.{HasTaken}
 use Rattle.gatt_host.proofs.model.Hearing.{HasHeard}
 use Rattle.gatt_host.specs.HostModel.{all_out}
-use Rattle.octets.specs.Stream.{CountsNone}
+use Rattle.octet_io.specs.Stream.{CountsNone}
 
 abbrev pub invariant-loop-rest : goal.invariant-loop-rest
 invariant-loop-rest g l = record {

@@ -9,9 +9,9 @@ use Rattle.gatt_host.specs.Credits.{most_out}
 use Rattle.gatt_host.specs.GoingOut.{is_drained}
 use Rattle.gatt_host.specs.ServerState.{ServerState, open_slots}
 use Rattle.gatt_host.specs.HostModel.{going}
-use Rattle.octets.proofs.Writing.{counts_none, counts_same}
-use Rattle.octets.specs.Number.{Octets}
-use Rattle.octets.specs.Stream.{WritesFront}
+use Rattle.octet_io.proofs.Writing.{counts_none, counts_same}
+use Rattle.octet_io.specs.Number.{Octets}
+use Rattle.octet_io.specs.Stream.{WritesFront}
 use Rattle.gatt_host.proofs.feeding.write_in_order.Goals as goal
 
 pub loop-packet-init : goal.loop-packet-init

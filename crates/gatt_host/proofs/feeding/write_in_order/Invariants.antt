@@ -5,7 +5,7 @@ use Rattle.gatt_host.specs.Feeding.{TakesAll}
 use Rattle.gatt_host.specs.Meaning.{Frames}
 use Rattle.gatt_host.specs.HostModel.{going, IsStateOfOne}
 use Rattle.le_h4.specs.Deframer.{Deframing}
-use Rattle.octets.specs.Stream.{CountsNone}
+use Rattle.octet_io.specs.Stream.{CountsNone}
 
 abbrev pub invariant-loop-packet : goal.invariant-loop-packet
 invariant-loop-packet g l = record {

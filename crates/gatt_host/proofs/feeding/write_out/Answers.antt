@@ -4,7 +4,7 @@ use Rattle.gatt_host.proofs.model.Owed.{feeds_from, no_fault_where, reached_fed}
 use Rattle.gatt_host.specs.contracts.host.Host.{the_view}
 use Rattle.gatt_host.specs.Feeding.{Feeds}
 use Rattle.gatt_host.specs.HostModel.{HostModel}
-use Rattle.octets.specs.Number.{Octets}
+use Rattle.octet_io.specs.Number.{Octets}
 use Rattle.gatt_host.proofs.feeding.write_out.Goals as goal
 
 pub invariant_of-host : goal.invariant_of-host

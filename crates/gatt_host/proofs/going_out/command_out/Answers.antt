@@ -7,7 +7,7 @@ use Rattle.gatt_host.specs.contracts.controller.Controller.{the_view}
 use Rattle.gatt_host.specs.GoingOut.{command_next, first_slot_command, has_free_slot, init_command}
 use Rattle.gatt_laws.specs.machine.Controller.{Controller, controller_after}
 use Rattle.gatt_laws.specs.machine.State.{command_octets}
-use Rattle.gatt_slots.specs.SlotState.{SlotState}
+use Rattle.host_connections.specs.SlotState.{SlotState}
 use Rattle.le_hci.specs.Command.{LeSetAdvertiseEnable}
 use Rattle.gatt_host.proofs.going_out.command_out.Goals as goal
 

@@ -2,7 +2,7 @@ use Rattle.std.proofs.Common.{ap, sym, ◌∙◌}
 use Rattle.std.specs.Prelude.{◌&&◌, not, is_none}
 use Rattle.std.specs.List.{list_any}
 use Rattle.gatt_host.proofs.owing.Nexts.{no_command_next}
-use Rattle.gatt_slots.specs.Commands.{gives}
+use Rattle.host_connections.specs.Commands.{gives}
 use Rattle.gatt_host.proofs.going_out.none_waits.Goals as goal
 
 pub returns : goal.returns

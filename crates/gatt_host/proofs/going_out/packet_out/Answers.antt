@@ -3,7 +3,7 @@ use Rattle.std.specs.Prelude.{is_some}
 use Rattle.std.specs.Option.{option_and_then, option_map}
 use Rattle.std.proofs.lemmas.Bool.{OnTrue_at, OnTrue_from}
 use Rattle.gatt_host.proofs.owing.Firsts.{first_packet, found_at, found_changed, found_passes, no_packet, none_changed}
-use Rattle.gatt_slots.specs.Commands.{gives, slot_packet, slot_without_packet}
+use Rattle.host_connections.specs.Commands.{gives, slot_packet, slot_without_packet}
 use Rattle.gatt_host.proofs.going_out.packet_out.Goals as goal
 
 pub returns-in_default-clause-after : goal.returns-in_default-clause-after

@@ -1,7 +1,7 @@
 use Rattle.std.proofs.Common.{ap, sym, ◌∙◌}
 use Rattle.std.specs.Option.{option_map}
 use Rattle.gatt_host.proofs.owing.Firsts.{first_command, found_at, found_changed, found_passes, no_command, none_changed}
-use Rattle.gatt_slots.specs.Commands.{command_due, has_command, slot_without_command}
+use Rattle.host_connections.specs.Commands.{command_due, has_command, slot_without_command}
 use Rattle.le_hci.specs.Command.{opcode_of}
 use Rattle.gatt_host.proofs.going_out.slot_command_out.Goals as goal
 

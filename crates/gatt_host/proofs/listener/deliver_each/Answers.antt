@@ -5,7 +5,7 @@ use Rattle.gatt_host.proofs.model.Hearing.{told_one}
 use Rattle.gatt_host.proofs.model.Received.{lent_received}
 use Rattle.gatt_host.specs.Notices.{received_from}
 use Rattle.gatt_host.specs.Telling.{received_told}
-use Rattle.gatt_laws.specs.machine.Notice.{Notice, Received, received_with}
+use Rattle.gatt_laws.specs.machine.Notice.{Received, received_with}
 
 pub loop-notice-preserved : goal.loop-notice-preserved
 loop-notice-preserved g c =

@@ -11,9 +11,9 @@ use Rattle.gatt_host.specs.declared.host_fault.HostFault.{HostFault}
 use Rattle.gatt_host.specs.declared.host_fault.HostFault.TheVariants as stop
 use Rattle.gatt_host.specs.Feeding.{is_of_feeding, TakesAll, octet_items}
 use Rattle.gatt_laws.specs.machine.Notice.{Received}
-use Rattle.octets.specs.Number.{Octets}
+use Rattle.octet_io.specs.Number.{Octets}
 use Rattle.gatt_host.specs.HostModel.{HostModel}
-use Rattle.octets.proofs.Writing.{counts_none, counts_one, counts_same, many_more, many_none}
+use Rattle.octet_io.proofs.Writing.{counts_none, counts_one, counts_same, many_more, many_none}
 use Rattle.gatt_host.proofs.serving.serve_all.Goals as goal
 
 pub returns-in_default-clause-serves : goal.returns-in_default-clause-serves
@@ -50,15 +50,15 @@ returns-in_err-feed_to-clause-serves g c =
     serves_broken c.from_residual-in_err-feed_to.result c.in_err-feed_to.field-0.0 c.args.turns c.loop-turn.turn c.in-Ok.read.now c.args.host.now c.loop-turn.host c.feed_to.new.host
     (g.R.Source.remaining c.args.reader.now) (g.R.Source.remaining c.loop-turn.reader) (g.R.Source.remaining c.read_turn.new.reader)
     (g.W.Sink.contents c.args.writer.now) (g.W.Sink.contents c.loop-turn.writer) (g.W.Sink.contents c.feed_to.new.out)
-    (stopped.1 ∙ ap (λ (why : HostFault). Err why) stopped.2) (c.in_err-feed_to.ensures.feeding c.loop-turn.invariant.none)
-    c.in-Ok.ensures.consumed c.loop-turn.invariant.served (c.feed_to.ensures.feeds c.loop-turn.invariant.none)
+    (stopped.1 ∙ ap (λ (why : HostFault). Err why) stopped.2) (c.in_err-feed_to.ensures.processes c.loop-turn.invariant.none).feeding
+    c.in-Ok.ensures.consumed c.loop-turn.invariant.served (c.feed_to.ensures.processes c.loop-turn.invariant.none).feeds
 
 pub returns-in_err-feed_to-clause-reads : goal.returns-in_err-feed_to-clause-reads
 returns-in_err-feed_to-clause-reads g c =
     let stopped = err_from_is_err_and c.from_residual-in_err-feed_to.result c.from_residual-in_err-feed_to.ensures.1 in
     reads_stopped c.from_residual-in_err-feed_to.result c.in_err-feed_to.field-0.0 (c.loop-turn.turn + 1) c.args.turns (g.R.Source.reads c.args.reader.now) (g.R.Source.reads c.read_turn.new.reader)
     (stopped.1 ∙ ap (λ (why : HostFault). Err why) stopped.2) (many_more c.loop-turn.turn _ _ _ c.loop-turn.invariant.reads c.read_turn.ensures.reads)
-    (omega (arith, c.loop-turn-test.true)) (no_turns c.in_err-feed_to.field-0.0 (c.in_err-feed_to.ensures.feeding c.loop-turn.invariant.none))
+    (omega (arith, c.loop-turn-test.true)) (no_turns c.in_err-feed_to.field-0.0 (c.in_err-feed_to.ensures.processes c.loop-turn.invariant.none).feeding)
 
 pub loop-turn-preserved : goal.loop-turn-preserved
 loop-turn-preserved g c =
@@ -71,21 +71,21 @@ loop-turn-preserved g c =
           (g.W.Sink.contents c.args.writer.now) (g.W.Sink.contents c.loop-turn.writer) (g.W.Sink.contents c.feed_to.new.out)
           c.loop-turn.invariant.served c.in-Ok.ensures.consumed (some_where c.in-Ok.read.now (sym c.is_empty.ensures ∙ c.if-is_empty.false)) c.in-Ok.ensures.within
           (going_takes (octet_items c.in-Ok.read.now) mid new (g.W.Sink.contents c.loop-turn.writer) (g.W.Sink.contents c.feed_to.new.out) new.fault none
-          (c.feed_to.ensures.feeds c.loop-turn.invariant.none));
+          (c.feed_to.ensures.processes c.loop-turn.invariant.none).feeds);
       few = omega (arith, c.loop-turn-test.true);
       none = none;
-      drained = c.in_ok-feed_to.ensures.out (refl {a = true});
+      drained = (c.in_ok-feed_to.ensures.processes c.loop-turn.invariant.none).out (refl {a = true});
       reads = many_more c.loop-turn.turn _ _ _ c.loop-turn.invariant.reads c.read_turn.ensures.reads;
       ends = counts_none _ _ _ c.loop-turn.invariant.ends (counts_where_some c.in-Ok.read.now _ _ (sym c.is_empty.ensures ∙ c.if-is_empty.false) c.in-Ok.ensures.ends);
       read_failures = counts_none _ _ _ c.loop-turn.invariant.read_failures c.in-Ok.ensures.failures;
-      write_failures = counts_none _ _ _ c.loop-turn.invariant.write_failures (counts_where_going new.fault _ _ none (c.feed_to.ensures.failures c.loop-turn.invariant.none));
+      write_failures = counts_none _ _ _ c.loop-turn.invariant.write_failures (counts_where_going new.fault _ _ none (c.feed_to.ensures.processes c.loop-turn.invariant.none).failures);
       heard = served_to_more c.loop-turn.turn c.in-Ok.read.now c.args.host.now mid new
           (g.R.Source.remaining c.args.reader.now) (g.R.Source.remaining c.loop-turn.reader) (g.R.Source.remaining c.read_turn.new.reader)
           (g.W.Sink.contents c.args.writer.now) (g.W.Sink.contents c.loop-turn.writer) (g.W.Sink.contents c.feed_to.new.out)
           (g.L.Listener.heard c.args.listener.now) (g.L.Listener.heard c.loop-turn.listener) (g.L.Listener.heard c.feed_to.new.listener)
           c.loop-turn.invariant.heard c.in-Ok.ensures.consumed (some_where c.in-Ok.read.now (sym c.is_empty.ensures ∙ c.if-is_empty.false)) c.in-Ok.ensures.within
           (going_takes (octet_items c.in-Ok.read.now) mid new (g.W.Sink.contents c.loop-turn.writer) (g.W.Sink.contents c.feed_to.new.out) new.fault none
-          (c.feed_to.ensures.feeds c.loop-turn.invariant.none))
+          (c.feed_to.ensures.processes c.loop-turn.invariant.none).feeds)
           (going_hears (octet_items c.in-Ok.read.now) mid new (g.L.Listener.heard c.loop-turn.listener) (g.L.Listener.heard c.feed_to.new.listener) new.fault none
           (c.feed_to.ensures.heard c.loop-turn.invariant.none));
     }

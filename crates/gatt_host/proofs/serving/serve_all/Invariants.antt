@@ -3,7 +3,7 @@ use Rattle.gatt_host.proofs.serving.serve_all.Given as goal
 use Rattle.gatt_host.proofs.model.HearingTurns.{HasServedTo}
 use Rattle.gatt_host.proofs.model.Serving.{HasServed}
 use Rattle.gatt_host.specs.HostModel.{all_out}
-use Rattle.octets.specs.Stream.{CountsMany, CountsNone}
+use Rattle.octet_io.specs.Stream.{CountsMany, CountsNone}
 
 abbrev pub invariant-loop-turn : goal.invariant-loop-turn
 invariant-loop-turn g l = record {

@@ -1,6 +1,6 @@
 use Rattle.std.proofs.Common.{◌∙◌}
 use Rattle.gatt_subs.specs.RowsText.{owed_line}
-use Rattle.octets.proofs.Writing.{counts_none}
+use Rattle.octet_io.proofs.Writing.{counts_none}
 use Rattle.gatt_subs.proofs.Writing.{line_breaks_off, lines_more, on_err}
 use Rattle.gatt_subs.proofs.rows_text.write_owed.Goals as goal
 

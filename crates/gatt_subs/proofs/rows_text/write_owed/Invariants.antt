@@ -1,8 +1,8 @@
 use Rattle.std.proofs.Common.{drop}
 use Rattle.std.specs.List.{flat_map}
-use Rattle.octets.specs.Stream.{CountsNone}
+use Rattle.octet_io.specs.Stream.{CountsNone}
 use Rattle.gatt_subs.specs.RowsText.{owed_line}
-use Rattle.octets.proofs.Writing.{HasWritten}
+use Rattle.octet_io.proofs.Writing.{HasWritten}
 use Rattle.gatt_subs.proofs.rows_text.write_owed.Given as goal
 
 abbrev pub invariant-loop-peer : goal.invariant-loop-peer

@@ -1,5 +1,5 @@
 use Rattle.std.proofs.Common.{◌<◌, length, arith}
-use Rattle.octets.proofs.Writing.{counts_none}
+use Rattle.octet_io.proofs.Writing.{counts_none}
 use Rattle.gatt_subs.proofs.Writing.{owed_break_off, owed_more, on_err}
 use Rattle.gatt_subs.proofs.rows_text.write_owed_bonds.Goals as goal
 

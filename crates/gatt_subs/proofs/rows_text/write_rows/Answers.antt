@@ -2,7 +2,7 @@ use Rattle.std.proofs.Common.{◌++◌, List, subst}
 use Rattle.std.specs.Prelude.{OnErr}
 use Rattle.std.specs.List.{flat_map}
 use Rattle.std.specs.Io.KnownBytes.{Appends}
-use Rattle.octets.specs.Stream.{WritesFront}
+use Rattle.octet_io.specs.Stream.{WritesFront}
 use Rattle.le_hci.specs.declared.peer.Peer.{Peer}
 use Rattle.gatt_subs.specs.declared.row_entry.RowEntry.{RowEntry}
 use Rattle.gatt_subs.specs.RowsText.{entry_line, owed_line, owed_peers, bond_entries}

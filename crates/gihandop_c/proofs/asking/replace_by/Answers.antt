@@ -1,7 +1,7 @@
 use Rattle.std.proofs.Common.{[], ◌∷◌, ◌∙◌, subst}
 use Rattle.att_table.specs.Table.{Contents}
 use Rattle.gatt_laws.specs.machine.Input.{ATable}
-use Rattle.host_files.specs.Files.{table_in}
+use Rattle.att_table.specs.file.TableFile.{table_in}
 use Rattle.gihandop_c.specs.Boundary.{AnswersTable, OpenedRefines, TellsItem}
 use Rattle.gihandop_c.proofs.Carried.{same_ok}
 use Rattle.gihandop_c.proofs.Refusals.{table_not_refused, table_refused_for}

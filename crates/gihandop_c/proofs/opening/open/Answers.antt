@@ -6,7 +6,7 @@ use Rattle.gihandop_c.specs.Opening.{config_given}
 use Rattle.gihandop_c.proofs.Accepted.{opened_status, opened_with}
 use Rattle.gihandop_c.proofs.Carried.{same_ok}
 use Rattle.gihandop_c.proofs.opening.open.Goals as goal
-use Rattle.host_files.specs.Files.{table_in}
+use Rattle.att_table.specs.file.TableFile.{table_in}
 
 pub returns-clause-opened : goal.returns-clause-opened
 returns-clause-opened c =

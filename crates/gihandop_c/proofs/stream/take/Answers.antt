@@ -4,7 +4,7 @@ use Rattle.gatt_host.specs.Feeding.{octet_items}
 use Rattle.gatt_host.specs.HostModel.{Refines}
 use Rattle.gatt_laws.specs.machine.Input.{run}
 use Rattle.gatt_laws.specs.machine.Notice.{notices_in}
-use Rattle.octets.specs.Number.{Octets}
+use Rattle.octet_io.specs.Number.{Octets}
 use Rattle.gihandop_c.proofs.stream.take.Goals as goal
 
 -- where the host stops, all the octets are said to be taken in

@@ -1,5 +1,5 @@
 use Rattle.std.proofs.Common.{◌≤◌, ◌++◌, take, drop, ap, ◌∙◌, arith}
-use Rattle.octets.specs.Number.{Octets}
+use Rattle.octet_io.specs.Number.{Octets}
 use Rattle.le_h4.proofs.Blocks.{front_of_block}
 use Rattle.le_h4.proofs.packet_buf.copy_front.Goals as goal
 

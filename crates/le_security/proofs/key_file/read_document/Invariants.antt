@@ -1,6 +1,6 @@
 use Rattle.std.proofs.Common.{◌≡◌, [], drop}
 use Rattle.toml.specs.View.{items_view, table_view}
-use Rattle.toml_tables.specs.Reading.{each, items_at}
+use Rattle.toml_schema.specs.Reading.{each, items_at}
 use Rattle.std.specs.Prelude.{codes}
 use Rattle.le_security.specs.KeyFile.{key_step}
 use Rattle.le_security.proofs.key_file.read_document.Given as goal

@@ -1,6 +1,6 @@
 use Rattle.std.proofs.Common.{arith}
 use Rattle.std.proofs.lemmas.Str.Pattern.{split_once_first}
-use Rattle.octets.proofs.Parts.{first_of_parts, only_part}
+use Rattle.octet_io.proofs.Parts.{first_of_parts, only_part}
 use Rattle.saved_values.proofs.pieces.first_piece.Goals as goal
 
 pub returns-clause-first : goal.returns-clause-first

@@ -2,11 +2,11 @@ use Rattle.std.proofs.Common.{◌≡◌, ◌++◌, ◌∙◌, ap, subst}
 use Rattle.std.proofs.lemmas.Result.{on_ok_weaker}
 use Rattle.std.specs.Option.{option_map}
 use Rattle.std.specs.Io.KnownBytes.{Appends}
-use Rattle.octets.specs.Number.{Octets}
+use Rattle.octet_io.specs.Number.{Octets}
 use Rattle.gatt_show.specs.Line.{shown_table}
 use Rattle.show_command.specs.Show.{HasHolders}
-use Rattle.gatt_files.specs.TableFile.{table_in}
-use Rattle.gatt_files.proofs.Turns.{accepted}
+use Rattle.shell_files.specs.TableFile.{table_in}
+use Rattle.shell_files.proofs.Turns.{accepted}
 use Rattle.show_command.proofs.show.show_files.Goals as goal
 
 pub returns-clause-ok : goal.returns-clause-ok

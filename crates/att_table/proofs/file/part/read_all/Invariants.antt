@@ -1,6 +1,6 @@
 use Rattle.std.proofs.Common.{◌≡◌, drop}
 use Rattle.toml.specs.View.{items_view}
-use Rattle.toml_tables.specs.Reading.{each}
+use Rattle.toml_schema.specs.Reading.{each}
 use Rattle.att_table.proofs.file.part.read_all.Given as goal
 
 abbrev pub invariant-elements : goal.invariant-elements

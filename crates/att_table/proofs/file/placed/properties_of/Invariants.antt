@@ -1,6 +1,6 @@
 use Rattle.std.proofs.Common.{◌≡◌, drop}
 use Rattle.toml.specs.View.{items_view}
-use Rattle.toml_tables.specs.Reading.{each}
+use Rattle.toml_schema.specs.Reading.{each}
 use Rattle.att_table.specs.file.Fields.{no_properties, property_step}
 use Rattle.att_table.proofs.file.placed.properties_of.Given as goal
 

@@ -6,7 +6,7 @@ use Rattle.gatt_host.specs.Answers.{stop_of}
 use Rattle.gatt_host.specs.declared.host_fault.HostFault.{HostFault}
 use Rattle.gatt_laws.specs.machine.Event.{Happening}
 use Rattle.gatt_laws.specs.machine.Packets.{Fault, answered, completed_event, following_of, status_of}
-use Rattle.gatt_slots.specs.Slots.{Place}
+use Rattle.host_connections.specs.Slots.{Place}
 use Rattle.le_hci.specs.declared.init.Init.{Init}
 use Rattle.le_hci.specs.Init.{init_outcome}
 use Rattle.gatt_host.proofs.controller.Controller.command_complete.Goals as goal

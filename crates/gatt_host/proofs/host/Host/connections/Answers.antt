@@ -4,7 +4,7 @@ use Rattle.gatt_host.proofs.model.Seen.{seen_where}
 use Rattle.gatt_host.specs.Connections.{connections_in}
 use Rattle.gatt_host.specs.declared.host.Host.TheInside.{Inside}
 use Rattle.gatt_laws.specs.machine.Input.{run}
-use Rattle.gatt_slots.specs.Connections.{connections_left}
+use Rattle.host_connections.specs.Connections.{connections_left}
 
 pub returns-clause-run : goal.returns-clause-run
 returns-clause-run c = λ start input sent is.

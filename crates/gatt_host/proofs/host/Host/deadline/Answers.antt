@@ -5,7 +5,7 @@ use Rattle.gatt_host.specs.declared.host.Host.TheInside.{Inside}
 use Rattle.gatt_host.specs.HostModel.{HostModel}
 use Rattle.gatt_laws.proofs.QuietTicks.{is_quiet_before_the_deadline}
 use Rattle.gatt_laws.specs.machine.Input.{run}
-use Rattle.gatt_slots.specs.Slots.{slots_deadline}
+use Rattle.host_connections.specs.Slots.{slots_deadline}
 
 pub returns-clause-run : goal.returns-clause-run
 returns-clause-run c = λ start input sent is.

@@ -5,7 +5,7 @@ use Rattle.gatt_host.proofs.model.Opened.{reached_when_opened, stands_when_opene
 use Rattle.gatt_host.specs.declared.config.OpenFault.TheVariants.{BadConfig}
 use Rattle.gatt_host.specs.HostModel.{HostModel}
 use Rattle.gatt_host.specs.Opening.{held_at_first, start_of}
-use Rattle.gatt_slots.specs.Slots.{SlotStates}
+use Rattle.host_connections.specs.Slots.{SlotStates}
 
 pub returns-clause-opened : goal.returns-clause-opened
 returns-clause-opened c =

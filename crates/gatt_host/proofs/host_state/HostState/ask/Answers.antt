@@ -5,11 +5,11 @@ use Rattle.gatt_host.specs.contracts.host_state.HostState.{the_view}
 use Rattle.gatt_host.specs.Meaning.{IsOfItsTable}
 use Rattle.gatt_host.specs.ServerState.{ServerState, server_slot_at}
 use Rattle.gatt_host.proofs.places.Places.{asked_then_heard, both_brought}
-use Rattle.gatt_slots.specs.SlotState.{SlotState}
-use Rattle.gatt_slots.proofs.OfTable.{of_table_if_any, row_at_of_table, served_of_table}
-use Rattle.gatt_slots.specs.OfTable.{AreOfTable}
-use Rattle.gatt_slots.specs.Skips.{all_skipped}
-use Rattle.gatt_slots.specs.Slots.{SlotStates, all_heard, slot_state_at}
+use Rattle.host_connections.specs.SlotState.{SlotState}
+use Rattle.host_connections.proofs.OfTable.{of_table_if_any, row_at_of_table, served_of_table}
+use Rattle.host_connections.specs.OfTable.{AreOfTable}
+use Rattle.host_connections.specs.Skips.{all_skipped}
+use Rattle.host_connections.specs.Slots.{SlotStates, all_heard, slot_state_at}
 use Rattle.gatt_host.proofs.host_state.HostState.ask.Goals as goal
 
 pub returns : goal.returns

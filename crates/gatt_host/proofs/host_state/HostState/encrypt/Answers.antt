@@ -2,7 +2,7 @@ use Rattle.std.proofs.Common.{◌<◌, length, subst, sym}
 use Rattle.gatt_host.specs.contracts.host_state.HostState.{the_view}
 use Rattle.gatt_host.specs.Meaning.{IsOfItsTable}
 use Rattle.gatt_host.specs.ServerState.{ServerState}
-use Rattle.gatt_slots.proofs.OfTable.{linked_at_of_table}
+use Rattle.host_connections.proofs.OfTable.{linked_at_of_table}
 use Rattle.le_security.specs.Link.{Encryption}
 use Rattle.gatt_host.proofs.host_state.HostState.encrypt.Goals as goal
 

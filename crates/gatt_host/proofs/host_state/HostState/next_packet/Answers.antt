@@ -2,7 +2,7 @@ use Rattle.std.proofs.Common.{List, Option, subst, sym}
 use Rattle.gatt_host.proofs.model.PacketsAlone.{alone_still}
 use Rattle.gatt_host.specs.contracts.host_state.HostState.{the_view}
 use Rattle.gatt_host.specs.ServerState.{ServerState, OwesPacketsAlone}
-use Rattle.gatt_slots.specs.SlotState.{SlotState}
+use Rattle.host_connections.specs.SlotState.{SlotState}
 use Rattle.gatt_host.proofs.host_state.HostState.next_packet.Goals as goal
 
 pub returns-clause-packets : goal.returns-clause-packets

@@ -2,7 +2,7 @@ use Rattle.std.proofs.Common.{ap, ◌∙◌}
 use Rattle.att_table.specs.Table.{Contents}
 use Rattle.gatt_host.specs.contracts.host_state.HostState.{the_view}
 use Rattle.gatt_host.specs.ServerState.{ServerState}
-use Rattle.gatt_slots.proofs.OfTable.{replaced_of_table}
+use Rattle.host_connections.proofs.OfTable.{replaced_of_table}
 use Rattle.gatt_host.proofs.host_state.HostState.replace.Goals as goal
 
 pub hear-requires-clause-handles : goal.hear-requires-clause-handles

@@ -3,7 +3,7 @@ use Rattle.att_attributes.specs.declared.attr.Attr.{Attr}
 use Rattle.gatt_host.specs.contracts.host_state.HostState.{the_view}
 use Rattle.gatt_host.specs.Meaning.{IsOfItsTable}
 use Rattle.gatt_host.specs.ServerState.{ServerState}
-use Rattle.gatt_slots.specs.OfTable.{AreOfTable}
+use Rattle.host_connections.specs.OfTable.{AreOfTable}
 use Rattle.gatt_host.proofs.host_state.HostState.update.Goals as goal
 
 pub hear-requires-clause-handles : goal.hear-requires-clause-handles

@@ -1,9 +1,9 @@
 use Rattle.std.proofs.Common.{ap, subst, ◌∙◌}
 use Rattle.std.specs.Prelude.{OnOk, OnErr}
 use Rattle.std.specs.Io.KnownBytes.{Appends}
-use Rattle.octets.specs.Number.{Octets}
+use Rattle.octet_io.specs.Number.{Octets}
 use Rattle.gatt_subs.specs.RowsText.{text_by_parts, rows_text}
-use Rattle.octets.specs.Stream.{WritesFront}
+use Rattle.octet_io.specs.Stream.{WritesFront}
 use Rattle.gatt_subs.proofs.Writing.{text_of_parts}
 use Rattle.gatt_subs.proofs.rows.Rows.text.Goals as goal
 

@@ -1,7 +1,7 @@
 use Rattle.std.proofs.Common.{◌≡◌, ◌+◌, ◌%◌, ◌<◌, [], ◌∷◌, ◌++◌, length, get_or, sym, ◌∙◌, ap, ap₂, take_all, arith}
 use Rattle.std.proofs.lemmas.List.{get_or_default}
 use Rattle.arrayvec.specs.ArrayVec.{array_vec_len}
-use Rattle.octets.specs.Number.{Octets}
+use Rattle.octet_io.specs.Number.{Octets}
 use Rattle.le_acl.specs.Pdus.{Queued, empty}
 use Rattle.le_acl.proofs.Rings.{count_is, push_is, ring-push}
 use Rattle.le_acl.proofs.pdus.Pdus.push.Goals as goal

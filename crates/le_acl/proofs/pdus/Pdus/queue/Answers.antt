@@ -1,6 +1,6 @@
 use Rattle.std.proofs.Common.{◌≡◌, ℕ, ◌+◌, ◌<◌, List, [], ◌∷◌, ◌++◌, length, take, drop, take_at, ◌∙◌, ap, ap₂, arith}
 use Rattle.arrayvec.specs.ArrayVec.{ArrayVec, with_items}
-use Rattle.octets.specs.Number.{Octets}
+use Rattle.octet_io.specs.Number.{Octets}
 use Rattle.le_acl.specs.Packets.{Pdu}
 use Rattle.le_acl.specs.declared.pdus.Header.{Header}
 use Rattle.le_acl.specs.Pdus.{Queued}

@@ -1,0 +1,10 @@
+use Rattle.std.proofs.Common.{◌++◌, ap, ◌∙◌}
+use Rattle.std.specs.List.{flat_map}
+use Rattle.device_host.proofs.turn_effects.add_connections.Goals as goal
+use Rattle.app_lines.specs.Told.{lines_of_connection}
+
+pub loop-connection-init : goal.loop-connection-init
+loop-connection-init c = record {
+  told = ap (λ left. c.args.text.now.items ++ flat_map (lines_of_connection c.args.names.now.named) left)
+      (c.into_iter-connection-iterator.ensures.into_iter_gives ∙ c.connections-connection-items.ensures.server);
+}

@@ -1,0 +1,52 @@
+//! The notices of the host in one turn.
+
+use device_loop::Unsaved;
+use device_session::Heard;
+use gatt_host::{Listener, Notice};
+
+#[derive(Drop)]
+pub(crate) struct Hearing {
+    pub(crate) heard: Heard,
+    /// The connections with changes since the last save.
+    pub(crate) unsaved: Unsaved,
+    /// Set if the turn changed something that is saved.
+    pub(crate) is_change: bool,
+    /// Set if values that phones write are saved.
+    saves_values: bool,
+}
+
+impl Hearing {
+    pub(crate) fn new(heard: Heard, saves_values: bool) -> Hearing {
+        Hearing {
+            heard,
+            unsaved: Unsaved::new(),
+            is_change: false,
+            saves_values,
+        }
+    }
+
+    pub(crate) fn begin(&mut self) {
+        self.heard.begin();
+        self.unsaved.clear();
+        self.is_change = false;
+    }
+
+    /// Notes whether a notice reports a change of what is saved.
+    fn note(&mut self, notice: &Notice<'_>) {
+        self.is_change |= match notice {
+            Notice::Written { .. } => self.saves_values,
+            Notice::Configured { .. } | Notice::Confirmed { .. } => true,
+            _ => false,
+        };
+        if self.saves_values || !matches!(notice, Notice::Written { .. }) {
+            self.unsaved.hear(notice);
+        }
+    }
+}
+
+impl Listener for Hearing {
+    fn hear(&mut self, notice: Notice<'_>) {
+        self.note(&notice);
+        self.heard.hear(notice);
+    }
+}

@@ -1,0 +1,192 @@
+//! Output to the application, and the log of it.
+
+use crate::acceptance::Acceptance;
+use crate::application::Application;
+use crate::heard::Heard;
+use crate::missed::Missed;
+use app_lines::{Told, add_told};
+use device_io::{Log, Poller};
+use std::alloc::{AllocError, Global};
+use std::str;
+use std::time::Clock;
+
+/// Answers the application or its visitor. Disconnects it if its line is too long.
+pub(crate) fn reply<R: Clock + Eprint>(
+    application: &mut Application,
+    log: &Log<'_, R>,
+    is_too_long: bool,
+    text: Result<Vec<u8>, AllocError>,
+) {
+    if application.is_visited() {
+        reply_to_visitor(application, log, is_too_long, text);
+        return;
+    }
+    let is_said = say_or_end(application, log, text, "memory: refused for an answer");
+    if is_said && is_too_long {
+        application.flush();
+        application.end();
+        log.say("application ended: its line is too long");
+    }
+}
+
+fn reply_to_visitor<R: Clock + Eprint>(
+    application: &mut Application,
+    log: &Log<'_, R>,
+    is_too_long: bool,
+    text: Result<Vec<u8>, AllocError>,
+) {
+    match text {
+        Ok(text) => application.answer_visitor(Some(text.as_slice())),
+        Err(_) => {
+            log.say("memory: refused for an answer");
+            application.answer_visitor(None);
+        }
+    }
+    if is_too_long {
+        application.answer_visitor(None);
+    }
+}
+
+/// Sends a text. If memory was refused, logs that, ends the application and returns false.
+pub(crate) fn say_or_end<R: Clock + Eprint>(
+    application: &mut Application,
+    log: &Log<'_, R>,
+    text: Result<Vec<u8>, AllocError>,
+    refused: &str,
+) -> bool {
+    match text {
+        Ok(text) => {
+            say(application, log, text.as_slice());
+            true
+        }
+        Err(_) => {
+            log.say(refused);
+            application.end();
+            false
+        }
+    }
+}
+
+/// Sends a line, unless the application lacks the current state.
+pub(crate) fn tell<R: Clock + Eprint>(
+    alloc: Global,
+    application: &mut Application,
+    log: &Log<'_, R>,
+    told: &Told<'_>,
+) {
+    let mut text = Vec::new(alloc);
+    if !application.is_new && add_told(&mut text, told).is_ok() {
+        say(application, log, text.as_slice());
+    }
+}
+
+/// Sends the notices of a turn to the application and the log, and notes the values written.
+pub(crate) fn tell_heard<R: Clock + Eprint>(
+    application: &mut Application,
+    missed: &mut Missed,
+    log: &Log<'_, R>,
+    heard: &Heard,
+) {
+    if heard.is_refused {
+        log.say("memory: refused for notices");
+        application.end();
+    }
+    let written = heard.written.as_slice();
+    let noted = if application.is_there() && !application.is_new {
+        say(application, log, heard.text.as_slice());
+        missed.tell(written)
+    } else {
+        missed.add(written)
+    };
+    if noted.is_err() {
+        log.say("memory: refused for values that an application missed");
+    }
+    log_lines(log, heard.log.as_slice());
+}
+
+/// Writes what the application accepts. Once it has disconnected, notes what it may have missed.
+pub(crate) fn flush<R: Clock + Eprint>(
+    application: &mut Application,
+    missed: &mut Missed,
+    log: &Log<'_, R>,
+) {
+    application.flush();
+    tell_gone(application, log);
+    if !application.is_there() {
+        note_end(missed, application.has_read_all(), log);
+    }
+}
+
+/// Reads from the application and its visitor, and notifies an application that is replaced.
+pub(crate) fn fill<R: Clock + Eprint>(
+    alloc: Global,
+    application: &mut Application,
+    missed: &mut Missed,
+    log: &Log<'_, R>,
+) {
+    attend(application, missed, log);
+    if application.is_giving_place() {
+        tell(alloc, application, log, &Told::Replaced);
+    }
+    if application.fill() {
+        note_end(missed, false, log);
+    }
+}
+
+fn tell_gone<R: Clock + Eprint>(application: &mut Application, log: &Log<'_, R>) {
+    if application.is_just_gone() {
+        log.say("application gone");
+    }
+}
+
+fn note_end<R: Clock + Eprint>(missed: &mut Missed, has_read_all: bool, log: &Log<'_, R>) {
+    if missed.end(has_read_all).is_err() {
+        log.say("memory: refused for values that an application missed");
+    }
+}
+
+fn say<R: Clock + Eprint>(application: &mut Application, log: &Log<'_, R>, text: &[u8]) {
+    if !application.tell(text) {
+        log.say("application cut off: it does not read");
+    }
+}
+
+fn log_lines<R: Clock + Eprint>(log: &Log<'_, R>, lines: &[u8]) {
+    let Ok(text) = str::from_utf8(lines) else {
+        return;
+    };
+    for line in text.split('\n') {
+        if !line.is_empty() {
+            log.say(line);
+        }
+    }
+}
+
+fn attend<R: Clock + Eprint>(application: &mut Application, missed: &mut Missed, log: &Log<'_, R>) {
+    tell_gone(application, log);
+    let was_there = application.is_there();
+    let has_read_all = application.has_read_all();
+    if application.attend(log.now()) {
+        if !was_there {
+            note_end(missed, has_read_all, log);
+        }
+        log.say("application");
+    }
+}
+
+/// Accepts the next visitor. Logs only the first failure.
+pub(crate) fn accept<R: Clock + Eprint>(
+    application: &mut Application,
+    acceptance: &mut Acceptance,
+    poller: &Poller,
+    log: &Log<'_, R>,
+) {
+    match application.accept(poller, log.now()) {
+        Ok(is_accepted) => acceptance.succeed(is_accepted),
+        Err(_) => {
+            if acceptance.fail(log.now()) {
+                log.say("application: not accepted");
+            }
+        }
+    }
+}

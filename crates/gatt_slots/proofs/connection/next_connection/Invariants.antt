@@ -1,7 +1,0 @@
-use Rattle.std.proofs.Common.{◌≡◌}
-use Rattle.gatt_slots.specs.Connections.{connections_left}
-use Rattle.gatt_slots.proofs.connection.next_connection.Given as goal
-
--- there was none in the slots before
-abbrev pub invariant-loop-place : goal.invariant-loop-place
-invariant-loop-place l = connections_left l.slots l.arrivals l.from ≡ connections_left l.slots l.arrivals l.place

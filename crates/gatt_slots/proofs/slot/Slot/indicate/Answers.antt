@@ -1,4 +1,0 @@
-use Rattle.gatt_slots.proofs.slot.Slot.indicate.Goals as goal
-
-pub invariant_of-self : goal.invariant_of-self
-invariant_of-self c = c.self.invariant

@@ -1,0 +1,2 @@
+//! The promise of the host about its runs, as definitions with proofs.
+#![tactic(auto)]

@@ -1,0 +1,10 @@
+//! Calls, notices and connections, as an application sees them.
+#![tactic(auto)]
+
+mod app;
+mod connection;
+mod notice;
+
+pub use app::{App, AppFault};
+pub use connection::Connection;
+pub use notice::Notice;

@@ -1,5 +1,0 @@
-pub mod Memory
-pub mod Missing
-pub mod Number
-pub mod Stream
-pub mod Streams

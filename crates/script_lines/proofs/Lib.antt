@@ -1,3 +1,0 @@
-pub mod Echoing
-pub mod Fronts
-pub mod Telling

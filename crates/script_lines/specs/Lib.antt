@@ -1,2 +1,0 @@
-pub mod Echo
-pub mod Lines

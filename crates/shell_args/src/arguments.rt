@@ -1,0 +1,321 @@
+//! The names and tables of commands and arguments, for the parser and the help.
+
+use crate::argument::{Argument, Takes};
+use crate::help;
+use crate::subcommand::Subcommand;
+
+// The names of arguments.
+
+pub const TABLE: &str = "TABLE";
+
+pub const KEYS: &str = "KEYS";
+
+pub const SCRIPT: &str = "SCRIPT";
+
+pub const ADDRESS: &str = "ADDRESS";
+
+pub const ROWS: &str = "rows";
+
+pub const NEXT: &str = "next";
+
+pub const NOTICES: &str = "notices";
+
+pub const ECHO: &str = "echo";
+
+pub const SOCKET: &str = "SOCKET";
+
+pub const COMMAND: &str = "COMMAND";
+
+pub const FIRST: &str = "FIRST";
+
+pub const SECOND: &str = "SECOND";
+
+pub const THIRD: &str = "THIRD";
+
+pub const STATE: &str = "state";
+
+pub const SAVE_UPDATES: &str = "save-updates";
+
+pub const DROP_UNKNOWN: &str = "drop-unknown";
+
+pub const LISTEN: &str = "listen";
+
+pub const CONNECT: &str = "connect";
+
+pub const SERIAL: &str = "serial";
+
+pub const APPLICATION: &str = "application";
+
+pub const APPLICATION_PORT: &str = "application-port";
+
+pub const WAIT_FOR_APPLICATION: &str = "wait-for-application";
+
+pub const NAME: &str = "name";
+
+pub const ADVERTISE: &str = "advertise";
+
+pub const RANDOM_ADDRESS: &str = "address";
+
+pub const CAPTURE: &str = "capture";
+
+pub const CAPTURE_SIZE: &str = "capture-size";
+
+pub const LOG_VALUES: &str = "log-values";
+
+pub const SLOTS: &str = "slots";
+
+pub const IDLE: &str = "idle";
+
+pub const STRANGER: &str = "stranger";
+
+pub const PATIENCE: &str = "patience";
+
+pub const ONCE: &str = "once";
+
+/// The table file, for all commands that have one.
+const TABLE_FILE: Argument = Argument {
+    name: TABLE,
+    takes: Takes::Path,
+    about: "The table file: the attributes, their values and who may use them",
+};
+
+const KEY_FILE: Argument = Argument {
+    name: KEYS,
+    takes: Takes::Path,
+    about: "The key file: the long-term keys of known peers",
+};
+
+const ROWS_FILE: Argument = Argument {
+    name: ROWS,
+    takes: Takes::Value("FILE"),
+    about: "The rows file: the subscriptions of peers with keys",
+};
+
+const CHECK_ARGUMENTS: [Argument; 2] = [TABLE_FILE, KEY_FILE];
+
+const SHOW_ARGUMENTS: [Argument; 3] = [
+    TABLE_FILE,
+    Argument {
+        name: KEYS,
+        takes: Takes::PathIfAny,
+        about: "The key file: the long-term keys of known peers",
+    },
+    ROWS_FILE,
+];
+
+const RUN_ARGUMENTS: [Argument; 7] = [
+    TABLE_FILE,
+    KEY_FILE,
+    Argument {
+        name: SCRIPT,
+        takes: Takes::Path,
+        about: "The script: what phones and the application do, line by line",
+    },
+    ROWS_FILE,
+    Argument {
+        name: NEXT,
+        takes: Takes::Value("FILE"),
+        about: "The table file by which the line `replace` of a script replaces TABLE",
+    },
+    Argument {
+        name: NOTICES,
+        takes: Takes::Nothing,
+        about: "Print the notices to the application too, each on a line",
+    },
+    Argument {
+        name: ECHO,
+        takes: Takes::Nothing,
+        about: "Print each line of the script too, before its output",
+    },
+];
+
+const SERVE_ARGUMENTS: [Argument; 4] = [
+    TABLE_FILE,
+    KEY_FILE,
+    Argument {
+        name: ADDRESS,
+        takes: Takes::Path,
+        about: "The IP address and the port to listen at, as 127.0.0.1:5000",
+    },
+    ROWS_FILE,
+];
+
+const HOST_ARGUMENTS: [Argument; 23] = [
+    TABLE_FILE,
+    KEY_FILE,
+    Argument {
+        name: STATE,
+        takes: Takes::Value("DIR"),
+        about: "The folder that keeps values and subscriptions for the next start",
+    },
+    Argument {
+        name: SAVE_UPDATES,
+        takes: Takes::Nothing,
+        about: "Save in DIR also the values that only the application changes",
+    },
+    ROWS_FILE,
+    Argument {
+        name: DROP_UNKNOWN,
+        takes: Takes::Nothing,
+        about: "Delete the subscriptions of peers without a key, in place of refusing the file",
+    },
+    Argument {
+        name: LISTEN,
+        takes: Takes::Value("ADDRESS"),
+        about: "Wait for a controller to connect to this IP address and port",
+    },
+    Argument {
+        name: CONNECT,
+        takes: Takes::Value("ADDRESS"),
+        about: "Connect to a controller at this IP address and port, again until it is there",
+    },
+    Argument {
+        name: SERIAL,
+        takes: Takes::Value("PATH"),
+        about: "Serve the controller at this serial line, which is set up already",
+    },
+    Argument {
+        name: APPLICATION,
+        takes: Takes::Value("PATH"),
+        about: "Make this socket for the application; only its owner can connect",
+    },
+    Argument {
+        name: APPLICATION_PORT,
+        takes: Takes::Value("ADDRESS"),
+        about: "Wait for the application at this IP address and port, which anybody may reach",
+    },
+    Argument {
+        name: WAIT_FOR_APPLICATION,
+        takes: Takes::Nothing,
+        about: "Serve a controller only while an application is connected",
+    },
+    Argument {
+        name: NAME,
+        takes: Takes::Value("TEXT"),
+        about: "The name to advertise, shortened if it does not fit",
+    },
+    Argument {
+        name: ADVERTISE,
+        takes: Takes::Values("UUID"),
+        about: "The UUID of a service to advertise; say it once for each service",
+    },
+    Argument {
+        name: RANDOM_ADDRESS,
+        takes: Takes::Value("ADDRESS"),
+        about: "The static random address to use in place of the controller's own",
+    },
+    Argument {
+        name: CAPTURE,
+        takes: Takes::Value("FILE"),
+        about: "Record all packets in this file, in the format btsnoop",
+    },
+    Argument {
+        name: CAPTURE_SIZE,
+        takes: Takes::Value("BYTES"),
+        about: "The largest size of the capture [default: 104857600]",
+    },
+    Argument {
+        name: LOG_VALUES,
+        takes: Takes::Nothing,
+        about: "Log also the bytes that phones write, which can be secret",
+    },
+    Argument {
+        name: SLOTS,
+        takes: Takes::Value("N"),
+        about: "How many phones may be connected at once, from 1 to 8 [default: 4]",
+    },
+    Argument {
+        name: IDLE,
+        takes: Takes::Value("SECONDS"),
+        about: "Disconnect a phone without a key after so many silent seconds [default: never]",
+    },
+    Argument {
+        name: STRANGER,
+        takes: Takes::Value("SECONDS"),
+        about: "Disconnect a phone without a key after so many seconds [default: never]",
+    },
+    Argument {
+        name: PATIENCE,
+        takes: Takes::Value("SECONDS"),
+        about: "Give up a controller that makes no progress for so many seconds [default: 5]",
+    },
+    Argument {
+        name: ONCE,
+        takes: Takes::Nothing,
+        about: "End when the first controller is gone",
+    },
+];
+
+const TELL_ARGUMENTS: [Argument; 5] = [
+    Argument {
+        name: SOCKET,
+        takes: Takes::Path,
+        about: "The socket of the device, which its option --application names",
+    },
+    Argument {
+        name: COMMAND,
+        takes: Takes::Path,
+        about: "The first word of the line",
+    },
+    Argument {
+        name: FIRST,
+        takes: Takes::PathIfAny,
+        about: "The word that follows the command, if there is one",
+    },
+    Argument {
+        name: SECOND,
+        takes: Takes::PathIfAny,
+        about: "The next word",
+    },
+    Argument {
+        name: THIRD,
+        takes: Takes::PathIfAny,
+        about: "The last word",
+    },
+];
+
+/// The commands.
+pub const SUBCOMMANDS: [Subcommand; 7] = [
+    Subcommand {
+        name: help::ATT,
+        about: help::ATT_ABOUT,
+        details: help::ATT_DETAILS,
+        arguments: &[],
+    },
+    Subcommand {
+        name: help::CHECK,
+        about: help::CHECK_ABOUT,
+        details: help::CHECK_DETAILS,
+        arguments: &CHECK_ARGUMENTS,
+    },
+    Subcommand {
+        name: help::SHOW,
+        about: help::SHOW_ABOUT,
+        details: help::SHOW_DETAILS,
+        arguments: &SHOW_ARGUMENTS,
+    },
+    Subcommand {
+        name: help::RUN,
+        about: help::RUN_ABOUT,
+        details: help::RUN_DETAILS,
+        arguments: &RUN_ARGUMENTS,
+    },
+    Subcommand {
+        name: help::SERVE,
+        about: help::SERVE_ABOUT,
+        details: help::SERVE_DETAILS,
+        arguments: &SERVE_ARGUMENTS,
+    },
+    Subcommand {
+        name: help::HOST,
+        about: help::HOST_ABOUT,
+        details: help::HOST_DETAILS,
+        arguments: &HOST_ARGUMENTS,
+    },
+    Subcommand {
+        name: help::TELL,
+        about: help::TELL_ABOUT,
+        details: help::TELL_DETAILS,
+        arguments: &TELL_ARGUMENTS,
+    },
+];

@@ -1,0 +1,127 @@
+//! The texts that `--help` and `--version` print.
+
+pub const PROGRAM: &str = "gatt_shell";
+
+pub const VERSION: &str = "0.2.0";
+
+/// The description of the program.
+pub const ABOUT: &str = "\
+The host half of a Bluetooth Low Energy peripheral: an ATT and GATT server that is driven
+from the command line.";
+
+/// The exit statuses, below each help text.
+pub const STATUSES: &str = "\
+Exit status:
+   0  the work is done, or help or the version was asked for
+   1  a file is refused, or cannot be read or written
+   2  a fault in a run
+  64  the words of the command line are not understood";
+
+pub const ATT: &str = "att";
+
+pub const ATT_ABOUT: &str = "Answer ATT PDUs, one line of hexadecimal each, from standard input";
+
+pub const ATT_DETAILS: &str = "\
+Answer ATT PDUs, one line of hexadecimal each, from standard input.
+
+Each line of input is one ATT PDU in hexadecimal. All come from one connection of an unknown,
+unencrypted peer to the built-in example table. Each line of output is the answer to one PDU,
+in hexadecimal, or `-` if there is none. Blank lines are skipped.
+
+Example: the line `0a0300`, a Read Request of the handle 3, has the answer `0b4c6f636b`.
+
+  printf '0a0300\\n' | gatt_shell att";
+
+pub const CHECK: &str = "check";
+
+pub const CHECK_ABOUT: &str =
+    "Check a table file and a key file, and count their attributes and keys";
+
+pub const CHECK_DETAILS: &str = "\
+Check a table file and a key file, and count their attributes and keys.
+
+A table file is TOML that describes services, characteristics and descriptors (docs/TABLE.md). A
+key file is TOML with the long-term keys of known peers (docs/KEYS-FILE.md). The table file is
+checked first. The number of the first fault goes to standard error, and nothing else is printed.
+
+  gatt_shell check examples/door.toml examples/keys.toml";
+
+pub const SHOW: &str = "show";
+
+pub const SHOW_ABOUT: &str = "Show a table in words, who may use it, and what is wrong in a file";
+
+pub const SHOW_DETAILS: &str = "\
+Show a table in words, who may use it, and what is wrong in a file.
+
+Each attribute has a line: its handle, what it is, its type with its name, how many bytes its value
+may have, and what may be done with it. With KEYS there follow the handles that a stranger and each
+peer with a key may read, write and be notified of. The rows file is only checked. The number of the
+first fault goes to standard error, as by `check`, with its place and its cause.
+
+  gatt_shell show examples/door.toml examples/keys.toml";
+
+pub const RUN: &str = "run";
+
+pub const RUN_ABOUT: &str = "Run a script of phones against a host and a simulated controller";
+
+pub const RUN_DETAILS: &str = "\
+Run a script of phones against a host and a simulated controller, in memory.
+
+Each line of a script is an act of a phone or of the application. A phone connects, sends a PDU,
+encrypts its link or disconnects. The application updates a value, authorizes a phone, passes the
+time or replaces the table. After each line the program prints what was refused, what each phone
+received, and which connection the host ended. With --notices it also prints the notices to the
+application, and with --echo the line itself first. docs/SCRIPTS.md has all lines and their output.
+
+The rows file has the subscriptions of peers with keys. It is read first and written at the end. A
+missing one is empty.
+
+  gatt_shell run examples/door.toml examples/keys.toml examples/first_contact.script";
+
+pub const SERVE: &str = "serve";
+
+pub const SERVE_ABOUT: &str = "Serve a controller over one TCP connection";
+
+pub const SERVE_DETAILS: &str = "\
+Serve a controller over one TCP connection.
+
+The connection carries H4, the UART transport of a Bluetooth controller. The program serves the
+first connection until it ends, and then ends itself. At most four phones are connected at once.
+docs/SERVE.md joins it to a controller on a serial line, and docs/CLI.md has the faults that end it.
+
+The rows file has the subscriptions of peers with keys. It is read first and written at the end. A
+missing one is empty.
+
+  gatt_shell serve examples/door.toml examples/keys.toml 127.0.0.1:5000";
+
+pub const HOST: &str = "host";
+
+pub const HOST_ABOUT: &str = "Serve one controller after another, with an application";
+
+pub const HOST_DETAILS: &str = "\
+Serve one controller after another, with an application.
+
+The connection of a controller carries H4. If the controller goes, or the host stops with a fault,
+the next one is served with the same values and subscriptions. An application connects to a socket,
+and exchanges lines with the device (docs/DEVICE.md). With --state the device saves values and
+subscriptions before it answers a phone, and a restart begins with them. The log is on standard
+error. A script can wait for its line `ready`.
+
+  mkdir -p door.state
+  gatt_shell host examples/door.toml examples/keys.toml --listen 127.0.0.1:5000 \\
+      --application door.socket --state door.state";
+
+pub const TELL: &str = "tell";
+
+pub const TELL_ABOUT: &str = "Send one line to a device, and print its answer";
+
+pub const TELL_DETAILS: &str = "\
+Send one line to a device, and print its answer.
+
+The words are one line of an application (docs/DEVICE.md). A question (`value`, `connections`,
+`subscriptions`, `find`) and `stop` leave the application alone. Any other command disconnects it.
+The status is 1 if the device refuses the line, and 2 if it cannot be reached.
+
+  gatt_shell tell door.socket value 10
+  gatt_shell tell door.socket find fff0 fff3 2
+  gatt_shell tell door.socket stop";

@@ -1,0 +1,22 @@
+//! The command `show`: its words and its choice.
+
+ghost use Rattle.std.specs.Prelude.{◌≡◌, codes, IfSome};
+ghost use Rattle.clap.specs.Words.{found_of, rows_of};
+ghost use Rattle.shell_args.specs.CommandLine.{command_name};
+ghost use Rattle.shell_args.specs.CommandLine.{HasFilesOf};
+
+use crate::arguments;
+use crate::words::Choice;
+use clap::ArgMatches;
+
+#[tactic(auto, using(crate::proofs::CommandLines::first_in_rows))]
+pub(crate) fn showing<'a>(matches: &ArgMatches<'a>) -> Option<Choice<'a>>
+    ensures name { IfSome result (λ choice. command_name choice ≡ codes "show") }
+    ensures files { IfSome result (HasFilesOf (rows_of (found_of matches.now))) }
+{
+    Some(Choice::Show {
+        table: matches.get_str(arguments::TABLE)?,
+        keys: matches.get_str(arguments::KEYS),
+        rows: matches.get_str(arguments::ROWS),
+    })
+}
