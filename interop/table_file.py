@@ -1,4 +1,4 @@
-"""What a table file promises, worked out from docs/FORMATS.md and docs/PROFILE.md.
+"""What a table file promises, worked out from docs/TABLE.md and docs/PROFILE.md.
 
 A second reading of these documents, in no way derived from the host: it takes a table, one peer and
 one connection, and tells the answer that is due to a request.

@@ -63,7 +63,7 @@ pub struct Fault {
 }
 
 impl Fault {
-    /// Returns the number of the fault, which `docs/FORMATS.md` lists for each file.
+    /// Returns the number of the fault, which `docs/TABLE.md`, `docs/KEYS-FILE.md` and `docs/SUBSCRIPTIONS.md` list.
     pub fn number(&self) -> u32 {
         self.number
     }
