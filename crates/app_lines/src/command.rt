@@ -67,7 +67,7 @@ pub fn read_line(line: &str) -> Result<Command<'_>, Wrong>
     };
     match first_word(rest) {
         None => read_four(first, second, third, rest),
-        Some(_) => Err(miscounted(first, 5)),
+        Some(_) => Err(count_fault(first, 5)),
     }
 }
 
@@ -90,7 +90,7 @@ fn read_one(first: &str) -> Result<Command<'_>, Wrong>
     match first {
         "connections" => Ok(Command::Connections),
         "stop" => Ok(Command::Stop),
-        _ => Err(miscounted(first, 1)),
+        _ => Err(count_fault(first, 1)),
     }
 }
 
@@ -122,7 +122,7 @@ fn read_two<'a>(first: &str, second: &'a str) -> Result<Command<'a>, Wrong>
             Ok(name) => Ok(Command::Subscriptions { name }),
             Err(wrong) => Err(wrong),
         },
-        _ => Err(miscounted(first, 2)),
+        _ => Err(count_fault(first, 2)),
     }
 }
 
@@ -134,7 +134,7 @@ fn read_three<'a>(first: &str, second: &str, third: &'a str) -> Result<Command<'
         "update" => read_update(second, third),
         "allow" => read_allow(second, third),
         "find" => read_find(second, third, 1),
-        _ => Err(miscounted(first, 3)),
+        _ => Err(count_fault(first, 3)),
     }
 }
 
@@ -152,7 +152,7 @@ fn read_four<'a>(
             Ok(number) => read_find(second, third, number),
             Err(wrong) => Err(wrong),
         },
-        _ => Err(miscounted(first, 4)),
+        _ => Err(count_fault(first, 4)),
     }
 }
 
@@ -235,7 +235,7 @@ fn count_at(place: usize, word: &str) -> Result<u16, Wrong>
     }
 }
 
-fn miscounted(first: &str, count: usize) -> Wrong
+fn count_fault(first: &str, count: usize) -> Wrong
     ensures { result ≡ fault_by_count (most_words first.now) count }
 {
     match most_words(first) {

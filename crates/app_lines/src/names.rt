@@ -50,7 +50,7 @@ impl Names {
     }
 
     /// Returns a copy.
-    pub fn copied(&self) -> Names
+    pub fn copy(&self) -> Names
         ensures { result ≡ self.now }
     {
         let mut named = ArrayVec::new();

@@ -63,7 +63,7 @@ impl Outbox {
     }
 
     /// Removes the first `count` bytes, which were sent.
-    pub fn sent(&mut self, count: usize)
+    pub fn remove_sent(&mut self, count: usize)
         requires { count ≤ length self.old.octets }
         ensures left { self.new.octets ≡ drop count self.old.octets }
         ensures limit { self.new.limit ≡ self.old.limit }

@@ -84,10 +84,13 @@ range kind (attr ∷ rest) h k first last handles kinds =
                 let no_skip : first - 1 - h ≡ 0 = omega arith in
                 let none_later : first - 1 - (h + 1) ≡ 0 = omega arith in
                 let in_range = test_in (kind attr.handle) k first last attr.handle (omega (arith, handles.0)) (omega (arith, handles.0)) in
-                let tail : filter (is_of kind k first last) (handles_of rest) ≡ of_kind k (take (last - (h + 1)) rest) = later ∙ ap (λ n. of_kind k (drop n (take (last - (h + 1)) rest))) none_later in
+                let tail : filter (is_of kind k first last) (handles_of rest) ≡ of_kind k (take (last - (h + 1)) rest) =
+                later ∙ ap (λ n. of_kind k (drop n (take (last - (h + 1)) rest))) none_later in
                 rw (in_range, kinds.0, left, no_skip, tail)
                 (elim (attr.kind == k) as (λ b. cond b (attr.handle ∷ of_kind k (take (last - (h + 1)) rest)) (of_kind k (take (last - (h + 1)) rest))
-                ≡ handles_of (cond b (attr ∷ filter (λ (a : Attr). a.kind == k) (take (last - (h + 1)) rest)) (filter (λ (a : Attr). a.kind == k) (take (last - (h + 1)) rest)))) [
+                ≡ handles_of
+                (cond b (attr ∷ filter (λ (a : Attr). a.kind == k) (take (last - (h + 1)) rest))
+                (filter (λ (a : Attr). a.kind == k) (take (last - (h + 1)) rest)))) [
                   | true ↦ refl
                   | false ↦ refl
                 ])
@@ -135,7 +138,8 @@ pub index_from : (attributes : List Attr) (place : ℕ) → IsNumbered attribute
     → IsIndex (type_at attributes) (length attributes) (by_type (type_at attributes) (handles_of (drop place attributes)))
 index_from attributes place numbered within =
     let long = length-drop place attributes in
-    let both = ordered_from (type_at attributes) (drop place attributes) (0 + place) (length attributes) (handles_drop attributes 0 place numbered.handles) (omega (arith, long)) in
+    let both = ordered_from (type_at attributes) (drop place attributes) (0 + place) (length attributes) (handles_drop attributes 0 place numbered.handles)
+    (omega (arith, long)) in
     record { within = above_less 0 (0 + place) (length attributes) _ (omega arith) both.0; ordered = both.1 }
 
 pub index_of : (attributes : List Attr) → IsNumbered attributes → IsIndex (type_at attributes) (length attributes) (handles_by_type attributes)
@@ -313,7 +317,8 @@ range_between handles first last start end ascending at to =
     ] in
     same
     ∙ ap (λ n. drop from (take n handles)) to
-    ∙ between (λ x. nat_lt x first) (λ x. nat_lt x (last + 1)) handles (closed_ascending first handles ascending) (closed_ascending (last + 1) handles ascending)
+    ∙ between (λ x. nat_lt x first) (λ x. nat_lt x (last + 1)) handles (closed_ascending first handles ascending)
+    (closed_ascending (last + 1) handles ascending)
     ∙ filter_same (is_between (λ x. nat_lt x first) (λ x. nat_lt x (last + 1))) (λ x. nat_le first x && nat_le x last) handles (λ x. is_within first last x)
 
 -- the same where none is above the last

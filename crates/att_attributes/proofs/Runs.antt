@@ -122,7 +122,8 @@ next_run kind index (suc before) run ordered within so_far ended =
     ] in
     omega (arith, end, has.0, place_less kind index (k + 1) own (goal (nat_lt own (k + 1)) refl))
 
-pub begun_run : (kind : ℕ → ℕ) (index : List ℕ) (place : ℕ) (run : Run) (end : ℕ) → IsOrdered kind index → place < length index → IsRunBefore kind index place run
+pub begun_run : (kind : ℕ → ℕ) (index : List ℕ) (place : ℕ) (run : Run) (end : ℕ) → IsOrdered kind index → place < length index
+    → IsRunBefore kind index place run
     → run.end ≡ place → end ≡ place_of kind index (kind (get_or index run.end 0) + 1)
     → record { begin = run.end; end = end } ≡ run_of kind index (kind (get_or index place 0))
 begun_run kind index place run end ordered within so_far ended found =
@@ -139,7 +140,8 @@ map_taken f (x ∷ xs) (suc place) within =
     ap (λ l. f x ∷ l) (map_taken f xs place (omega arith)) ∙ ap (λ n. map f (take n (x ∷ xs))) next
 
 pub one_run_more : (kind : ℕ → ℕ) (index : List ℕ) (place : ℕ) (run : Run) (runs made : List Run) → IsOrdered kind index → place < length index
-    → runs ≡ map (λ handle. run_of kind index (kind handle)) (take place index) → run ≡ run_of kind index (kind (get_or index place 0)) → made ≡ runs ++ run ∷ []
+    → runs ≡ map (λ handle. run_of kind index (kind handle)) (take place index) → run ≡ run_of kind index (kind (get_or index place 0))
+    → made ≡ runs ++ run ∷ []
     → (made ≡ map (λ handle. run_of kind index (kind handle)) (take (place + 1) index)) × IsRunBefore kind index (place + 1) run
 one_run_more kind index place run runs made ordered within so_far is pushed =
     let f : ℕ → Run = λ handle. run_of kind index (kind handle) in

@@ -31,7 +31,8 @@ after_put kind x h (y ∷ ys) first after = elim (nat_lt (kind y) (kind h)) as
       | false ↦ (first, after)
     ]
 
-after_more : (kind : ℕ → ℕ) (x h last : ℕ) (ys : List ℕ) → nat_lt (kind x) (kind h) ≡ false → h < x → AllAfter kind x ys → AllAbove h last ys → AllAfter kind h ys
+after_more : (kind : ℕ → ℕ) (x h last : ℕ) (ys : List ℕ) → nat_lt (kind x) (kind h) ≡ false → h < x → AllAfter kind x ys → AllAbove h last ys
+    → AllAfter kind h ys
 after_more kind x h last [] fails first after above = tt
 after_more kind x h last (y ∷ ys) fails first after above =
     (before_more (kind x) x (kind y) y (kind h) h fails above.0 after.0 first, after_more kind x h last ys fails first after.1 above.2)

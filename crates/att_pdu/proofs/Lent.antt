@@ -13,8 +13,17 @@ use Rattle.octet_io.specs.Number.{Octets}
 
 -- its bounds are facts, of which there is one proof each
 pub written_over : (pdu : PduBuf) (written : Octets) (least : 23 ≤ pdu.mtu) (most : pdu.mtu ≤ 517)
-    (within : length_in pdu.end (array_vec_len (with_items pdu.octets.now written)) ≤ pdu.mtu) (room : needed pdu.end pdu.mtu ≤ array_vec_len (with_items pdu.octets.now written))
-    → ◌≡◌ {A = PduBuf} record { octets = record pdu.octets { now = with_items pdu.octets.now written }; end = pdu.end; mtu = pdu.mtu; least = least; most = most; within = within; room = room } (with_octets pdu written)
+    (within : length_in pdu.end (array_vec_len (with_items pdu.octets.now written)) ≤ pdu.mtu)
+    (room : needed pdu.end pdu.mtu ≤ array_vec_len (with_items pdu.octets.now written))
+    → ◌≡◌ {A = PduBuf} record {
+      octets = record pdu.octets { now = with_items pdu.octets.now written };
+      end = pdu.end;
+      mtu = pdu.mtu;
+      least = least;
+      most = most;
+      within = within;
+      room = room;
+    } (with_octets pdu written)
 written_over pdu written least most within room = λ i. record {
   octets = record pdu.octets { now = with_items pdu.octets.now written };
   end = pdu.end;

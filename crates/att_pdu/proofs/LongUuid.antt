@@ -37,14 +37,17 @@ bytes_low_first-octets_of i (suc count) n =
 to_le_bytes-octets_of : (n : ℕ) → to_le_bytes w128 n ≡ octets_of 16 n
 to_le_bytes-octets_of n = λ i. (n % 256) ∷ bytes_low_first-octets_of 0 15 n i
 
-from_le_bytes-number : (a b c d e f g h i j k l m n o p : ℕ) → let octets = a ∷ b ∷ c ∷ d ∷ e ∷ f ∷ g ∷ h ∷ i ∷ j ∷ k ∷ l ∷ m ∷ n ∷ o ∷ p ∷ [] in from_le_bytes w128 octets ≡ number octets
+from_le_bytes-number : (a b c d e f g h i j k l m n o p : ℕ) → let octets = a ∷ b ∷ c ∷ d ∷ e ∷ f ∷ g ∷ h ∷ i ∷ j ∷ k ∷ l ∷ m ∷ n ∷ o ∷ p ∷ [] in
+    from_le_bytes w128 octets ≡ number octets
 from_le_bytes-number a b c d e f g h i j k l m n o p = omega arith
 
-pub long_spelled : (octets : List ℕ) (long : ℕ) → length octets ≡ 16 → ((i : ℕ) → get_or octets i 0 < 256) → long ≡ from_le_bytes w128 octets → to_le_bytes w128 long ≡ octets
+pub long_spelled : (octets : List ℕ) (long : ℕ) → length octets ≡ 16 → ((i : ℕ) → get_or octets i 0 < 256) → long ≡ from_le_bytes w128 octets
+    → to_le_bytes w128 long ≡ octets
 long_spelled (a ∷ b ∷ c ∷ d ∷ e ∷ f ∷ g ∷ h ∷ i ∷ j ∷ k ∷ l ∷ m ∷ n ∷ o ∷ p ∷ []) long size small is =
     to_le_bytes-octets_of long ∙ ap (octets_of 16) (is ∙ from_le_bytes-number a b c d e f g h i j k l m n o p)
     ∙ octets_of-number (a ∷ b ∷ c ∷ d ∷ e ∷ f ∷ g ∷ h ∷ i ∷ j ∷ k ∷ l ∷ m ∷ n ∷ o ∷ p ∷ []) small
 long_spelled octets long size small is = absurd (omega arith)
 
 pub long_read : (long : ℕ) → long < 2 ^ 128 → from_le_bytes w128 (to_le_bytes w128 long) ≡ long
-long_read long fits = ap (from_le_bytes w128) (to_le_bytes-octets_of long) ∙ from_le_bytes-number _ _ _ _ _ _ _ _ _ _ _ _ _ _ _ _ ∙ number-octets_of 16 long fits
+long_read long fits = ap (from_le_bytes w128) (to_le_bytes-octets_of long) ∙ from_le_bytes-number _ _ _ _ _ _ _ _ _ _ _ _ _ _ _ _
+    ∙ number-octets_of 16 long fits

@@ -3,7 +3,7 @@ use crate::uuid::Uuid;
 /// A PDU of a client (Core 5.0, Vol 3 Part F, 3.4).
 ///
 /// Handles are unchecked: a range may be empty or begin with 0. Offsets and MTUs are in octets.
-#[derive(Clone, Copy, PartialEq, Eq)]
+#[derive(Clone, Copy, Debug, PartialEq, Eq)]
 pub enum Request<'a> {
     ExchangeMtu {
         client_rx_mtu: u16,

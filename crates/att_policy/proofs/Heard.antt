@@ -25,8 +25,10 @@ allowed : (bits : ℕ) → (bits == 0) ≡ false → 0 < bits
 allowed bits is = grind (arith, nat_tests)
 
 -- where a bit is allowed, a client may hear exactly where no rule is found
-pub heard : (guard : Guard) (bits : ℕ) (standing : Standing) (found : Option Rule) (result : Bool) → (bit_and bits (configuration_bits_of guard.properties) == 0) ≡ false
-    → found ≡ first_unmet_rule_of guard.read standing → result ≡ is_none found → (IsTrue result → MayHear guard bits standing) × (MayHear guard bits standing → IsTrue result)
+pub heard : (guard : Guard) (bits : ℕ) (standing : Standing) (found : Option Rule) (result : Bool)
+    → (bit_and bits (configuration_bits_of guard.properties) == 0) ≡ false
+    → found ≡ first_unmet_rule_of guard.read standing → result ≡ is_none found → (IsTrue result → MayHear guard bits standing)
+    × (MayHear guard bits standing → IsTrue result)
 heard guard bits standing found result is of none = (
   λ true. record {
     allowed = allowed (bit_and bits (configuration_bits_of guard.properties)) is;

@@ -39,10 +39,12 @@ found_first p rule KeySize h below = grind arith
 found_first p rule SecureConnections h below = grind arith
 found_first p rule Authorization h below = grind arith
 
-pub is_permitted : (access : Access) (guard : Option Guard) (standing : Standing) → first_broken_rule_of access guard standing ≡ None → IsPermitted access guard standing
+pub is_permitted : (access : Access) (guard : Option Guard) (standing : Standing) → first_broken_rule_of access guard standing ≡ None
+    → IsPermitted access guard standing
 is_permitted access guard standing h = none_found (is_broken access guard standing) h
 
-pub is_first_broken : (access : Access) (guard : Option Guard) (standing : Standing) (rule : Rule) → first_broken_rule_of access guard standing ≡ Some rule → IsFirstBroken access guard standing rule
+pub is_first_broken : (access : Access) (guard : Option Guard) (standing : Standing) (rule : Rule) → first_broken_rule_of access guard standing ≡ Some rule
+    → IsFirstBroken access guard standing rule
 is_first_broken access guard standing rule h = record {
   broken = found (is_broken access guard standing) rule h;
   none_before = λ earlier below. found_first (is_broken access guard standing) rule earlier h below;

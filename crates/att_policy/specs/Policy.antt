@@ -1,5 +1,5 @@
 -- The rules of an access in this profile's order, with their error codes (Core 5.0, Vol 3 Part F,
--- 3.4.1.1).
+-- 3.4.1.1), and which values a connection may be notified of.
 use Rattle.std.specs.Prelude.{◌≡◌, ℕ, ◌+◌, ◌<◌, Bool, true, false, ◌==◌, ◌&&◌, ◌||◌, not, nat_lt, nat_le, is_none, if◌then◌else◌, List, [], ◌∷◌, Option, Some, None}
 use Rattle.std.specs.Int.RustNames.{bit_and}
 use Rattle.std.specs.List.{find}

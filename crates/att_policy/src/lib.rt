@@ -1,5 +1,5 @@
-//! The access policy: decides which accesses a connection may make, and with which ATT error the
-//! server rejects the others.
+//! The access policy: decides which accesses a connection may make, with which ATT error the
+//! server rejects the others, and which values a connection may be notified of.
 #![tactic(auto)]
 
 mod guard;

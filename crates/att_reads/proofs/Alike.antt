@@ -50,7 +50,8 @@ unless_same : (request : Opcode) (refusal : Option Refusal) (some other : List (
 unless_same request (Some refusal) some other x y same = refl
 unless_same request None some other x y same = same refl
 
-permitted_at : (standing : Standing) (table : Contents) (handle : Handle) → read_refusal table.attributes standing handle ≡ None → refusal_at table.attributes standing handle ≡ None
+permitted_at : (standing : Standing) (table : Contents) (handle : Handle) → read_refusal table.attributes standing handle ≡ None
+    → refusal_at table.attributes standing handle ≡ None
 permitted_at standing table handle is =
     elim (refusal_at table.attributes standing handle) as
     (λ code. (elim code as (λ _. Option Refusal) [ None ↦ None | Some n ↦ Some (record { handle = handle; code = n }) ]) ≡ None → code ≡ None) [
@@ -66,7 +67,8 @@ value_same standing table values row mtu handle readable =
     unless_same READ_REQUEST (read_refusal table.attributes standing handle) [] [] _ _
     (λ none. ap (λ value. ReadResponse (take (mtu - 1) value)) (same_value standing table values row readable handle (permitted_at standing table handle none)))
 
-part_same : (standing : Standing) (table : Contents) (values : ValueList) (row : Row) (mtu : Mtu) (handle : Handle) (offset : ℕ) → AreReadable standing table values
+part_same : (standing : Standing) (table : Contents) (values : ValueList) (row : Row) (mtu : Mtu) (handle : Handle) (offset : ℕ)
+    → AreReadable standing table values
     → part_answer (with_values table values) row standing mtu handle offset ≡ part_answer table row standing mtu handle offset
 unfolding part_answer
 part_same standing table values row mtu handle offset readable =
@@ -75,18 +77,22 @@ part_same standing table values row mtu handle offset readable =
     (same_value standing table values row readable handle (permitted_at standing table handle none)))
 
 -- several values, none of which is refused
-values_same : (standing : Standing) (table : Contents) (values : ValueList) (row : Row) (handles : List Handle) (respond : Octets → Response) → AreReadable standing table values
-    → unless_refused READ_MULTIPLE_REQUEST (map (read_refusal table.attributes standing) handles) (respond (flat_map (value_for (with_values table values) row) handles))
+values_same : (standing : Standing) (table : Contents) (values : ValueList) (row : Row) (handles : List Handle) (respond : Octets → Response)
+    → AreReadable standing table values
+    → unless_refused READ_MULTIPLE_REQUEST (map (read_refusal table.attributes standing) handles)
+    (respond (flat_map (value_for (with_values table values) row) handles))
     ≡ unless_refused READ_MULTIPLE_REQUEST (map (read_refusal table.attributes standing) handles) (respond (flat_map (value_for table row) handles))
 values_same standing table values row [] respond readable = refl
 values_same standing table values row (handle ∷ rest) respond readable =
     unless_same READ_MULTIPLE_REQUEST (read_refusal table.attributes standing handle) _ _ _ _
     (λ none.
-    ap (λ value. unless_refused READ_MULTIPLE_REQUEST (map (read_refusal table.attributes standing) rest) (respond (value ++ flat_map (value_for (with_values table values) row) rest)))
+    ap (λ value. unless_refused READ_MULTIPLE_REQUEST (map (read_refusal table.attributes standing) rest)
+    (respond (value ++ flat_map (value_for (with_values table values) row) rest)))
     (same_value standing table values row readable handle (permitted_at standing table handle none))
     ∙ values_same standing table values row rest (λ octets. respond (value_for table row handle ++ octets)) readable)
 
-multiple_same : (standing : Standing) (table : Contents) (values : ValueList) (row : Row) (mtu : Mtu) (handles : List Handle) → AreReadable standing table values
+multiple_same : (standing : Standing) (table : Contents) (values : ValueList) (row : Row) (mtu : Mtu) (handles : List Handle)
+    → AreReadable standing table values
     → multiple_answer (with_values table values) row standing mtu handles ≡ multiple_answer table row standing mtu handles
 unfolding multiple_answer
 multiple_same standing table values row mtu handles readable =
@@ -105,13 +111,15 @@ match_same : (standing : Standing) (table : Contents) (values : ValueList) (row 
 match_same standing table values row value readable =
     λ i handle. match-at standing table values row value readable handle (refusal_at table.attributes standing handle) refl i
 
-found_same : (standing : Standing) (table : Contents) (values : ValueList) (row : Row) (mtu : Mtu) (first last : Handle) (type : AttributeType) (value : Octets) → AreReadable standing table values
+found_same : (standing : Standing) (table : Contents) (values : ValueList) (row : Row) (mtu : Mtu) (first last : Handle) (type : AttributeType) (value : Octets)
+    → AreReadable standing table values
     → found_answer (with_values table values) row standing mtu first last type value ≡ found_answer table row standing mtu first last type value
 unfolding found_answer
 found_same standing table values row mtu first last type value readable =
     ap (λ test.
     let found = filter test (handles_of_type table.attributes type first last) in
-    unless_refused FIND_BY_TYPE_VALUE_REQUEST (range_refusal first last ∷ not_found first found ∷ []) (FindByTypeValueResponse (map (group_of table) (take ((mtu - 1) / 4) found))))
+    unless_refused FIND_BY_TYPE_VALUE_REQUEST (range_refusal first last ∷ not_found first found ∷ [])
+    (FindByTypeValueResponse (map (group_of table) (take ((mtu - 1) / 4) found))))
     (match_same standing table values row value readable)
 
 -- attributes that may be listed
@@ -129,7 +137,8 @@ candidate_same standing table values row mtu Groups readable handle none =
       element = element_of Groups table handle (take (cut_of Groups mtu) value);
     }) (same_value standing table values row readable handle (permitted_at standing table handle none))
 
-run-at : (size : ℕ) (new old : Handle → Candidate) (handle : Handle) (rest : List Handle) (refusal : Option Refusal) → (new handle).refusal ≡ refusal → (old handle).refusal ≡ refusal
+run-at : (size : ℕ) (new old : Handle → Candidate) (handle : Handle) (rest : List Handle) (refusal : Option Refusal) → (new handle).refusal ≡ refusal
+    → (old handle).refusal ≡ refusal
     → ((old handle).refusal ≡ None → new handle ≡ old handle)
     → take_while (is_listed size) (map new rest) ≡ take_while (is_listed size) (map old rest)
     → take_while (is_listed size) (map new (handle ∷ rest)) ≡ take_while (is_listed size) (map old (handle ∷ rest))
@@ -153,36 +162,47 @@ run_same size new old (handle ∷ rest) refused same =
 -- the whole list, whose first one is not refused
 listed-at : (mtu : Mtu) (new old : Handle → Candidate) (handle : Handle) (rest : List Handle) (respond : ℕ → List Element → Response) → new handle ≡ old handle
     → ((size : ℕ) → take_while (is_listed size) (map new (handle ∷ rest)) ≡ take_while (is_listed size) (map old (handle ∷ rest)))
-    → respond (candidate_size (new handle)) (elements_within mtu (map new (handle ∷ rest))) ≡ respond (candidate_size (old handle)) (elements_within mtu (map old (handle ∷ rest)))
+    → respond (candidate_size (new handle)) (elements_within mtu (map new (handle ∷ rest)))
+    ≡ respond (candidate_size (old handle)) (elements_within mtu (map old (handle ∷ rest)))
 listed-at mtu new old handle rest respond first run =
-    ap (λ candidate. respond (candidate_size candidate) (elements (take ((mtu - 2) / candidate_size candidate) (take_while (is_listed (candidate_size candidate)) (map new (handle ∷ rest)))))) first
-    ∙ ap (λ candidates. respond (candidate_size (old handle)) (elements (take ((mtu - 2) / candidate_size (old handle)) candidates))) (run (candidate_size (old handle)))
+    ap (λ candidate.
+    respond (candidate_size candidate)
+    (elements (take ((mtu - 2) / candidate_size candidate) (take_while (is_listed (candidate_size candidate)) (map new (handle ∷ rest)))))) first
+    ∙ ap (λ candidates. respond (candidate_size (old handle)) (elements (take ((mtu - 2) / candidate_size (old handle)) candidates)))
+    (run (candidate_size (old handle)))
 
 list_same : (request : Opcode) (mtu : Mtu) (start : Handle) (new old : Handle → Candidate) (handles : List Handle) (respond : ℕ → List Element → Response)
     → ((handle : Handle) → (new handle).refusal ≡ (old handle).refusal) → ((handle : Handle) → (old handle).refusal ≡ None → new handle ≡ old handle)
-    → unless_refused request (not_found start (map new handles) ∷ first_refusal (map new handles) ∷ []) (respond (size_of_first (map new handles)) (elements_within mtu (map new handles)))
-    ≡ unless_refused request (not_found start (map old handles) ∷ first_refusal (map old handles) ∷ []) (respond (size_of_first (map old handles)) (elements_within mtu (map old handles)))
+    → unless_refused request (not_found start (map new handles) ∷ first_refusal (map new handles) ∷ [])
+    (respond (size_of_first (map new handles)) (elements_within mtu (map new handles)))
+    ≡ unless_refused request (not_found start (map old handles) ∷ first_refusal (map old handles) ∷ [])
+    (respond (size_of_first (map old handles)) (elements_within mtu (map old handles)))
 list_same request mtu start new old [] respond refused same = refl
 list_same request mtu start new old (handle ∷ rest) respond refused same =
-    ap (λ refusal. unless_refused request (refusal ∷ []) (respond (candidate_size (new handle)) (elements_within mtu (map new (handle ∷ rest))))) (refused handle)
+    ap (λ refusal. unless_refused request (refusal ∷ []) (respond (candidate_size (new handle)) (elements_within mtu (map new (handle ∷ rest)))))
+    (refused handle)
     ∙ unless_same request (old handle).refusal [] [] _ _
     (λ none. listed-at mtu new old handle rest respond (same handle none) (λ size. run_same size new old (handle ∷ rest) refused same))
 
-values_list_same : (standing : Standing) (table : Contents) (values : ValueList) (row : Row) (mtu : Mtu) (first last : Handle) (type : AttributeType) → AreReadable standing table values
+values_list_same : (standing : Standing) (table : Contents) (values : ValueList) (row : Row) (mtu : Mtu) (first last : Handle) (type : AttributeType)
+    → AreReadable standing table values
     → values_answer (with_values table values) row standing mtu first last type ≡ values_answer table row standing mtu first last type
 unfolding values_answer
 values_list_same standing table values row mtu first last type readable =
     unless_same READ_BY_TYPE_REQUEST (range_refusal first last) _ _ _ _
-    (λ _. list_same READ_BY_TYPE_REQUEST mtu first (candidate_of Values (with_values table values) row standing mtu) (candidate_of Values table row standing mtu)
+    (λ _. list_same READ_BY_TYPE_REQUEST mtu first (candidate_of Values (with_values table values) row standing mtu)
+    (candidate_of Values table row standing mtu)
     (handles_of_type table.attributes type first last) ReadByTypeResponse (λ handle. refl) (candidate_same standing table values row mtu Values readable))
 
-groups_list_same : (standing : Standing) (table : Contents) (values : ValueList) (row : Row) (mtu : Mtu) (first last : Handle) (type : AttributeType) → AreReadable standing table values
+groups_list_same : (standing : Standing) (table : Contents) (values : ValueList) (row : Row) (mtu : Mtu) (first last : Handle) (type : AttributeType)
+    → AreReadable standing table values
     → groups_answer (with_values table values) row standing mtu first last type ≡ groups_answer table row standing mtu first last type
 unfolding groups_answer
 groups_list_same standing table values row mtu first last type readable =
     unless_same READ_BY_GROUP_TYPE_REQUEST (range_refusal first last) _ _ _ _
     (λ _. unless_same READ_BY_GROUP_TYPE_REQUEST (group_type_refusal first type) _ _ _ _
-    (λ _. list_same READ_BY_GROUP_TYPE_REQUEST mtu first (candidate_of Groups (with_values table values) row standing mtu) (candidate_of Groups table row standing mtu)
+    (λ _. list_same READ_BY_GROUP_TYPE_REQUEST mtu first (candidate_of Groups (with_values table values) row standing mtu)
+    (candidate_of Groups table row standing mtu)
     (handles_of_type table.attributes type first last) ReadByGroupTypeResponse (λ handle. refl) (candidate_same standing table values row mtu Groups readable)))
 
 -- every answer
@@ -191,11 +211,13 @@ with-same : (standing : Standing) (table : Contents) (values : ValueList) (row :
 with-same standing table values row mtu readable (FindInformationRequest first last) = unfold information_answer in refl
 with-same standing table values row mtu readable (FindByTypeValueRequest first last type value) =
     ap Some (found_same standing table values row mtu first last (of_16_bits type) value readable)
-with-same standing table values row mtu readable (ReadByTypeRequest first last type) = ap Some (values_list_same standing table values row mtu first last (uuid_number type) readable)
+with-same standing table values row mtu readable (ReadByTypeRequest first last type) =
+    ap Some (values_list_same standing table values row mtu first last (uuid_number type) readable)
 with-same standing table values row mtu readable (ReadRequest handle) = ap Some (value_same standing table values row mtu handle readable)
 with-same standing table values row mtu readable (ReadBlobRequest handle offset) = ap Some (part_same standing table values row mtu handle offset readable)
 with-same standing table values row mtu readable (ReadMultipleRequest handles) = ap Some (multiple_same standing table values row mtu handles readable)
-with-same standing table values row mtu readable (ReadByGroupTypeRequest first last type) = ap Some (groups_list_same standing table values row mtu first last (uuid_number type) readable)
+with-same standing table values row mtu readable (ReadByGroupTypeRequest first last type) =
+    ap Some (groups_list_same standing table values row mtu first last (uuid_number type) readable)
 with-same standing table values row mtu readable (ExchangeMtuRequest client_rx_mtu) = refl
 with-same standing table values row mtu readable (WriteRequest handle value) = refl
 with-same standing table values row mtu readable (PrepareWriteRequest handle offset part) = refl

@@ -16,7 +16,8 @@ use Rattle.att_reads.specs.Refusals.{unless_refused}
 use Rattle.att_reads.proofs.Listed.{list_begun}
 use Rattle.octet_io.specs.Number.{Octets}
 
-element_size : (listing : Listing) (table : Contents) (handle : Handle) (front : Octets) → length (element_octets (element_of listing table handle front)) ≡ head_of listing + length front
+element_size : (listing : Listing) (table : Contents) (handle : Handle) (front : Octets) → length (element_octets (element_of listing table handle front))
+    ≡ head_of listing + length front
 element_size Values table handle front = omega arith
 element_size Groups table handle front = omega arith
 
@@ -29,7 +30,8 @@ element_fits Values mtu size least cut = omega (arith, least, cut)
 element_fits Groups mtu size least cut = omega (arith, least, cut)
 
 -- so the front of a value fits beside its handles
-pub front_fits : (listing : Listing) (mtu cut head : ℕ) (value front : Octets) → 23 ≤ mtu → cut ≡ cut_of listing mtu → front ≡ take cut value → head ≡ head_of listing
+pub front_fits : (listing : Listing) (mtu cut head : ℕ) (value front : Octets) → 23 ≤ mtu → cut ≡ cut_of listing mtu → front ≡ take cut value
+    → head ≡ head_of listing
     → 2 + (head + length front) ≤ mtu
 front_fits listing mtu cut head value front least cut_is front_is head_is =
     let taken : length front ≡ min cut (length value) = ap length front_is ∙ length-take cut value in
@@ -37,14 +39,17 @@ front_fits listing mtu cut head value front least cut_is front_is head_is =
     let fits = element_fits listing mtu (length front) least within in
     omega (arith, fits, head_is)
 
-sent_list : (listing : Listing) (size : ℕ) (listed : List Element) → sent (list_response listing size listed) ≡ (listing_request listing + 1) ∷ size ∷ flat_map element_octets listed
+sent_list : (listing : Listing) (size : ℕ) (listed : List Element) → sent (list_response listing size listed) ≡ (listing_request listing + 1) ∷ size
+    ∷ flat_map element_octets listed
 sent_list Values size listed = refl
 sent_list Groups size listed = refl
 
-pub none_refused : (table : Contents) (standing : Standing) (handle : Handle) → refusal_at table.attributes standing handle ≡ None → read_refusal table.attributes standing handle ≡ None
+pub none_refused : (table : Contents) (standing : Standing) (handle : Handle) → refusal_at table.attributes standing handle ≡ None
+    → read_refusal table.attributes standing handle ≡ None
 none_refused table standing handle permitted = rw permitted refl
 
-pub list_of_first : (listing : Listing) (table : Contents) (row : Row) (standing : Standing) (mtu : Mtu) (start handle : Handle) (rest : List Handle) (front octets : Octets)
+pub list_of_first : (listing : Listing) (table : Contents) (row : Row) (standing : Standing) (mtu : Mtu) (start handle : Handle) (rest : List Handle)
+    (front octets : Octets)
     → refusal_at table.attributes standing handle ≡ None → 23 ≤ mtu → front ≡ take (cut_of listing mtu) (value_for table row handle)
     → octets ≡ (listing_request listing + 1) ∷ (head_of listing + length front) ∷ element_octets (element_of listing table handle front)
     → with_listed mtu (head_of listing + length front) octets (map (candidate_of listing table row standing mtu) rest)
@@ -53,9 +58,11 @@ list_of_first listing table row standing mtu start handle rest front octets perm
     let first = candidate_of listing table row standing mtu handle in
     let left = map (candidate_of listing table row standing mtu) rest in
     let refusal : first.refusal ≡ None = none_refused table standing handle permitted in
-    let element_is : element_octets first.element ≡ element_octets (element_of listing table handle front) = ap (λ value. element_octets (element_of listing table handle value)) (sym front_is) in
+    let element_is : element_octets first.element ≡ element_octets (element_of listing table handle front) =
+    ap (λ value. element_octets (element_of listing table handle value)) (sym front_is) in
     let size : candidate_size first ≡ head_of listing + length front = ap length element_is ∙ element_size listing table handle front in
-    let cut : length front ≡ min (cut_of listing mtu) (length (value_for table row handle)) = ap length front_is ∙ length-take (cut_of listing mtu) (value_for table row handle) in
+    let cut : length front ≡ min (cut_of listing mtu) (length (value_for table row handle)) =
+    ap length front_is ∙ length-take (cut_of listing mtu) (value_for table row handle) in
     let within : length front ≤ cut_of listing mtu = omega (arith, cut) in
     let fits : 2 + candidate_size first ≤ mtu = let room = element_fits listing mtu (length front) least within in omega (arith, room, size) in
     let above : 0 < candidate_size first = let head = head_above listing in omega (arith, head, size) in
@@ -64,7 +71,9 @@ list_of_first listing table row standing mtu start handle rest front octets perm
     ∙ ap (λ element. with_listed mtu (candidate_size first) ((listing_request listing + 1) ∷ candidate_size first ∷ element) left) (sym element_is)
     ∙ list_begun (listing_request listing + 1) (candidate_size first) mtu first left refusal above fits
     ∙ sym (sent_list listing (candidate_size first) (elements_within mtu (first ∷ left)))
-    ∙ ap (λ refused. sent (unless_refused (listing_request listing) (None ∷ refused ∷ []) (list_response listing (candidate_size first) (elements_within mtu (first ∷ left))))) (sym refusal)
+    ∙ ap (λ refused.
+    sent (unless_refused (listing_request listing) (None ∷ refused ∷ []) (list_response listing (candidate_size first) (elements_within mtu (first ∷ left)))))
+    (sym refusal)
 
 -- and one that is refused is answered so
 pub first_refused : (listing : Listing) (table : Contents) (row : Row) (standing : Standing) (mtu : Mtu) (start handle : Handle) (rest : List Handle) (code : ℕ)
@@ -72,5 +81,6 @@ pub first_refused : (listing : Listing) (table : Contents) (row : Row) (standing
     → sent (ErrorResponse (listing_request listing) handle code) ≡ sent (list_answer listing table row standing mtu start (handle ∷ rest))
 first_refused listing table row standing mtu start handle rest code refused =
     let candidates = map (candidate_of listing table row standing mtu) (handle ∷ rest) in
-    ap (λ (refusal : Option ℕ). sent (unless_refused (listing_request listing) (None ∷ option_map (λ (it : ℕ). record { handle = handle; code = it }) refusal ∷ [])
+    ap (λ (refusal : Option ℕ).
+    sent (unless_refused (listing_request listing) (None ∷ option_map (λ (it : ℕ). record { handle = handle; code = it }) refusal ∷ [])
     (list_response listing (size_of_first candidates) (elements_within mtu candidates)))) (sym refused)

@@ -21,7 +21,8 @@ group_octets table handle = element_octets (group_of table handle)
 abbrev all_octets : Contents → List Handle → Octets
 all_octets table handles = flat_map (group_octets table) handles
 
-pub groups_next : (table : Contents) (mtu : Mtu) (old new : Octets) (handle : Handle) (rest : List Handle) → length old + 4 ≤ mtu → new ≡ old ++ element_octets (group_of table handle)
+pub groups_next : (table : Contents) (mtu : Mtu) (old new : Octets) (handle : Handle) (rest : List Handle) → length old + 4 ≤ mtu
+    → new ≡ old ++ element_octets (group_of table handle)
     → with_groups table mtu new rest ≡ with_groups table mtu old (handle ∷ rest)
 groups_next table mtu old new handle rest fits appended =
     let room = mtu - length old in
@@ -42,7 +43,8 @@ octets_of_groups table (handle ∷ rest) = ap (λ octets. group_octets table han
 -- with a group the answer lists what is found
 pub found_groups : (table : Contents) (mtu : Mtu) (start : Handle) (found : List Handle) → (found ≡ [] → ⊥)
     → with_groups table mtu (FIND_BY_TYPE_VALUE_RESPONSE ∷ []) found
-    ≡ sent (unless_refused FIND_BY_TYPE_VALUE_REQUEST (not_found start found ∷ []) (FindByTypeValueResponse (map (group_of table) (take ((mtu - 1) / 4) found))))
+    ≡ sent (unless_refused FIND_BY_TYPE_VALUE_REQUEST (not_found start found ∷ [])
+    (FindByTypeValueResponse (map (group_of table) (take ((mtu - 1) / 4) found))))
 found_groups table mtu start [] some = absurd (some refl)
 found_groups table mtu start (handle ∷ rest) some =
     ap (λ octets. FIND_BY_TYPE_VALUE_RESPONSE ∷ octets) (octets_of_groups table (take ((mtu - 1) / 4) (handle ∷ rest)))

@@ -43,7 +43,8 @@ pub long_size : (attr : Attr) → is_of_16_bits attr.kind ≡ false → candidat
 long_size attr long = ap (size_by attr) long
 
 -- the types of the first one's size are what is sent
-pub types_sent : (mtu : Mtu) (start : Handle) (size format : ℕ) (first : Attr) (attributes : List Attr) → slice_get attributes 0 ≡ Some first → candidate_size (information_of first) ≡ size
+pub types_sent : (mtu : Mtu) (start : Handle) (size format : ℕ) (first : Attr) (attributes : List Attr) → slice_get attributes 0 ≡ Some first
+    → candidate_size (information_of first) ≡ size
     → format ≡ information_format size
     → with_listed mtu size (FIND_INFORMATION_RESPONSE ∷ format ∷ []) (map information_of attributes)
     ≡ sent (unless_refused FIND_INFORMATION_REQUEST (not_found start (map information_of attributes) ∷ [])

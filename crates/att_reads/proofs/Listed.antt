@@ -45,7 +45,8 @@ pub listed_next : (mtu size : ℕ) (old new : List ℕ) (candidate : Candidate) 
     → with_listed mtu size new rest ≡ with_listed mtu size old (candidate ∷ rest)
 listed_next mtu size old new candidate rest above next =
     let size_is : length (element_octets candidate.element) ≡ size = listed_size size candidate next.listed in
-    let grown : length new ≡ length old + size = ap length next.appended ∙ length-append old (element_octets candidate.element) ∙ ap (λ n. length old + n) size_is in
+    let grown : length new ≡ length old + size =
+    ap length next.appended ∙ length-append old (element_octets candidate.element) ∙ ap (λ n. length old + n) size_is in
     let fits : size ≤ mtu - length old = omega (arith, next.fits) in
     let left : mtu - length new ≡ (mtu - length old) - size = omega (arith, grown) in
     ap (λ octets. octets ++ joined (run_within (mtu - length new) size rest)) next.appended
@@ -74,12 +75,15 @@ listed_stop mtu size old new candidate rest stop above =
     stop.unchanged ∙ sym (ap (λ candidates. old ++ joined candidates) none ∙ append-nil old)
 
 -- the first candidate begins the answer
-pub list_begun : (opcode header mtu : ℕ) (first : Candidate) (rest : List Candidate) → first.refusal ≡ None → 0 < candidate_size first → 2 + candidate_size first ≤ mtu
-    → with_listed mtu (candidate_size first) (opcode ∷ header ∷ element_octets first.element) rest ≡ opcode ∷ header ∷ flat_map element_octets (elements_within mtu (first ∷ rest))
+pub list_begun : (opcode header mtu : ℕ) (first : Candidate) (rest : List Candidate) → first.refusal ≡ None → 0 < candidate_size first
+    → 2 + candidate_size first ≤ mtu
+    → with_listed mtu (candidate_size first) (opcode ∷ header ∷ element_octets first.element) rest ≡ opcode ∷ header
+    ∷ flat_map element_octets (elements_within mtu (first ∷ rest))
 list_begun opcode header mtu first rest permitted above fits =
     let octets = opcode ∷ header ∷ [] in
     let is : is_listed (candidate_size first) first ≡ true = grind (arith, common_steps, permitted) in
-    let next : HasNext mtu (candidate_size first) first octets (octets ++ element_octets first.element) = record { listed = is; fits = fits; appended = refl } in
+    let next : HasNext mtu (candidate_size first) first octets (octets ++ element_octets first.element) =
+    record { listed = is; fits = fits; appended = refl } in
     listed_next mtu (candidate_size first) octets (octets ++ element_octets first.element) first rest above next
 
 -- those that there is no room for need not be looked at
@@ -103,7 +107,8 @@ cut_run of size (suc k) (x ∷ xs) =
     ∙ cut-at k (of x) _ _ (is_listed size (of x)) (cut_run of size k xs)
     ∙ sym (ap (take (suc k)) (take_while-cons (is_listed size) (of x) (map of xs)))
 
-pub listed_fitting : {A : Type 0} (of : A → Candidate) (mtu size count : ℕ) (octets : Octets) (xs : List A) → count ≡ min (length xs) ((mtu - length octets) / size)
+pub listed_fitting : {A : Type 0} (of : A → Candidate) (mtu size count : ℕ) (octets : Octets) (xs : List A)
+    → count ≡ min (length xs) ((mtu - length octets) / size)
     → with_listed mtu size octets (map of (take count xs)) ≡ with_listed mtu size octets (map of xs)
 listed_fitting of mtu size count octets xs is =
     ap (λ n. with_listed mtu size octets (map of (take n xs))) is
@@ -116,7 +121,8 @@ all_listed room size octets candidates enough =
     let run = length-take (prefix_len (is_listed size) candidates) candidates in
     ap (λ listed. octets ++ joined listed) (take_all ((room - length octets) / size) (take_while (is_listed size) candidates) (omega (arith, run, enough)))
 
-pub listed_in_room : {A : Type 0} (of : A → Candidate) (room mtu size count : ℕ) (octets : Octets) (xs : List A) → 0 < size → length octets + size * count ≤ room
+pub listed_in_room : {A : Type 0} (of : A → Candidate) (room mtu size count : ℕ) (octets : Octets) (xs : List A) → 0 < size
+    → length octets + size * count ≤ room
     → count ≡ min (length xs) ((mtu - length octets) / size)
     → with_listed room size octets (map of (take count xs)) ≡ with_listed mtu size octets (map of xs)
 listed_in_room of room mtu size count octets xs above enough is =

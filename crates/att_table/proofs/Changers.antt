@@ -11,7 +11,9 @@ found_below : (test : Attr → Bool) (first : ℕ) (attributes : List Attr) → 
 found_below test first [] handles = tt
 found_below test first (attr ∷ rest) handles =
     let later = found_below test (first + 1) rest handles.1 in
-    elim (test attr) as (λ passes. IfSome (option_map (λ (attr : Attr). attr.handle) (if passes then Some attr else find test rest)) (λ handle. handle < first + length (attr ∷ rest))) [
+    elim (test attr) as
+    (λ passes. IfSome (option_map (λ (attr : Attr). attr.handle) (if passes then Some attr else find test rest))
+    (λ handle. handle < first + length (attr ∷ rest))) [
       | true ↦ omega (arith, handles.0)
       | false ↦ weaker (option_map (λ (attr : Attr). attr.handle) (find test rest)) (first + 1 + length rest) (first + length (attr ∷ rest)) (omega arith) later
     ]
@@ -22,7 +24,8 @@ found_below test first (attr ∷ rest) handles =
 
 pub found_within : (test : Attr → Bool) (attributes : List Attr) → IsNumbered attributes
     → IfSome (option_map (λ (attr : Attr). attr.handle) (find test attributes)) (λ handle. handle ≤ MAX_ATTRIBUTES)
-found_within test attributes numbered = within (option_map (λ (attr : Attr). attr.handle) (find test attributes)) (found_below test 1 attributes numbered.handles)
+found_within test attributes numbered =
+    within (option_map (λ (attr : Attr). attr.handle) (find test attributes)) (found_below test 1 attributes numbered.handles)
   where
     within : (found : Option ℕ) → IfSome found (λ handle. handle < 1 + length attributes) → IfSome found (λ handle. handle ≤ MAX_ATTRIBUTES)
     within None below = tt

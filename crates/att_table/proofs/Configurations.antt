@@ -20,19 +20,22 @@ has_with_bits (entry ∷ row) handle bits other = grind (arith, nat_tests, has_w
 pub one_entry_each : (row : Row) (handle bits : ℕ) → HasOneEntryEach row → HasOneEntryEach (with_bits row handle bits)
 one_entry_each [] handle bits once = (refl, tt)
 one_entry_each (entry ∷ row) handle bits once =
-    elim (entry.0 == handle) as (λ same. (entry.0 == handle) ≡ same → HasOneEntryEach (if same then (handle, bits) ∷ row else entry ∷ with_bits row handle bits)) [
+    elim (entry.0 == handle) as
+    (λ same. (entry.0 == handle) ≡ same → HasOneEntryEach (if same then (handle, bits) ∷ row else entry ∷ with_bits row handle bits)) [
       | true ↦ λ same. (grind (arith, nat_tests, once.0), once.1)
       | false ↦ λ other. (grind (arith, nat_tests, once.0, has_with_bits row handle bits entry.0), one_entry_each row handle bits once.1)
     ] refl
 
 -- and keeps the row one of its table
-pub row_of : (attributes : List Attr) (row : Row) (handle bits : ℕ) → is_configuration_at attributes handle ≡ true → IsRowOf attributes row → IsRowOf attributes (with_bits row handle bits)
+pub row_of : (attributes : List Attr) (row : Row) (handle bits : ℕ) → is_configuration_at attributes handle ≡ true → IsRowOf attributes row
+    → IsRowOf attributes (with_bits row handle bits)
 row_of attributes [] handle bits is all = All-cons (λ entry. is_configuration_at attributes entry.0 ≡ true) (handle, bits) [] is all
 row_of attributes (entry ∷ row) handle bits is all =
     let test = λ (of : Handle × ℕ). is_configuration_at attributes of.0 ≡ true in
     elim (entry.0 == handle) as (λ same. IsRowOf attributes (if same then (handle, bits) ∷ row else entry ∷ with_bits row handle bits)) [
       | true ↦ All-cons test (handle, bits) row is (All-tail test entry row all)
-      | false ↦ All-cons test entry (with_bits row handle bits) (All-head test entry row all) (row_of attributes row handle bits is (All-tail test entry row all))
+      | false ↦ All-cons test entry (with_bits row handle bits) (All-head test entry row all)
+          (row_of attributes row handle bits is (All-tail test entry row all))
     ]
 
 -- at least as many pass where each that passed does, and one more where one did not
@@ -68,14 +71,17 @@ record IsAt (attributes : List Attr) (handle : ℕ) (attr : Attr) : Type 0 where
   own_handle : attr.handle ≡ handle
   is : is_configuration attr.role ≡ true
 
-handle_from : (attributes : List Attr) (first place : ℕ) (attr : Attr) → HaveHandlesFrom first attributes → slice_get attributes place ≡ Some attr → attr.handle ≡ first + place
+handle_from : (attributes : List Attr) (first place : ℕ) (attr : Attr) → HaveHandlesFrom first attributes → slice_get attributes place ≡ Some attr
+    → attr.handle ≡ first + place
 handle_from [] first place attr handles at = cc at
 handle_from (x ∷ rest) first zero attr handles at = let same : x ≡ attr = cc at in grind (arith, handles.0)
 handle_from (x ∷ rest) first (suc place) attr handles at = let later = handle_from rest (first + 1) place attr handles.1 at in omega arith
 
-configuration_found : (attributes : List Attr) (handle : ℕ) → IsNumbered attributes → is_configuration_at attributes handle ≡ true → (attr : Attr) × IsAt attributes handle attr
+configuration_found : (attributes : List Attr) (handle : ℕ) → IsNumbered attributes → is_configuration_at attributes handle ≡ true → (attr : Attr)
+    × IsAt attributes handle attr
 configuration_found attributes handle numbered is =
-    elim (attribute_at attributes handle) as (λ found. attribute_at attributes handle ≡ found → option_map_or (λ (attr : Attr). is_configuration attr.role) found false ≡ true → (attr : Attr) × IsAt attributes handle attr) [
+    elim (attribute_at attributes handle) as (λ found. attribute_at attributes handle ≡ found
+    → option_map_or (λ (attr : Attr). is_configuration attr.role) found false ≡ true → (attr : Attr) × IsAt attributes handle attr) [
       | None ↦ λ at has. cc has
       | Some attr ↦ λ at has.
           let used : 0 < handle = grind (arith, nat_tests) in
@@ -88,7 +94,8 @@ configuration_found attributes handle numbered is =
 abbrev is_covered : Row → Attr → Bool
 is_covered row attr = is_configuration attr.role && has_entry row attr.handle
 
-covered_by : (attributes : List Attr) (row : Row) → IsNumbered attributes → IsRowOf attributes row → HasOneEntryEach row → length row ≤ count_by (is_covered row) attributes
+covered_by : (attributes : List Attr) (row : Row) → IsNumbered attributes → IsRowOf attributes row → HasOneEntryEach row
+    → length row ≤ count_by (is_covered row) attributes
 covered_by attributes [] numbered all once = omega arith
 covered_by attributes (entry ∷ row) numbered all once =
     let test = λ (of : Handle × ℕ). is_configuration_at attributes of.0 ≡ true in
@@ -99,19 +106,23 @@ covered_by attributes (entry ∷ row) numbered all once =
     (grind (arith, found.1.own_handle, once.0)) (grind (arith, nat_tests, found.1.own_handle, found.1.is)) in
     omega arith
 
-within : (attributes : List Attr) (row : Row) → IsNumbered attributes → configurations_of attributes ≤ MAX_CONFIGURATIONS → IsRowOf attributes row → HasOneEntryEach row → length row ≤ MAX_CONFIGURATIONS
+within : (attributes : List Attr) (row : Row) → IsNumbered attributes → configurations_of attributes ≤ MAX_CONFIGURATIONS → IsRowOf attributes row
+    → HasOneEntryEach row → length row ≤ MAX_CONFIGURATIONS
 within attributes row numbered few all once =
     let covered = covered_by attributes row numbered all once in
     let counted = count_le (is_covered row) (λ (attr : Attr). is_configuration attr.role) attributes (λ attr passed. grind arith) in
     omega arith
 
 -- so there is room for a configuration that the row lacks
-room_unless : (attributes : List Attr) (row : Row) (handle : ℕ) (has : Bool) → has_entry row handle ≡ has → IsNumbered attributes → configurations_of attributes ≤ MAX_CONFIGURATIONS
+room_unless : (attributes : List Attr) (row : Row) (handle : ℕ) (has : Bool) → has_entry row handle ≡ has → IsNumbered attributes
+    → configurations_of attributes ≤ MAX_CONFIGURATIONS
     → is_configuration_at attributes handle ≡ true → IsRowOf attributes row → HasOneEntryEach row → has || nat_lt (length row) MAX_CONFIGURATIONS ≡ true
 room_unless attributes row handle true has numbered few is all once = refl
 room_unless attributes row handle false has numbered few is all once =
-    let more = within attributes ((handle, 0) ∷ row) numbered few (All-cons (λ entry. is_configuration_at attributes entry.0 ≡ true) (handle, 0) row is all) (has, once) in
+    let more = within attributes ((handle, 0) ∷ row) numbered few (All-cons (λ entry. is_configuration_at attributes entry.0 ≡ true) (handle, 0) row is all)
+    (has, once) in
     grind (arith, nat_tests)
 
-pub room_in_row : (attributes : List Attr) (handle : ℕ) → IsNumbered attributes → configurations_of attributes ≤ MAX_CONFIGURATIONS → HasRowRoom attributes handle
+pub room_in_row : (attributes : List Attr) (handle : ℕ) → IsNumbered attributes → configurations_of attributes ≤ MAX_CONFIGURATIONS
+    → HasRowRoom attributes handle
 room_in_row attributes handle numbered few is row all once = room_unless attributes row handle (has_entry row handle) refl numbered few is all once

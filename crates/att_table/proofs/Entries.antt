@@ -70,19 +70,28 @@ set_in [] bits n place own few also within = absurd (omega arith)
 set_in (handle ∷ handles) [] n place own few also within = absurd (omega arith)
 set_in (handle ∷ handles) (at ∷ bits) zero place own few also within = absurd (omega arith)
 set_in (handle ∷ handles) (at ∷ bits) (suc n) zero own few also within = refl
-set_in (handle ∷ handles) (at ∷ bits) (suc n) (suc place) own few also within = ap (λ (row : Row). (handle, at) ∷ row) (set_in handles bits n place own (omega arith) (omega arith) (omega arith))
+set_in (handle ∷ handles) (at ∷ bits) (suc n) (suc place) own few also within =
+    ap (λ (row : Row). (handle, at) ∷ row) (set_in handles bits n place own (omega arith) (omega arith) (omega arith))
 
 -- where no bits are set behind the entries, the bits of an entry are found among all
-pub bits_of_all : (handles bits : List ℕ) (n handle : ℕ) → All (λ own. own ≡ 0) (drop n bits) → bits_at (take n (zip handles bits)) handle ≡ bits_at (zip handles bits) handle
+pub bits_of_all : (handles bits : List ℕ) (n handle : ℕ) → All (λ own. own ≡ 0) (drop n bits) → bits_at (take n (zip handles bits)) handle
+    ≡ bits_at (zip handles bits) handle
 bits_of_all [] bits zero handle none = refl
 bits_of_all [] bits (suc n) handle none = refl
 bits_of_all (own ∷ handles) [] zero handle none = refl
 bits_of_all (own ∷ handles) [] (suc n) handle none = refl
 bits_of_all (own ∷ handles) (first ∷ bits) zero handle none =
-    grind (arith, common_steps, All-head (λ (of : ℕ). of ≡ 0) first bits none, bits_of_all handles bits zero handle (All-tail (λ (of : ℕ). of ≡ 0) first bits none))
-bits_of_all (own ∷ handles) (first ∷ bits) (suc n) handle none = ap (λ (rest : ℕ). if own == handle then first else rest) (bits_of_all handles bits n handle none)
+    grind (
+      arith,
+      common_steps,
+      All-head (λ (of : ℕ). of ≡ 0) first bits none,
+      bits_of_all handles bits zero handle (All-tail (λ (of : ℕ). of ≡ 0) first bits none),
+    )
+bits_of_all (own ∷ handles) (first ∷ bits) (suc n) handle none =
+    ap (λ (rest : ℕ). if own == handle then first else rest) (bits_of_all handles bits n handle none)
 
-pub bits_found : (handles bits : List ℕ) (handle place : ℕ) → position (λ own. own == handle) handles ≡ Some place → bits_at (zip handles bits) handle ≡ get_or bits place 0
+pub bits_found : (handles bits : List ℕ) (handle place : ℕ) → position (λ own. own == handle) handles ≡ Some place → bits_at (zip handles bits) handle
+    ≡ get_or bits place 0
 bits_found [] bits handle place found = grind arith
 bits_found (own ∷ handles) [] handle place found = refl
 bits_found (own ∷ handles) (first ∷ bits) handle zero found = grind (arith, common_steps)
@@ -94,7 +103,8 @@ none_set n = All-replicate (λ (own : ℕ). own ≡ 0) n 0 refl
 
 pub none_behind : (bits : List ℕ) (n own : ℕ) → All (λ (of : ℕ). of ≡ 0) (drop n bits) → All (λ (of : ℕ). of ≡ 0) (drop (n + 1) (set bits n own))
 none_behind bits n own none =
-    subst (All (λ (of : ℕ). of ≡ 0)) (sym (drop-set-lt (n + 1) bits n own (omega arith) ∙ sym (drop-drop 1 n bits))) (All-drop (λ (of : ℕ). of ≡ 0) 1 (drop n bits) none)
+    subst (All (λ (of : ℕ). of ≡ 0)) (sym (drop-set-lt (n + 1) bits n own (omega arith) ∙ sym (drop-drop 1 n bits)))
+    (All-drop (λ (of : ℕ). of ≡ 0) 1 (drop n bits) none)
 
 -- other bits are set at the place of an entry that is found
 pub set_found_at : (handles bits : List ℕ) (n handle own place : ℕ) → n ≤ length handles → n ≤ length bits
@@ -113,7 +123,8 @@ next_entry : (handles bits : List ℕ) (n handle own : ℕ) → n < length handl
 next_entry [] bits n handle own few also = absurd (omega arith)
 next_entry (of ∷ handles) [] n handle own few also = absurd (omega arith)
 next_entry (of ∷ handles) (at ∷ bits) zero handle own few also = refl
-next_entry (of ∷ handles) (at ∷ bits) (suc n) handle own few also = ap (λ (row : Row). (of, at) ∷ row) (next_entry handles bits n handle own (omega arith) (omega arith))
+next_entry (of ∷ handles) (at ∷ bits) (suc n) handle own few also =
+    ap (λ (row : Row). (of, at) ∷ row) (next_entry handles bits n handle own (omega arith) (omega arith))
 
 pub one_more : (handles bits : List ℕ) (n handle own : ℕ) → n < length handles → n < length bits
     → take (n + 1) (zip (set handles n handle) (set bits n own)) ≡ take n (zip handles bits) ++ (handle, own) ∷ []

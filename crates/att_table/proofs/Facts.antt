@@ -46,7 +46,8 @@ counted-or-declared Value largest within = omega arith
 counted-or-declared Configuration largest within = omega arith
 counted-or-declared Descriptor largest within = omega arith
 
-pub sum-largest : (attributes : List Attr) → All IsLargest attributes → sum_by (λ (attr : Attr). attr.largest) attributes ≤ value_octets attributes + MAX_DECLARATION * length attributes
+pub sum-largest : (attributes : List Attr) → All IsLargest attributes → sum_by (λ (attr : Attr). attr.largest) attributes ≤ value_octets attributes
+    + MAX_DECLARATION * length attributes
 sum-largest [] all = omega arith
 sum-largest (attr ∷ rest) all =
     let later = sum-largest rest (All-tail IsLargest attr rest all) in
@@ -109,12 +110,14 @@ value-at attributes (suc place) before =
 pub attribute_found : (attributes : List Attr) (handle : Handle) (test : Attr → Bool) → option_map_or test (attribute_at attributes handle) false ≡ true
     → (attr : Attr) × (0 < handle) × (slice_get attributes (handle - 1) ≡ Some attr) × (test attr ≡ true)
 attribute_found attributes handle test passes =
-    elim (attribute_at attributes handle) as (λ found. attribute_at attributes handle ≡ found → option_map_or test found false ≡ true → (attr : Attr) × (0 < handle) × (slice_get attributes (handle - 1) ≡ Some attr) × (test attr ≡ true)) [
+    elim (attribute_at attributes handle) as (λ found. attribute_at attributes handle ≡ found → option_map_or test found false ≡ true → (attr : Attr)
+    × (0 < handle) × (slice_get attributes (handle - 1) ≡ Some attr) × (test attr ≡ true)) [
       | None ↦ λ at has. cc has
       | Some attr ↦ λ at has. (attr, grind (arith, nat_tests), grind (arith, nat_tests), has)
     ] refl passes
 
-is_there : (attributes : List Attr) (handle : Handle) (attr : Attr) → 0 < handle → slice_get attributes (handle - 1) ≡ Some attr → attribute_at attributes handle ≡ Some attr
+is_there : (attributes : List Attr) (handle : Handle) (attr : Attr) → 0 < handle → slice_get attributes (handle - 1) ≡ Some attr
+    → attribute_at attributes handle ≡ Some attr
 is_there attributes handle attr used at = grind (arith, nat_tests)
 
 some_is : (attributes : List Attr) (handle : Handle) (attr : Attr) → attribute_at attributes handle ≡ Some attr → IsSome (attribute_at attributes handle)
@@ -165,13 +168,16 @@ facts attributes cells ends types runs whole =
       octets = omega (arith, sum, whole.counted, kept.numbered.most);
     }
 
-pub facts_of : (attributes : List Attr) (cells : List Cell) (ends types : List Handle) (runs : List Run) (table : Contents) → IsWhole attributes cells ends types runs
+pub facts_of : (attributes : List Attr) (cells : List Cell) (ends types : List Handle) (runs : List Run) (table : Contents)
+    → IsWhole attributes cells ends types runs
     → (let view : Contents = record { attributes = attributes; values = values_of cells } in view) ≡ table → IsTable table
 facts_of attributes cells ends types runs table whole is = subst IsTable is (facts attributes cells ends types runs whole)
 
 -- what a fixed value needs of what is written
-fixed-here : (attributes : List Attr) (handle : Handle) (attr : Attr) → 0 < handle → slice_get attributes (handle - 1) ≡ Some attr → attr.fixed ≡ true → is_fixed_at attributes handle ≡ true
-fixed-here attributes handle attr used at fixed = ap (λ found. option_map_or (λ (a : Attr). a.fixed) found false) (is_there attributes handle attr used at) ∙ fixed
+fixed-here : (attributes : List Attr) (handle : Handle) (attr : Attr) → 0 < handle → slice_get attributes (handle - 1) ≡ Some attr → attr.fixed ≡ true
+    → is_fixed_at attributes handle ≡ true
+fixed-here attributes handle attr used at fixed = ap (λ found. option_map_or (λ (a : Attr). a.fixed) found false) (is_there attributes handle attr used at)
+    ∙ fixed
 
 -- a part keeps the length of a fixed value, and what replaces it has that length
 abbrev pub KeepsLength : List Attr → List Cell → Bool → Handle → ℕ → Octets → Type 0
@@ -192,7 +198,8 @@ pub keeps_replaced : (attributes : List Attr) (cells : List Cell) (table : Conte
     → IsKept attributes cells → (let view : Contents = record { attributes = attributes; values = values_of cells } in view) ≡ table → 0 < handle
     → (is_fixed_at table.attributes handle ≡ true → length octets ≡ room_at table handle) → KeepsLength attributes cells false handle 0 octets
 keeps_replaced attributes cells table handle octets kept is used =
-    let P : Contents → Type 0 = λ t. (is_fixed_at t.attributes handle ≡ true → length octets ≡ room_at t handle) → KeepsLength attributes cells false handle 0 octets in
+    let P : Contents → Type 0 = λ t. (is_fixed_at t.attributes handle ≡ true → length octets ≡ room_at t handle)
+    → KeepsLength attributes cells false handle 0 octets in
     subst P is (λ exact. replaced attributes cells handle octets kept used exact)
 
 length-kept : (value part : Octets) (offset : ℕ) → offset + length part ≤ length value → length (value_with_part true value offset part) ≡ length value
@@ -214,14 +221,16 @@ pub keeps_written : (attributes : List Attr) (cells : List Cell) (table : Conten
     → IsKept attributes cells → (let view : Contents = record { attributes = attributes; values = values_of cells } in view) ≡ table → 0 < handle
     → keep ≡ is_fixed_at table.attributes handle → offset + length part ≤ room_at table handle → KeepsLength attributes cells keep handle offset part
 keeps_written attributes cells table keep handle offset part kept is used =
-    let P : Contents → Type 0 = λ t. keep ≡ is_fixed_at t.attributes handle → offset + length part ≤ room_at t handle → KeepsLength attributes cells keep handle offset part in
+    let P : Contents → Type 0 = λ t. keep ≡ is_fixed_at t.attributes handle → offset + length part ≤ room_at t handle
+    → KeepsLength attributes cells keep handle offset part in
     subst P is (λ keeps fits. written attributes cells keep handle offset part kept used keeps fits)
 
 -- one more attribute with its value
 abbrev Fits : Cell → Type 0
 Fits cell = length cell.octets ≤ cell.room
 
-pub kept-pushed : (attributes : List Attr) (cells : List Cell) (attr : Attr) (value : Octets) → IsKept attributes cells → length attributes < MAX_ATTRIBUTES → IsNext attributes attr value
+pub kept-pushed : (attributes : List Attr) (cells : List Cell) (attr : Attr) (value : Octets) → IsKept attributes cells → length attributes < MAX_ATTRIBUTES
+    → IsNext attributes attr value
     → IsKept (attributes ++ attr ∷ []) (cells ++ record { room = attr.largest; octets = value } ∷ [])
 kept-pushed attributes cells attr value kept room next =
     let cell : Cell = record { room = attr.largest; octets = value } in
@@ -230,6 +239,7 @@ kept-pushed attributes cells attr value kept room next =
       largest = All-append IsLargest attributes (attr ∷ []) kept.largest (All-cons IsLargest attr [] next.largest (All-nil IsLargest));
       behind = stand-push Declaration attributes attr kept.behind next.behind;
       exact = exact-push attributes cells attr cell (kept-length attributes cells kept) kept.exact next.exact;
-      rooms = map-append (λ (a : Attr). a.largest) attributes (attr ∷ []) ∙ ap (λ rooms. rooms ++ attr.largest ∷ []) kept.rooms ∙ sym (map-append (λ (c : Cell). c.room) cells (cell ∷ []));
+      rooms = map-append (λ (a : Attr). a.largest) attributes (attr ∷ []) ∙ ap (λ rooms. rooms ++ attr.largest ∷ []) kept.rooms
+          ∙ sym (map-append (λ (c : Cell). c.room) cells (cell ∷ []));
       within = All-append Fits cells (cell ∷ []) kept.within (All-cons Fits cell [] next.fits (All-nil Fits));
     }

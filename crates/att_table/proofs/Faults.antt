@@ -33,7 +33,8 @@ abbrev IsWalked : {A : Type 0} → Result A TableFault → Type 0
 IsWalked (Ok _) = Unit
 IsWalked (Err fault) = fault ≢ NotToml
 
-walked-then : {A B : Type 0} (first : Result A TableFault) (next : A → Result B TableFault) → IsWalked first → ((x : A) → IsWalked (next x)) → IsWalked (first >>= next)
+walked-then : {A B : Type 0} (first : Result A TableFault) (next : A → Result B TableFault) → IsWalked first → ((x : A) → IsWalked (next x))
+    → IsWalked (first >>= next)
 walked-then (Ok x) next here later = later x
 walked-then (Err fault) next here later = here
 
@@ -45,7 +46,8 @@ walked-required : {A : Type 0} (found : Option A) (fault : TableFault) → fault
 walked-required None fault other = other
 walked-required (Some x) fault other = tt
 
-walked-each : {S : Type 0} (step : S → Data → Result S TableFault) (state : S) (items : Items) → ((s : S) (value : Data) → IsWalked (step s value)) → IsWalked (each step state items)
+walked-each : {S : Type 0} (step : S → Data → Result S TableFault) (state : S) (items : Items) → ((s : S) (value : Data) → IsWalked (step s value))
+    → IsWalked (each step state items)
 walked-each step state no_items walked = tt
 walked-each step state (item value rest) walked =
     walked-then (step state value) (λ next. each step next rest) (walked state value) (λ next. walked-each step next rest walked)
@@ -111,7 +113,8 @@ walked-placed_of role handle allowed table =
     walked-then (value_type_at table) _ (walked-value_type_at table)
     (λ kind. walked-then (properties_at allowed table) _ (walked-properties_at allowed table)
     (λ properties. walked-then (value_read_at table) _ (walked-value_read_at table)
-    (λ value. walked-then (largest_of (integer_at (codes "max") table) (flag_at (codes "fixed") table) (length value)) _ (walked-largest_of (integer_at (codes "max") table) (flag_at (codes "fixed") table) (length value))
+    (λ value. walked-then (largest_of (integer_at (codes "max") table) (flag_at (codes "fixed") table) (length value)) _
+    (walked-largest_of (integer_at (codes "max") table) (flag_at (codes "fixed") table) (length value))
     (λ largest. walked-then (need_at (codes "read") table) _ (walked-need_read (table_at (codes "read") table))
     (λ read. walked-then (need_at (codes "write") table) _ (walked-need_read (table_at (codes "write") table)) (λ write. tt))))))
 
@@ -125,7 +128,8 @@ walked-declare draft kind value = walked-add draft (declaration (next_handle dra
 
 walked-configure : (draft : Contents) (properties : Properties) (need : Need) → IsWalked (configure draft properties need)
 walked-configure draft properties need =
-    walked-either (is_announced properties) (add draft (configuration (next_handle draft) need) []) (Ok draft) (walked-add draft (configuration (next_handle draft) need) []) tt
+    walked-either (is_announced properties) (add draft (configuration (next_handle draft) need) []) (Ok draft)
+    (walked-add draft (configuration (next_handle draft) need) []) tt
 
 walked-descriptor_step : (draft : Contents) (value : Data) → IsWalked (descriptor_step draft value)
 walked-descriptor_step draft value =
@@ -137,7 +141,8 @@ walked-descriptor_step draft value =
 walked-config_at : (properties : Properties) (table : Members) → IsWalked (config_at properties table)
 walked-config_at properties table =
     walked-then (need_at (codes "config") table) _ (walked-need_read (table_at (codes "config") table))
-    (λ need. walked-then (unless (is_announced properties || not (is_some (table_at (codes "config") table))) BadProperty) _ (walked-unless _ _ (λ e. cc e)) (λ _. tt))
+    (λ need. walked-then (unless (is_announced properties || not (is_some (table_at (codes "config") table))) BadProperty) _ (walked-unless _ _ (λ e. cc e))
+    (λ _. tt))
 
 walked-characterize : (draft : Contents) (attr : Attr) (value : List ℕ) (need : Need) → IsWalked (characterize draft attr value need)
 walked-characterize draft attr value need =
@@ -166,7 +171,8 @@ walked-service_step draft value =
     (λ table. walked-then (unless (is_shaped service_keys table) Shape) _ (walked-unless _ _ (λ e. cc e))
     (λ _. walked-then (attribute_type_in table) _ (walked-type_at table)
     (λ kind. walked-then (declare draft (service_type_at table) (type_octets kind)) _ (walked-declare draft (service_type_at table) (type_octets kind))
-    (λ declared. walked-then (each include_step declared (items_at (codes "include") table)) _ (walked-each include_step declared (items_at (codes "include") table) walked-include_step)
+    (λ declared. walked-then (each include_step declared (items_at (codes "include") table)) _
+    (walked-each include_step declared (items_at (codes "include") table) walked-include_step)
     (λ included. walked-each characteristic_step included (items_at (codes "characteristic") table) walked-characteristic_step)))))
 
 walked-table_of : (document : Members) → IsWalked (table_of document)

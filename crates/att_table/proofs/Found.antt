@@ -69,7 +69,8 @@ inside_after table service attributes k d below =
     ap (is_in_service table service) (take_more attributes k d below) ∙ in-service-next table service (take k attributes) (get_or attributes k d)
 
 -- An attribute at a place is wanted by its type and the attributes before it.
-pub wanted_at : (table : Contents) (service characteristic : AttributeType) (k : ℕ) (d : Attr) → HaveHandlesFrom 1 table.attributes → k < length table.attributes
+pub wanted_at : (table : Contents) (service characteristic : AttributeType) (k : ℕ) (d : Attr) → HaveHandlesFrom 1 table.attributes
+    → k < length table.attributes
     → is_wanted table service characteristic (get_or table.attributes k d)
     ≡ is_value_of_type characteristic (get_or table.attributes k d) && is_in_service table service (take k table.attributes)
 wanted_at table service characteristic k d handles below =
@@ -85,7 +86,8 @@ value_at_handle attributes k d characteristic handles below is =
     let place = at-place attributes 1 k d handles below in
     let before : k ≡ attr.handle - 1 = omega (arith, place.0) in
     let there = attribute-there attributes attr.handle attr (omega (arith, place.0)) (sym (ap (slice_get attributes) before) ∙ place.1) in
-    ap (λ (at : Option Attr). option_map_or (λ (a : Attr). is_value a.role) at false) there ∙ and_true_left (is_value attr.role) (attr.kind == characteristic) is
+    ap (λ (at : Option Attr). option_map_or (λ (a : Attr). is_value a.role) at false) there ∙ and_true_left (is_value attr.role) (attr.kind == characteristic)
+    is
 
 counted : (place : ℕ) (attributes : List Attr) → handle_numbered (suc place) attributes ≡ option_map (λ (attr : Attr). attr.handle) (slice_get attributes place)
 counted place attributes =

@@ -29,13 +29,15 @@ once-filter test (entry ∷ row) once =
       | false ↦ rest
     ]
 
-row-filter : (attributes : List Attr) (test : Handle × ℕ → Bool) (row : Row) → IsRowOf attributes (filter (λ entry. is_supported attributes entry && test entry) row)
+row-filter : (attributes : List Attr) (test : Handle × ℕ → Bool) (row : Row)
+    → IsRowOf attributes (filter (λ entry. is_supported attributes entry && test entry) row)
 row-filter attributes test [] = All-nil (λ (of : Handle × ℕ). is_configuration_at attributes of.0 ≡ true)
 row-filter attributes test (entry ∷ row) =
     let P = λ (of : Handle × ℕ). is_configuration_at attributes of.0 ≡ true in
     let rest = row-filter attributes test row in
     let kept = filter (λ (of : Handle × ℕ). is_supported attributes of && test of) row in
-    elim (is_supported attributes entry && test entry) as (λ stays. (is_supported attributes entry && test entry) ≡ stays → IsRowOf attributes (if stays then entry ∷ kept else kept)) [
+    elim (is_supported attributes entry && test entry) as (λ stays. (is_supported attributes entry && test entry) ≡ stays
+    → IsRowOf attributes (if stays then entry ∷ kept else kept)) [
       | true ↦ λ passes. All-cons P entry kept (grind arith) rest
       | false ↦ λ fails. rest
     ] refl
@@ -55,14 +57,16 @@ filter_next : (test : Handle × ℕ → Bool) (row : Row) (place : ℕ) (entry :
 filter_next test [] place entry at = cc at
 filter_next test (first ∷ row) zero entry at = let same : first ≡ entry = cc at in ap (λ (of : Handle × ℕ). if test of then of ∷ [] else []) same
 filter_next test (first ∷ row) (suc place) entry at =
-    ap (λ (rest : Row). if test first then first ∷ rest else rest) (filter_next test row place entry at) ∙ behind first entry (filter test (take place row)) (test first) (test entry)
+    ap (λ (rest : Row). if test first then first ∷ rest else rest) (filter_next test row place entry at) ∙ behind first entry (filter test (take place row))
+    (test first) (test entry)
 
 pub kept_next : (old new : List Attr) (row : Row) (place : ℕ) (entry : Handle × ℕ) → slice_get row place ≡ Some entry
     → (if is_supported new entry && has_its_meaning old new entry.0 then kept_row old new (take place row) ++ entry ∷ [] else kept_row old new (take place row))
     ≡ kept_row old new (take (place + 1) row)
 kept_next old new row place entry at =
     let next : suc place ≡ place + 1 = omega arith in
-    sym (filter_next (λ (of : Handle × ℕ). is_supported new of && has_its_meaning old new of.0) row place entry at) ∙ ap (λ (k : ℕ). kept_row old new (take k row)) next
+    sym (filter_next (λ (of : Handle × ℕ). is_supported new of && has_its_meaning old new of.0) row place entry at)
+    ∙ ap (λ (k : ℕ). kept_row old new (take k row)) next
 
 pub entries_of_kept : (old new : List Attr) (row : Row) → All IsEntry row → All IsEntry (kept_row old new row)
 entries_of_kept old new row all = All-filter _ IsEntry row all
@@ -102,8 +106,10 @@ bits-filter test (entry ∷ row) handle once = by-handle (entry.0 == handle) ref
         → bits_at (filter test (entry ∷ row)) handle ≡ (let bits = if same then entry.1 else bits_at row handle in if test (handle, bits) then bits else 0)
     by-handle true is later =
         let own : entry.0 ≡ handle = grind (arith, nat_tests) in
-        subst (λ (h : Handle). bits_at (filter test (entry ∷ row)) h ≡ (if test (h, entry.1) then entry.1 else 0)) own (bits-here test row entry (test entry) once.0)
+        subst (λ (h : Handle). bits_at (filter test (entry ∷ row)) h ≡ (if test (h, entry.1) then entry.1 else 0)) own
+        (bits-here test row entry (test entry) once.0)
     by-handle false differs later = bits-later test row entry handle (test entry) differs ∙ later
 
-pub bits_of_kept : (old new : List Attr) (row : Row) (handle : Handle) → HasOneEntryEach row → bits_at (kept_row old new row) handle ≡ kept_bits old new handle (bits_at row handle)
+pub bits_of_kept : (old new : List Attr) (row : Row) (handle : Handle) → HasOneEntryEach row → bits_at (kept_row old new row) handle
+    ≡ kept_bits old new handle (bits_at row handle)
 bits_of_kept old new row handle once = bits-filter (λ entry. is_supported new entry && has_its_meaning old new entry.0) row handle once

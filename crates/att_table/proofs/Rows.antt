@@ -10,7 +10,8 @@ use Rattle.att_numbers.specs.Types.{Handle, Row}
 use Rattle.att_table.specs.ConfigRow.{bits_at, with_bits, has_entry, IsEntry}
 
 -- the bits are those of the entry at the place that is found
-pub bits_at_found : (row : Row) (handle place : ℕ) (d : Handle × ℕ) → position (λ entry. entry.0 == handle) row ≡ Some place → bits_at row handle ≡ (get_or row place d).1
+pub bits_at_found : (row : Row) (handle place : ℕ) (d : Handle × ℕ) → position (λ entry. entry.0 == handle) row ≡ Some place
+    → bits_at row handle ≡ (get_or row place d).1
 bits_at_found [] handle place d found = grind arith
 bits_at_found (entry ∷ row) handle zero d found = grind (arith, common_steps)
 bits_at_found (entry ∷ row) handle (suc place) d found = grind (arith, common_steps, bits_at_found row handle place d)
@@ -29,7 +30,8 @@ has_missing [] handle missing = refl
 has_missing (entry ∷ row) handle missing = grind (arith, common_steps, has_missing row handle)
 
 -- to write over the entry at the handle is to set its bits
-pub set_found : (row : Row) (handle bits place : ℕ) → position (λ entry. entry.0 == handle) row ≡ Some place → set row place (handle, bits) ≡ with_bits row handle bits
+pub set_found : (row : Row) (handle bits place : ℕ) → position (λ entry. entry.0 == handle) row ≡ Some place → set row place (handle, bits)
+    ≡ with_bits row handle bits
 set_found [] handle bits place found = grind arith
 set_found (entry ∷ row) handle bits zero found = grind (arith, common_steps)
 set_found (entry ∷ row) handle bits (suc place) found = grind (arith, common_steps, set_found row handle bits place)

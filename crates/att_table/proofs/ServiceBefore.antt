@@ -40,12 +40,15 @@ All-reverse P attributes all k d below =
 abbrev IsHandleUpTo : Handle → Attr → Type 0
 IsHandleUpTo last attr = (0 < attr.handle) × (attr.handle ≤ last)
 
-all-used : (first last : Handle) (attributes : List Attr) → 0 < first → first + length attributes ≤ last + 1 → HaveHandlesFrom first attributes → All (IsHandleUpTo last) attributes
+all-used : (first last : Handle) (attributes : List Attr) → 0 < first → first + length attributes ≤ last + 1 → HaveHandlesFrom first attributes
+    → All (IsHandleUpTo last) attributes
 all-used first last [] used within handles = All-nil (IsHandleUpTo last)
 all-used first last (attr ∷ rest) used within handles =
-    All-cons (IsHandleUpTo last) attr rest (omega (arith, handles.0), omega (arith, handles.0)) (all-used (first + 1) last rest (omega arith) (omega arith) handles.1)
+    All-cons (IsHandleUpTo last) attr rest (omega (arith, handles.0), omega (arith, handles.0))
+    (all-used (first + 1) last rest (omega arith) (omega arith) handles.1)
 
-pub service_used : (attributes : List Attr) (cells : List Cell) (places : ℕ) (service : Attr) → IsKept attributes cells → last_service (take places attributes) ≡ Some service
+pub service_used : (attributes : List Attr) (cells : List Cell) (places : ℕ) (service : Attr) → IsKept attributes cells → last_service (take places attributes)
+    ≡ Some service
     → IsUsed cells service.handle
 service_used attributes cells places service kept found =
     let P = IsHandleUpTo (length attributes) in
@@ -71,7 +74,8 @@ found-here test next attr rest first own passes same =
       passes = ap test (sym same) ∙ passes;
     }
 
-found-later : (test : Attr → Bool) (next attr : Attr) (rest : List Attr) (first : Handle) → IsFoundAt test rest (first + 1) attr → IsFoundAt test (next ∷ rest) first attr
+found-later : (test : Attr → Bool) (next attr : Attr) (rest : List Attr) (first : Handle) → IsFoundAt test rest (first + 1) attr
+    → IsFoundAt test (next ∷ rest) first attr
 found-later test next attr rest first later =
     let more : attr.handle - first ≡ suc (attr.handle - (first + 1)) = omega (arith, later.from) in
     record {
@@ -89,7 +93,8 @@ found-at test (next ∷ rest) first attr handles =
       | false ↦ λ is found. found-later test next attr rest first (found-at test rest (first + 1) attr handles.1 found)
     ] refl
 
-pub attribute-there : (attributes : List Attr) (handle : Handle) (attr : Attr) → 1 ≤ handle → slice_get attributes (handle - 1) ≡ Some attr → attribute_at attributes handle ≡ Some attr
+pub attribute-there : (attributes : List Attr) (handle : Handle) (attr : Attr) → 1 ≤ handle → slice_get attributes (handle - 1) ≡ Some attr
+    → attribute_at attributes handle ≡ Some attr
 attribute-there attributes handle attr used at = grind (arith, nat_tests)
 
 -- what a changer is known to be

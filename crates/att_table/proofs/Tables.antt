@@ -44,7 +44,8 @@ kept-room attributes cells handle kept found =
 pub value_at-cell : (cells : List Cell) (handle : ℕ) → value_at (values_of cells) handle ≡ (cell_at cells handle).octets
 value_at-cell cells handle = get_or-map_default (λ (cell : Cell). cell.octets) cells (handle - 1) no_cell
 
-pub cell-within : (attributes : List Attr) (cells : List Cell) (handle : ℕ) → IsKept attributes cells → length (cell_at cells handle).octets ≤ (cell_at cells handle).room
+pub cell-within : (attributes : List Attr) (cells : List Cell) (handle : ℕ) → IsKept attributes cells → length (cell_at cells handle).octets
+    ≤ (cell_at cells handle).room
 cell-within attributes cells handle kept = elim (cases_lt (handle - 1) (length cells)) [
   | inr past ↦ rw (get_or_past cells (handle - 1) no_cell past) (omega arith)
   | inl below ↦ All-get_or (λ (cell : Cell). length cell.octets ≤ cell.room) cells (handle - 1) no_cell below kept.within
@@ -77,12 +78,14 @@ kept-patched attributes cells keep handle offset part kept in_value fits exact =
   exact = exact;
   rooms = kept.rooms ∙ sym (map-set_same (λ (cell : Cell). cell.room) cells (handle - 1) (patched_cell keep (cell_at cells handle) offset part) no_cell refl);
   within = All-set (λ (cell : Cell). length cell.octets ≤ cell.room) cells (handle - 1) (patched_cell keep (cell_at cells handle) offset part)
-      (length-patched keep (cell_at cells handle).octets offset part (cell_at cells handle).room in_value fits (cell-within attributes cells handle kept)) kept.within;
+      (length-patched keep (cell_at cells handle).octets offset part (cell_at cells handle).room in_value fits (cell-within attributes cells handle kept))
+      kept.within;
 }
 
 -- the values after a part is written into a cell
 pub values_of-with_part : (cells : List Cell) (keep : Bool) (handle offset : ℕ) (part : List ℕ)
-    → values_of (with_part cells keep handle offset part) ≡ with_value (values_of cells) handle (value_with_part keep (value_at (values_of cells) handle) offset part)
+    → values_of (with_part cells keep handle offset part)
+    ≡ with_value (values_of cells) handle (value_with_part keep (value_at (values_of cells) handle) offset part)
 values_of-with_part cells keep handle offset part =
     map-set (λ (cell : Cell). cell.octets) cells (handle - 1) (patched_cell keep (cell_at cells handle) offset part)
     ∙ ap (λ value. with_value (values_of cells) handle (value_with_part keep value offset part)) (sym (value_at-cell cells handle))

@@ -28,10 +28,12 @@ pub stored_alike : (R : Handle → Octets → Octets → Type 0) (xs ys : Values
     → (other : Handle) → 0 < other → R other (value_at (with_value xs handle x) other) (value_at (with_value ys handle y) other)
 stored_alike R xs ys handle x y count used alike new other other_used = elim (cases_lt (handle - 1) (length xs)) [
   | inr past ↦ rw (set_past xs (handle - 1) x past, set_past ys (handle - 1) y (omega arith)) (alike other other_used)
-  | inl below ↦ elim (other == handle) as (λ same. (other == handle) ≡ same → R other (value_at (with_value xs handle x) other) (value_at (with_value ys handle y) other)) [
-    | true ↦ λ same.
-        let is : other ≡ handle = grind (arith, nat_tests) in
-        rw is (rw (value_stored xs handle x below, value_stored ys handle y (omega arith)) new)
-    | false ↦ λ differs. rw (value_beside xs handle other x used other_used differs, value_beside ys handle other y used other_used differs) (alike other other_used)
-  ] refl
+  | inl below ↦ elim (other == handle) as
+      (λ same. (other == handle) ≡ same → R other (value_at (with_value xs handle x) other) (value_at (with_value ys handle y) other)) [
+        | true ↦ λ same.
+            let is : other ≡ handle = grind (arith, nat_tests) in
+            rw is (rw (value_stored xs handle x below, value_stored ys handle y (omega arith)) new)
+        | false ↦ λ differs. rw (value_beside xs handle other x used other_used differs, value_beside ys handle other y used other_used differs)
+            (alike other other_used)
+      ] refl
 ]

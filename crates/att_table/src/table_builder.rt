@@ -72,7 +72,8 @@ impl TableBuilder {
         self.values.value_at(handle)
     }
 
-    /// Builds the table with its indexes; at most `MAX_CONFIGURATIONS` configurations.
+    /// Builds the table with its indexes: at most `MAX_CONFIGURATIONS` configurations and
+    /// `MAX_VALUES_OCTETS` octets of values.
     pub fn finish(self, alloc: Global) -> Result<Table, AllocError>
         requires few { configurations_of self.attributes ≤ MAX_CONFIGURATIONS }
         requires counted { value_octets self.attributes ≤ MAX_VALUES_OCTETS }

@@ -114,7 +114,7 @@ fn make(
         Step::Tick(now) => {
             pending.tick(now);
         }
-        Step::Replace => pending.replaced(),
+        Step::Replace => pending.replace_table(),
         Step::End => pending.end(),
         Step::Told(handle, wanted) => return pending.told(handle) == wanted,
     }

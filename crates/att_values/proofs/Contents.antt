@@ -99,7 +99,8 @@ contents_of-set cells i cell below =
 
 -- a part that is written into a cell is written into the value of its handle alone
 pub contents_of-with_part : (cells : List Cell) (keep : Bool) (handle offset : ℕ) (part : List ℕ) → IsUsed cells handle
-    → contents_of (with_part cells keep handle offset part) ≡ insert (contents_of cells) handle (value_with_part keep (value_in (contents_of cells) handle) offset part)
+    → contents_of (with_part cells keep handle offset part)
+    ≡ insert (contents_of cells) handle (value_with_part keep (value_in (contents_of cells) handle) offset part)
 contents_of-with_part cells keep handle offset part used =
     let cell = patched_cell keep (cell_at cells handle) offset part in
     let at : suc (handle - 1) ≡ handle = omega arith in
@@ -108,16 +109,19 @@ contents_of-with_part cells keep handle offset part used =
     ∙ rw value (ap (λ h. insert (contents_of cells) h cell.octets) at)
 
 -- and no room changes
-room-set : (cells : List Cell) (i k : ℕ) (cell : Cell) → cell.room ≡ (get_or cells i no_cell).room → (get_or (set cells i cell) k no_cell).room ≡ (get_or cells k no_cell).room
+room-set : (cells : List Cell) (i k : ℕ) (cell : Cell) → cell.room ≡ (get_or cells i no_cell).room → (get_or (set cells i cell) k no_cell).room
+    ≡ (get_or cells k no_cell).room
 room-set [] i k cell same = refl
 room-set (first ∷ rest) zero zero cell same = same
 room-set (first ∷ rest) zero (suc k) cell same = refl
 room-set (first ∷ rest) (suc i) zero cell same = refl
 room-set (first ∷ rest) (suc i) (suc k) cell same = room-set rest i k cell same
 
-pub rooms_of-with_part : (cells : List Cell) (keep : Bool) (handle offset : ℕ) (part : List ℕ) → rooms_of (with_part cells keep handle offset part) ≡ rooms_of cells
+pub rooms_of-with_part : (cells : List Cell) (keep : Bool) (handle offset : ℕ) (part : List ℕ) → rooms_of (with_part cells keep handle offset part)
+    ≡ rooms_of cells
 rooms_of-with_part cells keep handle offset part =
-    fun_ext (λ other. ap (λ room. if other == 0 then 0 else room) (room-set cells (handle - 1) (other - 1) (patched_cell keep (cell_at cells handle) offset part) refl))
+    fun_ext (λ other. ap (λ room. if other == 0 then 0 else room)
+    (room-set cells (handle - 1) (other - 1) (patched_cell keep (cell_at cells handle) offset part) refl))
 
 -- what is known of a handle
 pub ruleset handles = (nat_tests, has_used, used_has, value_used, room_used, room_unused, contents_of-with_part, rooms_of-with_part)

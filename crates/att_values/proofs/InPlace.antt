@@ -25,7 +25,8 @@ written_after octets part at start len after fits =
 
 -- a part that is written into a value that keeps the octets after it
 pub written_kept : (octets part : List ℕ) (start len offset : ℕ) → offset ≤ len → start + len ≤ length octets → start + offset + length part ≤ length octets
-    → take (max len (offset + length part)) (drop start (written octets (start + offset) part)) ≡ value_with_part true (take len (drop start octets)) offset part
+    → take (max len (offset + length part)) (drop start (written octets (start + offset) part))
+    ≡ value_with_part true (take len (drop start octets)) offset part
 written_kept octets part start len offset within inside fits =
     same_lists _ _ (search (rules, list_places)) (λ k d h. grind (arith, list_places))
 
@@ -62,7 +63,8 @@ abbrev pub ended : Bool → Place → ℕ → Place
 ended keep place end = record { start = place.start; len = if keep then max place.len end else end; room = place.room }
 
 -- a write leaves the cells after it
-cells_after : (places : List Place) (octets part : List ℕ) (at from end : ℕ) → IsLaidOut from places end → at + length part ≤ from → at + length part ≤ length octets
+cells_after : (places : List Place) (octets part : List ℕ) (at from end : ℕ) → IsLaidOut from places end → at + length part ≤ from
+    → at + length part ≤ length octets
     → cells_in (written octets at part) places ≡ cells_in octets places
 cells_after [] octets part at from end laid after fits = refl
 cells_after (place ∷ places) octets part at from end laid after fits =
@@ -71,7 +73,8 @@ cells_after (place ∷ places) octets part at from end laid after fits =
     cc
 
 -- the cell in which a part was written
-cell_patched : (octets part : List ℕ) (place : Place) (offset : ℕ) (keep : Bool) → offset ≤ place.len → place.start + place.len ≤ length octets → place.start + offset + length part ≤ length octets
+cell_patched : (octets part : List ℕ) (place : Place) (offset : ℕ) (keep : Bool) → offset ≤ place.len → place.start + place.len ≤ length octets
+    → place.start + offset + length part ≤ length octets
     → cell_in (written octets (place.start + offset) part) (ended keep place (offset + length part)) ≡ patched_cell keep (cell_in octets place) offset part
 cell_patched octets part place offset true within inside fits =
     let here = written_kept octets part place.start place.len offset within inside fits in cc
@@ -81,14 +84,16 @@ cell_patched octets part place offset false within inside fits =
 -- a part that is written into one value is written into its cell alone
 patched_in : (places : List Place) (i : ℕ) (octets part : List ℕ) (from offset : ℕ) (keep : Bool) (place : Place)
     → IsLaidOut from places (length octets) → i < length places → place ≡ get_or places i place → offset ≤ place.len → offset + length part ≤ place.room
-    → cells_in (written octets (place.start + offset) part) (set places i (ended keep place (offset + length part))) ≡ set (cells_in octets places) i (patched_cell keep (cell_in octets place) offset part)
+    → cells_in (written octets (place.start + offset) part) (set places i (ended keep place (offset + length part)))
+    ≡ set (cells_in octets places) i (patched_cell keep (cell_in octets place) offset part)
 patched_in [] i octets part from offset keep place laid below read within room = absurd (omega arith)
 patched_in (first ∷ rest) zero octets part from offset keep place laid below read within room =
     let at = place_within (first ∷ rest) 0 from (length octets) place laid below read in
     let start : place.start ≡ from = rw read laid.0 in
     let rooms : place.room ≡ first.room = ap (λ (p : Place). p.room) read in
     let here = cell_patched octets part place offset keep within (omega (arith, at)) (omega (arith, at)) in
-    let later = cells_after rest octets part (place.start + offset) (from + first.room) (length octets) laid.3 (omega (arith, start, rooms)) (omega (arith, at)) in
+    let later = cells_after rest octets part (place.start + offset) (from + first.room) (length octets) laid.3 (omega (arith, start, rooms)) (omega (arith, at))
+    in
     cc
 patched_in (first ∷ rest) (suc i) octets part from offset keep place laid below read within room =
     let at = place_within rest i (from + first.room) (length octets) place laid.3 (omega arith) read in
@@ -97,7 +102,8 @@ patched_in (first ∷ rest) (suc i) octets part from offset keep place laid belo
     cc
 
 -- and leaves the places laid out
-IsLaidOut-set : (places : List Place) (i from end : ℕ) (place : Place) (len : ℕ) → IsLaidOut from places end → i < length places → place ≡ get_or places i place → len ≤ place.room
+IsLaidOut-set : (places : List Place) (i from end : ℕ) (place : Place) (len : ℕ) → IsLaidOut from places end → i < length places → place ≡ get_or places i place
+    → len ≤ place.room
     → IsLaidOut from (set places i (record { start = place.start; len = len; room = place.room })) end
 IsLaidOut-set [] i from end place len laid below read room = absurd (omega arith)
 IsLaidOut-set (first ∷ rest) zero from end place len laid below read room =
@@ -123,7 +129,8 @@ stands_at octets places cells end handle at place laid is_end view used is read 
     let cell : cell_at cells handle ≡ cell_in octets place =
     rw (← view, ← is) (get_or-map (cell_in octets) places (at - 1) place no_cell (omega arith) ∙ ap (cell_in octets) (sym read)) in
     let len : length (cell_at cells handle).octets ≡ place.len =
-    ap (λ (cell : Cell). length cell.octets) cell ∙ length-take-le place.len (drop place.start octets) (omega (arith, within, length-drop place.start octets)) in
+    ap (λ (cell : Cell). length cell.octets) cell ∙ length-take-le place.len (drop place.start octets) (omega (arith, within, length-drop place.start octets))
+    in
     let room : (cell_at cells handle).room ≡ place.room = ap (λ (cell : Cell). cell.room) cell in
     record {
       cell = cell;
@@ -159,4 +166,5 @@ part_laid_out octets part places cells end handle at offset keep place laid is_e
     let count : length places ≡ length cells = sym (length-map places (cell_in octets)) ∙ ap length view in
     let within = place_within places (at - 1) 0 end place laid (omega arith) read in
     let room : (cell_at cells handle).room ≡ place.room = ap (λ (cell : Cell). cell.room) here.cell in
-    IsLaidOut-set places (at - 1) 0 end place (if keep then max place.len (offset + length part) else offset + length part) laid (omega arith) read (grind (arith, within))
+    IsLaidOut-set places (at - 1) 0 end place (if keep then max place.len (offset + length part) else offset + length part) laid (omega arith) read
+    (grind (arith, within))

@@ -29,7 +29,8 @@ value_last octets value room =
     same_lists _ _ (search (rules, list_places)) (λ k d h. grind (arith, list_places))
 
 -- one more place
-laid_out_more : (places : List Place) (from end : ℕ) (place : Place) → IsLaidOut from places end → place.start ≡ end → place.len ≤ place.room → place.room ≤ MAX_VALUE
+laid_out_more : (places : List Place) (from end : ℕ) (place : Place) → IsLaidOut from places end → place.start ≡ end → place.len ≤ place.room
+    → place.room ≤ MAX_VALUE
     → IsLaidOut from (places ++ place ∷ []) (end + place.room)
 laid_out_more [] from end place laid start len room = (start ∙ sym laid, len, room, ap (λ n. n + place.room) laid)
 laid_out_more (first ∷ rest) from end place laid start len room =
@@ -63,5 +64,10 @@ pub laid_out_pushed : (octets new value : List ℕ) (places pushed : List Place)
     → IsLaidOut 0 pushed new_end
 laid_out_pushed octets new value places pushed end new_end start room laid is_end is_new_end is starts is_pushed fits largest =
     let count : new_end ≡ end + room =
-    is_new_end ∙ ap length is ∙ grind (arith, length-append (octets ++ value) (replicate {A = ℕ} (room - length value) 0), length-append octets value, length-replicate {A = ℕ} (room - length value) 0) in
+    is_new_end ∙ ap length is ∙ grind (
+      arith,
+      length-append (octets ++ value) (replicate {A = ℕ} (room - length value) 0),
+      length-append octets value,
+      length-replicate {A = ℕ} (room - length value) 0,
+    ) in
     rw (is_pushed, count) (laid_out_more places 0 end (record { start = start; len = length value; room = room }) laid starts fits largest)

@@ -8,7 +8,8 @@ use Rattle.att_values.specs.PlainStore.{cell_of, cells_of}
 
 -- a part that is written into a buffer is written into the value at its handle
 pub part_in_slot : (slots : List Slot) (cells : List Cell) (handle at offset : ℕ) (keep : Bool) (part : List ℕ) (slot : Slot) (new : ArrayVec ℕ)
-    → cells_of slots ≡ cells → IsUsed cells handle → at ≡ handle → slot ≡ get_or slots (at - 1) slot → new.items ≡ value_with_part keep slot.octets.items offset part
+    → cells_of slots ≡ cells → IsUsed cells handle → at ≡ handle → slot ≡ get_or slots (at - 1) slot
+    → new.items ≡ value_with_part keep slot.octets.items offset part
     → cells_of (set slots (at - 1) (record { room = slot.room; octets = new })) ≡ with_part cells keep handle offset part
 part_in_slot slots cells handle at offset keep part slot new view used is read wrote =
     let count : length slots ≡ length cells = sym (length-map slots cell_of) ∙ ap length view in

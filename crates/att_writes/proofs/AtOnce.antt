@@ -69,15 +69,18 @@ pub applied_more : (access : Access) (attributes : List Attr) (standing : Standi
     → entry_fault access attributes standing (length (value_at stored.values entry.handle)) entry ≡ None
     → after_entries access attributes standing stored (entry ∷ rest) ≡ after_entries access attributes standing (after_entry attributes stored entry) rest
 unfolding after_entries
-applied_more access attributes standing stored entry rest is = ap (λ fault. unless_entry_refused entry fault (after_entries access attributes standing (after_entry attributes stored entry) rest)) is
+applied_more access attributes standing stored entry rest is =
+    ap (λ fault. unless_entry_refused entry fault (after_entries access attributes standing (after_entry attributes stored entry) rest)) is
 
 pub refused_more : (access : Access) (attributes : List Attr) (standing : Standing) (stored : Stored) (entry : Entry) (rest : List Entry) (code : ℕ)
     → entry_fault access attributes standing (length (value_at stored.values entry.handle)) entry ≡ Some code
     → after_entries access attributes standing stored (entry ∷ rest) ≡ Err (record { handle = entry.handle; code = code })
 unfolding after_entries
-refused_more access attributes standing stored entry rest code is = ap (λ fault. unless_entry_refused entry fault (after_entries access attributes standing (after_entry attributes stored entry) rest)) is
+refused_more access attributes standing stored entry rest code is =
+    ap (λ fault. unless_entry_refused entry fault (after_entries access attributes standing (after_entry attributes stored entry) rest)) is
 
-pub applied_none : (access : Access) (attributes : List Attr) (standing : Standing) (stored : Stored) → after_entries access attributes standing stored [] ≡ Ok stored
+pub applied_none : (access : Access) (attributes : List Attr) (standing : Standing) (stored : Stored) → after_entries access attributes standing stored []
+    ≡ Ok stored
 unfolding after_entries
 applied_none access attributes standing stored = refl
 

@@ -38,7 +38,8 @@ entry_pushed (first ∷ places) octets part place sizes size =
     let rest = entry_pushed places (drop first.len octets) part place left size in
     rw (front, back, rest) refl
 
-pub handles_laid : (places : List Place) (octets : List ℕ) → map (λ (entry : Entry). entry.handle) (entries_in places octets) ≡ map (λ (place : Place). place.handle) places
+pub handles_laid : (places : List Place) (octets : List ℕ) → map (λ (entry : Entry). entry.handle) (entries_in places octets)
+    ≡ map (λ (place : Place). place.handle) places
 handles_laid [] octets = refl
 handles_laid (place ∷ places) octets = ap (λ handles. place.handle ∷ handles) (handles_laid places (drop place.len octets))
 
@@ -60,7 +61,8 @@ pub entries_left : (places : List Place) (i : ℕ) (octets : List ℕ) → i < l
     → entries_in (drop i places) octets ≡ entry_at places i octets ∷ entries_in (drop (i + 1) places) (drop (get_or places i no_place).len octets)
 entries_left places i octets below = ap (λ left. entries_in left octets) (drop_next places i no_place below)
 
-pub part_within : (places : List Place) (i : ℕ) (octets : List ℕ) → i < length places → sizes_of (drop i places) ≡ length octets → (get_or places i no_place).len ≤ length octets
+pub part_within : (places : List Place) (i : ℕ) (octets : List ℕ) → i < length places → sizes_of (drop i places) ≡ length octets
+    → (get_or places i no_place).len ≤ length octets
 part_within places i octets below sizes =
     let all = ap sizes_of (drop_next places i no_place below) ∙ sizes_cons (get_or places i no_place) (drop (i + 1) places) in
     omega arith
@@ -81,7 +83,8 @@ octets_used places octets used sizes within =
     let count = length_used octets used within in
     octets_laid places (take used octets) (sizes ∙ sym count) ∙ count
 
-pub part_pushed : (places : List Place) (octets part : List ℕ) (used : ℕ) (place : Place) → sizes_of places ≡ used → used ≤ length octets → place.len ≡ length part
+pub part_pushed : (places : List Place) (octets part : List ℕ) (used : ℕ) (place : Place) → sizes_of places ≡ used → used ≤ length octets
+    → place.len ≡ length part
     → entries_in (places ++ place ∷ []) (take used octets ++ part)
     ≡ entries_in places (take used octets) ++ record { handle = place.handle; offset = place.offset; part = part } ∷ []
 part_pushed places octets part used place sizes within size =

@@ -41,7 +41,8 @@ abbrev pub handles_in : List Entry → List Handle
 handles_in entries = map (λ (entry : Entry). entry.handle) entries
 
 -- one value that is stored
-same_at : (from : Values) (handle at : Handle) (old : Octets) (here : Bool) → (handle == at) ≡ here → (if here then value_at from handle else old) ≡ (if here then value_at from at else old)
+same_at : (from : Values) (handle at : Handle) (old : Octets) (here : Bool) → (handle == at) ≡ here → (if here then value_at from handle else old)
+    ≡ (if here then value_at from at else old)
 same_at from handle at old true is = let equal : handle ≡ at = grind (arith, nat_tests) in ap (value_at from) equal
 same_at from handle at old false is = refl
 
@@ -53,7 +54,8 @@ stored-at from into handle at true is is_used at_used there =
 stored-at from into handle at false is is_used at_used there =
     let over : length into < handle = grind (arith, nat_tests) in
     let differs : (handle == at) ≡ false = grind (arith, nat_tests) in
-    ap (λ values. value_at values at) (behind into handle (value_at from handle) over) ∙ sym (ap (λ here. if here then value_at from at else value_at into at) differs)
+    ap (λ values. value_at values at) (behind into handle (value_at from handle) over)
+    ∙ sym (ap (λ here. if here then value_at from at else value_at into at) differs)
 
 either : (first later : Bool) (new old : Octets) → (if later then new else (if first then new else old)) ≡ (if first || later then new else old)
 either true true new old = refl
@@ -72,7 +74,8 @@ put_at (entry ∷ rest) from into at all at_used there =
     let count : length next ≡ length into = length-set into (entry.handle - 1) (value_at from entry.handle) in
     let within : at ≤ length next = omega (arith, count, there) in
     put_at rest from next at all.1 at_used within
-    ∙ ap (λ old. if is_touched rest at then value_at from at else old) (stored-at from into entry.handle at (nat_le entry.handle (length into)) refl all.0 at_used there)
+    ∙ ap (λ old. if is_touched rest at then value_at from at else old)
+    (stored-at from into entry.handle at (nat_le entry.handle (length into)) refl all.0 at_used there)
     ∙ either (entry.handle == at) (is_touched rest at) (value_at from at) (value_at into at)
     ∙ ap (λ touched. if touched then value_at from at else value_at into at) (touched_first entry rest at)
 
@@ -91,11 +94,13 @@ used-at access attributes standing stored new entry rest None judged is later =
     let fit = fits_unless_refused access attributes standing stored entry judged in
     (used attributes entry.handle fit.exists, later is)
 
-all_used : (access : Access) (attributes : List Attr) (standing : Standing) (entries : List Entry) (stored new : Stored) → after_entries access attributes standing stored entries ≡ Ok new → AllUsed entries
+all_used : (access : Access) (attributes : List Attr) (standing : Standing) (entries : List Entry) (stored new : Stored)
+    → after_entries access attributes standing stored entries ≡ Ok new → AllUsed entries
 unfolding after_entries
 all_used access attributes standing [] stored new is = tt
 all_used access attributes standing (entry ∷ rest) stored new is =
-    used-at access attributes standing stored new entry rest (entry_fault access attributes standing (length (value_at stored.values entry.handle)) entry) refl is
+    used-at access attributes standing stored new entry rest (entry_fault access attributes standing (length (value_at stored.values entry.handle)) entry) refl
+    is
     (all_used access attributes standing rest (after_entry attributes stored entry) new)
 
 no_value : (values : Values) (n : ℕ) → length values ≤ n → value_at values (n + 1) ≡ []
@@ -105,7 +110,8 @@ kept_or_put : (touched : Bool) (new old : Octets) → (touched ≡ false → new
 kept_or_put true new old same = refl
 kept_or_put false new old same = same refl
 
-put-at : (entries : List Entry) (stored new : Stored) (n : ℕ) (within : Bool) → nat_lt n (length stored.values) ≡ within → AllUsed entries → KeepsOthers entries stored new
+put-at : (entries : List Entry) (stored new : Stored) (n : ℕ) (within : Bool) → nat_lt n (length stored.values) ≡ within → AllUsed entries
+    → KeepsOthers entries stored new
     → value_at new.values (n + 1) ≡ value_at (values_put (handles_in entries) new.values stored.values) (n + 1)
 put-at entries stored new n true is all keeps =
     let there : n + 1 ≤ length stored.values = grind (arith, nat_tests) in

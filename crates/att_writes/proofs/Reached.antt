@@ -26,14 +26,17 @@ use Rattle.att_writes.proofs.Laid.{no_place, entry_at, entries_left, part_within
 use Rattle.att_writes.proofs.Sizes.{same_form, used, size_with_more, after_part}
 
 -- entries before these are judged, and what stands by then has the values and the row that they leave
-pub record IsReached (access : Access) (attributes : List Attr) (standing : Standing) (stored : Stored) (all rest : List Entry) (visited : List Place) (by : Stored) : Type 0 where
+pub record IsReached (access : Access) (attributes : List Attr) (standing : Standing) (stored : Stored) (all rest : List Entry) (visited : List Place)
+    (by : Stored) : Type 0 where
   pub same : after_entries access attributes standing stored all ≡ after_entries access attributes standing by rest
   pub after : after_all attributes stored all ≡ after_all attributes by rest
   pub fits : EntriesFit attributes by rest → EntriesFit attributes stored all
   pub count : length by.values ≡ length stored.values
-  pub sizes : (handle : ℕ) → 0 < handle → is_configuration_at attributes handle ≡ false → length (value_at by.values handle) ≡ size_after attributes stored.values handle visited
+  pub sizes : (handle : ℕ) → 0 < handle → is_configuration_at attributes handle ≡ false → length (value_at by.values handle)
+      ≡ size_after attributes stored.values handle visited
 
-pub begin : (access : Access) (attributes : List Attr) (standing : Standing) (stored : Stored) (all : List Entry) → IsReached access attributes standing stored all all [] stored
+pub begin : (access : Access) (attributes : List Attr) (standing : Standing) (stored : Stored) (all : List Entry)
+    → IsReached access attributes standing stored all all [] stored
 begin access attributes standing stored all = record {
   same = refl;
   after = refl;
@@ -48,25 +51,31 @@ pub same_by_then : (access : Access) (attributes : List Attr) (standing : Standi
     → entry_fault access attributes standing one entry ≡ entry_fault access attributes standing other entry
 same_by_then access attributes standing one other entry same =
     elim (first_broken_of access (guard_at attributes entry.handle) standing)
-    as (λ broken. first_broken_of access (guard_at attributes entry.handle) standing ≡ broken → unless_broken broken (form_fault attributes one entry) ≡ unless_broken broken (form_fault attributes other entry)) [
+    as (λ broken. first_broken_of access (guard_at attributes entry.handle) standing ≡ broken → unless_broken broken (form_fault attributes one entry)
+    ≡ unless_broken broken (form_fault attributes other entry)) [
       | Some broken ↦ λ is. refl
       | None ↦ λ is. same_form attributes (is_configuration_at attributes entry.handle) one other entry
-          (same (used attributes entry.handle (attribute_there access (attribute_at attributes entry.handle) standing None (ap (λ broken. unless_broken broken None) is))))
+          (same (used attributes entry.handle
+          (attribute_there access (attribute_at attributes entry.handle) standing None (ap (λ broken. unless_broken broken None) is))))
     ] refl
 
-fault_by_then : (access : Access) (attributes : List Attr) (standing : Standing) (stored : Stored) (all rest : List Entry) (visited : List Place) (by : Stored) (entry : Entry) (fault : Option ℕ)
+fault_by_then : (access : Access) (attributes : List Attr) (standing : Standing) (stored : Stored) (all rest : List Entry) (visited : List Place) (by : Stored)
+    (entry : Entry) (fault : Option ℕ)
     → IsReached access attributes standing stored all (entry ∷ rest) visited by
     → entry_fault access attributes standing (size_after attributes stored.values entry.handle visited) entry ≡ fault
     → entry_fault access attributes standing (length (value_at by.values entry.handle)) entry ≡ fault
 fault_by_then access attributes standing stored all rest visited by entry fault reached is =
-    same_by_then access attributes standing (length (value_at by.values entry.handle)) (size_after attributes stored.values entry.handle visited) entry (reached.sizes entry.handle) ∙ is
+    same_by_then access attributes standing (length (value_at by.values entry.handle)) (size_after attributes stored.values entry.handle visited) entry
+    (reached.sizes entry.handle) ∙ is
 
-pub refused : (access : Access) (attributes : List Attr) (standing : Standing) (stored : Stored) (all rest : List Entry) (visited : List Place) (by : Stored) (entry : Entry) (code : ℕ)
+pub refused : (access : Access) (attributes : List Attr) (standing : Standing) (stored : Stored) (all rest : List Entry) (visited : List Place) (by : Stored)
+    (entry : Entry) (code : ℕ)
     → IsReached access attributes standing stored all (entry ∷ rest) visited by
     → entry_fault access attributes standing (size_after attributes stored.values entry.handle visited) entry ≡ Some code
     → after_entries access attributes standing stored all ≡ Err (record { handle = entry.handle; code = code })
 refused access attributes standing stored all rest visited by entry code reached is =
-    reached.same ∙ refused_more access attributes standing by entry rest code (fault_by_then access attributes standing stored all rest visited by entry (Some code) reached is)
+    reached.same ∙ refused_more access attributes standing by entry rest code
+    (fault_by_then access attributes standing stored all rest visited by entry (Some code) reached is)
 
 pub finished : (access : Access) (attributes : List Attr) (standing : Standing) (stored : Stored) (all : List Entry) (visited : List Place) (by : Stored)
     → IsReached access attributes standing stored all [] visited by
@@ -74,11 +83,13 @@ pub finished : (access : Access) (attributes : List Attr) (standing : Standing) 
 finished access attributes standing stored all visited by reached =
     (reached.same ∙ applied_none access attributes standing by ∙ ap Ok (sym reached.after), reached.fits tt)
 
-unlike : (attributes : List Attr) (handle place other : ℕ) (test : Bool) → is_configuration_at attributes handle ≡ true → is_configuration_at attributes other ≡ false → handle ≡ place → (place == other) ≡ test → test ≡ false
+unlike : (attributes : List Attr) (handle place other : ℕ) (test : Bool) → is_configuration_at attributes handle ≡ true → is_configuration_at attributes other
+    ≡ false → handle ≡ place → (place == other) ≡ test → test ≡ false
 unlike attributes handle place other true is not_other same equal = let one : place ≡ other = grind (arith, nat_tests) in absurd (cc (is, not_other, same, one))
 unlike attributes handle place other false is not_other same equal = refl
 
-apart : (attributes : List Attr) (handle place other : ℕ) → is_configuration_at attributes handle ≡ true → is_configuration_at attributes other ≡ false → handle ≡ place → (place == other) ≡ false
+apart : (attributes : List Attr) (handle place other : ℕ) → is_configuration_at attributes handle ≡ true → is_configuration_at attributes other ≡ false
+    → handle ≡ place → (place == other) ≡ false
 apart attributes handle place other is not_other same = unlike attributes handle place other (place == other) is not_other same refl
 
 -- one more entry that is not refused
@@ -92,18 +103,23 @@ value_fits : (attributes : List Attr) (size : ℕ) (entry : Entry) → value_fau
 value_fits attributes size entry is = (grind (arith, nat_tests), grind (arith, nat_tests))
 
 -- the length of another value than a configuration
-one_more : (fixed same : Bool) (own by end before : ℕ) → by ≡ cond fixed own before → cond fixed by (if same then end else by) ≡ cond fixed own (if same then end else before)
+one_more : (fixed same : Bool) (own by end before : ℕ) → by ≡ cond fixed own before → cond fixed by (if same then end else by)
+    ≡ cond fixed own (if same then end else before)
 one_more true same own by end before is = is
 one_more false true own by end before is = refl
 one_more false false own by end before is = is
 
 sizes_more : (attributes : List Attr) (stored by : Stored) (visited : List Place) (place : Place) (entry : Entry) (is : Bool) (other : ℕ)
-    → is_configuration_at attributes entry.handle ≡ is → is_configuration_at attributes other ≡ false → 0 < entry.handle → 0 < other → entry.handle ≤ length by.values
+    → is_configuration_at attributes entry.handle ≡ is → is_configuration_at attributes other ≡ false → 0 < entry.handle → 0 < other
+    → entry.handle ≤ length by.values
     → entry.handle ≡ place.handle → entry.offset ≡ place.offset → length entry.part ≡ place.len
     → cond is (configuration_fault attributes entry) (value_fault attributes (length (value_at by.values entry.handle)) entry) ≡ None
     → length (value_at by.values other) ≡ size_after attributes stored.values other visited
     → length (value_at (if is then record by { row = with_bits by.row entry.handle (first_octet entry.part) }
-    else record by { values = with_value by.values entry.handle (value_with_part (is_fixed_at attributes entry.handle) (value_at by.values entry.handle) entry.offset entry.part) }).values other)
+    else record by {
+      values = with_value by.values entry.handle
+          (value_with_part (is_fixed_at attributes entry.handle) (value_at by.values entry.handle) entry.offset entry.part);
+    }).values other)
     ≡ size_after attributes stored.values other (visited ++ place ∷ [])
 sizes_more attributes stored by visited place entry true other is not_other is_used other_used within same_handle same_offset same_size fits size =
     let differs : (place.handle == other) ≡ false = apart attributes entry.handle place.handle other is not_other same_handle in
@@ -114,13 +130,16 @@ sizes_more attributes stored by visited place entry false other is not_other is_
     let own = length (value_at stored.values other) in
     let fit = value_fits attributes (length (value_at by.values entry.handle)) entry fits in
     let ends : entry.offset + length entry.part ≡ place.offset + place.len = omega arith in
-    after_part attributes by.values entry other (option_map_or (λ (attr : Attr). attr.largest) (attribute_at attributes entry.handle) 0) is_used within other_used fit.0 fit.1
-    ∙ one_more (is_fixed_at attributes other) (entry.handle == other) own (length (value_at by.values other)) (entry.offset + length entry.part) (size_with other own visited) size
+    after_part attributes by.values entry other (option_map_or (λ (attr : Attr). attr.largest) (attribute_at attributes entry.handle) 0) is_used within
+    other_used fit.0 fit.1
+    ∙ one_more (is_fixed_at attributes other) (entry.handle == other) own (length (value_at by.values other)) (entry.offset + length entry.part)
+    (size_with other own visited) size
     ∙ ap (λ end. cond (is_fixed_at attributes other) own (if entry.handle == other then end else size_with other own visited)) ends
     ∙ ap (λ handle. cond (is_fixed_at attributes other) own (if handle == other then place.offset + place.len else size_with other own visited)) same_handle
     ∙ ap (λ end. cond (is_fixed_at attributes other) own end) (sym (size_with_more other own visited place))
 
-pub one_more_judged : (access : Access) (attributes : List Attr) (standing : Standing) (stored : Stored) (all rest : List Entry) (visited : List Place) (place : Place) (by : Stored) (entry : Entry)
+pub one_more_judged : (access : Access) (attributes : List Attr) (standing : Standing) (stored : Stored) (all rest : List Entry) (visited : List Place)
+    (place : Place) (by : Stored) (entry : Entry)
     → entry.handle ≡ place.handle → entry.offset ≡ place.offset → length entry.part ≡ place.len
     → IsReached access attributes standing stored all (entry ∷ rest) visited by → entry.handle ≤ length stored.values
     → entry_fault access attributes standing (size_after attributes stored.values entry.handle visited) entry ≡ None
@@ -136,7 +155,8 @@ one_more_judged access attributes standing stored all rest visited place by entr
       fits = λ later. reached.fits (fit, later);
       count = values_kept (is_configuration_at attributes entry.handle) by _ entry.handle _ ∙ reached.count;
       sizes = λ other other_used not_other.
-          sizes_more attributes stored by visited place entry (is_configuration_at attributes entry.handle) other refl not_other is_used other_used there same_handle same_offset same_size fit.taken
+          sizes_more attributes stored by visited place entry (is_configuration_at attributes entry.handle) other refl not_other is_used other_used there
+          same_handle same_offset same_size fit.taken
           (reached.sizes other other_used not_other);
     }
 
@@ -144,11 +164,13 @@ one_more_judged access attributes standing stored all rest visited place by entr
 take_next : (places : List Place) (i : ℕ) → i < length places → take (i + 1) places ≡ take i places ++ get_or places i no_place ∷ []
 take_next places i below = grind (arith, common_steps)
 
-pub judged_at : (access : Access) (attributes : List Attr) (standing : Standing) (stored : Stored) (all : List Entry) (places : List Place) (i : ℕ) (octets : List ℕ) (by : Stored)
+pub judged_at : (access : Access) (attributes : List Attr) (standing : Standing) (stored : Stored) (all : List Entry) (places : List Place) (i : ℕ)
+    (octets : List ℕ) (by : Stored)
     → i < length places → sizes_of (drop i places) ≡ length octets
     → IsReached access attributes standing stored all (entries_in (drop i places) octets) (take i places) by
     → (get_or places i no_place).handle ≤ length stored.values
-    → entry_fault access attributes standing (size_after attributes stored.values (get_or places i no_place).handle (take i places)) (entry_at places i octets) ≡ None
+    → entry_fault access attributes standing (size_after attributes stored.values (get_or places i no_place).handle (take i places)) (entry_at places i octets)
+    ≡ None
     → IsReached access attributes standing stored all (entries_in (drop (i + 1) places) (drop (get_or places i no_place).len octets)) (take (i + 1) places)
     (after_entry attributes by (entry_at places i octets))
 judged_at access attributes standing stored all places i octets by below sizes reached within is =
@@ -158,13 +180,17 @@ judged_at access attributes standing stored all places i octets by below sizes r
     let fits = part_within places i octets below sizes in
     let here : IsReached access attributes standing stored all (entry ∷ rest) (take i places) by =
     subst (λ left. IsReached access attributes standing stored all left (take i places) by) (entries_left places i octets below) reached in
-    let more = one_more_judged access attributes standing stored all rest (take i places) place by entry refl refl (length-take-le place.len octets fits) here within is in
+    let more =
+    one_more_judged access attributes standing stored all rest (take i places) place by entry refl refl (length-take-le place.len octets fits) here within
+    is in
     subst (λ visited. IsReached access attributes standing stored all rest visited (after_entry attributes by entry)) (sym (take_next places i below)) more
 
-pub refused_at : (access : Access) (attributes : List Attr) (standing : Standing) (stored : Stored) (all : List Entry) (places : List Place) (i : ℕ) (octets : List ℕ) (by : Stored) (code : ℕ)
+pub refused_at : (access : Access) (attributes : List Attr) (standing : Standing) (stored : Stored) (all : List Entry) (places : List Place) (i : ℕ)
+    (octets : List ℕ) (by : Stored) (code : ℕ)
     → i < length places
     → IsReached access attributes standing stored all (entries_in (drop i places) octets) (take i places) by
-    → entry_fault access attributes standing (size_after attributes stored.values (get_or places i no_place).handle (take i places)) (entry_at places i octets) ≡ Some code
+    → entry_fault access attributes standing (size_after attributes stored.values (get_or places i no_place).handle (take i places)) (entry_at places i octets)
+    ≡ Some code
     → after_entries access attributes standing stored all ≡ Err (record { handle = (get_or places i no_place).handle; code = code })
 refused_at access attributes standing stored all places i octets by code below reached is =
     let entry = entry_at places i octets in
@@ -173,7 +199,8 @@ refused_at access attributes standing stored all places i octets by code below r
     subst (λ left. IsReached access attributes standing stored all left (take i places) by) (entries_left places i octets below) reached in
     refused access attributes standing stored all rest (take i places) by entry code here is
 
-pub finished_at : (access : Access) (attributes : List Attr) (standing : Standing) (stored : Stored) (all : List Entry) (places : List Place) (i : ℕ) (octets : List ℕ) (visited : List Place) (by : Stored)
+pub finished_at : (access : Access) (attributes : List Attr) (standing : Standing) (stored : Stored) (all : List Entry) (places : List Place) (i : ℕ)
+    (octets : List ℕ) (visited : List Place) (by : Stored)
     → length places ≤ i
     → IsReached access attributes standing stored all (entries_in (drop i places) octets) visited by
     → (after_entries access attributes standing stored all ≡ Ok (after_all attributes stored all)) × EntriesFit attributes stored all

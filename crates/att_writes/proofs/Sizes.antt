@@ -15,7 +15,8 @@ use Rattle.att_writes.specs.Sizes.{size_with}
 
 -- the length matters but to values that are no configuration
 pub same_form : (attributes : List Attr) (is : Bool) (one other : ℕ) (entry : Entry) → (is ≡ false → one ≡ other)
-    → cond is (configuration_fault attributes entry) (value_fault attributes one entry) ≡ cond is (configuration_fault attributes entry) (value_fault attributes other entry)
+    → cond is (configuration_fault attributes entry) (value_fault attributes one entry) ≡ cond is (configuration_fault attributes entry)
+    (value_fault attributes other entry)
 same_form attributes true one other entry same = refl
 same_form attributes false one other entry same = ap (λ size. value_fault attributes size entry) (same refl)
 
@@ -46,21 +47,27 @@ either_size false size = refl
 
 at_handle : (attributes : List Attr) (values : Values) (handle other : ℕ) (written : List ℕ) (end : ℕ) (same : Bool) → (handle == other) ≡ same
     → length written ≡ cond (is_fixed_at attributes handle) (length (value_at values handle)) end
-    → length (if same then written else value_at values other) ≡ cond (is_fixed_at attributes other) (length (value_at values other)) (if same then end else length (value_at values other))
+    → length (if same then written else value_at values other) ≡ cond (is_fixed_at attributes other) (length (value_at values other))
+    (if same then end else length (value_at values other))
 at_handle attributes values handle other written end true is size =
     let equal : handle ≡ other = grind (arith, nat_tests) in
     size ∙ ap (λ h. cond (is_fixed_at attributes h) (length (value_at values h)) end) equal
 at_handle attributes values handle other written end false is size = sym (either_size (is_fixed_at attributes other) (length (value_at values other)))
 
 -- where an entry that fits leaves another length, it is that of the end of its part
-pub after_part : (attributes : List Attr) (values : Values) (entry : Entry) (other : ℕ) (largest : ℕ) → 0 < entry.handle → entry.handle ≤ length values → 0 < other
+pub after_part : (attributes : List Attr) (values : Values) (entry : Entry) (other : ℕ) (largest : ℕ) → 0 < entry.handle → entry.handle ≤ length values
+    → 0 < other
     → entry.offset ≤ length (value_at values entry.handle)
     → entry.offset + length entry.part ≤ cond (is_fixed_at attributes entry.handle) (length (value_at values entry.handle)) largest
-    → length (value_at (with_value values entry.handle (value_with_part (is_fixed_at attributes entry.handle) (value_at values entry.handle) entry.offset entry.part)) other)
-    ≡ cond (is_fixed_at attributes other) (length (value_at values other)) (if entry.handle == other then entry.offset + length entry.part else length (value_at values other))
+    → length
+    (value_at (with_value values entry.handle (value_with_part (is_fixed_at attributes entry.handle) (value_at values entry.handle) entry.offset entry.part))
+    other)
+    ≡ cond (is_fixed_at attributes other) (length (value_at values other)) (if entry.handle == other then entry.offset + length entry.part
+    else length (value_at values other))
 after_part attributes values entry other largest is_used within other_used in_value fits =
     let value = value_at values entry.handle in
     let fixed = is_fixed_at attributes entry.handle in
     let written = value_written values entry.handle other (value_with_part fixed value entry.offset entry.part) is_used within other_used in
     let size = length_patched fixed value entry.part entry.offset largest in_value fits in
-    ap length written ∙ at_handle attributes values entry.handle other (value_with_part fixed value entry.offset entry.part) (entry.offset + length entry.part) (entry.handle == other) refl size
+    ap length written ∙ at_handle attributes values entry.handle other (value_with_part fixed value entry.offset entry.part) (entry.offset + length entry.part)
+    (entry.handle == other) refl size

@@ -31,14 +31,16 @@ all_new (handle ∷ handles) = ap (λ rest. handle ∷ rest) (all_new handles)
 new_handle : (touched : List ℕ) (handle other : ℕ) → not (other == handle) && is_new touched other ≡ is_new (touched ++ handle ∷ []) other
 new_handle touched handle other = grind (arith, nat_tests, common_steps)
 
-one_old : (touched : List ℕ) (handle other : ℕ) (same : Bool) → (other == handle) ≡ same → is_new touched handle ≡ false → not same && is_new touched other ≡ is_new touched other
+one_old : (touched : List ℕ) (handle other : ℕ) (same : Bool) → (other == handle) ≡ same → is_new touched handle ≡ false → not same && is_new touched other
+    ≡ is_new touched other
 one_old touched handle other true same is = let equal : other ≡ handle = grind (arith, nat_tests) in cc (equal, is)
 one_old touched handle other false same is = refl
 
 old_handle : (touched : List ℕ) (handle other : ℕ) → is_new touched handle ≡ false → not (other == handle) && is_new touched other ≡ is_new touched other
 old_handle touched handle other is = one_old touched handle other (other == handle) refl is
 
-pub added : (touched : List ℕ) (handle : ℕ) (rest : List ℕ) → is_new touched handle ≡ true → with_new (touched ++ handle ∷ []) rest ≡ with_new touched (handle ∷ rest)
+pub added : (touched : List ℕ) (handle : ℕ) (rest : List ℕ) → is_new touched handle ≡ true → with_new (touched ++ handle ∷ []) rest
+    ≡ with_new touched (handle ∷ rest)
 added touched handle rest is =
     let both = filter_both (is_new touched) (λ other. not (other == handle)) (is_new (touched ++ handle ∷ [])) (once_each rest) (new_handle touched handle) in
     grind (arith, common_steps)

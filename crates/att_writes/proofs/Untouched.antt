@@ -20,7 +20,8 @@ use Rattle.att_writes.proofs.Sizes.{used}
 use Rattle.octet_io.specs.Number.{Octets}
 
 -- a value that is stored leaves the others
-value_kept : (values : Values) (handle other : Handle) (value : Octets) → 0 < handle → 0 < other → (handle == other) ≡ false → value_at (with_value values handle value) other ≡ value_at values other
+value_kept : (values : Values) (handle other : Handle) (value : Octets) → 0 < handle → 0 < other → (handle == other) ≡ false
+    → value_at (with_value values handle value) other ≡ value_at values other
 value_kept values handle other value is_used other_used differs = grind (arith, nat_tests, common_steps)
 
 bits_kept-at : (row : Row) (entry : Handle × ℕ) (handle other bits : ℕ) (here : Bool) → (entry.0 == handle) ≡ here → (handle == other) ≡ false
@@ -33,13 +34,17 @@ bits_kept-at row entry handle other bits false is differs later = ap (λ rest. i
 
 bits_kept : (row : Row) (handle other bits : ℕ) → (handle == other) ≡ false → bits_at (with_bits row handle bits) other ≡ bits_at row other
 bits_kept [] handle other bits differs = rw differs refl
-bits_kept (entry ∷ row) handle other bits differs = bits_kept-at row entry handle other bits (entry.0 == handle) refl differs (bits_kept row handle other bits differs)
+bits_kept (entry ∷ row) handle other bits differs =
+    bits_kept-at row entry handle other bits (entry.0 == handle) refl differs (bits_kept row handle other bits differs)
 
 -- one entry
 kept-at : (attributes : List Attr) (stored : Stored) (entry : Entry) (is : Bool) → 0 < entry.handle
     → KeepsOthers (entry ∷ []) stored
     (if is then record stored { row = with_bits stored.row entry.handle (first_octet entry.part) }
-    else record stored { values = with_value stored.values entry.handle (value_with_part (is_fixed_at attributes entry.handle) (value_at stored.values entry.handle) entry.offset entry.part) })
+    else record stored {
+      values = with_value stored.values entry.handle
+          (value_with_part (is_fixed_at attributes entry.handle) (value_at stored.values entry.handle) entry.offset entry.part);
+    })
 kept-at attributes stored entry true is_used = record {
   count = refl;
   values = λ handle handle_used not_touched. refl;
@@ -60,7 +65,8 @@ rest_untouched entry rest handle is = grind (arith, common_steps)
 more-at : (access : Access) (attributes : List Attr) (standing : Standing) (stored new : Stored) (entry : Entry) (rest : List Entry) (fault : Option Code)
     → entry_fault access attributes standing (length (value_at stored.values entry.handle)) entry ≡ fault
     → unless_entry_refused entry fault (after_entries access attributes standing (after_entry attributes stored entry) rest) ≡ Ok new
-    → (after_entries access attributes standing (after_entry attributes stored entry) rest ≡ Ok new → KeepsOthers rest (after_entry attributes stored entry) new)
+    → (after_entries access attributes standing (after_entry attributes stored entry) rest ≡ Ok new
+    → KeepsOthers rest (after_entry attributes stored entry) new)
     → KeepsOthers (entry ∷ rest) stored new
 more-at access attributes standing stored new entry rest (Some code) judged is later = cc is
 more-at access attributes standing stored new entry rest None judged is later =
@@ -70,8 +76,10 @@ more-at access attributes standing stored new entry rest None judged is later =
     record {
       count = others.count ∙ first.count;
       values = λ handle handle_used not_touched.
-          others.values handle handle_used (rest_untouched entry rest handle not_touched) ∙ first.values handle handle_used (first_untouched entry rest handle not_touched);
-      row = λ handle not_touched. others.row handle (rest_untouched entry rest handle not_touched) ∙ first.row handle (first_untouched entry rest handle not_touched);
+          others.values handle handle_used (rest_untouched entry rest handle not_touched)
+          ∙ first.values handle handle_used (first_untouched entry rest handle not_touched);
+      row = λ handle not_touched. others.row handle (rest_untouched entry rest handle not_touched)
+          ∙ first.row handle (first_untouched entry rest handle not_touched);
     }
 
 -- what is written leaves all others
@@ -82,5 +90,6 @@ keeps_others access attributes standing [] stored new is =
     let same : stored ≡ new = cc is in
     subst (λ of. KeepsOthers [] stored of) same (record { count = refl; values = λ handle handle_used not_touched. refl; row = λ handle not_touched. refl })
 keeps_others access attributes standing (entry ∷ rest) stored new is =
-    more-at access attributes standing stored new entry rest (entry_fault access attributes standing (length (value_at stored.values entry.handle)) entry) refl is
+    more-at access attributes standing stored new entry rest (entry_fault access attributes standing (length (value_at stored.values entry.handle)) entry) refl
+    is
     (keeps_others access attributes standing rest (after_entry attributes stored entry) new)

@@ -57,7 +57,8 @@ packet_needed packet more is = same_needed packet more (length packet) refl is.0
 -- a packet that is unfinished does not begin with one that is whole
 not_whole : {A : Type 0} (left packet more : Octets) → IsUnfinished left → IsPacket packet → left ≡ packet ++ more → A
 not_whole left packet more unfinished is parts =
-    let needed : unfinished.needed ≡ length packet = some_same unfinished.needed (length packet) (sym unfinished.is ∙ ap needed_of parts ∙ packet_needed packet more is) in
+    let needed : unfinished.needed ≡ length packet =
+    some_same unfinished.needed (length packet) (sym unfinished.is ∙ ap needed_of parts ∙ packet_needed packet more is) in
     absurd (omega (arith, needed, unfinished.lacks, ap length parts, length-append packet more))
 
 pub only_these : (xs ys : List Octets) (left rest : Octets) → All IsPacket xs → All IsPacket ys → IsUnfinished left → IsUnfinished rest

@@ -6,7 +6,7 @@ ghost use Rattle.octet_io.specs.Stream.{CountsIf};
 ghost use Rattle.btsnoop.specs.Record.{SpellsTheExample};
 ghost use Rattle.btsnoop.specs.Capture.{capture_fault, is_write_failure, received_of, sent_by_capture, sink_of};
 ghost use Rattle.btsnoop.specs.Capture.{fault_of_next, Begins, Captures};
-ghost use Rattle.btsnoop.specs.Course.{RecordsThePackets};
+ghost use Rattle.btsnoop.specs.Calls.{RecordsThePackets};
 
 use crate::begun::Begun;
 use crate::packet::Progress;
@@ -36,7 +36,7 @@ pub struct Capture<C> {
 
 impl<C: Sink> Capture<C> {
     /// Begins a capture by writing the file header.
-    #[tactic(auto, using(crate::proofs::Example::spells, crate::proofs::Course::records_the_packets))]
+    #[tactic(auto, using(crate::proofs::Example::spells, crate::proofs::Calls::records_the_packets))]
     pub fn begin(sink: C) -> Self
         ensures sent { sent_by_capture result ≡ [] }
         ensures received { received_of result ≡ [] }

@@ -255,7 +255,7 @@ impl Controller<'_> {
                 return self.watch_again(poller);
             };
             let count = count.min(rest.len());
-            self.outbox.sent(count);
+            self.outbox.remove_sent(count);
             if count > 0 {
                 self.stalled_since = now;
             }

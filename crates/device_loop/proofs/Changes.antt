@@ -39,7 +39,8 @@ stays-with : (connections : List ℕ) (added handle : ℕ) (there : Bool) → ha
     → has_connection (cond there connections (connections ++ added ∷ [])) handle ≡ true
 stays-with connections added handle true has = has
 stays-with connections added handle false has =
-    list_any-append (λ connection. connection == handle) connections (added ∷ []) ∙ or_left (has_connection connections handle) (has_connection (added ∷ []) handle) has
+    list_any-append (λ connection. connection == handle) connections (added ∷ []) ∙ or_left (has_connection connections handle)
+    (has_connection (added ∷ []) handle) has
 
 -- with one less
 cons-without : (connection gone handle : ℕ) (others : List ℕ) (same : Bool) → connection == gone ≡ same
@@ -107,7 +108,8 @@ by-change connections notice added handle changes other has =
       | inr before ↦ inr (before, other)
     ]
 
-one-notice : (connections : List ℕ) (notice : Notice) (handle : ℕ) → has_connection (unsaved_after connections notice) handle ≡ true → Since connections notice handle
+one-notice : (connections : List ℕ) (notice : Notice) (handle : ℕ) → has_connection (unsaved_after connections notice) handle ≡ true
+    → Since connections notice handle
 one-notice connections (Connected own peer) handle has = inr (has, λ is. cc is)
 one-notice connections (Disconnected own) handle has =
     let left = left-without connections own handle has in
@@ -121,20 +123,24 @@ one-notice connections (TimedOut own) handle has = inr (has, λ is. cc is)
 one-notice connections (Ending own reason) handle has = inr (has, λ is. cc is)
 one-notice connections (Skipped own attribute) handle has = inr (has, λ is. cc is)
 
-change-there : (connections : List ℕ) (notice : Notice) (handle : ℕ) → changed_by notice ≡ Some handle → has_connection (unsaved_after connections notice) handle ≡ true
+change-there : (connections : List ℕ) (notice : Notice) (handle : ℕ) → changed_by notice ≡ Some handle
+    → has_connection (unsaved_after connections notice) handle ≡ true
 change-there connections (Connected own peer) handle is = absurd (cc is)
 change-there connections (Disconnected own) handle is = absurd (cc is)
 change-there connections (Secured own facts) handle is = absurd (cc is)
 change-there connections (Unsecured own) handle is = absurd (cc is)
 change-there connections (Written own attribute) handle is =
     let same : own ≡ handle = cc is in
-    subst (λ own. has_connection (with_connection connections own) handle ≡ true) (sym same) (added-there connections handle (has_connection connections handle) refl)
+    subst (λ own. has_connection (with_connection connections own) handle ≡ true) (sym same)
+    (added-there connections handle (has_connection connections handle) refl)
 change-there connections (Configured own attribute bits) handle is =
     let same : own ≡ handle = cc is in
-    subst (λ own. has_connection (with_connection connections own) handle ≡ true) (sym same) (added-there connections handle (has_connection connections handle) refl)
+    subst (λ own. has_connection (with_connection connections own) handle ≡ true) (sym same)
+    (added-there connections handle (has_connection connections handle) refl)
 change-there connections (Confirmed own attribute) handle is =
     let same : own ≡ handle = cc is in
-    subst (λ own. has_connection (with_connection connections own) handle ≡ true) (sym same) (added-there connections handle (has_connection connections handle) refl)
+    subst (λ own. has_connection (with_connection connections own) handle ≡ true) (sym same)
+    (added-there connections handle (has_connection connections handle) refl)
 change-there connections (TimedOut own) handle is = absurd (cc is)
 change-there connections (Ending own reason) handle is = absurd (cc is)
 change-there connections (Skipped own attribute) handle is = absurd (cc is)
@@ -197,7 +203,8 @@ holds_who_has_changed notices handle = (
       ],
   λ changed.
       subst (λ (notices : List Notice). has_connection (unsaved_by notices) handle ≡ true) (sym changed.parts)
-      (subst (λ (connections : List ℕ). has_connection connections handle ≡ true) (sym (fold-append unsaved_after [] changed.earlier (changed.change ∷ changed.later)))
+      (subst (λ (connections : List ℕ). has_connection connections handle ≡ true)
+      (sym (fold-append unsaved_after [] changed.earlier (changed.change ∷ changed.later)))
       (stays-so (unsaved_after (unsaved_by changed.earlier) changed.change) changed.later handle
       (change-there (unsaved_by changed.earlier) changed.change handle changed.changes) changed.stays)),
 )

@@ -12,7 +12,7 @@ use Rattle.gatt_host.specs.declared.host_fault.HostFault.{HostFault}
 use Rattle.gatt_host.specs.Feeding.{Feeds, TakesAll}
 use Rattle.gatt_host.specs.Listening.{HearsOf, Listens}
 use Rattle.gatt_host.specs.HostModel.{RefinesRun, HostModel, all_out}
-use Rattle.gatt_laws.proofs.Inputs.{items_append}
+use Rattle.gatt_laws.proofs.runs.Inputs.{items_append}
 use Rattle.gatt_laws.specs.machine.Calls.{Call}
 use Rattle.gatt_laws.specs.laws.Deadline.{deadline}
 use Rattle.gatt_laws.specs.machine.Input.{Run, Item, after_items, run_at_start, run}
@@ -36,15 +36,18 @@ entries-more at [] more = append-nil (entries_recorded_of at more)
 entries-more at (happening ∷ happened) more =
     let next : Run = after_items at (input_items_of happening) in
     ap (λ (entries : List HistoryEntry). entries_recorded_of at happening ++ entries) (entries-more next happened more)
-    ∙ ap (λ (later : Run). entries_recorded_of at happening ++ (entries_recorded next happened ++ entries_recorded_of later more)) (sym (items_append at (input_items_of happening) (items_in happened)))
-    ∙ sym (append_assoc (entries_recorded_of at happening) (entries_recorded next happened) (entries_recorded_of (after_items at (items_in (happening ∷ happened))) more))
+    ∙ ap (λ (later : Run). entries_recorded_of at happening ++ (entries_recorded next happened ++ entries_recorded_of later more))
+    (sym (items_append at (input_items_of happening) (items_in happened)))
+    ∙ sym (append_assoc (entries_recorded_of at happening) (entries_recorded next happened)
+    (entries_recorded_of (after_items at (items_in (happening ∷ happened))) more))
 
 -- nothing is handed out and recorded, and then more
 hands-none : (calls : Option (List Call)) → Hands calls calls []
 hands-none None = tt
 hands-none (Some calls) = refl
 
-hands-then : (before between after : Option (List Call)) (calls more : List Call) → Hands before between calls → Hands between after more → Hands before after (calls ++ more)
+hands-then : (before between after : Option (List Call)) (calls more : List Call) → Hands before between calls → Hands between after more
+    → Hands before after (calls ++ more)
 hands-then None between after calls more first second = tt
 hands-then (Some before) None after calls more first second = absurd first
 hands-then (Some before) (Some between) None calls more first second = absurd second
@@ -55,7 +58,8 @@ pub records_none : (history : Option (List HistoryEntry)) → Records [] history
 records_none None = tt
 records_none (Some entries) = sym (append-nil entries)
 
-pub records_then : (one other : List HistoryEntry) (before between after : Option (List HistoryEntry)) → Records one before between → Records other between after
+pub records_then : (one other : List HistoryEntry) (before between after : Option (List HistoryEntry)) → Records one before between
+    → Records other between after
     → Records (one ++ other) before after
 records_then one other None between after first second = tt
 records_then one other (Some before) None after first second = absurd first
@@ -147,9 +151,11 @@ module _ (count : ℕ) (old mid : HostModel) (come between : Known) (before writ
       let at : Run = run start input in
       let later : Run = run start (input ++ items_in so_far.happened) in
       subst (λ (entries : List HistoryEntry). Records entries come.history after)
-      (ap (λ (later : Run). entries_recorded at so_far.happened ++ entries_recorded_of later more) (items_append (run_at_start start) input (items_in so_far.happened))
+      (ap (λ (later : Run). entries_recorded at so_far.happened ++ entries_recorded_of later more)
+      (items_append (run_at_start start) input (items_in so_far.happened))
       ∙ sym (entries-more at so_far.happened more))
-      (records_then (entries_recorded at so_far.happened) (entries_recorded_of later more) come.history between.history after (so_far.has_come.records start input sent is)
+      (records_then (entries_recorded at so_far.happened) (entries_recorded_of later more) come.history between.history after
+      (so_far.has_come.records start input sent is)
       (records start (input ++ items_in so_far.happened) (sent ++ so_far.takes.packets) (so_far.takes.refines start input sent is)))
 
   come-more : (more : DeviceInput) (comes : Known) → Comes more mid between comes → HasCome (count + 1) (so_far.happened ++ more ∷ []) old come comes
@@ -162,20 +168,25 @@ module _ (count : ℕ) (old mid : HostModel) (come between : Known) (before writ
     records = records-more more comes.history next.records;
   }
 
-  pub served_more : (more : DeviceInput) (new : HostModel) (comes : Known) (after : Option Octets) (hears : Option (List Received)) → Comes more mid between comes
-      → TakesAll (input_items_of more) mid new written after → HearsOf (input_items_of more) mid known hears → HasServed (count + 1) old new come comes before after heard hears
+  pub served_more : (more : DeviceInput) (new : HostModel) (comes : Known) (after : Option Octets) (hears : Option (List Received))
+      → Comes more mid between comes
+      → TakesAll (input_items_of more) mid new written after → HearsOf (input_items_of more) mid known hears
+      → HasServed (count + 1) old new come comes before after heard hears
   served_more more new comes after hears next takes hearing = record {
     happened = so_far.happened ++ more ∷ [];
     has_come = come-more more comes next;
     takes = subst (λ (items : List Item). TakesAll items old new before after) (joined-more input_items_of so_far.happened more)
         (takes_then (items_in so_far.happened) (input_items_of more) old mid new before written after so_far.takes takes);
     hearing = subst (λ (items : List Item). HearsOf items old heard hears) (joined-more input_items_of so_far.happened more)
-        (hears_more (items_in so_far.happened) (input_items_of more) so_far.takes.packets old mid so_far.takes.refines heard known hears so_far.hearing hearing);
+        (hears_more (items_in so_far.happened) (input_items_of more) so_far.takes.packets old mid so_far.takes.refines heard known hears so_far.hearing
+        hearing);
   }
 
   -- the host stops at it
-  stops-at : (turns : ℕ) (fault : HostFault) (more : DeviceInput) (new : HostModel) (comes : Known) (after : Option Octets) (hears : Option (List Received)) → count < turns
-      → mid.fault ≡ None → Comes more mid between comes → Feeds (input_items_of more) mid new written after new.fault → Listens (input_items_of more) mid new new.fault known hears
+  stops-at : (turns : ℕ) (fault : HostFault) (more : DeviceInput) (new : HostModel) (comes : Known) (after : Option Octets) (hears : Option (List Received))
+      → count < turns
+      → mid.fault ≡ None → Comes more mid between comes → Feeds (input_items_of more) mid new written after new.fault
+      → Listens (input_items_of more) mid new new.fault known hears
       → ServesDevice (Err fault) turns old new come comes before after heard hears
   stops-at turns fault more new comes after hears few none next feeds listens =
       let all : HasCome (count + 1) (so_far.happened ++ more ∷ []) old come comes = come-more more comes next in
@@ -186,7 +197,8 @@ module _ (count : ℕ) (old mid : HostModel) (come between : Known) (before writ
         feeds = subst (λ (items : List Item). Feeds items old new before after new.fault) (joined-more input_items_of so_far.happened more)
             (feeds_then (items_in so_far.happened) (input_items_of more) old mid new before written after new.fault so_far.takes feeds);
         listens = subst (λ (items : List Item). Listens items old new new.fault heard hears) (joined-more input_items_of so_far.happened more)
-            (listens_then (items_in so_far.happened) (input_items_of more) so_far.takes.packets old mid new heard known hears new.fault so_far.takes.refines so_far.hearing listens);
+            (listens_then (items_in so_far.happened) (input_items_of more) so_far.takes.packets old mid new heard known hears new.fault so_far.takes.refines
+            so_far.hearing listens);
         records = λ start input sent is.
             subst (λ (entries : List HistoryEntry). Records entries come.history comes.history)
             (sym (append-nil (entries_recorded (run start input) (so_far.happened ++ more ∷ [])))) (all.records start input sent is);
@@ -204,7 +216,8 @@ module _ (count : ℕ) (old mid : HostModel) (come between : Known) (before writ
         };
       }
 
-  pub serves_stopped : (result : Result End HostFault) (turns : ℕ) (fault : HostFault) (more : DeviceInput) (new : HostModel) (comes : Known) (after : Option Octets) (hears : Option (List Received))
+  pub serves_stopped : (result : Result End HostFault) (turns : ℕ) (fault : HostFault) (more : DeviceInput) (new : HostModel) (comes : Known)
+      (after : Option Octets) (hears : Option (List Received))
       → result ≡ Err fault → count < turns → mid.fault ≡ None → Comes more mid between comes → Feeds (input_items_of more) mid new written after new.fault
       → Listens (input_items_of more) mid new new.fault known hears → ServesDevice result turns old new come comes before after heard hears
   serves_stopped result turns fault more new comes after hears is few none next feeds listens =
@@ -212,17 +225,20 @@ module _ (count : ℕ) (old mid : HostModel) (come between : Known) (before writ
       (stops-at turns fault more new comes after hears few none next feeds listens)
 
   -- nothing more happens
-  records-last : (last : End) (after : Option (List HistoryEntry)) → RecordsLast (Ok last) mid between.history after → RecordsAll so_far.happened (Ok last) old come.history after
+  records-last : (last : End) (after : Option (List HistoryEntry)) → RecordsLast (Ok last) mid between.history after
+      → RecordsAll so_far.happened (Ok last) old come.history after
   unfolding run
   records-last last after records start input sent is =
       let at : Run = run start input in
       let later : Run = run start (input ++ items_in so_far.happened) in
       subst (λ (later : Run). Records (entries_recorded at so_far.happened ++ last_entries later (Ok last)) come.history after)
       (items_append (run_at_start start) input (items_in so_far.happened))
-      (records_then (entries_recorded at so_far.happened) (last_entries later (Ok last)) come.history between.history after (so_far.has_come.records start input sent is)
+      (records_then (entries_recorded at so_far.happened) (last_entries later (Ok last)) come.history between.history after
+      (so_far.has_come.records start input sent is)
       (records start (input ++ items_in so_far.happened) (sent ++ so_far.takes.packets) (so_far.takes.refines start input sent is)))
 
-  pub serves_ended : (turns : ℕ) (last : End) (comes : Known) → mid.fault ≡ None → IsOver (Ok last) turns count → Consumes between.octets comes.octets [] → Hands between.calls comes.calls []
+  pub serves_ended : (turns : ℕ) (last : End) (comes : Known) → mid.fault ≡ None → IsOver (Ok last) turns count → Consumes between.octets comes.octets []
+      → Hands between.calls comes.calls []
       → RecordsLast (Ok last) mid between.history comes.history → ServesDevice (Ok last) turns old mid come comes before written heard known
   serves_ended turns last comes none over octets calls records = record {
     happened = so_far.happened;
@@ -239,10 +255,12 @@ module _ (count : ℕ) (old mid : HostModel) (come between : Known) (before writ
 
   pub serves_all : (turns : ℕ) → mid.fault ≡ None → count ≡ turns → ServesDevice (Ok end.Turns) turns old mid come between before written heard known
   serves_all turns none over =
-      serves_ended turns end.Turns between none over (Consumes-nil between.octets) (hands-none between.calls) (λ start input sent is. records_none between.history)
+      serves_ended turns end.Turns between none over (Consumes-nil between.octets) (hands-none between.calls)
+      (λ start input sent is. records_none between.history)
 
 -- the host stops before anything happens
-nothing-happens : (turns : ℕ) (fault : HostFault) (old new : HostModel) (come : Known) (before after : Option Octets) (heard : Option (List Received)) → old.fault ≡ None
+nothing-happens : (turns : ℕ) (fault : HostFault) (old new : HostModel) (come : Known) (before after : Option Octets) (heard : Option (List Received))
+    → old.fault ≡ None
     → Feeds [] old new before after new.fault → ServesDevice (Err fault) turns old new come come before after heard heard
 nothing-happens turns fault old new come before after heard none feeds = record {
   happened = [];
@@ -265,14 +283,16 @@ nothing-happens turns fault old new come before after heard none feeds = record 
   };
 }
 
-pub serves_nothing : (result : Result End HostFault) (turns : ℕ) (fault : HostFault) (old new : HostModel) (come : Known) (before after : Option Octets) (heard : Option (List Received))
+pub serves_nothing : (result : Result End HostFault) (turns : ℕ) (fault : HostFault) (old new : HostModel) (come : Known) (before after : Option Octets)
+    (heard : Option (List Received))
     → result ≡ Err fault → old.fault ≡ None → Feeds [] old new before after new.fault → ServesDevice result turns old new come come before after heard heard
 serves_nothing result turns fault old new come before after heard is none feeds =
     subst (λ (result : Result End HostFault). ServesDevice result turns old new come come before after heard heard) (sym is)
     (nothing-happens turns fault old new come before after heard none feeds)
 
 -- octets come, or a call
-pub octets_come : (octets : Octets) (until : Option ℕ) (whole : HostModel) (come comes : Known) → IsDeadline until whole → Consumes come.octets comes.octets octets
+pub octets_come : (octets : Octets) (until : Option ℕ) (whole : HostModel) (come comes : Known) → IsDeadline until whole
+    → Consumes come.octets comes.octets octets
     → Hands come.calls comes.calls [] → Records (Waited until ∷ Happened (Came octets) ∷ []) come.history comes.history → Comes (Came octets) whole come comes
 octets_come octets until whole come comes is_deadline consumes hands records = record {
   octets = consumes;
@@ -290,18 +310,21 @@ call_comes call until whole come asks comes is_deadline consumes hands records s
 }
 
 -- what a turn leads to, under other names
-pub record Goes (count : ℕ) (old new : HostModel) (come comes : Known) (before after : Option Octets) (heard hears : Option (List Received)) (counted counts : Option ℕ) : Type 0 where
+pub record Goes (count : ℕ) (old new : HostModel) (come comes : Known) (before after : Option Octets) (heard hears : Option (List Received))
+    (counted counts : Option ℕ) : Type 0 where
   pub served : HasServed count old new come comes before after heard hears
   pub none : new.fault ≡ None
   pub drained : all_out new ≡ true
   pub failures : CountsNone counted counts
 
-pub known_as : (octets other_octets : Option Octets) (calls other_calls : Option (List Call)) (history other_history : Option (List HistoryEntry)) → octets ≡ other_octets
+pub known_as : (octets other_octets : Option Octets) (calls other_calls : Option (List Call)) (history other_history : Option (List HistoryEntry))
+    → octets ≡ other_octets
     → calls ≡ other_calls → history ≡ other_history → known octets calls history ≡ known other_octets other_calls other_history
 known_as octets other_octets calls other_calls history other_history same_octets same_calls same_history =
     λ i. known (same_octets i) (same_calls i) (same_history i)
 
-pub goes_as : (count : ℕ) (old new at : HostModel) (come comes knows : Known) (before after holds : Option Octets) (heard hears hearing : Option (List Received))
+pub goes_as : (count : ℕ) (old new at : HostModel) (come comes knows : Known) (before after holds : Option Octets)
+    (heard hears hearing : Option (List Received))
     (counted counts counting : Option ℕ) → at ≡ new → knows ≡ comes → holds ≡ after → hearing ≡ hears → counting ≡ counts
     → Goes count old new come comes before after heard hears counted counts → Goes count old at come knows before holds heard hearing counted counting
 goes_as count old new at come comes knows before after holds heard hears hearing counted counts counting first second third fourth fifth goes =

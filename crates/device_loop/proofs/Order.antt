@@ -32,7 +32,8 @@ one_further : (x y : HistoryEntry) (xs ys first : List HistoryEntry) (entry : Hi
 one_further x y xs ys first entry rest same (inl found) = inl (found.0, λ i. same i ∷ found.1 i)
 one_further x y xs ys first entry rest same (inr found) = inr (found.0, λ i. sym same i ∷ found.1 i, found.2)
 
-splits_at : (xs ys first : List HistoryEntry) (entry : HistoryEntry) (rest : List HistoryEntry) → xs ++ ys ≡ first ++ entry ∷ rest → SplitsAt xs ys first entry rest
+splits_at : (xs ys first : List HistoryEntry) (entry : HistoryEntry) (rest : List HistoryEntry) → xs ++ ys ≡ first ++ entry ∷ rest
+    → SplitsAt xs ys first entry rest
 splits_at [] ys first entry rest is = inr (first, refl, is)
 splits_at (x ∷ xs) ys [] entry rest is =
     let same : x ≡ entry = cc in
@@ -64,11 +65,13 @@ sent_there [] octets rest = refl
 sent_there (entry ∷ first) octets rest = or_right (is_sent entry) _ (sent_there first octets rest)
 
 -- by what happens nothing is sent
-turn_unsent : (at : Run) (happening : DeviceInput) (entries : List HistoryEntry) → has_sent entries ≡ false → has_sent (entries_recorded_of at happening ++ entries) ≡ false
+turn_unsent : (at : Run) (happening : DeviceInput) (entries : List HistoryEntry) → has_sent entries ≡ false
+    → has_sent (entries_recorded_of at happening ++ entries) ≡ false
 turn_unsent at (Came octets) entries none = none
 turn_unsent at (Asked call) entries none = none
 
-turns_unsent : (at : Run) (happened : List DeviceInput) (entries : List HistoryEntry) → has_sent entries ≡ false → has_sent (entries_recorded at happened ++ entries) ≡ false
+turns_unsent : (at : Run) (happened : List DeviceInput) (entries : List HistoryEntry) → has_sent entries ≡ false
+    → has_sent (entries_recorded at happened ++ entries) ≡ false
 turns_unsent at [] entries none = none
 turns_unsent at (happening ∷ happened) entries none =
     let next : Run = after_items at (input_items_of happening) in
@@ -93,7 +96,8 @@ saving_unsent (saving.Unsaved connections) state = refl
 never_there : (tail between : List HistoryEntry) (octets : Octets) (rest : List HistoryEntry) → has_sent tail ≡ false → tail ≡ between ++ Sent octets ∷ rest → ⊥
 never_there tail between octets rest none is = false≢true (sym none ∙ ap has_sent is ∙ sent_there between octets rest)
 
-right_behind : (saving : HistoryEntry) (sent : Octets) (tail between : List HistoryEntry) (octets : Octets) (rest : List HistoryEntry) → is_sent saving ≡ false → has_sent tail ≡ false
+right_behind : (saving : HistoryEntry) (sent : Octets) (tail between : List HistoryEntry) (octets : Octets) (rest : List HistoryEntry) → is_sent saving ≡ false
+    → has_sent tail ≡ false
     → saving ∷ (sent_entries sent ++ tail) ≡ between ++ Sent octets ∷ rest → (between ≡ saving ∷ []) × (sent ≡ octets)
 right_behind saving sent tail [] octets rest none silent is =
     let same : saving ≡ Sent octets = cc in
@@ -114,7 +118,8 @@ module _ (before turn : List HistoryEntry) (saving : Saving) (state : SavedState
   abbrev behind : List HistoryEntry
   behind = saving_entry saving state ∷ (sent_entries sent ++ tail)
 
-  in_turn : (first between rest : List HistoryEntry) (octets : Octets) → first ≡ before ++ between → SplitsAt turn behind between (Sent octets) rest → EndsSaved first octets
+  in_turn : (first between rest : List HistoryEntry) (octets : Octets) → first ≡ before ++ between → SplitsAt turn behind between (Sent octets) rest
+      → EndsSaved first octets
   in_turn first between rest octets at (inl found) = absurd (false≢true (sym none ∙ (ap has_sent found.1 ∙ sent_there between octets found.0)))
   in_turn first between rest octets at (inr found) =
       let placed = right_behind (saving_entry saving state) sent tail found.0 octets rest (saving_unsent saving state) silent found.2 in
@@ -134,7 +139,8 @@ module _ (before turn : List HistoryEntry) (saving : Saving) (state : SavedState
   stays : SavedBeforeSent (before ++ (turn ++ behind))
   stays first rest octets is = in_all first rest octets (splits_at before (turn ++ behind) first (Sent octets) rest is)
 
-stays_in_order : (turn : List HistoryEntry) (saving : Saving) (state : SavedState) (sent : Octets) (tail : List HistoryEntry) (before after : Option (List HistoryEntry))
+stays_in_order : (turn : List HistoryEntry) (saving : Saving) (state : SavedState) (sent : Octets) (tail : List HistoryEntry)
+    (before after : Option (List HistoryEntry))
     → has_sent turn ≡ false → has_sent tail ≡ false → AllowsSending (saving_entry saving state) sent
     → Records (turn ++ (saving_entry saving state ∷ (sent_entries sent ++ tail))) before after → KeepsTheOrder before after
 stays_in_order turn saving state sent tail None after none silent allowed records = tt
@@ -143,21 +149,24 @@ stays_in_order turn saving state sent tail (Some before) (Some after) none silen
     subst SavedBeforeSent (sym records) (stays before turn saving state sent tail none silent allowed order)
 
 -- a front of what is to be sent has no data that has to be withheld
-allows_front : (saving : Saving) (state : SavedState) (waiting sent left : Octets) → octets_to_send saving waiting ≡ sent ++ left → AllowsSending (saving_entry saving state) sent
+allows_front : (saving : Saving) (state : SavedState) (waiting sent left : Octets) → octets_to_send saving waiting ≡ sent ++ left
+    → AllowsSending (saving_entry saving state) sent
 allows_front saving.Saved state waiting sent left parts = tt
 allows_front (saving.Unsaved connections) state waiting sent left parts = λ handle among. no_data_left connections.items handle waiting sent left among parts
 
 -- and so for each way in which octets are sent
 module _ (state : SavedState) (turn : Turn) (entries : List HistoryEntry) (none : has_sent entries ≡ false) (before recorded saved : Option (List HistoryEntry))
     (served : Records entries before recorded) (saves : Records (saving_entry turn.saving state ∷ []) recorded saved) (waiting : Octets) where
-  sent_in_order : (sent left : Octets) (tail : List HistoryEntry) (after : Option (List HistoryEntry)) → octets_to_send turn.saving waiting ≡ sent ++ left → has_sent tail ≡ false
+  sent_in_order : (sent left : Octets) (tail : List HistoryEntry) (after : Option (List HistoryEntry)) → octets_to_send turn.saving waiting ≡ sent ++ left
+      → has_sent tail ≡ false
       → Records (sent_entries sent ++ tail) saved after → KeepsTheOrder before after
   sent_in_order sent left tail after parts silent sends =
       stays_in_order entries turn.saving state sent tail before after none silent (allows_front turn.saving state waiting sent left parts)
       (records_then entries (saving_entry turn.saving state ∷ (sent_entries sent ++ tail)) before recorded after served
       (records_then (saving_entry turn.saving state ∷ []) (sent_entries sent ++ tail) recorded saved after saves sends))
 
-  in_order : (sending : Sending) (after : Option (List HistoryEntry)) → Sends sending (octets_to_send turn.saving waiting) saved after → KeepsTheOrder before after
+  in_order : (sending : Sending) (after : Option (List HistoryEntry)) → Sends sending (octets_to_send turn.saving waiting) saved after
+      → KeepsTheOrder before after
   in_order sending.Done after sends =
       let octets : Octets = octets_to_send turn.saving waiting in
       sent_in_order octets [] [] after (sym (append-nil octets)) refl
@@ -168,18 +177,21 @@ module _ (state : SavedState) (turn : Turn) (entries : List HistoryEntry) (none 
   in_order sending.Failed after sends = sent_in_order sends.sent sends.left (Broken sends.left ∷ []) after sends.parts refl sends.records
 
 -- a turn keeps the order, whether the host had stopped or not
-keeps_order : (turn : Turn) (old new : HostModel) (come comes : Known) (before after : Option Octets) (heard hears : Option (List Received)) (start : Start) (input : List Item) (gone : List Octets)
+keeps_order : (turn : Turn) (old new : HostModel) (come comes : Known) (before after : Option Octets) (heard hears : Option (List Received)) (start : Start)
+    (input : List Item) (gone : List Octets)
     → RefinesRun (run start input) gone old → TakesATurn turn old new come comes before after heard hears → (found : Option HostFault) → old.fault ≡ found
     → KeepsTheOrder come.history comes.history
 keeps_order turn old new come comes before after heard hears start input gone is takes None refines =
     let serves = takes.serves refines in
-    in_order (saved_state new.server) turn (all_entries (run start input) serves.happened turn.served) (all_unsent (run start input) serves.happened turn.served)
+    in_order (saved_state new.server) turn (all_entries (run start input) serves.happened turn.served)
+    (all_unsent (run start input) serves.happened turn.served)
     come.history takes.recorded takes.settles.saved (serves.records start input gone is) takes.settles.saves
     takes.settles.sends.waiting turn.sending comes.history takes.settles.sends.sends
 keeps_order turn old new come comes before after heard hears start input gone is takes (Some fault) refines =
     let nothing = takes.stopped (subst IsSome (sym refines) refl) in
     in_order (saved_state new.server) turn [] refl come.history takes.recorded takes.settles.saved
-    (subst (λ (it : Option (List HistoryEntry)). Records [] come.history it) (sym (ap (λ (it : Known). it.history) nothing.happens)) (records_none come.history))
+    (subst (λ (it : Option (List HistoryEntry)). Records [] come.history it) (sym (ap (λ (it : Known). it.history) nothing.happens))
+    (records_none come.history))
     takes.settles.saves takes.settles.sends.waiting turn.sending comes.history takes.settles.sends.sends
 
 pub stays_ordered : (turn : Turn) (old new : HostModel) (come comes : Known) (before after : Option Octets) (heard hears : Option (List Received))

@@ -34,7 +34,8 @@ some-size (indicator ∷ octets) size is = by-indicator (indicator == COMMAND) (
         let e : 5 + from_two c d ≡ size = cc is in
         omega arith
 
-    by-indicator : (is_command is_acl : Bool) (octets : Octets) → cond is_command (command_size octets) (cond is_acl (data_size octets) None) ≡ Some size → 0 < size
+    by-indicator : (is_command is_acl : Bool) (octets : Octets) → cond is_command (command_size octets) (cond is_acl (data_size octets) None) ≡ Some size
+        → 0 < size
     by-indicator true is_acl octets is = of-command octets is
     by-indicator false true octets is = of-data octets is
     by-indicator false false octets is = absurd (cc is)
@@ -48,7 +49,8 @@ within-if : (octets : Octets) (stated : Option ℕ) (size : ℕ) → size_if_who
 within-if octets None size is = absurd (cc is)
 within-if octets (Some stated) size is = by-test (nat_le stated (length octets)) refl is
   where
-    by-test : (test : Bool) → nat_le stated (length octets) ≡ test → cond test (Some stated) None ≡ Some size → (Some stated ≡ Some size) × (size ≤ length octets)
+    by-test : (test : Bool) → nat_le stated (length octets) ≡ test → cond test (Some stated) None ≡ Some size → (Some stated ≡ Some size)
+        × (size ≤ length octets)
     by-test true fits is =
         let e : stated ≡ size = cc is in
         (is, subst (λ size. size ≤ length octets) e (leb-true stated (length octets) fits))
@@ -77,7 +79,8 @@ within_enough (suc n) (suc m) octets h k =
     others-same octets (first_size octets) (packets_within n) (packets_within m)
     (λ size is.
     let first = within octets size is in
-    within_enough n m (drop size octets) (omega (arith, first.some, first.fits, length-drop size octets)) (omega (arith, first.some, first.fits, length-drop size octets)))
+    within_enough n m (drop size octets) (omega (arith, first.some, first.fits, length-drop size octets))
+    (omega (arith, first.some, first.fits, length-drop size octets)))
 
 pub packets_first : (octets : Octets) → packets_in octets ≡ first_and_others octets (first_size octets) packets_in
 unfolding packets_in packets_within
@@ -86,7 +89,8 @@ packets_first (x ∷ xs) =
     others-same (x ∷ xs) (first_size (x ∷ xs)) (packets_within (length xs)) packets_in
     (λ size is.
     let first = within (x ∷ xs) size is in
-    within_enough (length xs) (length (drop size (x ∷ xs))) (drop size (x ∷ xs)) (omega (arith, first.some, first.fits, length-drop size (x ∷ xs))) (omega arith))
+    within_enough (length xs) (length (drop size (x ∷ xs))) (drop size (x ∷ xs)) (omega (arith, first.some, first.fits, length-drop size (x ∷ xs)))
+    (omega arith))
 
 pub packets_none : (octets : Octets) → first_size octets ≡ None → packets_in octets ≡ record { whole = []; rest = octets }
 packets_none octets none = packets_first octets ∙ ap (λ (first : Option ℕ). first_and_others octets first packets_in) none
@@ -105,12 +109,14 @@ unless_data true packet = []
 unless_data false packet = packet
 
 left-more : (connections : List ℕ) (packet rest : Octets) (whole : List Octets) (withheld : Bool) → is_data_for connections packet ≡ withheld
-    → without connections (record { whole = packet ∷ whole; rest = rest }) ≡ unless_data withheld packet ++ without connections (record { whole = whole; rest = rest })
+    → without connections (record { whole = packet ∷ whole; rest = rest }) ≡ unless_data withheld packet
+    ++ without connections (record { whole = whole; rest = rest })
 left-more connections packet rest whole true is = rw is refl
 left-more connections packet rest whole false is =
     rw is (append_assoc packet (joined (filter (λ packet. not (is_data_for connections packet)) whole)) rest)
 
-pub left_some : (connections : List ℕ) (octets : Octets) (size : ℕ) (withheld : Bool) → first_size octets ≡ Some size → is_data_for connections (take size octets) ≡ withheld
+pub left_some : (connections : List ℕ) (octets : Octets) (size : ℕ) (withheld : Bool) → first_size octets ≡ Some size
+    → is_data_for connections (take size octets) ≡ withheld
     → without_data_for connections octets ≡ unless_data withheld (take size octets) ++ without_data_for connections (drop size octets)
 unfolding without_data_for
 left_some connections octets size withheld first is =
@@ -118,7 +124,8 @@ left_some connections octets size withheld first is =
     ∙ left-more connections (take size octets) (packets_in (drop size octets)).rest (packets_in (drop size octets)).whole withheld is
 
 -- a packet that is withheld is passed, and another is moved behind what is left so far
-module _ (connections : List ℕ) (xs all : Octets) (left at : ℕ) (so_far : take left xs ++ without_data_for connections (drop at xs) ≡ all) (behind : left ≤ at) (within_xs : at ≤ length xs) where
+module _ (connections : List ℕ) (xs all : Octets) (left at : ℕ) (so_far : take left xs ++ without_data_for connections (drop at xs) ≡ all) (behind : left ≤ at)
+    (within_xs : at ≤ length xs) where
   pub passes : (size : ℕ) → first_size (drop at xs) ≡ Some size → is_data_for connections (take size (drop at xs)) ≡ true
       → take left xs ++ without_data_for connections (drop (at + size) xs) ≡ all
   passes size first is =
@@ -162,7 +169,8 @@ again : (octets more : Octets) (size : ℕ) → packet_size octets ≡ Some size
 again [] more size is = absurd (cc is)
 again (indicator ∷ octets) more size is = by-indicator (indicator == COMMAND) (indicator == ACL) octets refl refl is
   where
-    of-command : (octets : Octets) → indicator == COMMAND ≡ true → command_size octets ≡ Some size → packet_size (take size (indicator ∷ octets) ++ more) ≡ Some size
+    of-command : (octets : Octets) → indicator == COMMAND ≡ true → command_size octets ≡ Some size → packet_size (take size (indicator ∷ octets) ++ more)
+        ≡ Some size
     of-command [] command is = absurd (cc is)
     of-command (a ∷ []) command is = absurd (cc is)
     of-command (a ∷ b ∷ []) command is = absurd (cc is)
@@ -171,7 +179,8 @@ again (indicator ∷ octets) more size is = by-indicator (indicator == COMMAND) 
         let e : 4 + c ≡ size = cc is in
         subst (λ (size : ℕ). packet_size (take size (indicator ∷ a ∷ b ∷ c ∷ octets) ++ more) ≡ Some size) (sym four ∙ e) (rw command (ap Some four))
 
-    of-data : (octets : Octets) → indicator == COMMAND ≡ false → indicator == ACL ≡ true → data_size octets ≡ Some size → packet_size (take size (indicator ∷ octets) ++ more) ≡ Some size
+    of-data : (octets : Octets) → indicator == COMMAND ≡ false → indicator == ACL ≡ true → data_size octets ≡ Some size
+        → packet_size (take size (indicator ∷ octets) ++ more) ≡ Some size
     of-data [] other acl is = absurd (cc is)
     of-data (a ∷ []) other acl is = absurd (cc is)
     of-data (a ∷ b ∷ []) other acl is = absurd (cc is)
@@ -182,7 +191,8 @@ again (indicator ∷ octets) more size is = by-indicator (indicator == COMMAND) 
         subst (λ (size : ℕ). packet_size (take size (indicator ∷ a ∷ b ∷ c ∷ d ∷ octets) ++ more) ≡ Some size) (sym five ∙ e) (rw other (rw acl (ap Some five)))
 
     by-indicator : (is_command is_acl : Bool) (octets : Octets) → indicator == COMMAND ≡ is_command → indicator == ACL ≡ is_acl
-        → cond is_command (command_size octets) (cond is_acl (data_size octets) None) ≡ Some size → packet_size (take size (indicator ∷ octets) ++ more) ≡ Some size
+        → cond is_command (command_size octets) (cond is_acl (data_size octets) None) ≡ Some size → packet_size (take size (indicator ∷ octets) ++ more)
+        ≡ Some size
     by-indicator true is_acl octets command acl is = of-command octets command is
     by-indicator false true octets command acl is = of-data octets command acl is
     by-indicator false false octets command acl is = absurd (cc is)
@@ -264,7 +274,8 @@ cut_into_packets octets =
     }
 
 -- packets, and octets behind them that begin with none, are cut so
-cut-again : (packets : List Octets) (rest : Octets) → ArePackets packets → first_size rest ≡ None → packets_in (joined packets ++ rest) ≡ record { whole = packets; rest = rest }
+cut-again : (packets : List Octets) (rest : Octets) → ArePackets packets → first_size rest ≡ None → packets_in (joined packets ++ rest)
+    ≡ record { whole = packets; rest = rest }
 cut-again [] rest are none = packets_none rest none
 cut-again (packet ∷ packets) rest are none =
     let more : Octets = joined packets ++ rest in
@@ -325,9 +336,11 @@ in-front P (suc count) octets more enough (Some size) first all =
 -- what is left has no data for any of these connections, and neither has a front of it
 any-of : (connections : List ℕ) (handle : ℕ) → Contains connections handle → list_any (λ connection. connection == handle) connections ≡ true
 any-of connections handle among =
-    list_any_at (λ connection. connection == handle) connections among.0 handle among.1 (ap (λ connection. connection == handle) among.2 ∙ eq-eqb handle handle refl)
+    list_any_at (λ connection. connection == handle) connections among.0 handle among.1
+    (ap (λ connection. connection == handle) among.2 ∙ eq-eqb handle handle refl)
 
-not-data : (connections : List ℕ) (handle : ℕ) (packet : Octets) → Contains connections handle → not (is_data_for connections packet) ≡ true → handle_of_data packet ≢ Some handle
+not-data : (connections : List ℕ) (handle : ℕ) (packet : Octets) → Contains connections handle → not (is_data_for connections packet) ≡ true
+    → handle_of_data packet ≢ Some handle
 not-data connections handle packet among other is =
     let found : is_data_for connections packet ≡ true = ap (is_one_of connections) is ∙ any-of connections handle among in
     false≢true (ap not (sym found) ∙ other)
@@ -335,7 +348,8 @@ not-data connections handle packet among other is =
 all-map : (P Q : Octets → Type 0) → ((x : Octets) → P x → Q x) → (xs : List Octets) → All P xs → All Q xs
 all-map P Q leads xs all k d below = leads _ (all k d below)
 
-pub no_data_left : (connections : List ℕ) (handle : ℕ) (octets sent left : Octets) → Contains connections handle → without_data_for connections octets ≡ sent ++ left
+pub no_data_left : (connections : List ℕ) (handle : ℕ) (octets sent left : Octets) → Contains connections handle → without_data_for connections octets
+    ≡ sent ++ left
     → HasNoDataFor handle sent
 no_data_left connections handle octets sent left among is =
     in-front (λ packet. handle_of_data packet ≢ Some handle) (length sent) sent left (omega arith) (first_size sent) refl

@@ -1,7 +1,7 @@
 -- The time of a host never goes back.
 use Rattle.std.proofs.Common.{◌≡◌, ℕ, ◌<◌, ◌≤◌, Bool, true, false, List, Option, Some, None, Result, Ok, Err, refl, sym, subst, arith, lt-ltb}
 use Rattle.std.specs.Prelude.{nat_lt, if◌then◌else◌}
-use Rattle.gatt_laws.proofs.Always.{always, any_tables}
+use Rattle.gatt_laws.proofs.runs.Always.{always, any_tables}
 use Rattle.gatt_laws.specs.machine.Calls.{Refused, TickCall, TimeWentBack, call_event}
 use Rattle.gatt_laws.specs.machine.Event.{Event, Of, Completed, Credit, Update, Tick, Replaced, Nothing}
 use Rattle.gatt_laws.specs.machine.Input.{Run, Item, after_item, after_items, after_result, call_refusal, refusal_in, unless_stopped}

@@ -421,7 +421,7 @@ impl Application {
         match socket.write(waiting) {
             Ok(0) => self.deafen(),
             Ok(count) => {
-                self.outbox.sent(count);
+                self.outbox.remove_sent(count);
                 self.stalled_since = None;
                 return true;
             }

@@ -100,7 +100,7 @@ impl<'a, R> Session<'a, R> {
 
     /// Stores the names of the connections.
     pub fn know(&mut self, heard: &Heard) {
-        self.names = heard.names.copied();
+        self.names = heard.names.copy();
     }
 
     /// Returns the names of the connections.

@@ -29,12 +29,15 @@ abbrev pub the_state : Octets → Subscriptions → List Saved → Result SavedS
 the_state table_text rows values = Ok (record { table_text = table_text; rows = rows; values = values })
 
 values_taken : (number heading : ℕ) (table_text rows_text : Octets) (rows : Subscriptions) (seen values : List Saved) → subscriptions_read rows_text ≡ Ok rows
-    → All IsSavedValue values → state_from number (reading next.Values table_text rows_text heading seen) (map value_words values) ≡ the_state table_text rows (seen ++ values)
+    → All IsSavedValue values → state_from number (reading next.Values table_text rows_text heading seen) (map value_words values)
+    ≡ the_state table_text rows (seen ++ values)
 values_taken number heading table_text rows_text rows seen [] is good =
     ap (λ (read : Result Subscriptions RowsFault). rows_or_fault heading read >>= (λ (rows : Subscriptions). the_state table_text rows seen)) is
     ∙ ap (the_state table_text rows) (sym (append-nil seen))
 values_taken number heading table_text rows_text rows seen (value ∷ values) is good =
-    ap (λ (read : Option Saved). (require read (BadValue number) >>= (λ (value : Saved). Ok (reading next.Values table_text rows_text heading (seen ++ value ∷ [])))) >>= (λ (read : LinesRead). state_from (number + 1) read (map value_words values)))
+    ap (λ (read : Option Saved).
+    (require read (BadValue number) >>= (λ (value : Saved). Ok (reading next.Values table_text rows_text heading (seen ++ value ∷ [])))) >>=
+    (λ (read : LinesRead). state_from (number + 1) read (map value_words values)))
     (value_back value (All-head IsSavedValue value values good))
     ∙ values_taken (number + 1) heading table_text rows_text rows (seen ++ value ∷ []) values is (All-tail IsSavedValue value values good)
     ∙ ap (the_state table_text rows) (append_assoc seen (value ∷ []) values)
@@ -58,7 +61,10 @@ rows_taken number heading table_text rows_text rows [] values other is good =
     values_taken (number + 1) heading table_text rows_text rows [] values
     (subst (λ (text : Octets). subscriptions_read text ≡ Ok rows) (append-nil rows_text) is) good
 rows_taken number heading table_text rows_text rows (line ∷ lines) values other is good =
-    ap (λ (same : Bool). (if same then Ok (reading next.Values table_text rows_text heading []) else Ok (reading next.Subscriptions table_text ((rows_text ++ line) ++ 10 ∷ []) heading [])) >>= (λ (read : LinesRead). state_from (number + 1) read (behind_rows lines values)))
+    ap (λ (same : Bool).
+    (if same then Ok (reading next.Values table_text rows_text heading [])
+    else Ok (reading next.Subscriptions table_text ((rows_text ++ line) ++ 10 ∷ []) heading [])) >>=
+    (λ (read : LinesRead). state_from (number + 1) read (behind_rows lines values)))
     (All-head IsOther line lines other)
     ∙ rows_taken (number + 1) heading table_text ((rows_text ++ line) ++ 10 ∷ []) rows lines values (All-tail IsOther line lines other)
     (subst (λ (text : Octets). subscriptions_read text ≡ Ok rows) (sym (one_more rows_text line (flat_map line_of lines))) is) good
@@ -75,7 +81,8 @@ behind_table pieces lines values = map barred pieces ++ subscriptions_heading �
 
 table_taken : (number heading : ℕ) (table_text : Octets) (rows : Subscriptions) (pieces lines : List Octets) (values : List Saved) → All IsOther lines
     → subscriptions_read (flat_map line_of lines) ≡ Ok rows → All IsSavedValue values
-    → state_from number (reading next.Table table_text [] heading []) (behind_table pieces lines values) ≡ the_state (table_text ++ flat_map fed pieces) rows values
+    → state_from number (reading next.Table table_text [] heading []) (behind_table pieces lines values)
+    ≡ the_state (table_text ++ flat_map fed pieces) rows values
 table_taken number heading table_text rows [] lines values other is good =
     rows_taken (number + 1) number table_text [] rows lines values other is good
     ∙ ap (λ (text : Octets). the_state text rows values) (sym (append-nil table_text))

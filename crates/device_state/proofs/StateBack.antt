@@ -49,7 +49,8 @@ divided (line ∷ lines) feedless =
     ∙ ap (λ (pieces : List Octets). line ∷ pieces) (divided lines (All-tail HasNoFeed line lines feedless))
 
 -- and so do lines without the last line feed
-onto_more : (octet : ℕ) (pieces : List Octets) (last : Octets) → 0 < length pieces → onto_first octet (pieces ++ last ∷ []) ≡ onto_first octet pieces ++ last ∷ []
+onto_more : (octet : ℕ) (pieces : List Octets) (last : Octets) → 0 < length pieces → onto_first octet (pieces ++ last ∷ []) ≡ onto_first octet pieces ++ last
+    ∷ []
 onto_more octet [] last some = absurd (omega (arith, some))
 onto_more octet (piece ∷ pieces) last some = refl
 
@@ -61,7 +62,8 @@ last_feed (octet ∷ text) = by (octet == 10) refl (last_feed text)
     some = omega (arith, length-slice_split (λ (octet : ℕ). octet == 10) text)
 
     by : (is : Bool) → (octet == 10) ≡ is → pieces_of (text ++ 10 ∷ []) ≡ pieces_of text ++ [] ∷ []
-        → (if is then [] ∷ pieces_of (text ++ 10 ∷ []) else onto_first octet (pieces_of (text ++ 10 ∷ []))) ≡ (if is then [] ∷ pieces_of text else onto_first octet (pieces_of text)) ++ [] ∷ []
+        → (if is then [] ∷ pieces_of (text ++ 10 ∷ []) else onto_first octet (pieces_of (text ++ 10 ∷ [])))
+        ≡ (if is then [] ∷ pieces_of text else onto_first octet (pieces_of text)) ++ [] ∷ []
     by true is rest = ap (λ (pieces : List Octets). [] ∷ pieces) rest
     by false is rest = ap (onto_first octet) rest ∙ onto_more octet (pieces_of text) [] some
 
@@ -99,15 +101,18 @@ rows_feedless rows is =
     (all_of_each IsNamed HasNoFeed owed_words owed_feedless (owed_in rows) is.owed)
 
 onto_feedless : (octet : ℕ) (pieces : List Octets) → (octet == 10) ≡ false → All HasNoFeed pieces → All HasNoFeed (onto_first octet pieces)
-onto_feedless octet [] other feedless = All-cons HasNoFeed (octet ∷ []) [] (All-cons (λ octet. (octet == 10) ≡ false) octet [] other (All-nil (λ octet. (octet == 10) ≡ false))) (All-nil HasNoFeed)
+onto_feedless octet [] other feedless =
+    All-cons HasNoFeed (octet ∷ []) [] (All-cons (λ octet. (octet == 10) ≡ false) octet [] other (All-nil (λ octet. (octet == 10) ≡ false))) (All-nil HasNoFeed)
 onto_feedless octet (piece ∷ pieces) other feedless =
-    All-cons HasNoFeed (octet ∷ piece) pieces (All-cons (λ octet. (octet == 10) ≡ false) octet piece other (All-head HasNoFeed piece pieces feedless)) (All-tail HasNoFeed piece pieces feedless)
+    All-cons HasNoFeed (octet ∷ piece) pieces (All-cons (λ octet. (octet == 10) ≡ false) octet piece other (All-head HasNoFeed piece pieces feedless))
+    (All-tail HasNoFeed piece pieces feedless)
 
 pieces_feedless : (text : Octets) → All HasNoFeed (pieces_of text)
 pieces_feedless [] = All-cons HasNoFeed [] [] (All-nil (λ octet. (octet == 10) ≡ false)) (All-nil HasNoFeed)
 pieces_feedless (octet ∷ text) = by (octet == 10) refl (pieces_feedless text)
   where
-    by : (is : Bool) → (octet == 10) ≡ is → All HasNoFeed (pieces_of text) → All HasNoFeed (if is then [] ∷ pieces_of text else onto_first octet (pieces_of text))
+    by : (is : Bool) → (octet == 10) ≡ is → All HasNoFeed (pieces_of text)
+        → All HasNoFeed (if is then [] ∷ pieces_of text else onto_first octet (pieces_of text))
     by true is rest = All-cons HasNoFeed [] (pieces_of text) (All-nil (λ octet. (octet == 10) ≡ false)) rest
     by false is rest = onto_feedless octet (pieces_of text) is rest
 
@@ -169,22 +174,33 @@ piece_ended piece = refl
 
 lines_parted : (pieces lines : List Octets) (values : List Saved)
     → flat_map line_of (all_lines pieces lines values)
-    ≡ line_of first_line ++ (line_of table_heading ++ (flat_map line_of (map barred pieces) ++ (line_of subscriptions_heading ++ (flat_map line_of lines ++ (line_of values_heading ++ flat_map line_of (map value_words values))))))
+    ≡ line_of first_line
+    ++ (line_of table_heading
+    ++ (flat_map line_of (map barred pieces)
+    ++ (line_of subscriptions_heading ++ (flat_map line_of lines ++ (line_of values_heading ++ flat_map line_of (map value_words values))))))
 lines_parted pieces lines values =
     ap (λ (rest : Octets). line_of first_line ++ (line_of table_heading ++ rest))
     (flat_map-append line_of (map barred pieces) (subscriptions_heading ∷ (lines ++ values_heading ∷ map value_words values))
-    ∙ ap (λ (rest : Octets). flat_map line_of (map barred pieces) ++ (line_of subscriptions_heading ++ rest)) (flat_map-append line_of lines (values_heading ∷ map value_words values)))
+    ∙ ap (λ (rest : Octets). flat_map line_of (map barred pieces) ++ (line_of subscriptions_heading ++ rest))
+    (flat_map-append line_of lines (values_heading ∷ map value_words values)))
 
 state_lines : (table_text : Octets) (rows : Subscriptions) (values : List Saved)
     → lines_of_state table_text rows values ≡ flat_map line_of (all_lines (pieces_of table_text) (row_lines rows) values)
 unfolding lines_of_state
 state_lines table_text rows values =
-    seven_parts (line_of first_line) (line_of table_heading) (table_lines table_text) (line_of subscriptions_heading) (rows_text rows) (line_of values_heading) (values_text values)
-    ∙ ap (λ (text : Octets). line_of first_line ++ (line_of table_heading ++ (text ++ (line_of subscriptions_heading ++ (rows_text rows ++ (line_of values_heading ++ values_text values))))))
+    seven_parts (line_of first_line) (line_of table_heading) (table_lines table_text) (line_of subscriptions_heading) (rows_text rows) (line_of values_heading)
+    (values_text values)
+    ∙ ap (λ (text : Octets). line_of first_line
+    ++ (line_of table_heading ++ (text ++ (line_of subscriptions_heading ++ (rows_text rows ++ (line_of values_heading ++ values_text values))))))
     (lines_of_each Octets barred piece_line piece_ended (pieces_of table_text))
-    ∙ ap (λ (text : Octets). line_of first_line ++ (line_of table_heading ++ (flat_map line_of (map barred (pieces_of table_text)) ++ (line_of subscriptions_heading ++ (text ++ (line_of values_heading ++ values_text values))))))
+    ∙ ap (λ (text : Octets). line_of first_line
+    ++ (line_of table_heading
+    ++ (flat_map line_of (map barred (pieces_of table_text)) ++ (line_of subscriptions_heading ++ (text ++ (line_of values_heading ++ values_text values))))))
     (rows_lines rows)
-    ∙ ap (λ (text : Octets). line_of first_line ++ (line_of table_heading ++ (flat_map line_of (map barred (pieces_of table_text)) ++ (line_of subscriptions_heading ++ (flat_map line_of (row_lines rows) ++ (line_of values_heading ++ text))))))
+    ∙ ap (λ (text : Octets). line_of first_line
+    ++ (line_of table_heading
+    ++ (flat_map line_of (map barred (pieces_of table_text))
+    ++ (line_of subscriptions_heading ++ (flat_map line_of (row_lines rows) ++ (line_of values_heading ++ text))))))
     (lines_of_each Saved value_words value_line value_ended values)
     ∙ sym (lines_parted (pieces_of table_text) (row_lines rows) values)
 
@@ -255,7 +271,9 @@ checked front body sum rest count same longer is =
     let before : before_end text ≡ body = ap (take (length text - 72 + 1)) same ∙ take_at body rest (length text - 72 + 1) (omega (arith, whole, longer)) in
     let equal : bytes_eq (checksum_in text) (checksum (before_end text)) ≡ true =
     (bytes_eq-Decides (checksum_in text) (checksum (before_end text))).1 (found ∙ is ∙ ap checksum (sym before)) in
-    ap (λ (ended : Bool). unless ended Unended >>= (λ (_ : Bool). unless (bytes_eq (checksum_in text) (checksum (before_end text))) OtherChecksum >>= (λ (_ : Bool). Ok (take (length text - 72) text)))) long
+    ap (λ (ended : Bool).
+    unless ended Unended >>=
+    (λ (_ : Bool). unless (bytes_eq (checksum_in text) (checksum (before_end text))) OtherChecksum >>= (λ (_ : Bool). Ok (take (length text - 72) text)))) long
     ∙ ap (λ (same : Bool). unless same OtherChecksum >>= (λ (_ : Bool). Ok (take (length text - 72) text))) equal
     ∙ ap Ok (take_at front (behind sum) (length text - 72) (omega (arith, whole)))
   where

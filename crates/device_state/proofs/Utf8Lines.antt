@@ -65,9 +65,11 @@ address_ascii address = joined_ascii (map (slice_index address) (5 ∷ 4 ∷ 3 �
 pub entry_utf8 : (entry : RowEntry) → IsConfigured entry → IsUtf8 (entry_words entry)
 entry_utf8 entry is =
     IsUtf8-from_ascii (entry_words entry)
-    (spaced (decimal entry.peer.kind) (address_text entry.peer.address ++ 32 ∷ (decimal entry.handle ++ 32 ∷ decimal entry.bits)) (IsAscii-decimal entry.peer.kind (omega (arith, is.peer.kind)))
+    (spaced (decimal entry.peer.kind) (address_text entry.peer.address ++ 32 ∷ (decimal entry.handle ++ 32 ∷ decimal entry.bits))
+    (IsAscii-decimal entry.peer.kind (omega (arith, is.peer.kind)))
     (spaced (address_text entry.peer.address) (decimal entry.handle ++ 32 ∷ decimal entry.bits) (address_ascii entry.peer.address)
-    (spaced (decimal entry.handle) (decimal entry.bits) (IsAscii-decimal entry.handle (omega (arith, is.handle))) (IsAscii-decimal entry.bits (omega (arith, is.bits))))))
+    (spaced (decimal entry.handle) (decimal entry.bits) (IsAscii-decimal entry.handle (omega (arith, is.handle)))
+    (IsAscii-decimal entry.bits (omega (arith, is.bits))))))
 
 pub owed_utf8 : (peer : Peer) → IsNamed peer → IsUtf8 (owed_words peer)
 owed_utf8 peer is =
@@ -107,10 +109,12 @@ feed_found octet is = by (octet == 10) refl is
 
 pieces_within : (most : ℕ) (text : Octets) → length text < most → IsUtf8 text → All IsUtf8 (pieces_of text)
 pieces_within zero text few is = absurd (omega (arith, few))
-pieces_within (suc most) text few is = by (nat_lt (position_or_len (λ octet. octet == 10) text) (length text)) refl (pieces_within most (after_first (λ octet. octet == 10) text))
+pieces_within (suc most) text few is =
+    by (nat_lt (position_or_len (λ octet. octet == 10) text) (length text)) refl (pieces_within most (after_first (λ octet. octet == 10) text))
   where
     by : (within : Bool) → nat_lt (position_or_len (λ octet. octet == 10) text) (length text) ≡ within
-        → (length (after_first (λ octet. octet == 10) text) < most → IsUtf8 (after_first (λ octet. octet == 10) text) → All IsUtf8 (pieces_of (after_first (λ octet. octet == 10) text)))
+        → (length (after_first (λ octet. octet == 10) text) < most → IsUtf8 (after_first (λ octet. octet == 10) text)
+        → All IsUtf8 (pieces_of (after_first (λ octet. octet == 10) text)))
         → All IsUtf8 (pieces_of text)
     by true within rest =
         let below : position_or_len (λ octet. octet == 10) text < length text = grind (arith, nat_tests, within) in
@@ -120,10 +124,14 @@ pieces_within (suc most) text few is = by (nat_lt (position_or_len (λ octet. oc
         omega (arith, below, few, length-drop (position_or_len (λ octet. octet == 10) text + 1) text) in
         subst (All IsUtf8) (sym (slice_split_first (λ octet. octet == 10) text 0 below))
         (All-cons IsUtf8 (before_first (λ octet. octet == 10) text) (pieces_of (after_first (λ octet. octet == 10) text))
-        (IsUtf8-take text (position_or_len (λ octet. octet == 10) text) is (IsCharBoundary-before_ascii text (position_or_len (λ octet. octet == 10) text) below feed))
-        (rest left (IsUtf8-drop text (position_or_len (λ octet. octet == 10) text + 1) is (IsCharBoundary-after_ascii text (position_or_len (λ octet. octet == 10) text) is below feed))))
+        (IsUtf8-take text (position_or_len (λ octet. octet == 10) text) is
+        (IsCharBoundary-before_ascii text (position_or_len (λ octet. octet == 10) text) below feed))
+        (rest left
+        (IsUtf8-drop text (position_or_len (λ octet. octet == 10) text + 1) is
+        (IsCharBoundary-after_ascii text (position_or_len (λ octet. octet == 10) text) is below feed))))
     by false within rest =
-        let all : position_or_len (λ octet. octet == 10) text ≡ length text = grind (arith, nat_tests, within, prefix_len-le-length (λ octet. not (octet == 10)) text) in
+        let all : position_or_len (λ octet. octet == 10) text ≡ length text =
+        grind (arith, nat_tests, within, prefix_len-le-length (λ octet. not (octet == 10)) text) in
         subst (All IsUtf8) (sym (only_part 10 text None all)) (All-cons IsUtf8 text [] is (All-nil IsUtf8))
 
 pub pieces_utf8 : (text : Octets) → IsUtf8 text → All IsUtf8 (pieces_of text)

@@ -35,7 +35,8 @@ told-why-not : (result : Result Contents (AppFault × Contents)) → told_by res
 told-why-not (Ok table) = refl
 told-why-not (Err fault) = ap (λ fault. Some (refused.Call (number_of_refusal fault))) (sym (fault_of_its_refusal fault.0))
 
-still : (old new : HostModel) (told : Option Refused) (result : Result (Unit {0}) AppFault) → told ≡ told_of result → OnErr result (new ≡ silent old) → IsSome told → new ≡ silent old
+still : (old new : HostModel) (told : Option Refused) (result : Result (Unit {0}) AppFault) → told ≡ told_of result → OnErr result (new ≡ silent old)
+    → IsSome told → new ≡ silent old
 still old new told (Ok done) is same some = cc (is, some)
 still old new told (Err fault) is same some = same
 
@@ -51,11 +52,13 @@ called call told result old new is takes why stopped same = record {
   unchanged = still old new told result is same;
 }
 
-still-table : (old new : HostModel) (told : Option Refused) (result : Result Contents (AppFault × Contents)) → told ≡ told_by result → OnErr result (new ≡ silent old) → IsSome told → new ≡ silent old
+still-table : (old new : HostModel) (told : Option Refused) (result : Result Contents (AppFault × Contents)) → told ≡ told_by result
+    → OnErr result (new ≡ silent old) → IsSome told → new ≡ silent old
 still-table old new told (Ok done) is same some = cc (is, some)
 still-table old new told (Err fault) is same some = same
 
-pub replaced : (before : Option Contents) (table : Contents) (told : Option Refused) (result : Result Contents (AppFault × Contents)) (old new : HostModel) (next : Option Contents)
+pub replaced : (before : Option Contents) (table : Contents) (told : Option Refused) (result : Result Contents (AppFault × Contents)) (old new : HostModel)
+    (next : Option Contents)
     → before ≡ Some table → told ≡ told_by result
     → (old.fault ≡ None → Takes (ATable table) old new)
     → ((start : Start) (input : List Item) (sent : List Octets) → RefinesRun (run start input) sent old → old.fault ≡ None

@@ -23,7 +23,8 @@ not-so true unless = absurd (unless refl)
 not-so false unless = refl
 
 -- a text with a line feed is its first line, and the lines behind that; one without is one line
-pub first_of_lines : (text : Octets) (end : ℕ) → IsFirstByte (is_byte 10) text (Some end) → lines_of_script text ≡ take end text ∷ lines_of_script (drop (end + 1) text)
+pub first_of_lines : (text : Octets) (end : ℕ) → IsFirstByte (is_byte 10) text (Some end) → lines_of_script text ≡ take end text
+    ∷ lines_of_script (drop (end + 1) text)
 first_of_lines text end found =
     let place : position_or_len is_line_feed text ≡ end =
     position_or_len_is is_line_feed text end 0 (omega (arith, found.0.high))

@@ -67,7 +67,8 @@ hears_marked octets used start new packet result old after fresh is divided =
     hears-packet octets packet (still new (drop used octets)) result old after (marked-first octets used new packet is divides)
 
 -- what is told of the packet is noted
-pub noted_marked : (octets : Octets) (used : ℕ) (start new : Deframing) (packet : Packet) (result : Result (Unit {0}) HostFault) (host : HostModel) (old now : Notes)
+pub noted_marked : (octets : Octets) (used : ℕ) (start new : Deframing) (packet : Packet) (result : Result (Unit {0}) HostFault) (host : HostModel)
+    (old now : Notes)
     → start ≡ deframing_at_start → new.marked ≡ Some packet
     → ((rest : Octets) → still start (take used octets ++ rest) ≡ before (marks new) (still new rest))
     → OnOk result (NotesWhatIsTold host old now) → OnOk result (NotesTaken octets host old now)
@@ -82,7 +83,8 @@ failing fault = Err fault
 pub hears_lost : (octets : Octets) (start : Deframing) (fault : H4Fault) (old : HostModel) → start ≡ deframing_at_start
     → ((indicator : ℕ) → (failing fault ≡ Err (stream.Desync indicator)) ↔ (still start octets ≡ lost indicator)) → HostStops (lost_fault fault) octets old old
 hears_lost octets start (stream.Desync indicator) old fresh divided =
-    let lies : still deframing_at_start octets ≡ lost indicator = subst (λ (first : Deframing). still first octets ≡ lost indicator) fresh ((divided indicator).0 refl) in
+    let lies : still deframing_at_start octets ≡ lost indicator =
+    subst (λ (first : Deframing). still first octets ≡ lost indicator) fresh ((divided indicator).0 refl) in
     let divides : division octets ≡ lost indicator = sym (fresh-still octets) ∙ lies in
     subst (λ (divided : Division). StopsAtFirst (Desync indicator) divided.packets divided.end old old) (sym divides)
     (record { desync = refl; unchanged = refl })
@@ -120,7 +122,8 @@ exchanges_next count before middle after true so_far hands is =
     subst (λ (more : ℕ). Exchanges more before after) one (exchanges_more count before middle after so_far hands)
 exchanges_next count before middle after false so_far hands is = cc is
 
-pub exchanges_all : (count : ℕ) (before last : Pair) → Exchanges count before last → count ≡ 100000 → (IsQuiet last.host last.sim → ⊥) → ExchangesTooMany before last.host
+pub exchanges_all : (count : ℕ) (before last : Pair) → Exchanges count before last → count ≡ 100000 → (IsQuiet last.host last.sim → ⊥)
+    → ExchangesTooMany before last.host
 exchanges_all count before last so_far all more = record {
   last = last;
   exchanges = subst (λ (count : ℕ). Exchanges count before last) all so_far;

@@ -15,7 +15,8 @@ use Rattle.sim_controller.specs.Phone.{Phone, phone_after_hearing}
 use Rattle.sim_controller.specs.Simulated.{Simulated, phone_at, with_phone}
 
 -- of what is refused
-pub refused_call_front : {T E : Type 0} (result : Result T E) (names : List Octets) (refused : Refused) (number : ℕ) (held holds : Option Octets) → refused ≡ Call number
+pub refused_call_front : {T E : Type 0} (result : Result T E) (names : List Octets) (refused : Refused) (number : ℕ) (held holds : Option Octets)
+    → refused ≡ Call number
     → OnErr result (WritesFront (refused_line names (Call number)) held holds) → OnErr result (WritesFront (refused_line names refused) held holds)
 refused_call_front result names refused number held holds is =
     subst (λ (told : Refused). OnErr result (WritesFront (refused_line names told) held holds)) (sym is)
@@ -26,7 +27,8 @@ pub refused_act_front : {T E : Type 0} (result : Result T E) (names : List Octet
 refused_act_front result names refused phone number held holds is =
     subst (λ (told : Refused). OnErr result (WritesFront (refused_line names told) held holds)) (sym is)
 
-pub name_of_act : (names : List Octets) (refused : Refused) (phone number place : ℕ) (name : Octets) → refused ≡ Act phone number → IsOfPhone (length names) refused
+pub name_of_act : (names : List Octets) (refused : Refused) (phone number place : ℕ) (name : Octets) → refused ≡ Act phone number
+    → IsOfPhone (length names) refused
     → place ≡ phone → name ≡ slice_index_or names place name → name ≡ slice_index_or names phone []
 name_of_act names refused phone number place name is of same named =
     let below : phone < length names = subst (IsOfPhone (length names)) is of in
@@ -34,7 +36,8 @@ name_of_act names refused phone number place name is of same named =
 
 -- of a line of a frame
 pub frame_line_front : {T E : Type 0} (result : Result T E) (name octets : Octets) (frame : BasicFrame) (held holds : Option Octets)
-    → frame_of octets ≡ Ok frame → OnErr result (WritesFront (frame_line name frame) held holds) → OnErr result (WritesFront (heard_line name octets) held holds)
+    → frame_of octets ≡ Ok frame → OnErr result (WritesFront (frame_line name frame) held holds)
+    → OnErr result (WritesFront (heard_line name octets) held holds)
 frame_line_front result name octets frame held holds is =
     subst (λ (line : Octets). OnErr result (WritesFront line held holds)) (sym (ap (frame_line_if name) is))
 
@@ -61,12 +64,14 @@ end-front name reason place old mid held between holds so_far none is front =
     subst (λ (octets : Octets). WritesFront octets held holds) (sym (λ i. heard i ++ ended i))
     (front_then so_far.told (ended_line name reason) held between holds so_far.appended front)
 
-pub end_front : {T E : Type 0} (result : Result T E) (name : Octets) (told : Option ℕ) (reason place : ℕ) (old mid new : Simulated) (held between holds : Option Octets)
+pub end_front : {T E : Type 0} (result : Result T E) (name : Octets) (told : Option ℕ) (reason place : ℕ) (old mid new : Simulated)
+    (held between holds : Option Octets)
     → HasTold name place old mid held between → (phone_at mid place).heard ≡ [] → new ≡ with_phone mid place (phone_after_hearing (phone_at mid place))
     → told ≡ (phone_at new place).ended → told ≡ Some reason → OnErr result (WritesFront (ended_line name reason) between holds)
     → OnErr result (WritesFront (phone_text name (phone_at old place)) held holds)
 end_front result name told reason place old mid new held between holds so_far none after tells is =
-    let hears : phone_at new place ≡ phone_after_hearing (phone_at mid place) = ap (λ (sim : Simulated). phone_at sim place) after ∙ heard_then mid.phones place in
+    let hears : phone_at new place ≡ phone_after_hearing (phone_at mid place) = ap (λ (sim : Simulated). phone_at sim place) after ∙ heard_then mid.phones place
+    in
     on_err_weaker result
     (end-front name reason place old mid held between holds so_far none (sym (ap (λ (phone : Phone). phone.ended) hears) ∙ sym tells ∙ is))
 
@@ -94,7 +99,8 @@ phones_front count names name old mid held between holds below named so_far fron
     in
     let here : WritesFront (phones_text (take (suc count) names) old.phones) held holds =
     subst (λ (octets : Octets). WritesFront octets held holds) (sym (text_next count names old.phones below))
-    (front_then (phones_text (take count names) old.phones) (phone_text (slice_index_or names count []) (phone_at old count)) held between holds so_far.appended text)
+    (front_then (phones_text (take count names) old.phones) (phone_text (slice_index_or names count []) (phone_at old count)) held between holds so_far.appended
+    text)
     in
     let rest = phones-rest (suc count) names old.phones in
     subst (λ (octets : Octets). WritesFront octets held holds) (sym rest.1)

@@ -15,7 +15,8 @@ use Rattle.gatt_commands.specs.Loop.{acts_by, acts_in, nothing_heard, packets_ta
 use Rattle.gatt_commands.specs.Runs.{simulated}
 
 -- what further calls of the controller take, give, do and have heard
-pub record Adds (calls later : List SimulatedCall) (taken : List Octets) (told : List Told) (acts : List by_phone.SimulatedAct) (heard : ℕ → List Octets) : Type 0 where
+pub record Adds (calls later : List SimulatedCall) (taken : List Octets) (told : List Told) (acts : List by_phone.SimulatedAct) (heard : ℕ → List Octets) : Type
+    0 where
   pub taken_then : packets_taken simulated later ≡ packets_taken simulated calls ++ taken
   pub given_then : given_in_calls simulated later ≡ given_in_calls simulated calls ++ told
   pub acts_then : acts_in later ≡ acts_in calls ++ acts
@@ -25,7 +26,8 @@ abbrev hears-by : List SimulatedCall → SimulatedCall → ℕ → List Octets
 hears-by calls call phone = frames_heard_by (after_calls simulated calls) phone call
 
 pub adds_one : (calls : List SimulatedCall) (call : SimulatedCall)
-    → Adds calls (call ∷ calls) (taken_by (after_calls simulated calls) call) (given_by_call (after_calls simulated calls) call) (acts_by call) (hears-by calls call)
+    → Adds calls (call ∷ calls) (taken_by (after_calls simulated calls) call) (given_by_call (after_calls simulated calls) call) (acts_by call)
+    (hears-by calls call)
 adds_one calls call = record { taken_then = refl; given_then = refl; acts_then = refl; heard_so = λ phone. refl }
 
 pub adds_none : (calls : List SimulatedCall) → Adds calls calls [] [] [] nothing_heard
@@ -39,13 +41,15 @@ adds_none calls = record {
 further : {X : Type 0} (first second third more rest : List X) → second ≡ first ++ more → third ≡ second ++ rest → third ≡ first ++ (more ++ rest)
 further first second third more rest one two = two ∙ ap (λ xs. xs ++ rest) one ∙ append_assoc first more rest
 
-adds-both : (calls middle later : List SimulatedCall) (taken taken' : List Octets) (told told' : List Told) (acts acts' : List by_phone.SimulatedAct) (heard heard' : ℕ → List Octets)
+adds-both : (calls middle later : List SimulatedCall) (taken taken' : List Octets) (told told' : List Told) (acts acts' : List by_phone.SimulatedAct)
+    (heard heard' : ℕ → List Octets)
     → Adds calls middle taken told acts heard → Adds middle later taken' told' acts' heard'
     → Adds calls later (taken ++ taken') (told ++ told') (acts ++ acts') (λ phone. heard phone ++ heard' phone)
 adds-both calls middle later taken taken' told told' acts acts' heard heard' one two = record {
   taken_then =
       further (packets_taken simulated calls) (packets_taken simulated middle) (packets_taken simulated later) taken taken' one.taken_then two.taken_then;
-  given_then = further (given_in_calls simulated calls) (given_in_calls simulated middle) (given_in_calls simulated later) told told' one.given_then two.given_then;
+  given_then =
+      further (given_in_calls simulated calls) (given_in_calls simulated middle) (given_in_calls simulated later) told told' one.given_then two.given_then;
   acts_then = further (acts_in calls) (acts_in middle) (acts_in later) acts acts' one.acts_then two.acts_then;
   heard_so = λ phone.
       further (frames_heard_in simulated phone calls) (frames_heard_in simulated phone middle) (frames_heard_in simulated phone later)
@@ -97,9 +101,11 @@ all-heard phone = record phone { heard = [] }
 
 record HasHeard (place : ℕ) (frames : List Octets) (calls : List SimulatedCall) : Type 0 where
   adds : AddsHeard calls (hears-all place frames calls) (heard-at place frames)
-  then_so : after_calls simulated (hears-all place frames calls) ≡ with_phone (after_calls simulated calls) place (all-heard (phone_at (after_calls simulated calls) place))
+  then_so : after_calls simulated (hears-all place frames calls) ≡ with_phone (after_calls simulated calls) place
+      (all-heard (phone_at (after_calls simulated calls) place))
 
-has-heard : (place : ℕ) (frames : List Octets) (calls : List SimulatedCall) → (phone_at (after_calls simulated calls) place).heard ≡ frames → HasHeard place frames calls
+has-heard : (place : ℕ) (frames : List Octets) (calls : List SimulatedCall) → (phone_at (after_calls simulated calls) place).heard ≡ frames
+    → HasHeard place frames calls
 has-heard place [] calls is =
     let old : Simulated = after_calls simulated calls in
     record {
@@ -118,7 +124,8 @@ has-heard place (frame ∷ frames) calls is =
       adds =
           heard-alike calls (hears-all place (frame ∷ frames) calls) (λ phone. hears-by calls (Hears place) phone ++ heard-at place frames phone)
           (heard-at place (frame ∷ frames))
-          (adds-both calls (Hears place ∷ calls) (hears-all place frames (Hears place ∷ calls)) [] [] [] [] [] [] (hears-by calls (Hears place)) (heard-at place frames)
+          (adds-both calls (Hears place ∷ calls) (hears-all place frames (Hears place ∷ calls)) [] [] [] [] [] [] (hears-by calls (Hears place))
+          (heard-at place frames)
           (adds_one calls (Hears place)) rest.adds)
           (λ phone. first-heard place phone old frame frames is);
       then_so =
@@ -130,7 +137,8 @@ has-heard place (frame ∷ frames) calls is =
 
 -- and then the end of its connection is told
 all-heard-then : (phones : List Phone) (place : ℕ)
-    → slice_index_or (slice_set phones place (all-heard (slice_index_or phones place absent_phone))) place absent_phone ≡ all-heard (slice_index_or phones place absent_phone)
+    → slice_index_or (slice_set phones place (all-heard (slice_index_or phones place absent_phone))) place absent_phone
+    ≡ all-heard (slice_index_or phones place absent_phone)
 all-heard-then [] place = refl
 all-heard-then (phone ∷ phones) zero = refl
 all-heard-then (phone ∷ phones) (suc place) = all-heard-then phones place
@@ -139,7 +147,8 @@ record HasToldOf (place : ℕ) (calls later : List SimulatedCall) : Type 0 where
   adds : AddsHeard calls later (heard-at place (phone_at (after_calls simulated calls) place).heard)
   then_so : after_calls simulated later ≡ with_told_phone (after_calls simulated calls) place
 
-tells-of : (place : ℕ) (calls : List SimulatedCall) → HasToldOf place calls (Tells place ∷ hears-all place (phone_at (after_calls simulated calls) place).heard calls)
+tells-of : (place : ℕ) (calls : List SimulatedCall)
+    → HasToldOf place calls (Tells place ∷ hears-all place (phone_at (after_calls simulated calls) place).heard calls)
 tells-of place calls =
     let old : Simulated = after_calls simulated calls in
     let frames : List Octets = (phone_at old place).heard in
@@ -149,7 +158,8 @@ tells-of place calls =
     record {
       adds =
           heard-alike calls (Tells place ∷ heard) (λ phone. heard-at place frames phone ++ []) (heard-at place frames)
-          (adds-both calls heard (Tells place ∷ heard) [] [] [] [] [] [] (heard-at place frames) (hears-by heard (Tells place)) has.adds (adds_one heard (Tells place)))
+          (adds-both calls heard (Tells place ∷ heard) [] [] [] [] [] [] (heard-at place frames) (hears-by heard (Tells place)) has.adds
+          (adds_one heard (Tells place)))
           (λ phone. append-nil (heard-at place frames phone));
       then_so =
           ap (λ (sim : Simulated). with_phone sim place (after_telling (phone_at sim place))) has.then_so
@@ -169,7 +179,8 @@ past count phone least differs = pick (nat_lt count phone) refl
         absurd (differs (omega (arith, least, most)))
 
 next-heard : (count phone : ℕ) (frames : ℕ → List Octets)
-    → (if nat_lt phone count then frames phone else []) ++ (if count == phone then frames count else []) ≡ (if nat_lt phone (suc count) then frames phone else [])
+    → (if nat_lt phone count then frames phone else []) ++ (if count == phone then frames count else [])
+    ≡ (if nat_lt phone (suc count) then frames phone else [])
 next-heard count phone frames = pick (nat_lt phone count) (count == phone) refl refl
   where
     pick : (b c : Bool) → nat_lt phone count ≡ b → (count == phone) ≡ c
@@ -187,7 +198,8 @@ next-heard count phone frames = pick (nat_lt phone count) (count == phone) refl 
         let more : nat_lt phone (suc count) ≡ true = lt-ltb phone (suc count) (omega (arith, same)) in
         ap frames same ∙ sym (ap (λ (b : Bool). if b then frames phone else []) more)
     pick false false e f =
-        sym (ap (λ (b : Bool). if b then frames phone else []) (le-ltb phone (suc count) (past count phone (ltb-false phone count e) (eqb-false count phone f))))
+        sym (ap (λ (b : Bool). if b then frames phone else [])
+        (le-ltb phone (suc count) (past count phone (ltb-false phone count e) (eqb-false count phone f))))
 
 pub record HasToldAll (count : ℕ) (calls : List SimulatedCall) : Type 0 where
   pub later : List SimulatedCall

@@ -79,7 +79,8 @@ is-joined start host sim so_far is = record {
 }
 
 -- the host takes in items, these packets and these others, and these packets go out
-record Goes (start : Start) (input : List Item) (sent : List Octets) (packets : List Packet) (asked : List Item) (taken : List Octets) (new : HostModel) : Type 0 where
+record Goes (start : Start) (input : List Item) (sent : List Octets) (packets : List Packet) (asked : List Item) (taken : List Octets) (new : HostModel) : Type
+    0 where
   items : List Item
   refines : RefinesRun (run start (input ++ items)) (sent ++ taken) new
   read : packets_of_items items ≡ packets
@@ -203,7 +204,8 @@ module _ (start : Start) (host new : HostModel) (sim sim' : Simulated) (so_far :
   phone-acts : (act : by_phone.SimulatedAct) → new ≡ host → sim' ≡ after_call sim (Acts act)
       → Joins start new sim' (record so_far { acts = so_far.acts ++ act ∷ []; asked = so_far.asked ++ [] })
   phone-acts act same then_so =
-      as-so-far (with_more so_far (act ∷ []) [] nothing_heard) (record so_far { acts = so_far.acts ++ act ∷ []; asked = so_far.asked ++ [] }) (same-heard so_far (act ∷ []) [])
+      as-so-far (with_more so_far (act ∷ []) [] nothing_heard) (record so_far { acts = so_far.acts ++ act ∷ []; asked = so_far.asked ++ [] })
+      (same-heard so_far (act ∷ []) [])
       (more (Acts act ∷ was.calls) [] [] (act ∷ []) [] nothing_heard (adds_one was.calls (Acts act))
       (goes-nowhere start was.input gone-so-far host new same was.refines)
       (then_so ∙ ap (λ (sim : Simulated). after_call sim (Acts act)) was.controller))
@@ -212,7 +214,8 @@ module _ (start : Start) (host new : HostModel) (sim sim' : Simulated) (so_far :
   host-goes : (asked : List Item) → Goes start was.input gone-so-far [] asked [] new → sim' ≡ sim
       → Joins start new sim' (record so_far { acts = so_far.acts ++ []; asked = so_far.asked ++ asked })
   host-goes asked goes same =
-      as-so-far (with_more so_far [] asked nothing_heard) (record so_far { acts = so_far.acts ++ []; asked = so_far.asked ++ asked }) (same-heard so_far [] asked)
+      as-so-far (with_more so_far [] asked nothing_heard) (record so_far { acts = so_far.acts ++ []; asked = so_far.asked ++ asked })
+      (same-heard so_far [] asked)
       (more was.calls [] [] [] asked nothing_heard (adds_none was.calls) goes (same ∙ was.controller))
 
   app-calls : (item : Item) (told : Option Refused) (refused : Refused) (kept : Option HostFault) → host.fault ≡ kept
@@ -245,7 +248,8 @@ module _ (start : Start) (so_far : SoFar) where
   hands before after_calls (inr taken) was =
       gives-packet start before.host after_calls.host before.sim after_calls.sim so_far was taken.packet taken.gives taken.takes
 
-  pub exchanges : (count : ℕ) (before after_calls : Pair) → Exchanges count before after_calls → JoinsAt before.host before.sim → JoinsAt after_calls.host after_calls.sim
+  pub exchanges : (count : ℕ) (before after_calls : Pair) → Exchanges count before after_calls → JoinsAt before.host before.sim
+      → JoinsAt after_calls.host after_calls.sim
   exchanges zero before after_calls is was = subst (λ (pair : Pair). JoinsAt pair.host pair.sim) (sym is) was
   exchanges (suc count) before after_calls (middle, first, rest) was = exchanges count middle after_calls rest (hands before middle first was)
 

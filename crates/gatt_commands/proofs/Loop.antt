@@ -58,7 +58,8 @@ joins-begun : (table : Contents) (keys : List Entry) (rows : Subscriptions) (hos
     → (begun : Stage) (silent last : Notes) → ExchangesAll (pair_of host (simulated_at_start simulated) silent) (pair_of begun.host begun.sim last)
     → Joins (start_of table keys rows command_configuration) begun.host begun.sim nothing_yet
 joins-begun table keys rows host opened begun silent last is =
-    exchanges (start_of table keys rows command_configuration) nothing_yet is.count (pair_of host (simulated_at_start simulated) silent) (pair_of begun.host begun.sim last)
+    exchanges (start_of table keys rows command_configuration) nothing_yet is.count (pair_of host (simulated_at_start simulated) silent)
+    (pair_of begun.host begun.sim last)
     is.exchanges (joins-opened table keys rows host opened)
 
 -- the lines before the one that ends a run
@@ -115,7 +116,8 @@ closes_the_loop = record {
   does_line = λ start so_far act told old new does was.
       is-joined start new.host new.sim (after_line_done old act so_far) (does-act start so_far act told old new does (joins start old.host old.sim so_far was));
   exchanges = λ start so_far count before after_calls is was.
-      is-joined start after_calls.host after_calls.sim so_far (exchanges start so_far count before after_calls is (joins start before.host before.sim so_far was));
+      is-joined start after_calls.host after_calls.sim so_far
+      (exchanges start so_far count before after_calls is (joins start before.host before.sim so_far was));
   all_sent = λ start so_far host sim joined none out.
       all_sent (run start joined.input) (packets_taken simulated joined.calls) host.server host.frames joined.refines.refines (drained_where host none out);
   each_line = λ start so_far shown names act old new held holds runs was.

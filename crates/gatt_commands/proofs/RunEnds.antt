@@ -15,7 +15,8 @@ use Rattle.gatt_commands.specs.Echo.{Shown}
 use Rattle.gatt_commands.specs.Runs.{simulated, EndsEarly, HostRuns, RunsAll}
 use Rattle.shell_files.specs.Saving.{Save, Saves, SavesAfter}
 
-module _ (shown : Shown) (script : Acts) (old new : HostModel) (next next_then : Option Contents) (last : Simulated) (held holds : Option Octets) (saves saves_then : Option (List Save)) where
+module _ (shown : Shown) (script : Acts) (old new : HostModel) (next next_then : Option Contents) (last : Simulated) (held holds : Option Octets)
+    (saves saves_then : Option (List Save)) where
   abbrev Runs-all : Type 0
   Runs-all = RunsAll shown script (stage_of old (simulated_at_start simulated) next) (stage_of new last next_then) held holds
 
@@ -38,7 +39,8 @@ module _ (shown : Shown) (script : Acts) (old new : HostModel) (next next_then :
   by-results (Ok done) (Ok last_done) failed unwritten runs ends saved =
       record { sim = last; runs = runs; saved = subst Saves-rows (saved.answered refl) saved.saves }
 
-  pub host_runs : (fresh : Simulated) (rows : Subscriptions) (ran result : Result (Unit {0}) ShellFault) → fresh ≡ simulated_at_start simulated → rows ≡ new.server.rows
+  pub host_runs : (fresh : Simulated) (rows : Subscriptions) (ran result : Result (Unit {0}) ShellFault) → fresh ≡ simulated_at_start simulated
+      → rows ≡ new.server.rows
       → ((fault : ShellFault) → ran ≡ Err fault → result ≡ Err fault) → (ran ≡ Ok tt → IfErr result (λ fault. fault ≡ Unwritten))
       → OnOk ran (RunsAll shown script (stage_of old fresh next) (stage_of new last next_then) held holds)
       → IfErr ran (λ fault. EndsEarly fault shown script (stage_of old fresh next) (stage_of new last next_then) held holds)
@@ -46,7 +48,8 @@ module _ (shown : Shown) (script : Acts) (old new : HostModel) (next next_then :
   host_runs fresh rows ran result starts same failed unwritten runs ends saved =
       by-results ran result failed unwritten
       (subst (λ (sim : Simulated). OnOk ran (RunsAll shown script (stage_of old sim next) (stage_of new last next_then) held holds)) starts runs)
-      (subst (λ (sim : Simulated). IfErr ran (λ fault. EndsEarly fault shown script (stage_of old sim next) (stage_of new last next_then) held holds)) starts ends)
+      (subst (λ (sim : Simulated). IfErr ran (λ fault. EndsEarly fault shown script (stage_of old sim next) (stage_of new last next_then) held holds)) starts
+      ends)
       (subst (λ (rows : Subscriptions). SavesAfter ran result (rows_text rows) saves saves_then) same saved)
 
 -- what is run of a script is run of its files too

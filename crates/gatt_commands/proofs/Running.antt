@@ -30,7 +30,8 @@ passed_on (Ok done) fault P was is = absurd was
 passed_on (Err passed) fault P was is = subst P (sym was) is
 
 -- a line that ends for a fault of the exchange
-fails-exchanging : (fault : ShellFault) (shows : Bool) (names : List Octets) (refused : Option Refused) (heard : Notes) (old new : Stage) (held holds : Option Octets)
+fails-exchanging : (fault : ShellFault) (shows : Bool) (names : List Octets) (refused : Option Refused) (heard : Notes) (old new : Stage)
+    (held holds : Option Octets)
     → IsExchangeFault fault → FailsToExchange fault heard old new held holds → Fails fault shows names refused heard old new held holds
 fails-exchanging (Host number) shows names refused heard old new held holds is fails = fails
 fails-exchanging (Controller number) shows names refused heard old new held holds is fails = fails
@@ -52,7 +53,8 @@ module _ (shows : Bool) (names : List Octets) (act : Act) (refused : Option Refu
       → IsExchangeFault fault → FailsToExchange fault heard acted new held holds → IfErr result (λ fault. EndsAtLine fault shows names act old new held holds)
   ends_exchanging result fault was is fails =
       passed_on result fault (λ fault. EndsAtLine fault shows names act old new held holds) was
-      (record { refused = refused; acted = acted; heard = heard; done = done; fails = fails-exchanging fault shows names refused heard acted new held holds is fails })
+      (record { refused = refused; acted = acted; heard = heard; done = done; fails = fails-exchanging fault shows names refused heard acted new held holds is
+      fails })
 
   pub runs_line : (result : Result (Unit {0}) ShellFault) (quiet : Simulated) (last : Notes)
       → ExchangesAll (pair_of acted.host acted.sim heard) (pair_of new.host quiet last) → last.is_refused ≡ false → new.next ≡ acted.next
@@ -102,9 +104,11 @@ module _ (shown left : Shown) (names : List Octets) (acts : List Act) (index : �
   next-line : act ∷ drop (index + 1) acts ≡ drop index acts
   next-line = ap (λ (first : Act). first ∷ drop (index + 1) acts) same ∙ sym (drop_more acts index act below)
 
-  pub run_more : (lines : List Octets) → lines ≡ lines_behind left.lines → (next : Stage) (holds : Option Octets) → RunsNext left names act now next between holds
+  pub run_more : (lines : List Octets) → lines ≡ lines_behind left.lines → (next : Stage) (holds : Option Octets)
+      → RunsNext left names act now next between holds
       → HasRun shown (shown_of left.notices lines) names acts (drop (index + 1) acts) old next held holds
-  run_more lines are_left next holds line = subst (λ (lines : List Octets). HasRun shown (shown_of left.notices lines) names acts (drop (index + 1) acts) old next held holds)
+  run_more lines are_left next holds line =
+  subst (λ (lines : List Octets). HasRun shown (shown_of left.notices lines) names acts (drop (index + 1) acts) old next held holds)
       (sym are_left) (record {
         all = λ new last runs.
             so_far.all new last (subst (λ (rest : List Act). Runs left names rest now new between last) next-line (next, holds, line, runs));
@@ -127,9 +131,11 @@ run_all shown left names acts rest old now held holds so_far none =
 
 -- a script is its lines
 module _ (shown : Shown) (script : Acts) (names : List Octets) (acts : List Act) (same_names : names ≡ script.names) (same_acts : acts ≡ script.acts)
-    (old begun new : Stage) (held holds : Option Octets) (silent last : Notes) (exchanges : ExchangesAll (pair_of old.host old.sim silent) (pair_of begun.host begun.sim last))
+    (old begun new : Stage) (held holds : Option Octets) (silent last : Notes)
+    (exchanges : ExchangesAll (pair_of old.host old.sim silent) (pair_of begun.host begun.sim last))
     (next : begun.next ≡ old.next) where
-  pub runs_script : (result : Result (Unit {0}) ShellFault) → OnOk result (Runs shown names acts begun new held holds) → OnOk result (RunsAll shown script old new held holds)
+  pub runs_script : (result : Result (Unit {0}) ShellFault) → OnOk result (Runs shown names acts begun new held holds)
+      → OnOk result (RunsAll shown script old new held holds)
   runs_script (Err fault) runs = tt
   runs_script (Ok done) runs = record {
     begun = begun;

@@ -28,7 +28,8 @@ module _ (text : Octets) (saves saves_then : Option (List Save)) where
       (saved.is_done, saved.saves)
 
 -- of the rows that stand
-pub saves_rows : (rows held : Subscriptions) (saves saves_then : Option (List Save)) (refines : Option HostFault) (ran result : Result (Unit {0}) ShellFault) → rows ≡ held
+pub saves_rows : (rows held : Subscriptions) (saves saves_then : Option (List Save)) (refines : Option HostFault) (ran result : Result (Unit {0}) ShellFault)
+    → rows ≡ held
     → ran ≡ fault_told_of refines → ((fault : ShellFault) → ran ≡ Err fault → result ≡ Err fault) → (ran ≡ Ok tt → IfErr result (λ fault. fault ≡ Unwritten))
     → SavesAfter ran result (rows_text rows) saves saves_then → SavesBy result (rows_text held) saves saves_then
 saves_rows rows held saves saves_then refines ran result same told failed unwritten saved =

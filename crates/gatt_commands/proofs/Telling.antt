@@ -22,7 +22,8 @@ set_twice (phone ∷ phones) (suc place) first second = ap (λ (rest : List Phon
 
 -- what a phone is then, where none is still none
 pub heard_then : (phones : List Phone) (place : ℕ)
-    → slice_index_or (slice_set phones place (phone_after_hearing (slice_index_or phones place absent_phone))) place absent_phone ≡ phone_after_hearing (slice_index_or phones place absent_phone)
+    → slice_index_or (slice_set phones place (phone_after_hearing (slice_index_or phones place absent_phone))) place absent_phone
+    ≡ phone_after_hearing (slice_index_or phones place absent_phone)
 heard_then [] place = refl
 heard_then (phone ∷ phones) zero = refl
 heard_then (phone ∷ phones) (suc place) = heard_then phones place
@@ -46,7 +47,8 @@ pub told_more : (name frame : Octets) (place : ℕ) (old mid new : Simulated) (h
     → Appends between holds (heard_line name frame) → HasTold name place old new held holds
 told_more name frame place old mid new held between holds so_far first after appended =
     subst (λ (new : Simulated). HasTold name place old new held holds) (sym after)
-    (let hears : phone_at (with_phone mid place (phone_after_hearing (phone_at mid place))) place ≡ phone_after_hearing (phone_at mid place) = heard_then mid.phones place in
+    (let hears : phone_at (with_phone mid place (phone_after_hearing (phone_at mid place))) place
+    ≡ phone_after_hearing (phone_at mid place) = heard_then mid.phones place in
     record {
       told = so_far.told ++ heard_line name frame;
       appended = appends-append held between holds so_far.told (heard_line name frame) so_far.appended appended;
@@ -84,7 +86,8 @@ text_next (suc count) (name ∷ names) [] below = refl
 text_next (suc count) (name ∷ names) (phone ∷ phones) below =
     let next = text_next count names phones (omega arith) in
     ap (λ (octets : Octets). phone_text name phone ++ octets) next
-    ∙ sym (append_assoc (phone_text name phone) (phones_text (take count names) phones) (phone_text (slice_index_or names count []) (slice_index_or phones count absent_phone)))
+    ∙ sym (append_assoc (phone_text name phone) (phones_text (take count names) phones)
+    (phone_text (slice_index_or names count []) (slice_index_or phones count absent_phone)))
 
 -- so many of the phones are told
 pub record HasToldPhones (count : ℕ) (names : List Octets) (old new : Simulated) (held holds : Option Octets) : Type 0 where
@@ -92,7 +95,8 @@ pub record HasToldPhones (count : ℕ) (names : List Octets) (old new : Simulate
   pub after : new ≡ with_told_phones old count
 
 -- whatever stands past the end
-pub any_default : {X : Type 0} (items : List X) (place : ℕ) (first second : X) → place < length items → slice_index_or items place first ≡ slice_index_or items place second
+pub any_default : {X : Type 0} (items : List X) (place : ℕ) (first second : X) → place < length items → slice_index_or items place first
+    ≡ slice_index_or items place second
 any_default [] place first second below = absurd (omega arith)
 any_default (item ∷ items) zero first second below = refl
 any_default (item ∷ items) (suc place) first second below = any_default items place first second (omega arith)
@@ -111,7 +115,8 @@ phones_more count names name old mid new held between holds below named so_far a
     record {
       appended =
           subst (Appends held holds) (sym (text_next count names old.phones below))
-          (appends-append held between holds (phones_text (take count names) old.phones) (phone_text (slice_index_or names count []) (phone_at old count)) so_far.appended text);
+          (appends-append held between holds (phones_text (take count names) old.phones) (phone_text (slice_index_or names count []) (phone_at old count))
+          so_far.appended text);
       after =
           after ∙ ap (λ (sim : Simulated). with_told_phone sim count) so_far.after
           ∙ ap (λ (phones : List Phone). record old { phones = phones }) (phone_told count old.phones);

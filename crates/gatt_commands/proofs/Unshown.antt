@@ -20,7 +20,8 @@ unless-unshown : (told : Option Refused) (host : HostModel) (old new : Notes) �
 unless-unshown None host old new noted unshown = noted.deaf unshown
 unless-unshown (Some refused) host old new noted unshown = noted
 
-replacing-unshown : (next : Option Contents) (told : Option Refused) (host : HostModel) (old new : Notes) → NotesReplacing next told host old new → old.shows ≡ false
+replacing-unshown : (next : Option Contents) (told : Option Refused) (host : HostModel) (old new : Notes) → NotesReplacing next told host old new
+    → old.shows ≡ false
     → new ≡ old
 replacing-unshown None told host old new noted unshown = noted
 replacing-unshown (Some table) told host old new noted unshown = unless-unshown told host old new noted unshown
@@ -49,7 +50,8 @@ exchanges-unshown (suc count) before after (middle, hands, rest) unshown =
     exchanges-unshown count middle after rest (ap (λ (notes : Notes). notes.shows) first ∙ unshown) ∙ first
 
 -- so where it was refused, notices are shown
-pub shown_where : (shows : Bool) (act : Act) (next : Option Contents) (told : Option Refused) (begun heard : Notes) (before after : Pair) → NotesNothingYet shows begun
+pub shown_where : (shows : Bool) (act : Act) (next : Option Contents) (told : Option Refused) (begun heard : Notes) (before after : Pair)
+    → NotesNothingYet shows begun
     → NotesAct act next told before.host begun heard → before.notes ≡ heard → ExchangesAll before after → after.notes.is_refused ≡ true → shows ≡ true
 shown_where true act next told begun heard before after fresh noted same exchanges refused = refl
 shown_where false act next told begun heard before after fresh noted same exchanges refused =

@@ -20,13 +20,15 @@ pub served_by : {R W : Type 0} (result : Result End HostFault) (old new : HostMo
     (reader first_reader last_reader : R) (writer first_writer last_writer : W) → first_reader ≡ reader → first_writer ≡ writer
     → Serves result TURNS old new (remaining first_reader) (remaining last_reader) (contents first_writer) (contents last_writer)
     → (IsOk result → new.fault ≡ None) → IfErr result (λ answered. new.fault ≡ Some answered) → ServesBy remaining contents reader writer old new
-served_by result old new remaining contents reader first_reader last_reader writer first_writer last_writer same_reader same_writer serves going stops = record {
-  reader_then = last_reader;
-  writer_then = last_writer;
-  serves = record {
-    ended = result;
-    serves = subst (λ (from : _). Serves result TURNS old new (remaining from) (remaining last_reader) (contents writer) (contents last_writer)) same_reader
-        (subst (λ (from : _). Serves result TURNS old new (remaining first_reader) (remaining last_reader) (contents from) (contents last_writer)) same_writer serves);
-    refines = stands_by result new.fault going stops;
-  };
-}
+served_by result old new remaining contents reader first_reader last_reader writer first_writer last_writer same_reader same_writer serves going stops =
+    record {
+      reader_then = last_reader;
+      writer_then = last_writer;
+      serves = record {
+        ended = result;
+        serves = subst (λ (from : _). Serves result TURNS old new (remaining from) (remaining last_reader) (contents writer) (contents last_writer)) same_reader
+            (subst (λ (from : _). Serves result TURNS old new (remaining first_reader) (remaining last_reader) (contents from) (contents last_writer)) same_writer
+            serves);
+        refines = stands_by result new.fault going stops;
+      };
+    }

@@ -27,13 +27,13 @@ pub(crate) fn open_host(
     ensures opened { IfOk result (IsOpened table keys rows) }
     ensures faults { IfErr result (λ fault. fault ≡ ShellFault.Memory) }
 {
-    match Host::open(alloc, table, keys, rows, configured()) {
+    match Host::open(alloc, table, keys, rows, command_config()) {
         Ok(host) => Ok(host),
         Err(_) => Err(ShellFault::Memory),
     }
 }
 
-fn configured() -> Config
+fn command_config() -> Config
     ensures { result ≡ command_configuration }
 {
     let mut advertising = ArrayVec::new();

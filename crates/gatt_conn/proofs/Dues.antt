@@ -56,7 +56,8 @@ placed_where_due (Some answer) false before octets len is put = cc is
 placed_where_due None true before octets len is put = cc is
 placed_where_due None false before octets len is put = refl
 
-pub put_where_there : (answer : Option Response) (before octets : Octets) → is_some answer ≡ true → octets ≡ with_answer_put answer before → octets ≡ sent_if_any answer
+pub put_where_there : (answer : Option Response) (before octets : Octets) → is_some answer ≡ true → octets ≡ with_answer_put answer before
+    → octets ≡ sent_if_any answer
 put_where_there (Some answer) before octets is put = put
 put_where_there None before octets is put = cc is
 

@@ -32,7 +32,8 @@ mtu_by rx_mtu first = option_map_or (λ client_rx_mtu. mtu_between client_rx_mtu
 neutral : (conn : Bearer) (asked : Question) (answer : Option Response) (all : List Said)
     → exchange_asked asked ≡ None → part_asked asked ≡ [] → asks_execution asked ≡ false → Follows conn all → Follows conn (Answered asked answer ∷ all)
 neutral conn asked answer all none empty no_end follows =
-    let same : first_exchange (Answered asked answer ∷ all) ≡ first_exchange all = no_exchange (first_exchange all) (is_exchange answer) (exchange_asked asked) none in
+    let same : first_exchange (Answered asked answer ∷ all) ≡ first_exchange all =
+    no_exchange (first_exchange all) (is_exchange answer) (exchange_asked asked) none in
     record {
       mtu = follows.mtu ∙ ap (mtu_by conn.rx_mtu) (sym same);
       exchanged = follows.exchanged ∙ ap is_some (sym same);
@@ -54,14 +55,16 @@ exchange : (conn : Bearer) (client_rx_mtu : Mtu) (all : List Said) (exchanged : 
     → Follows (if exchanged then conn else record conn { mtu = mtu_between client_rx_mtu conn.rx_mtu; exchanged = true })
     (Answered (Ok (ExchangeMtuRequest client_rx_mtu)) (Some (ExchangeMtuResponse conn.rx_mtu)) ∷ all)
 exchange conn client_rx_mtu all true is follows =
-    let same : option_or (first_exchange all) (Some client_rx_mtu) ≡ first_exchange all = first_stays (first_exchange all) client_rx_mtu (sym is ∙ follows.exchanged) in
+    let same : option_or (first_exchange all) (Some client_rx_mtu) ≡ first_exchange all =
+    first_stays (first_exchange all) client_rx_mtu (sym is ∙ follows.exchanged) in
     record {
       mtu = follows.mtu ∙ ap (mtu_by conn.rx_mtu) (sym same);
       exchanged = follows.exchanged ∙ ap is_some (sym same);
       queue = follows.queue ∙ sym (append-nil (prepared_in all));
     }
 exchange conn client_rx_mtu all false is follows =
-    let comes : option_or (first_exchange all) (Some client_rx_mtu) ≡ Some client_rx_mtu = first_comes (first_exchange all) client_rx_mtu (sym is ∙ follows.exchanged) in
+    let comes : option_or (first_exchange all) (Some client_rx_mtu) ≡ Some client_rx_mtu =
+    first_comes (first_exchange all) client_rx_mtu (sym is ∙ follows.exchanged) in
     record {
       mtu = ap (mtu_by conn.rx_mtu) (sym comes);
       exchanged = ap is_some (sym comes);
@@ -132,4 +135,5 @@ act_next conn Cancels all follows = ended conn Dropped all refl refl follows
 
 pub transcript_tells : TranscriptTells
 transcript_tells rx_mtu [] = record { mtu = refl; exchanged = refl; queue = refl }
-transcript_tells rx_mtu (act ∷ earlier) = act_next (after_acts (new_connection rx_mtu) earlier) act (said_in (new_connection rx_mtu) earlier) (transcript_tells rx_mtu earlier)
+transcript_tells rx_mtu (act ∷ earlier) =
+    act_next (after_acts (new_connection rx_mtu) earlier) act (said_in (new_connection rx_mtu) earlier) (transcript_tells rx_mtu earlier)

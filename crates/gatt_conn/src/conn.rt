@@ -8,6 +8,7 @@ ghost use Rattle.gatt_conn.specs.Answer.{entry_at};
 ghost use Rattle.gatt_conn.specs.Connection.{new_connection, after_exchange};
 ghost use Rattle.gatt_conn.specs.Transcript.{TranscriptTells};
 ghost use Rattle.att_pdu.specs.declared.pdu_buf.TheConstants.{MAX_MTU};
+ghost use Rattle.att_numbers.specs.declared.opcode.TheConstants.{EXECUTE_WRITE_REQUEST};
 
 use att_pdu::MIN_MTU;
 use att_policy::{Access, Standing};
@@ -171,7 +172,7 @@ impl Conn {
     ) -> Outcome
         requires row { IsRowOf table.old.attributes row.old }
         ensures outcome { result
-            ≡ write_outcome 0x18
+            ≡ write_outcome EXECUTE_WRITE_REQUEST
             (applied_to Access.Write table.old row.old self.old.standing self.old.queue) }
         ensures left { LeavesStored
             (written_to Access.Write table.old row.old self.old.standing self.old.queue) table.old

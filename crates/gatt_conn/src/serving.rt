@@ -18,7 +18,7 @@ use att_reads::answer_read;
 use att_table::{ConfigRow, Table};
 use att_writes::Touched;
 
-/// Calls `serve` out of line, to save registers.
+/// Calls `dispatch` out of line, to save registers.
 #[inline(never)]
 pub(crate) fn serve_apart(
     table: &mut Table,
@@ -38,7 +38,7 @@ pub(crate) fn serve_apart(
     ensures answered { IsAnswered pdu.now table.old table.new row.old row.new conn.old conn.new
         touched.new.items result.confirmed }
 {
-    serve(table, row, conn, pdu, out, touched)
+    dispatch(table, row, conn, pdu, out, touched)
 }
 
 /// Clears `touched`, usually at most one handle, and serves a PDU.
@@ -67,7 +67,7 @@ pub(crate) fn forget_and_serve(
         }
         _ => return clear_and_serve(table, row, conn, pdu, out, touched),
     }
-    serve(table, row, conn, pdu, out, touched)
+    dispatch(table, row, conn, pdu, out, touched)
 }
 
 /// Clears two or more handles; out of line, to save registers.
@@ -90,13 +90,13 @@ fn clear_and_serve(
         touched.new.items result.confirmed }
 {
     touched.clear();
-    serve(table, row, conn, pdu, out, touched)
+    dispatch(table, row, conn, pdu, out, touched)
 }
 
 /// Serves a PDU; `touched` is empty, and `out` stays unchanged without a response.
 #[inline(always)]
 #[tactic(auto, unfolding(att_pdu::specs::Form::form_of))]
-fn serve(
+fn dispatch(
     table: &mut Table,
     row: &mut ConfigRow,
     conn: &mut Conn,

@@ -6,7 +6,7 @@ use Rattle.gatt_host.specs.Promises.{GivesWhatIsDue}
 use Rattle.gatt_host.specs.HostModel.{RefinesRun, HostModel}
 use Rattle.gatt_laws.specs.machine.Input.{run}
 use Rattle.gatt_laws.specs.machine.Start.{Start}
-use Rattle.gatt_laws.proofs.Telling as laws
+use Rattle.gatt_laws.proofs.notices.Telling as laws
 use Rattle.gatt_laws.specs.laws.Telling.{TellsTheApplication}
 use Rattle.gatt_theorems.proofs.Promise as promise
 use Rattle.gatt_theorems.specs.Promise.{KeepsConnectionsApart, KeepsThePolicy, Promise}

@@ -4,7 +4,7 @@ use Rattle.std.specs.Prelude.{ℕ, ◌+◌, ◌-◌, List, [], ◌∷◌, Option
 use Rattle.gatt_host.specs.ServerState.{ServerState, open_slots}
 use Rattle.host_connections.specs.SlotState.{SlotState}
 
--- The packets that the connection of a slot may still send, by its quota.
+-- The packets that the connection of a slot may still send, by its share.
 abbrev pub packets_out : Option SlotState → ℕ
 packets_out None = 0
 packets_out (Some slot_state) = slot_state.outgoing.share - slot_state.outgoing.outstanding

@@ -9,7 +9,7 @@ use Rattle.gatt_laws.specs.machine.ConnectionState.{ConnectionState, is_live}
 use Rattle.gatt_laws.specs.laws.Placed.{IsPlaced}
 use Rattle.gatt_laws.specs.laws.Possible.{Possible}
 use Rattle.gatt_laws.specs.laws.Queued.{HasBoundedQueues}
-use Rattle.gatt_laws.specs.machine.SharedState.{SharedState, quota_of, fragment_size_of}
+use Rattle.gatt_laws.specs.machine.SharedState.{SharedState, share_of, fragment_size_of}
 use Rattle.gatt_laws.specs.laws.Settled.{has_slot, IsSettled}
 use Rattle.gatt_laws.specs.machine.Start.{Start, new_controller, state_at, first_out}
 use Rattle.gatt_laws.specs.machine.State.{State, with_commands_sent, commands_out, before_commands, step, out}
@@ -55,7 +55,7 @@ left_of state handed = commands_out state ++ flat_map (slot_left state handed) s
 pub record IsPartway (shared : SharedState) (connection : ConnectionState)
     (handed : ℕ) : Type 0 where
   pub serving : is_live connection.mark ≡ true
-      → connection.given ≡ packets_allowed (quota_of shared.slots shared.buffers)
+      → connection.given ≡ packets_allowed (share_of shared.slots shared.buffers)
       (fragment_size_of shared.buffers) connection.pdus connection.done
   pub most : is_live connection.mark ≡ true → handed ≤ connection.given
   pub done : connection.done ≤ handed

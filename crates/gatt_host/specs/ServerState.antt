@@ -10,7 +10,7 @@ use Rattle.gatt_host.specs.declared.last_event.LastEvent.TheVariants as last
 use Rattle.gatt_host.specs.GoingOut.{command_next, controller_then, next_out, slots_then}
 use Rattle.gatt_laws.specs.machine.Controller.{Controller, is_ready}
 use Rattle.gatt_laws.specs.machine.Event.{Connected, Disconnected}
-use Rattle.gatt_laws.specs.machine.SharedState.{quota_of, fragment_size_of}
+use Rattle.gatt_laws.specs.machine.SharedState.{share_of, fragment_size_of}
 use Rattle.gatt_laws.specs.machine.State.{announced, advertising_after}
 use Rattle.gatt_laws.specs.machine.Effect.{channel_answer, gained_encryption, remote_user_terminated}
 use Rattle.host_connections.specs.SlotState.{SlotState}
@@ -23,7 +23,7 @@ use Rattle.host_connections.specs.SlotEffects as effect
 use Rattle.host_connections.specs.SlotEffects.{after_authorizing, slot_after_ending, after_key_asked, after_link_step, slot_after_other_channel, has_no_room}
 use Rattle.gatt_subs.specs.Changes.{with_changes_owed}
 use Rattle.gatt_subs.specs.Rows.{Subscriptions, row_of, owes, kept_bond, ChangesBond}
-use Rattle.le_acl.specs.Quotas.{usable}
+use Rattle.le_acl.specs.Shares.{usable}
 use Rattle.le_hci.specs.declared.init.Init.{Init}
 use Rattle.le_hci.specs.declared.init.Init.TheVariants.{Ready}
 use Rattle.le_hci.specs.declared.peer.Peer.{Peer}
@@ -173,8 +173,8 @@ server_after_packets_completed entries server =
     server_after_event None [] [] (record server { slots = after_completions entries server.slots })
 
 -- The state after a connection is made, and after it ends.
-abbrev pub quota_in : ServerState → ℕ
-quota_in server = quota_of (length server.slots) (told_in server.controller.init)
+abbrev pub share_in : ServerState → ℕ
+share_in server = share_of (length server.slots) (told_in server.controller.init)
 
 abbrev pub fragment_size_in : ServerState → ℕ
 fragment_size_in server = fragment_size_of (told_in server.controller.init)
@@ -186,7 +186,7 @@ after_connection_complete place handle peer server =
       slots = at_place place
           (λ slot.
           Some (effect.new_slot_state handle peer (is_known server.keys peer) server.rx_mtu
-          (quota_in server) (fragment_size_in server))) server.slots;
+          (share_in server) (fragment_size_in server))) server.slots;
     }))
 
 abbrev pub disconnected_event : SlotState → LastEvent

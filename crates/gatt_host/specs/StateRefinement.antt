@@ -20,7 +20,7 @@ use Rattle.host_connections.specs.Slots.{Place}
 use Rattle.gatt_subs.specs.declared.bond.Bond.{Bond}
 use Rattle.gatt_subs.specs.Fit.{IsListed, rows_listed}
 use Rattle.gatt_subs.specs.Rows.{Subscriptions, bond_of, row_of}
-use Rattle.le_acl.specs.Quotas.{usable}
+use Rattle.le_acl.specs.Shares.{usable}
 use Rattle.le_hci.specs.declared.buffers.Buffers.{Buffers}
 use Rattle.le_hci.specs.declared.peer.Peer.{Peer}
 use Rattle.le_hci.specs.InitTold.{told_in}

@@ -8,11 +8,11 @@ ghost use Rattle.gatt_host.specs.Asked.{call_happening, replacement_happening};
 ghost use Rattle.gatt_host.specs.ServerState.{after_replacing, without_notices};
 ghost use Rattle.gatt_host.specs.Meaning.{IsAfter, IsOfItsTable};
 
-use crate::host_state::HostState;
+use crate::server::Server;
 use att_table::{Attr, Role, Table};
 use host_api::{App, AppFault};
 
-impl HostState {
+impl Server {
     /// Executes a call. A refused call only clears the notices.
     pub(crate) fn app(&mut self, call: App<'_>) -> Result<(), AppFault>
         requires of_table { IsOfItsTable self.old }

@@ -5,16 +5,16 @@ ghost use Rattle.gatt_host.specs.Answers.{following_if, stop_of};
 ghost use Rattle.gatt_host.specs.ServerState.{after_connection_complete, opened};
 ghost use Rattle.gatt_host.specs.Meaning.{IsAfter};
 ghost use Rattle.gatt_laws.specs.machine.Packets.{completed_event, status_event};
-ghost use Rattle.le_acl.specs.Quotas.{acl_len, quota};
+ghost use Rattle.le_acl.specs.Shares.{acl_len, share};
 ghost use Rattle.le_hci.specs.InitTold.{told_in};
 
 use crate::host_fault::HostFault;
-use crate::host_state::HostState;
 use crate::last_event::LastEvent;
+use crate::server::Server;
 use le_acl::MAX_ACL_LEN;
 use le_hci::Peer;
 
-impl HostState {
+impl Server {
     pub(crate) fn connect(&mut self, place: usize, handle: u16, peer: Peer)
         requires place { place < length self.old.slots }
         requires handle { handle < 2 ^ 12 }
@@ -24,10 +24,10 @@ impl HostState {
         let Some(buffers) = self.controller.buffers() else {
             unreachable!()
         };
-        let quota = quota(self.slots.len(), buffers.packets);
+        let share = share(self.slots.len(), buffers.packets);
         let acl_len = acl_len(buffers.length);
         let key_known = self.keys.known(&peer);
-        self.slots.connect(place, handle, peer, key_known, self.rx_mtu, quota, acl_len);
+        self.slots.connect(place, handle, peer, key_known, self.rx_mtu, share, acl_len);
         self.controller.note_connected();
         self.end_event(LastEvent::Connected { handle, peer });
     }
@@ -88,10 +88,10 @@ impl HostState {
 }
 
 /// Returns how many packets of one connection may be outstanding.
-fn quota(slots: usize, packets: u16) -> u16
+fn share(slots: usize, packets: u16) -> u16
     requires slots { 0 < slots }
     requires packets { 0 < packets }
-    ensures quota { result ≡ quota slots packets }
+    ensures share { result ≡ share slots packets }
     ensures some { 0 < result }
 {
     (usize::from(packets) / slots.min(usize::from(packets))) as u16

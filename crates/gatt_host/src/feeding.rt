@@ -14,8 +14,8 @@ ghost use Rattle.octet_io.specs.Stream.{CountsIf};
 
 use crate::host::Host;
 use crate::host_fault::HostFault;
-use crate::host_state::HostState;
 use crate::listener::{Listener, Nobody, deliver_notices};
+use crate::server::Server;
 use crate::stream_packets::take;
 use le_h4::PacketBuf;
 use octet_io::{Sink, write_all};
@@ -114,7 +114,7 @@ pub(crate) fn write_out<W: Sink>(host: &mut Host, out: &mut W) -> Result<(), Hos
     ensures failures { CountsIf (is_write_fault host.new.fault) (W.failures out.old)
         (W.failures out.new) }
 {
-    let written = write_owed(&mut host.state, &mut host.packet, out);
+    let written = write_owed(&mut host.server, &mut host.packet, out);
     if written.is_err() {
         host.fault = written.err();
     }
@@ -123,42 +123,42 @@ pub(crate) fn write_out<W: Sink>(host: &mut Host, out: &mut W) -> Result<(), Hos
 
 #[inline(always)]
 fn write_owed<W: Sink>(
-    state: &mut HostState,
+    server: &mut Server,
     packet: &mut PacketBuf,
     out: &mut W,
 ) -> Result<(), HostFault>
-    requires { IsStateOfOne state.old }
+    requires { IsStateOfOne server.old }
     ensures feeds { (frames : Frames) (stream : Deframing)
-        → Feeds [] (going state.old frames stream)
-        (record (going state.new frames stream) { fault = result_err result }) (W.contents out.old)
+        → Feeds [] (going server.old frames stream)
+        (record (going server.new frames stream) { fault = result_err result }) (W.contents out.old)
         (W.contents out.new) (result_err result) }
     ensures write { IfErr result (λ fault. fault ≡ HostFault.Write) }
-    ensures out { IsOk result → is_drained state.new.controller (open_slots state.new) ≡ true }
+    ensures out { IsOk result → is_drained server.new.controller (open_slots server.new) ≡ true }
     ensures failures { CountsIf (is_write_fault (result_err result)) (W.failures out.old)
         (W.failures out.new) }
 {
-    if state.may_have_command() {
-        write_outcome(write_in_order(state, packet, out))
+    if server.may_have_command() {
+        write_outcome(write_in_order(server, packet, out))
     } else {
-        write_outcome(write_packets(state, packet, out))
+        write_outcome(write_packets(server, packet, out))
     }
 }
 
 /// Writes all pending packets, commands included. Returns false if the sink fails.
 #[cold]
 #[inline(never)]
-fn write_in_order<W: Sink>(state: &mut HostState, packet: &mut PacketBuf, out: &mut W) -> bool
-    requires { IsStateOfOne state.old }
+fn write_in_order<W: Sink>(server: &mut Server, packet: &mut PacketBuf, out: &mut W) -> bool
+    requires { IsStateOfOne server.old }
     ensures feeds { (frames : Frames) (stream : Deframing)
-        → Feeds [] (going state.old frames stream)
-        (record (going state.new frames stream) { fault = result_err (write_outcome result) })
+        → Feeds [] (going server.old frames stream)
+        (record (going server.new frames stream) { fault = result_err (write_outcome result) })
         (W.contents out.old) (W.contents out.new) (result_err (write_outcome result)) }
     ensures out { IsOk (write_outcome result)
-        → is_drained state.new.controller (open_slots state.new) ≡ true }
+        → is_drained server.new.controller (open_slots server.new) ≡ true }
     ensures failures { CountsIf (is_write_fault (result_err (write_outcome result)))
         (W.failures out.old) (W.failures out.new) }
 {
-    while state.next_out(packet) {
+    while server.next_out(packet) {
         if write_all(packet.as_slice(), out).is_err() {
             return false;
         }
@@ -169,19 +169,19 @@ fn write_in_order<W: Sink>(state: &mut HostState, packet: &mut PacketBuf, out: &
 /// Writes all packets of connections if no command is pending: sending a packet creates none.
 /// Returns false if the sink fails.
 #[inline(always)]
-fn write_packets<W: Sink>(state: &mut HostState, packet: &mut PacketBuf, out: &mut W) -> bool
-    requires one { IsStateOfOne state.old }
-    requires packets { OwesPacketsAlone state.old }
+fn write_packets<W: Sink>(server: &mut Server, packet: &mut PacketBuf, out: &mut W) -> bool
+    requires one { IsStateOfOne server.old }
+    requires packets { OwesPacketsAlone server.old }
     ensures feeds { (frames : Frames) (stream : Deframing)
-        → Feeds [] (going state.old frames stream)
-        (record (going state.new frames stream) { fault = result_err (write_outcome result) })
+        → Feeds [] (going server.old frames stream)
+        (record (going server.new frames stream) { fault = result_err (write_outcome result) })
         (W.contents out.old) (W.contents out.new) (result_err (write_outcome result)) }
     ensures out { IsOk (write_outcome result)
-        → is_drained state.new.controller (open_slots state.new) ≡ true }
+        → is_drained server.new.controller (open_slots server.new) ≡ true }
     ensures failures { CountsIf (is_write_fault (result_err (write_outcome result)))
         (W.failures out.old) (W.failures out.new) }
 {
-    while state.next_packet(packet) {
+    while server.next_packet(packet) {
         if write_all(packet.as_slice(), out).is_err() {
             return false;
         }

@@ -32,8 +32,8 @@ ghost use Rattle.le_h4.specs.declared.packet_buf.TheConstants.{MAX_PACKET_OUT};
 use crate::connections::Connections;
 use crate::frames::Frames;
 use crate::host_fault::HostFault;
-use crate::host_state::HostState;
 use crate::notice_iterator::Notices;
+use crate::server::Server;
 use crate::{packet, stream_packets};
 use att_table::Table;
 use gatt_subs::Rows;
@@ -47,9 +47,9 @@ use std::marker::Model;
 /// packets of a controller as bytes. After `open` it allocates no memory.
 #[derive(Drop)]
 pub struct Host {
-    pub(crate) state: HostState,
+    pub(crate) server: Server,
     pub(crate) frames: Frames,
-    pub(crate) deframer: Deframer,
+    pub(crate) stream: Deframer,
     pub(crate) fault: Option<HostFault>,
     /// Buffer for an outgoing packet. Its contents mean nothing between two calls.
     pub(crate) packet: PacketBuf,
@@ -61,20 +61,20 @@ impl Model for Host {
     ghost Value = { HostModel };
 
     ghost view = { λ h. record {
-      server = h.state;
+      server = h.server;
       frames = h.frames;
-      stream = h.deframer;
+      stream = h.stream;
       fault = h.fault;
     } };
 
     // Some start and some input lead to this host.
     ghost invariant = { λ h. IsReached
-        (record { server = h.state; frames = h.frames; stream = h.deframer; fault = h.fault }) };
+        (record { server = h.server; frames = h.frames; stream = h.stream; fault = h.fault }) };
 }
 
 impl Host {
     /// Returns true if no packet may be sent to the controller now, or the host has stopped.
-    /// Packets beyond its quotas, and commands that it does not accept yet, may still be queued.
+    /// Packets beyond a connection's share, and commands that it does not accept yet, may still be queued.
     pub fn drained(&self) -> bool
         ensures out { result ≡ all_out self.now }
         // Then all output of its input has been sent.
@@ -82,7 +82,7 @@ impl Host {
             → RefinesRun (run start input) sent self.now → self.now.fault ≡ None
             → OnTrue result ((run start input).sent ≡ sent) }
     {
-        is_out(&self.state, self.fault)
+        is_out(&self.server, self.fault)
     }
 
     /// Cheap check: false means that no packet is pending; true may be a false alarm.
@@ -90,7 +90,7 @@ impl Host {
     pub fn may_owe(&self) -> bool
         ensures { OnFalse result (all_out self.now ≡ true) }
     {
-        self.state.may_owe()
+        self.server.may_owe()
     }
 
     /// Replaces the contents of `out` with the next packet for the controller. The packet then
@@ -111,7 +111,7 @@ impl Host {
         if self.fault.is_some() {
             return false;
         }
-        copy_next(&mut self.state, &mut self.packet, out)
+        copy_next(&mut self.server, &mut self.packet, out)
     }
 
     /// Writes the next packet for the controller to the start of `out`. The packet then counts as
@@ -134,7 +134,7 @@ impl Host {
         if self.fault.is_some() {
             return None;
         }
-        next_into(&mut self.state, &mut self.packet, out)
+        next_into(&mut self.server, &mut self.packet, out)
     }
 
     /// Processes one whole packet from the controller. The host must be `drained`. An ACL packet
@@ -159,10 +159,10 @@ impl Host {
             return Err(fault);
         }
         if is_long(&packet) {
-            self.state.forget();
+            self.server.forget();
             return Ok(());
         }
-        let taken = packet::packet(&mut self.state, &mut self.frames, packet);
+        let taken = packet::packet(&mut self.server, &mut self.frames, packet);
         self.fault = taken.err();
         taken
     }
@@ -216,7 +216,7 @@ impl Host {
         if self.fault.is_some() {
             return Err(AppFault::Stopped);
         }
-        self.state.app(call)
+        self.server.app(call)
     }
 
     /// Replaces the table and returns the old one with its values. The host must be `drained`. A
@@ -240,7 +240,7 @@ impl Host {
         if self.fault.is_some() {
             return Err((AppFault::Stopped, table));
         }
-        self.state.replace_table(table)
+        self.server.replace_table(table)
     }
 
     /// Returns the notices of the last input. An input is a packet, a call, a table, or bytes up to
@@ -267,7 +267,7 @@ impl Host {
         if self.fault.is_some() {
             return None;
         }
-        self.state.notice(at)
+        self.server.notice(at)
     }
 
     /// Returns what each peer with a key has configured, and which peers must get Service Changed.
@@ -279,7 +279,7 @@ impl Host {
             → RefinesRun (run start input) sent self.now
             → result.now ≡ rows_of (run start input).intake.state }
     {
-        &self.state.rows
+        &self.server.rows
     }
 
     /// Returns the current table with its values.
@@ -289,7 +289,7 @@ impl Host {
             → RefinesRun (run start input) sent self.now
             → result.now ≡ (run start input).intake.state.shared.table }
     {
-        &self.state.table
+        &self.server.table
     }
 
     /// Returns the time, in milliseconds, before which the host needs no tick. It is the earliest
@@ -308,7 +308,7 @@ impl Host {
         ensures told { TellsFromTheDeadlineOn }
         ensures quiet { IsQuietBeforeTheDeadline }
     {
-        self.state.slots.deadline(self.state.time)
+        self.server.slots.deadline(self.server.time)
     }
 
     /// Returns true if the controller is initialised and may have connections. It has then answered
@@ -320,7 +320,7 @@ impl Host {
             → RefinesRun (run start input) sent self.now
             → result ≡ is_ready (run start input).intake.state.controller }
     {
-        self.state.controller.is_ready()
+        self.server.controller.is_ready()
     }
 
     /// Returns the connections, in slot order.
@@ -333,7 +333,7 @@ impl Host {
             (run start input).intake.state }
     {
         Connections {
-            slots: &self.state.slots,
+            slots: &self.server.slots,
             arrivals: &self.frames.arrivals,
             place: 0,
         }
@@ -361,24 +361,24 @@ impl Host {
         ensures keys { result.1 ≡ self.server.keys }
         ensures rows { result.2 ≡ self.server.rows }
     {
-        let HostState {
+        let Server {
             table,
             keys,
             rows,
             ..
-        } = self.state;
+        } = self.server;
         (table, keys, rows)
     }
 }
 
-fn copy_next(state: &mut HostState, packet: &mut PacketBuf, out: &mut PacketOctets) -> bool
-    ensures some { result ≡ is_some (next_packet_out state.old) }
-    ensures octets { OnTrue result (next_packet_out state.old ≡ Some out.new.items) }
-    ensures after { state.new ≡ after_out state.old }
-    ensures unchanged { OnFalse result (state.new ≡ state.old) }
+fn copy_next(server: &mut Server, packet: &mut PacketBuf, out: &mut PacketOctets) -> bool
+    ensures some { result ≡ is_some (next_packet_out server.old) }
+    ensures octets { OnTrue result (next_packet_out server.old ≡ Some out.new.items) }
+    ensures after { server.new ≡ after_out server.old }
+    ensures unchanged { OnFalse result (server.new ≡ server.old) }
     ensures out_unchanged { OnFalse result (out.new.items ≡ out.old.items) }
 {
-    if !state.next_out(packet) {
+    if !server.next_out(packet) {
         return false;
     }
     overwrite(out, packet.as_slice(), &[], &[]);
@@ -386,17 +386,17 @@ fn copy_next(state: &mut HostState, packet: &mut PacketBuf, out: &mut PacketOcte
 }
 
 #[inline(always)]
-fn next_into(state: &mut HostState, packet: &mut PacketBuf, out: &mut [u8]) -> Option<usize>
+fn next_into(server: &mut Server, packet: &mut PacketBuf, out: &mut [u8]) -> Option<usize>
     requires room { MAX_PACKET_OUT ≤ length out.old }
-    ensures some { is_some result ≡ is_some (next_packet_out state.old) }
+    ensures some { is_some result ≡ is_some (next_packet_out server.old) }
     ensures octets { IfSome result
-        (λ count. next_packet_out state.old ≡ Some (take count out.new)) }
+        (λ count. next_packet_out server.old ≡ Some (take count out.new)) }
     ensures within { IfSome result (λ count. count ≤ length out.old) }
-    ensures after { state.new ≡ after_out state.old }
-    ensures unchanged { result ≡ None → state.new ≡ state.old }
+    ensures after { server.new ≡ after_out server.old }
+    ensures unchanged { result ≡ None → server.new ≡ server.old }
     ensures out_unchanged { result ≡ None → out.new ≡ out.old }
 {
-    state.next_into(packet, out)
+    server.next_into(packet, out)
 }
 
 fn is_long(packet: &PacketRef<'_>) -> bool
@@ -408,8 +408,8 @@ fn is_long(packet: &PacketRef<'_>) -> bool
     }
 }
 
-fn is_out(state: &HostState, fault: Option<HostFault>) -> bool
-    ensures { result ≡ (is_some fault || is_drained state.now.controller (open_slots state.now)) }
+fn is_out(server: &Server, fault: Option<HostFault>) -> bool
+    ensures { result ≡ (is_some fault || is_drained server.now.controller (open_slots server.now)) }
 {
-    fault.is_some() || state.is_drained()
+    fault.is_some() || server.is_drained()
 }

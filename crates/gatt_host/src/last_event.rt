@@ -22,7 +22,7 @@ pub(crate) enum LastEvent {
         before: Option<KeyFacts>,
         after: Option<KeyFacts>,
     },
-    /// A connection was served a PDU. `HostState::written` has the handles that it wrote.
+    /// A connection was served a PDU. `Server::written` has the handles that it wrote.
     Served {
         place: usize,
         handle: u16,
@@ -33,6 +33,6 @@ pub(crate) enum LastEvent {
         handle: u16,
         reason: u8,
     },
-    /// The time was set. `HostState::late` has the connections that timed out.
+    /// The time was set. `Server::late` has the connections that timed out.
     Ticked,
 }

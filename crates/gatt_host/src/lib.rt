@@ -14,7 +14,6 @@ mod frames;
 mod going_out;
 mod host;
 mod host_fault;
-mod host_state;
 mod last_event;
 mod listener;
 mod next_output;
@@ -23,6 +22,7 @@ mod notices;
 mod open;
 mod packet;
 mod reported;
+mod server;
 mod serving;
 mod stream_packets;
 

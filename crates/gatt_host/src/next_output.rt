@@ -10,10 +10,10 @@ use crate::going_out::{
     copy, init_out, is_drained, is_init_drained, may_have_command, may_owe, next_into, next_out,
     packet_out,
 };
-use crate::host_state::HostState;
+use crate::server::Server;
 use le_h4::PacketBuf;
 
-impl HostState {
+impl Server {
     /// Replaces the contents of `out` with the next packet and marks it as sent. Returns false if
     /// there is none.
     #[inline(always)]

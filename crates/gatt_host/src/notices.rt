@@ -9,15 +9,15 @@ ghost use Rattle.gatt_laws.specs.machine.Notice.{Confirmed, Ending, TimedOut, wr
 ghost use Rattle.gatt_laws.specs.machine.Effect.{remote_user_terminated};
 ghost use Rattle.gatt_host.specs.Notices.{last_notices, link_change_told, notice_of, notices_by, row_at_place, served_told, skip_told, HasTheValue};
 
-use crate::host_state::HostState;
 use crate::last_event::LastEvent;
+use crate::server::Server;
 use att_policy::KeyFacts;
 use att_table::{Role, Table};
 use host_api::Notice;
 use host_connections::Brought;
 use le_hci::reason::{AUTHENTICATION_FAILURE, REMOTE_USER_TERMINATED};
 
-impl HostState {
+impl Server {
     /// Returns the notice at this index, counted from 0: first those of the event, then those of
     /// skipped values.
     pub(crate) fn notice(&self, at: usize) -> Option<Notice<'_>>

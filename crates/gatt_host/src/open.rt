@@ -13,8 +13,8 @@ use crate::config::{Config, OpenFault};
 use crate::controller::Controller;
 use crate::frames::Frames;
 use crate::host::Host;
-use crate::host_state::HostState;
 use crate::last_event::LastEvent;
+use crate::server::Server;
 use arrayvec::ArrayVec;
 use att_pdu::{MAX_MTU, MIN_MTU};
 use att_table::Table;
@@ -55,9 +55,9 @@ impl Host {
             Err(fault) => return Err(fault),
         };
         Ok(Host {
-            state: held_at_first(table, keys, rows, slots, config),
+            server: held_at_first(table, keys, rows, slots, config),
             frames: Frames::new(),
-            deframer: Deframer::new(),
+            stream: Deframer::new(),
             fault: None,
             packet: PacketBuf::new(),
         })
@@ -90,11 +90,11 @@ fn free_slots(
     }
 }
 
-fn held_at_first(table: Table, keys: Keys, rows: Rows, slots: Slots, config: Config) -> HostState
+fn held_at_first(table: Table, keys: Keys, rows: Rows, slots: Slots, config: Config) -> Server
     requires { is_configured config ≡ true }
     ensures { result ≡ held_at_first table keys rows slots config }
 {
-    HostState {
+    Server {
         changer: table.changer(),
         table,
         keys,

@@ -21,8 +21,8 @@ ghost use Rattle.le_l2cap.specs.Frame.{frame_contents, frame_of};
 
 use crate::frames::Frames;
 use crate::host_fault::HostFault;
-use crate::host_state::HostState;
 use crate::last_event::LastEvent;
+use crate::server::Server;
 use le_acl::boundary::{CONTINUATION, FIRST, FIRST_NOT_FLUSHED};
 use le_acl::{Piece, Reassembler, is_frame};
 use le_h4::PacketRef;
@@ -31,7 +31,7 @@ use le_hci::{BadEvent, Event, read_event};
 use le_l2cap::channel::{ATT, LE_SIGNALLING, SECURITY_MANAGER};
 use le_l2cap::{Frame, Skip, read_frame};
 
-impl HostState {
+impl Server {
     pub(crate) fn event(&mut self, frames: &mut Frames, octets: &[u8]) -> Result<(), HostFault>
         requires of_table { IsOfItsTable self.old }
         ensures taken { IsOk result → TakesEvent (event_of octets.now) self.old self.new }
@@ -191,41 +191,41 @@ fn tells_nothing(octets: &[u8]) -> bool
 
 /// Handles an ACL packet, which is ignored if its connection does not serve.
 pub(crate) fn acl(
-    state: &mut HostState,
+    server: &mut Server,
     frames: &mut Frames,
     handle: u16,
     pb: u8,
     bc: u8,
     octets: &[u8],
 )
-    requires of_table { IsOfItsTable state.old }
+    requires of_table { IsOfItsTable server.old }
     ensures after { IsAfter
-        (acl_happening state.old handle pb bc octets.now frames.old) state.old state.new }
-    ensures frames { frames.new ≡ frames_after_acl state.old handle pb bc octets.now frames.old }
+        (acl_happening server.old handle pb bc octets.now frames.old) server.old server.new }
+    ensures frames { frames.new ≡ frames_after_acl server.old handle pb bc octets.now frames.old }
 {
-    match state.slots.find_serving(handle) {
+    match server.slots.find_serving(handle) {
         Some(place) => {
-            frames.arrivals.hear(place, state.time);
-            fragment(state, &mut frames.assembled[place], place, pb, bc, octets);
+            frames.arrivals.hear(place, server.time);
+            fragment(server, &mut frames.assembled[place], place, pb, bc, octets);
         }
-        None => state.end_event(LastEvent::Quiet),
+        None => server.end_event(LastEvent::Quiet),
     }
 }
 
 /// Handles a fragment. A frame that it completes is handled and dropped.
 #[tactic(auto, using(crate::proofs::packets::WholeFrames::nothing_left))]
 fn fragment(
-    state: &mut HostState,
+    server: &mut Server,
     frame: &mut Reassembler,
     place: usize,
     pb: u8,
     bc: u8,
     octets: &[u8],
 )
-    requires there { IsThere state.old.slots place }
-    requires of_table { IsOfItsTable state.old }
+    requires there { IsThere server.old.slots place }
+    requires of_table { IsOfItsTable server.old }
     ensures after { IsAfter (fragment_event place (recombination frame.old)
-        (fragment_of pb bc octets.now)) state.old state.new }
+        (fragment_of pb bc octets.now)) server.old server.new }
     ensures left { frame.new ≡ fragment_left (fragment_of pb bc octets.now) frame.old }
 {
     if is_whole(pb, bc, octets) {
@@ -233,32 +233,32 @@ fn fragment(
         // computes the length only once.
         let read = read_frame(octets);
         frame.clear();
-        return state.hear_frame(place, read);
+        return server.hear_frame(place, read);
     }
-    join_fragment(state, frame, place, pb, bc, octets);
+    join_fragment(server, frame, place, pb, bc, octets);
 }
 
 #[inline(never)]
 fn join_fragment(
-    state: &mut HostState,
+    server: &mut Server,
     frame: &mut Reassembler,
     place: usize,
     pb: u8,
     bc: u8,
     octets: &[u8],
 )
-    requires there { IsThere state.old.slots place }
-    requires of_table { IsOfItsTable state.old }
+    requires there { IsThere server.old.slots place }
+    requires of_table { IsOfItsTable server.old }
     ensures after { IsAfter (fragment_event place (recombination frame.old)
-        (fragment_of pb bc octets.now)) state.old state.new }
+        (fragment_of pb bc octets.now)) server.old server.new }
     ensures left { frame.new ≡ fragment_left (fragment_of pb bc octets.now) frame.old }
 {
     match join(frame, pb, bc, octets) {
         Piece::Frame => {
-            state.frame(place, frame.frame());
+            server.frame(place, frame.frame());
             frame.clear();
         }
-        Piece::Nothing => state.end_event(LastEvent::Quiet),
+        Piece::Nothing => server.end_event(LastEvent::Quiet),
     }
 }
 
@@ -291,39 +291,39 @@ fn join(frame: &mut Reassembler, pb: u8, bc: u8, octets: &[u8]) -> Piece
 
 /// Handles a packet, or returns the fault for which the host stops for good.
 pub(crate) fn packet(
-    state: &mut HostState,
+    server: &mut Server,
     frames: &mut Frames,
     packet: PacketRef<'_>,
 ) -> Result<(), HostFault>
-    requires of_table { IsOfItsTable state.old }
-    requires drained { is_drained state.old.controller (open_slots state.old) ≡ true }
-    ensures refines { RefinesPacket (packet_of_ref packet.entry) state.old frames.old state.new
+    requires of_table { IsOfItsTable server.old }
+    requires drained { is_drained server.old.controller (open_slots server.old) ≡ true }
+    ensures refines { RefinesPacket (packet_of_ref packet.entry) server.old frames.old server.new
         frames.new
         (result_err result) }
     ensures told { IsOk result
-        → TellsOfPacket (packet_of_ref packet.entry) state.old frames.old state.new }
+        → TellsOfPacket (packet_of_ref packet.entry) server.old frames.old server.new }
     ensures frames { frames.new
-        ≡ frames_after_packet state.old (packet_of_ref packet.entry) frames.old }
+        ≡ frames_after_packet server.old (packet_of_ref packet.entry) frames.old }
     ensures not_own { IfErr result (λ fault. is_own_fault fault ≡ false) }
-    ensures unchanged { OnErr result (state.new ≡ state.old) }
+    ensures unchanged { OnErr result (server.new ≡ server.old) }
 {
-    take_packet(state, frames, packet)
+    take_packet(server, frames, packet)
 }
 
 /// Implements `packet`. Separate function: keeps the proof small.
 fn take_packet(
-    state: &mut HostState,
+    server: &mut Server,
     frames: &mut Frames,
     packet: PacketRef<'_>,
 ) -> Result<(), HostFault>
-    requires of_table { IsOfItsTable state.old }
+    requires of_table { IsOfItsTable server.old }
     ensures taken { IsOk result
-        → TakesPacket (packet_of_ref packet.entry) state.old frames.old state.new frames.new }
+        → TakesPacket (packet_of_ref packet.entry) server.old frames.old server.new frames.new }
     ensures frames { frames.new
-        ≡ frames_after_packet state.old (packet_of_ref packet.entry) frames.old }
+        ≡ frames_after_packet server.old (packet_of_ref packet.entry) frames.old }
     ensures stops { IfErr result
-        (λ fault. packet_stop (packet_of_ref packet.entry) state.old ≡ Some fault) }
-    ensures unchanged { OnErr result (state.new ≡ state.old) }
+        (λ fault. packet_stop (packet_of_ref packet.entry) server.old ≡ Some fault) }
+    ensures unchanged { OnErr result (server.new ≡ server.old) }
     ensures frames_unchanged { OnErr result (frames.new ≡ frames.old) }
 {
     match packet {
@@ -333,12 +333,12 @@ fn take_packet(
             bc,
             octets,
         } => {
-            acl(state, frames, handle, pb, bc, octets);
+            acl(server, frames, handle, pb, bc, octets);
             Ok(())
         }
-        PacketRef::Event(octets) => state.event(frames, octets),
+        PacketRef::Event(octets) => server.event(frames, octets),
         PacketRef::Sco => {
-            state.end_event(LastEvent::Quiet);
+            server.end_event(LastEvent::Quiet);
             Ok(())
         }
     }

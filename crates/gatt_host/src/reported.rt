@@ -9,11 +9,11 @@ ghost use Rattle.host_connections.specs.Slots.{place_holding, place_serving};
 ghost use Rattle.le_hci.specs.Event.{report_of};
 
 use crate::frames::Frames;
-use crate::host_state::HostState;
 use crate::last_event::LastEvent;
+use crate::server::Server;
 use le_hci::{Event, LAST_CONNECTION_HANDLE, PERIPHERAL, Peer};
 
-impl HostState {
+impl Server {
     /// Handles a report, which is ignored until the controller is initialised.
     #[inline(always)]
     pub(crate) fn reported(&mut self, frames: &mut Frames, event: &Event<'_>)

@@ -170,6 +170,6 @@ fn end_stream(host: &mut Host)
     ensures server { host.new.server ≡ without_notices host.old.server }
     ensures fault { host.new.fault ≡ None }
 {
-    host.deframer = Deframer::new();
-    host.state.forget();
+    host.stream = Deframer::new();
+    host.server.forget();
 }

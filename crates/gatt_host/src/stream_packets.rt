@@ -15,8 +15,8 @@ ghost use Rattle.le_h4.specs.Packet.{packet_of_ref};
 use crate::frames::Frames;
 use crate::host::Host;
 use crate::host_fault::HostFault;
-use crate::host_state::HostState;
 use crate::packet::packet;
+use crate::server::Server;
 use le_h4::{Deframer, H4Fault, WholePacket};
 
 /// Processes bytes up to the end of the next packet, or all if none ends in them. Returns the
@@ -36,12 +36,7 @@ pub(crate) fn take(host: &mut Host, octets: &[u8]) -> Result<usize, HostFault>
     ensures within { IfOk result (λ used. used ≤ length octets.now) }
     ensures some { IfOk result (λ used. 0 < length octets.now → 0 < used) }
 {
-    match take_in(
-        &mut host.state,
-        &mut host.frames,
-        &mut host.deframer,
-        octets,
-    ) {
+    match take_in(&mut host.server, &mut host.frames, &mut host.stream, octets) {
         Ok(used) => Ok(used),
         Err(fault) => {
             host.fault = Some(fault);
@@ -54,56 +49,56 @@ pub(crate) fn take(host: &mut Host, octets: &[u8]) -> Result<usize, HostFault>
 /// place.
 #[inline(always)]
 fn take_in(
-    state: &mut HostState,
+    server: &mut Server,
     frames: &mut Frames,
     deframer: &mut Deframer,
     octets: &[u8],
 ) -> Result<usize, HostFault>
-    requires of_table { IsOfItsTable state.old }
-    requires drained { is_drained state.old.controller (open_slots state.old) ≡ true }
+    requires of_table { IsOfItsTable server.old }
+    requires drained { is_drained server.old.controller (open_slots server.old) ≡ true }
     ensures refines { Refines (items_taken octets.now result) []
-        (record { server = state.old; frames = frames.old; stream = deframer.old; fault = None })
+        (record { server = server.old; frames = frames.old; stream = stream.old; fault = None })
         (record {
-          server = state.new;
+          server = server.new;
           frames = frames.new;
-          stream = deframer.new;
+          stream = stream.new;
           fault = result_err
               result;
         }) }
     ensures told { TellsOfAll (items_taken octets.now result)
-        (record { server = state.old; frames = frames.old; stream = deframer.old; fault = None })
+        (record { server = server.old; frames = frames.old; stream = stream.old; fault = None })
         (record {
-          server = state.new;
+          server = server.new;
           frames = frames.new;
-          stream = deframer.new;
+          stream = stream.new;
           fault = result_err
               result;
         }) }
     ensures up_to { IfOk result
-        (λ used. TakesUpToAPacket octets.now used (going state.old frames.old deframer.old)) }
+        (λ used. TakesUpToAPacket octets.now used (going server.old frames.old stream.old)) }
     ensures frames { IfOk result (λ used. frames.new
-        ≡ frames_after_octets state.old deframer.old (take used octets.now) frames.old) }
+        ≡ frames_after_octets server.old stream.old (take used octets.now) frames.old) }
     ensures not_own { IfErr result (λ fault. is_own_fault fault ≡ false) }
-    ensures unchanged { OnErr result (state.new ≡ state.old) }
+    ensures unchanged { OnErr result (server.new ≡ server.old) }
     ensures within { IfOk result (λ used. used ≤ length octets.now) }
     ensures some { IfOk result (λ used. 0 < length octets.now → 0 < used) }
 {
-    let lent = deframer.whole_packet(octets);
+    let lent = stream.whole_packet(octets);
     let mut used = 0;
     if lent.is_none() {
-        let fed = match deframer.feed(octets) {
+        let fed = match stream.feed(octets) {
             Ok(fed) => fed,
             Err(fault) => return Err(lost_fault(fault)),
         };
         if !fed.packet {
-            state.forget();
+            server.forget();
             return Ok(fed.used);
         }
         used = fed.used;
     }
     // One call for both cases, so that `packet` is inlined once.
-    let whole = lent_or_marked(lent, deframer, used);
-    packet(state, frames, whole.packet)?;
+    let whole = lent_or_marked(lent, stream, used);
+    packet(server, frames, whole.packet)?;
     Ok(whole.used)
 }
 
@@ -114,18 +109,18 @@ fn lent_or_marked<'a>(
     deframer: &'a Deframer,
     used: usize,
 ) -> WholePacket<'a>
-    requires { lent ≡ None → IsSome deframer.now.marked }
+    requires { lent ≡ None → IsSome stream.now.marked }
     ensures lent { IfSome lent.entry
         (λ whole. packet_of_ref result.packet ≡ packet_of_ref whole.packet) }
     ensures lent_used { IfSome lent.entry (λ whole. result.used ≡ whole.used) }
-    ensures marked { lent.entry ≡ None → deframer.now.marked
+    ensures marked { lent.entry ≡ None → stream.now.marked
         ≡ Some (packet_of_ref result.packet) }
     ensures marked_used { lent.entry ≡ None → result.used ≡ used }
 {
     match lent {
         Some(whole) => whole,
         None => WholePacket {
-            packet: deframer.packet(),
+            packet: stream.packet(),
             used,
         },
     }

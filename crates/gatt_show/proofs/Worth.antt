@@ -33,7 +33,8 @@ ok-or other (Ok value) = value
 ok-or other (Err fault) = other
 
 -- what an entry writes, by what it has at its keys
-abbrev written-by : Result (Option ℕ) KeyFault → Option Octets → Option Octets → Option Octets → Option Octets → Option ℤ → Option Bool → Bool → Result WrittenEntry KeyFault
+abbrev written-by : Result (Option ℕ) KeyFault → Option Octets → Option Octets → Option Octets → Option Octets → Option ℤ → Option Bool → Bool
+    → Result WrittenEntry KeyFault
 written-by ediv address kind random_number ltk size authenticated secure = do
   ediv ← ediv
   address ← require address Missing
@@ -59,7 +60,8 @@ record WritesWorth (size : Option ℤ) (authenticated : Option Bool) (secure : B
   its_protection : is_true authenticated ≡ written.authenticated
   its_kind : secure ≡ written.secure
 
-writes-worth : (ediv : Result (Option ℕ) KeyFault) (address kind random_number ltk : Option Octets) (size : Option ℤ) (authenticated : Option Bool) (secure : Bool) (written : WrittenEntry)
+writes-worth : (ediv : Result (Option ℕ) KeyFault) (address kind random_number ltk : Option Octets) (size : Option ℤ) (authenticated : Option Bool)
+    (secure : Bool) (written : WrittenEntry)
     → written-by ediv address kind random_number ltk size authenticated secure ≡ Ok written → WritesWorth size authenticated secure written
 writes-worth (Err fault) address kind random_number ltk size authenticated secure written is = absurd (cc is)
 writes-worth (Ok ediv) None kind random_number ltk size authenticated secure written is = absurd (cc is)
@@ -97,7 +99,8 @@ entry-by address kind random_number ltk size is_free written = do
 abbrev worth : Option ℕ → WrittenEntry → KeyFacts
 worth size written = record { size = key_size_shown size; authenticated = written.authenticated; secure = written.secure }
 
-is-worth : (address : Option Octets) (kind : Option ℕ) (random_number ltk : Option Octets) (size : Option ℕ) (is_free : Octets → Bool) (written : WrittenEntry) (entry : Entry)
+is-worth : (address : Option Octets) (kind : Option ℕ) (random_number ltk : Option Octets) (size : Option ℕ) (is_free : Octets → Bool) (written : WrittenEntry)
+    (entry : Entry)
     → entry-by address kind random_number ltk size is_free written ≡ Ok entry → worth size written ≡ entry.key.facts
 is-worth None kind random_number ltk size is_free written entry is = absurd (cc is)
 is-worth (Some address) None random_number ltk size is_free written entry is = absurd (cc is)
@@ -124,8 +127,10 @@ entry-worth entries value entry is =
     let entered = then-ok (entry_written written.0) _ entry written.2 in
     let once = then-ok (unless (not (has_answer entries entered.0)) Twice) _ entry entered.2 in
     let writes =
-    writes-worth (diversifier_of (integer_at (codes "ediv") table.0)) (text_at (codes "address") table.0) (text_at (codes "kind") table.0) (text_at (codes "rand") table.0)
-    (text_at (codes "ltk") table.0) (integer_at (codes "size") table.0) (boolean_at (codes "authenticated") table.0) (flag_at (codes "secure") table.0) written.0 written.1 in
+    writes-worth (diversifier_of (integer_at (codes "ediv") table.0)) (text_at (codes "address") table.0) (text_at (codes "kind") table.0)
+    (text_at (codes "rand") table.0)
+    (text_at (codes "ltk") table.0) (integer_at (codes "size") table.0) (boolean_at (codes "authenticated") table.0) (flag_at (codes "secure") table.0)
+    written.0 written.1 in
     let its : worth (key_size_in written.0.size) written.0 ≡ entered.0.key.facts =
     is-worth (address_of written.0.address) (address_type_of written.0.kind) (result_ok (decode_sized written.0.random_number 8))
     (result_ok (decode_sized written.0.ltk 16)) (key_size_in written.0.size)

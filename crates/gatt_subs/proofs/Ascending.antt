@@ -30,7 +30,8 @@ All-lower order least less (y ∷ ys) le all =
 ascends-in_order : {X : Type 0} (order : X → ℕ) (x : X) (xs : List X) → Ascends order xs → Ascends order (in_order order x xs)
 ascends-in_order order x [] ascends = (All-nil (λ y. order x ≤ order y), tt)
 ascends-in_order order x (y ∷ ys) ascends =
-    elim (nat_lt (order x) (order y)) as (λ before. nat_lt (order x) (order y) ≡ before → Ascends order (if before then x ∷ y ∷ ys else y ∷ in_order order x ys)) [
+    elim (nat_lt (order x) (order y)) as
+    (λ before. nat_lt (order x) (order y) ≡ before → Ascends order (if before then x ∷ y ∷ ys else y ∷ in_order order x ys)) [
       | true ↦ λ before.
           let le : order x ≤ order y = grind (arith, nat_tests) in
           (All-cons (λ z. order x ≤ order z) y ys le (All-lower order (order y) (order x) ys le ascends.0), ascends)

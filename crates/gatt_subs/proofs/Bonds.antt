@@ -42,7 +42,8 @@ changed_there (bond ∷ bonds) place change within =
 unchanged_elsewhere : (bonds : List Bond) (place other : ℕ) (change : Bond → Bond) → place ≢ other
     → slice_get (bonds_with bonds place change) other ≡ slice_get bonds other
 unchanged_elsewhere bonds place other change apart =
-    elim (slice_get bonds place) as (λ found. slice_get (option_map_or (λ (bond : Bond). set bonds place (change bond)) found bonds) other ≡ slice_get bonds other) [
+    elim (slice_get bonds place) as (λ found. slice_get (option_map_or (λ (bond : Bond). set bonds place (change bond)) found bonds) other
+    ≡ slice_get bonds other) [
       | None ↦ refl
       | Some bond ↦ get-set_other bonds place other (change bond) apart
     ]
@@ -61,7 +62,8 @@ count_changed bonds place change =
     ]
 
 -- two peers at one place are the same
-same_at : (peers : List Peer) (one other : Peer) (place : ℕ) → peer_place peers one ≡ Some place → peer_place peers other ≡ Some place → same_peer one other ≡ true
+same_at : (peers : List Peer) (one other : Peer) (place : ℕ) → peer_place peers one ≡ Some place → peer_place peers other ≡ Some place
+    → same_peer one other ≡ true
 same_at peers one other place first second =
     let there = get_or peers place one in
     let found = position-Some (λ (peer : Peer). same_peer peer one) peers place one first in

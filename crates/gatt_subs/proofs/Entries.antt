@@ -17,7 +17,8 @@ bits_found (entry ∷ entries) peer handle =
     let bits : RowEntry → ℕ = λ entry. entry.bits in
     let pair : RowEntry → ℕ × ℕ = λ entry. (entry.handle, entry.bits) in
     let others = filter (λ (other : RowEntry). same_peer other.peer peer) entries in
-    elim (same_peer entry.peer peer) as (λ same. option_map_or bits (if same && (entry.handle == handle) then Some entry else find (is_at peer handle) entries) 0
+    elim (same_peer entry.peer peer) as
+    (λ same. option_map_or bits (if same && (entry.handle == handle) then Some entry else find (is_at peer handle) entries) 0
     ≡ bits_at (map pair (if same then entry ∷ others else others)) handle) [
       | true ↦ elim (entry.handle == handle) as (λ at. option_map_or bits (if at then Some entry else find (is_at peer handle) entries) 0
           ≡ (if at then entry.bits else bits_at (map pair others) handle)) [

@@ -23,7 +23,8 @@ use Rattle.octet_io.proofs.Choices.{or_with_false, or_with_true}
 pub has_in_order : (peers : List Peer) (peer other : Peer) → has_peer (in_order rank_of peer peers) other ≡ (same_peer peer other || has_peer peers other)
 has_in_order [] peer other = refl
 has_in_order (first ∷ peers) peer other =
-    elim (nat_lt (rank_of peer) (rank_of first)) as (λ before. has_peer (if before then peer ∷ first ∷ peers else first ∷ in_order rank_of peer peers) other ≡ (same_peer peer other || has_peer (first ∷ peers) other)) [
+    elim (nat_lt (rank_of peer) (rank_of first)) as (λ before. has_peer (if before then peer ∷ first ∷ peers else first ∷ in_order rank_of peer peers) other
+    ≡ (same_peer peer other || has_peer (first ∷ peers) other)) [
       | true ↦ refl
       | false ↦
           ap (λ later. same_peer first other || later) (has_in_order peers peer other)
@@ -37,7 +38,8 @@ has_in_order (first ∷ peers) peer other =
 
 has-with_peer : (peers : List Peer) (peer other : Peer) → has_peer (with_peer peers peer) other ≡ (same_peer peer other || has_peer peers other)
 has-with_peer peers peer other =
-    elim (has_peer peers peer) as (λ has. has_peer peers peer ≡ has → has_peer (if has then peers else in_order rank_of peer peers) other ≡ (same_peer peer other || has_peer peers other)) [
+    elim (has_peer peers peer) as (λ has. has_peer peers peer ≡ has → has_peer (if has then peers else in_order rank_of peer peers) other
+    ≡ (same_peer peer other || has_peer peers other)) [
       | true ↦ λ has.
           elim (same_peer peer other) as (λ same. same_peer peer other ≡ same → has_peer peers other ≡ (same || has_peer peers other)) [
             | true ↦ λ same. sym (ap (has_peer peers) (equal_peers peer other same)) ∙ has
@@ -73,7 +75,8 @@ has_there (first ∷ peers) peer zero within same = ap (λ here. here || has_pee
 has_there (first ∷ peers) peer (suc place) within same =
     ap (λ later. same_peer first peer || later) (has_there peers peer place (omega arith) same) ∙ or_with_true (same_peer first peer)
 
-mapped_there : (f : Peer → Bond) (peers : List Peer) (place : ℕ) (peer : Peer) → slice_get peers place ≡ Some peer → slice_get (map f peers) place ≡ Some (f peer)
+mapped_there : (f : Peer → Bond) (peers : List Peer) (place : ℕ) (peer : Peer) → slice_get peers place ≡ Some peer → slice_get (map f peers) place
+    ≡ Some (f peer)
 mapped_there f [] place peer there = cc there
 mapped_there f (first ∷ peers) zero peer there = ap (option_map f) there
 mapped_there f (first ∷ peers) (suc place) peer there = mapped_there f peers place peer there
@@ -82,7 +85,8 @@ mapped_there f (first ∷ peers) (suc place) peer there = mapped_there f peers p
 pub bond_made : (f : Peer → Bond) (peers : List Peer) (unfitted : WrittenRows) (peer : Peer)
     → bond_of (record { peers = peers; bonds = map f peers; unfitted = unfitted }) peer ≡ (if has_peer peers peer then Some (f peer) else None)
 bond_made f peers unfitted peer =
-    elim (peer_place peers peer) as (λ found. peer_place peers peer ≡ found → option_and_then (slice_get (map f peers)) found ≡ (if has_peer peers peer then Some (f peer) else None)) [
+    elim (peer_place peers peer) as (λ found. peer_place peers peer ≡ found → option_and_then (slice_get (map f peers)) found
+    ≡ (if has_peer peers peer then Some (f peer) else None)) [
       | None ↦ λ missing. sym (ap (λ has. if has then Some (f peer) else None) (place_missing peers peer missing))
       | Some place ↦ λ found.
           let at = position-Some (λ (other : Peer). same_peer other peer) peers place peer found in

@@ -12,7 +12,8 @@ use Rattle.gatt_subs.specs.Indications.{Indications, Milliseconds, first_handle,
 use Rattle.gatt_subs.specs.declared.pending.Unconfirmed.{Unconfirmed}
 use Rattle.octet_io.proofs.Choices.{and_with_false}
 
-not_heard : (pending : Indications) (attributes : List Attr) (row : Row) (standing : Standing) (handle : Handle) → may_hear_at attributes row standing handle ≡ false
+not_heard : (pending : Indications) (attributes : List Attr) (row : Row) (standing : Standing) (handle : Handle) → may_hear_at attributes row standing handle
+    ≡ false
     → hears pending attributes row standing handle ≡ false
 not_heard pending attributes row standing handle silent = ap (λ may. not pending.timed_out && may) silent ∙ and_with_false (not pending.timed_out)
 
@@ -25,7 +26,8 @@ raises_only_what_is_heard pending attributes row standing handle silent =
     }
 
 -- the first that is due is due
-first_here : (is_due : Handle → Bool) (next handle : Handle) (rest : List Handle) (due : Bool) → (first_handle (from_due is_due rest) ≡ Some handle → is_due handle ≡ true)
+first_here : (is_due : Handle → Bool) (next handle : Handle) (rest : List Handle) (due : Bool)
+    → (first_handle (from_due is_due rest) ≡ Some handle → is_due handle ≡ true)
     → is_due next ≡ due → first_handle (if due then next ∷ rest else from_due is_due rest) ≡ Some handle → is_due handle ≡ true
 first_here is_due next handle rest true later is found = let same : next ≡ handle = cc found in sym (ap is_due same) ∙ is
 first_here is_due next handle rest false later is found = later found
@@ -37,7 +39,8 @@ first_is_due is_due (next ∷ rest) handle found = first_here is_due next handle
 pub releases_only_what_is_heard : IndicatesOnlyWhatIsHeard
 releases_only_what_is_heard pending attributes row standing backlog handle = released (may_indicate pending backlog)
   where
-    released : (may : Bool) → (if may then first_handle (from_due (is_indicated attributes row standing) pending.waiting) else None) ≡ Some handle → IsHeard attributes row standing handle
+    released : (may : Bool) → (if may then first_handle (from_due (is_indicated attributes row standing) pending.waiting) else None) ≡ Some handle
+        → IsHeard attributes row standing handle
     released true found =
         let due = first_is_due (is_indicated attributes row standing) pending.waiting handle found in
         let facts = and_parts (may_hear_at attributes row standing handle) (wants_indications row handle) due in
@@ -50,7 +53,8 @@ none_there None in_time has_room may = refl
 none_there (Some one) in_time has_room may = cc may
 
 pub releases_only_what_waits : IndicatesOnlyWhatWaits
-releases_only_what_waits pending attributes row standing backlog none = record { unchanged = λ now. unchanged now (may_indicate pending backlog) refl; silent = silent (may_indicate pending backlog) }
+releases_only_what_waits pending attributes row standing backlog none =
+    record { unchanged = λ now. unchanged now (may_indicate pending backlog) refl; silent = silent (may_indicate pending backlog) }
   where
     is_due : Handle → Bool
     is_due = is_indicated attributes row standing
@@ -60,7 +64,12 @@ releases_only_what_waits pending attributes row standing backlog none = record {
     silent false = refl
 
     unchanged : (now : Milliseconds) (may : Bool) → may_indicate pending backlog ≡ may
-        → (if may then record pending { waiting = rest_of (from_due is_due pending.waiting); unconfirmed = option_map (unconfirmed_since now) (first_handle (from_due is_due pending.waiting)) } else pending) ≡ pending
+        → (if may
+        then record pending {
+          waiting = rest_of (from_due is_due pending.waiting);
+          unconfirmed = option_map (unconfirmed_since now)
+              (first_handle (from_due is_due pending.waiting));
+        } else pending) ≡ pending
     unchanged now true is =
         let absent = none_there pending.unconfirmed (not pending.timed_out) (nat_lt backlog 8) is in
         let waits = ap (λ waiting. rest_of (from_due is_due waiting)) none ∙ sym none in

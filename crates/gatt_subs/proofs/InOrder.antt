@@ -29,7 +29,8 @@ inserted_at : {X : Type 0} (order : X → ℕ) (x : X) (xs : List X)
     → insert xs (position_or_len (λ other. nat_lt (order x) (order other)) xs) x ≡ in_order order x xs
 inserted_at order x [] = refl
 inserted_at {X} order x (y ∷ ys) =
-    elim (nat_lt (order x) (order y)) as (λ before. insert (y ∷ ys) (if not before then 1 + (position_or_len (λ other. nat_lt (order x) (order other)) ys) else 0) x
+    elim (nat_lt (order x) (order y)) as
+    (λ before. insert (y ∷ ys) (if not before then 1 + (position_or_len (λ other. nat_lt (order x) (order other)) ys) else 0) x
     ≡ (if before then x ∷ y ∷ ys else y ∷ in_order order x ys)) [
       | true ↦ refl
       | false ↦
@@ -57,7 +58,8 @@ pub ruleset inserts = (place_or_end_within)
 
 -- a step of the loop over the entries of a row
 pub entries_next : (entries : List RowEntry) (peer : Peer) (row : Row) (place : ℕ) (entry : Handle × ℕ) → slice_get row place ≡ Some entry
-    → entries_with (if entry.1 == 0 then entries else in_order order_of (record { peer = peer; handle = entry.0; bits = entry.1 }) entries) peer (drop (place + 1) row)
+    → entries_with (if entry.1 == 0 then entries else in_order order_of (record { peer = peer; handle = entry.0; bits = entry.1 }) entries) peer
+    (drop (place + 1) row)
     ≡ entries_with entries peer (drop place row)
 entries_next entries peer row place entry at =
     ap (λ (of : Handle × ℕ). entries_with entries peer (of ∷ drop (place + 1) row)) (sym (get_or_from_slice_get row place entry entry at))

@@ -88,7 +88,8 @@ are_bytes octets small = λ i. elim (nat_lt i (length octets)) as (λ within. na
 
 pub address_back : (address : Octets) → length address ≡ 6 → All IsOctet address → address_of (address_text address) ≡ Some address
 address_back (a ∷ b ∷ c ∷ d ∷ e ∷ f ∷ []) six small =
-    let at : (i : ℕ) → i < 6 → slice_index (a ∷ b ∷ c ∷ d ∷ e ∷ f ∷ []) i < 256 = λ i within. All-get_or IsOctet (a ∷ b ∷ c ∷ d ∷ e ∷ f ∷ []) i 0 within small in
+    let at : (i : ℕ) → i < 6 → slice_index (a ∷ b ∷ c ∷ d ∷ e ∷ f ∷ []) i < 256 = λ i within. All-get_or IsOctet (a ∷ b ∷ c ∷ d ∷ e ∷ f ∷ []) i 0 within small
+    in
     six_back a b c d e f (are_bytes (f ∷ e ∷ d ∷ c ∷ b ∷ a ∷ [])
     (All-cons IsOctet f (e ∷ d ∷ c ∷ b ∷ a ∷ []) (at 5 (omega arith))
     (All-cons IsOctet e (d ∷ c ∷ b ∷ a ∷ []) (at 4 (omega arith))
@@ -122,8 +123,10 @@ joined_seen : (octets : Octets) → All IsOctet octets → IsWord (joined_by_col
 joined_seen [] small = All-nil (λ octet. 33 ≤ octet)
 joined_seen (octet ∷ []) small = octet_seen octet (All-head IsOctet octet [] small)
 joined_seen (octet ∷ next ∷ octets) small =
-    All-append (λ octet. 33 ≤ octet) (encode_lower (octet ∷ [])) (58 ∷ joined_by_colons (next ∷ octets)) (octet_seen octet (All-head IsOctet octet (next ∷ octets) small))
-    (All-cons (λ octet. 33 ≤ octet) 58 (joined_by_colons (next ∷ octets)) (omega arith) (joined_seen (next ∷ octets) (All-tail IsOctet octet (next ∷ octets) small)))
+    All-append (λ octet. 33 ≤ octet) (encode_lower (octet ∷ [])) (58 ∷ joined_by_colons (next ∷ octets))
+    (octet_seen octet (All-head IsOctet octet (next ∷ octets) small))
+    (All-cons (λ octet. 33 ≤ octet) 58 (joined_by_colons (next ∷ octets)) (omega arith)
+    (joined_seen (next ∷ octets) (All-tail IsOctet octet (next ∷ octets) small)))
 
 pub address_seen : (address : Octets) → All IsOctet address → IsWord (address_text address)
 unfolding address_text
@@ -193,7 +196,8 @@ pub entry_back : (entry : RowEntry) → IsConfigured entry → rows_line_of (ent
 unfolding rows_line_of
 entry_back entry is =
     rw (
-      parted (decimal entry.peer.kind) (address_text entry.peer.address ++ space ∷ (decimal entry.handle ++ space ∷ decimal entry.bits)) (number_seen entry.peer.kind (omega (arith, is.peer.kind))),
+      parted (decimal entry.peer.kind) (address_text entry.peer.address ++ space ∷ (decimal entry.handle ++ space ∷ decimal entry.bits))
+          (number_seen entry.peer.kind (omega (arith, is.peer.kind))),
       parted (address_text entry.peer.address) (decimal entry.handle ++ space ∷ decimal entry.bits) (address_seen entry.peer.address is.peer.octets),
       parted (decimal entry.handle) (decimal entry.bits) (number_seen entry.handle is.handle),
       peer_back entry.peer is.peer,
@@ -205,7 +209,8 @@ pub owed_back : (peer : Peer) → IsNamed peer → rows_line_of (owed_words peer
 unfolding rows_line_of
 owed_back peer is =
     rw (
-      parted (33 ∷ []) (decimal peer.kind ++ space ∷ address_text peer.address) (All-cons (λ octet. 33 ≤ octet) 33 [] (omega arith) (All-nil (λ octet. 33 ≤ octet))),
+      parted (33 ∷ []) (decimal peer.kind ++ space ∷ address_text peer.address)
+          (All-cons (λ octet. 33 ≤ octet) 33 [] (omega arith) (All-nil (λ octet. 33 ≤ octet))),
       parted (decimal peer.kind) (address_text peer.address) (number_seen peer.kind (omega (arith, is.kind))),
       whole (address_text peer.address) (address_seen peer.address is.octets),
       peer_back peer is,
@@ -217,11 +222,13 @@ HasNoFeed octets = All (λ octet. (octet == 10) ≡ false) octets
 
 joined_feedless : (word rest : Octets) → IsWord word → HasNoFeed rest → HasNoFeed (word ++ space ∷ rest)
 joined_feedless word rest seen other =
-    All-append (λ octet. (octet == 10) ≡ false) word (space ∷ rest) (lacks word 10 (omega arith) seen) (All-cons (λ octet. (octet == 10) ≡ false) space rest refl other)
+    All-append (λ octet. (octet == 10) ≡ false) word (space ∷ rest) (lacks word 10 (omega arith) seen)
+    (All-cons (λ octet. (octet == 10) ≡ false) space rest refl other)
 
 pub entry_feedless : (entry : RowEntry) → IsConfigured entry → HasNoFeed (entry_words entry)
 entry_feedless entry is =
-    joined_feedless (decimal entry.peer.kind) (address_text entry.peer.address ++ space ∷ (decimal entry.handle ++ space ∷ decimal entry.bits)) (number_seen entry.peer.kind (omega (arith, is.peer.kind)))
+    joined_feedless (decimal entry.peer.kind) (address_text entry.peer.address ++ space ∷ (decimal entry.handle ++ space ∷ decimal entry.bits))
+    (number_seen entry.peer.kind (omega (arith, is.peer.kind)))
     (joined_feedless (address_text entry.peer.address) (decimal entry.handle ++ space ∷ decimal entry.bits) (address_seen entry.peer.address is.peer.octets)
     (joined_feedless (decimal entry.handle) (decimal entry.bits) (number_seen entry.handle is.handle)
     (lacks (decimal entry.bits) 10 (omega arith) (number_seen entry.bits (omega (arith, is.bits))))))
@@ -239,7 +246,8 @@ words a b c d = append_assoc (a ++ space ∷ b) (space ∷ c) (space ∷ d) ∙ 
 
 pub entry_ended : (entry : RowEntry) → entry_line entry ≡ entry_words entry ++ 10 ∷ []
 unfolding entry_line
-entry_ended entry = ap (λ (line : Octets). line ++ 10 ∷ []) (words (decimal entry.peer.kind) (address_text entry.peer.address) (decimal entry.handle) (decimal entry.bits))
+entry_ended entry =
+    ap (λ (line : Octets). line ++ 10 ∷ []) (words (decimal entry.peer.kind) (address_text entry.peer.address) (decimal entry.handle) (decimal entry.bits))
 
 pub owed_ended : (peer : Peer) → owed_line peer ≡ owed_words peer ++ 10 ∷ []
 unfolding owed_line

@@ -56,10 +56,12 @@ turned : (octets : Octets) → length octets ≡ 6 → IsBytes octets → IsAddr
 turned octets six bytes = record {
   six = length-reverse octets ∙ six;
   small = All-from_get_or (λ octet. octet < 256) (reverse octets) 0
-      (λ i within. subst (λ octet. octet < 256) (sym (get_or-reverse octets i 0 (omega (arith, within, length-reverse octets)))) (bytes (length octets - 1 - i)));
+      (λ i within. subst (λ octet. octet < 256) (sym (get_or-reverse octets i 0 (omega (arith, within, length-reverse octets))))
+      (bytes (length octets - 1 - i)));
 }
 
-decoded : (digits octets : Octets) (read : Result Octets FromHexError) → decode_sized digits 6 ≡ read → option_map reverse (result_ok read) ≡ Some octets → IsAddress octets
+decoded : (digits octets : Octets) (read : Result Octets FromHexError) → decode_sized digits 6 ≡ read → option_map reverse (result_ok read) ≡ Some octets
+    → IsAddress octets
 decoded digits octets (Ok bytes) is reads =
     let twelve : length digits ≡ 2 * 6 = decode_sized-ok digits 6 bytes is in
     let pairs = decode_of-ok digits bytes (sym (decode_sized-twice digits 6 twelve) ∙ is) in
@@ -115,7 +117,8 @@ handle_if word handle false digits small first all below is = cc is
 
 handle_read : (word : Octets) (handle : ℕ) → handle_of_row word ≡ Some handle → IsHandle handle
 unfolding handle_of_row
-handle_read word handle is = handle_if word handle (is_from_one (slice_index word 0)) (all_ascii_digits word) (nat_lt (digits_value 10 word) 65536) refl refl refl is
+handle_read word handle is =
+    handle_if word handle (is_from_one (slice_index word 0)) (all_ascii_digits word) (nat_lt (digits_value 10 word) 65536) refl refl refl is
 
 -- bits
 record IsBits (bits : ℕ) : Type 0 where
@@ -146,8 +149,13 @@ owed_read false peer line named is = cc is
 behind_read : (first second rest : Octets) (last : Option (Octets × Octets)) (line : Line) → line_behind first second rest last ≡ Some line → CanBeWritten line
 behind_read mark kind address None line is = owed_read (bytes_eq mark (codes "!")) (peer_of kind address) line (peer_read kind address) is
 behind_read kind address rest (Some last) line is =
-    let peer = found (peer_of kind address) (λ peer. handle_of_row last.0 >>= (λ handle. bits_of last.1 >>= (λ bits. Some (Entry (record { peer = peer; handle = handle; bits = bits }))))) line is in
-    let handle = found (handle_of_row last.0) (λ handle. bits_of last.1 >>= (λ bits. Some (Entry (record { peer = peer.x; handle = handle; bits = bits })))) line peer.then_y in
+    let peer =
+    found (peer_of kind address)
+    (λ peer. handle_of_row last.0 >>= (λ handle. bits_of last.1 >>= (λ bits. Some (Entry (record { peer = peer; handle = handle; bits = bits }))))) line is
+    in
+    let handle =
+    found (handle_of_row last.0) (λ handle. bits_of last.1 >>= (λ bits. Some (Entry (record { peer = peer.x; handle = handle; bits = bits })))) line
+    peer.then_y in
     let bits = found (bits_of last.1) (λ bits. Some (Entry (record { peer = peer.x; handle = handle.x; bits = bits }))) line handle.then_y in
     let of_handle = handle_read last.0 handle.x handle.is in
     let of_bits = bits_read last.1 bits.x bits.is in

@@ -25,7 +25,8 @@ IsEachOnce (peer ∷ peers) = (has_peer peers peer ≡ false) × IsEachOnce peer
 swap-apart : (one other : Peer) → same_peer one other ≡ false → same_peer other one ≡ false
 swap-apart one other apart =
     elim (same_peer other one) as (λ same. same_peer other one ≡ same → same ≡ false) [
-      | true ↦ λ same. absurd (false≢true (sym apart ∙ subst (λ (peer : Peer). same_peer peer other ≡ true) (equal_peers other one same) (same_as_itself other)))
+      | true ↦ λ same.
+          absurd (false≢true (sym apart ∙ subst (λ (peer : Peer). same_peer peer other ≡ true) (equal_peers other one same) (same_as_itself other)))
       | false ↦ λ apart. refl
     ] refl
 

@@ -31,7 +31,8 @@ less_last most (first ∷ rest) absent all =
     let differs : first ≤ most = grind (arith, nat_tests, all.2) in
     (all.0, all.1, differs, less_last most rest (grind (arith, nat_tests)) all.3)
 
-less_first : (most first : ℕ) (rest : List ℕ) (same : Bool) → (first == suc most) ≡ same → AreAtMost (suc most) (first ∷ rest) → AreAtMost most (without (suc most) rest)
+less_first : (most first : ℕ) (rest : List ℕ) (same : Bool) → (first == suc most) ≡ same → AreAtMost (suc most) (first ∷ rest)
+    → AreAtMost most (without (suc most) rest)
     → AreAtMost most (if same then rest else first ∷ without (suc most) rest)
 less_first most first rest true is all later =
     let equal : first ≡ suc most = grind (arith, nat_tests) in
@@ -57,13 +58,15 @@ placed [] all = tt
 placed (first ∷ rest) all = (all.0, all.1, all.2, placed rest all.3)
 
 -- so there is room for a handle that does not wait
-room_for : (handles : List ℕ) (handle : ℕ) → HaveOnePlace handles → is_waiting handles handle ≡ false → 0 < handle → handle ≤ MAX_ATTRIBUTES → length handles < MAX_ATTRIBUTES
+room_for : (handles : List ℕ) (handle : ℕ) → HaveOnePlace handles → is_waiting handles handle ≡ false → 0 < handle → handle ≤ MAX_ATTRIBUTES
+    → length handles < MAX_ATTRIBUTES
 room_for handles handle all absent is_used most =
     let more = at_most MAX_ATTRIBUTES (handle ∷ handles) (absent, is_used, most, placed handles all) in
     omega arith
 
 -- of those that may be, and so there is room for any
-pub room_for_any : (handles : List ℕ) (handle : ℕ) → 0 < handle → handle ≤ MAX_ATTRIBUTES → HaveOnePlace handles → has_room_to_wait MAX_ATTRIBUTES handles handle ≡ true
+pub room_for_any : (handles : List ℕ) (handle : ℕ) → 0 < handle → handle ≤ MAX_ATTRIBUTES → HaveOnePlace handles
+    → has_room_to_wait MAX_ATTRIBUTES handles handle ≡ true
 room_for_any handles handle is_used most all =
     elim (is_waiting handles handle) as (λ (waits : Bool). is_waiting handles handle ≡ waits → (waits || nat_lt (length handles) MAX_ATTRIBUTES) ≡ true) [
       | true ↦ λ waits. refl
@@ -71,14 +74,17 @@ room_for_any handles handle is_used most all =
     ] refl
 
 -- there is room for one more where there is room for one that does not wait
-pub room_where : (room : ℕ) (handles : List ℕ) (handle : ℕ) → is_waiting handles handle ≡ false → has_room_to_wait room handles handle ≡ true → length handles < room
+pub room_where : (room : ℕ) (handles : List ℕ) (handle : ℕ) → is_waiting handles handle ≡ false → has_room_to_wait room handles handle ≡ true
+    → length handles < room
 room_where room handles handle absent fits =
     ltb-true (length handles) room (sym (ap (λ (waits : Bool). waits || nat_lt (length handles) room) absent) ∙ fits)
 
-absent_more : (handles : List ℕ) (handle other : ℕ) → is_waiting handles other ≡ false → (other == handle) ≡ false → is_waiting (handles ++ handle ∷ []) other ≡ false
+absent_more : (handles : List ℕ) (handle other : ℕ) → is_waiting handles other ≡ false → (other == handle) ≡ false → is_waiting (handles ++ handle ∷ []) other
+    ≡ false
 absent_more handles handle other absent differs = grind (arith, nat_tests, common_steps)
 
-pub placed_more : (handles : List ℕ) (handle : ℕ) → HaveOnePlace handles → is_waiting handles handle ≡ false → 0 < handle → handle ≤ MAX_ATTRIBUTES → HaveOnePlace (handles ++ handle ∷ [])
+pub placed_more : (handles : List ℕ) (handle : ℕ) → HaveOnePlace handles → is_waiting handles handle ≡ false → 0 < handle → handle ≤ MAX_ATTRIBUTES
+    → HaveOnePlace (handles ++ handle ∷ [])
 placed_more [] handle all absent is_used most = (refl, is_used, most, tt)
 placed_more (first ∷ rest) handle all absent is_used most =
     (absent_more rest handle first all.0 (grind (arith, nat_tests)), all.1, all.2, placed_more rest handle all.3 (grind (arith, nat_tests)) is_used most)

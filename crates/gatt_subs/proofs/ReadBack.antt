@@ -57,7 +57,8 @@ is_other entry other less = by (is_at entry.peer entry.handle other) refl
     by false is = is
     by true is = absurd (same (same_peer other.peer entry.peer) (other.handle == entry.handle) refl refl is)
 
-is_new : (entry : RowEntry) (entries : List RowEntry) → All (λ other. order_of other < order_of entry) entries → has_row_entry entries entry.peer entry.handle ≡ false
+is_new : (entry : RowEntry) (entries : List RowEntry) → All (λ other. order_of other < order_of entry) entries → has_row_entry entries entry.peer entry.handle
+    ≡ false
 is_new entry [] less = refl
 is_new entry (other ∷ entries) less =
     rw (is_other entry other (All-head (λ other. order_of other < order_of entry) other entries less))
@@ -111,22 +112,26 @@ first_divided line words rest tail is feedless =
 -- lines that are written one after the other are taken in one after the other
 module _ (X : Type 0) (line : X → Octets) (words : X → Octets) (with_all : List X → WrittenRows) (Fits : List X → X → Type 0) (Good : X → Type 0)
     (line_is : (x : X) → line x ≡ words x ++ 10 ∷ []) (feedless : (x : X) → Good x → HasNoFeed (words x))
-    (added : (number : ℕ) (seen : List X) (x : X) → Good x → Fits seen x → rows_with_line number (with_all seen) (words x) ≡ Ok (with_all (seen ++ x ∷ []))) where
-  abbrev pub AllFit : List X → List X → Type 0
-  AllFit seen [] = Unit
-  AllFit seen (x ∷ rest) = Good x × Fits seen x × AllFit (seen ++ x ∷ []) rest
+    (added : (number : ℕ) (seen : List X) (x : X) → Good x → Fits seen x → rows_with_line number (with_all seen) (words x) ≡ Ok (with_all (seen ++ x ∷ [])))
+  where
+    abbrev pub AllFit : List X → List X → Type 0
+    AllFit seen [] = Unit
+    AllFit seen (x ∷ rest) = Good x × Fits seen x × AllFit (seen ++ x ∷ []) rest
 
-  pub taken_in : (number : ℕ) (seen rest : List X) (tail : Octets) → AllFit seen rest
-      → rows_with_lines number (with_all seen) (lines_of_rows (flat_map line rest ++ tail)) ≡ rows_with_lines (number + length rest) (with_all (seen ++ rest)) (lines_of_rows tail)
-  taken_in number seen [] tail fit =
-      ap (λ (all : List X). rows_with_lines number (with_all all) (lines_of_rows tail)) (sym (append-nil seen))
-      ∙ ap (λ (at : ℕ). rows_with_lines at (with_all (seen ++ [])) (lines_of_rows tail)) (omega arith)
-  taken_in number seen (x ∷ rest) tail fit =
-      ap (λ (lines : List Octets). rows_with_lines number (with_all seen) lines) (first_divided (line x) (words x) (flat_map line rest) tail (line_is x) (feedless x fit.0))
-      ∙ ap (λ (next : Result WrittenRows RowsFault). next >>= (λ written. rows_with_lines (number + 1) written (lines_of_rows (flat_map line rest ++ tail)))) (added number seen x fit.0 fit.1)
-      ∙ taken_in (number + 1) (seen ++ x ∷ []) rest tail fit.2
-      ∙ ap (λ (all : List X). rows_with_lines ((number + 1) + length rest) (with_all all) (lines_of_rows tail)) (append_assoc seen (x ∷ []) rest)
-      ∙ ap (λ (at : ℕ). rows_with_lines at (with_all (seen ++ x ∷ rest)) (lines_of_rows tail)) (omega arith)
+    pub taken_in : (number : ℕ) (seen rest : List X) (tail : Octets) → AllFit seen rest
+        → rows_with_lines number (with_all seen) (lines_of_rows (flat_map line rest ++ tail)) ≡ rows_with_lines (number + length rest) (with_all (seen ++ rest))
+        (lines_of_rows tail)
+    taken_in number seen [] tail fit =
+        ap (λ (all : List X). rows_with_lines number (with_all all) (lines_of_rows tail)) (sym (append-nil seen))
+        ∙ ap (λ (at : ℕ). rows_with_lines at (with_all (seen ++ [])) (lines_of_rows tail)) (omega arith)
+    taken_in number seen (x ∷ rest) tail fit =
+        ap (λ (lines : List Octets). rows_with_lines number (with_all seen) lines)
+        (first_divided (line x) (words x) (flat_map line rest) tail (line_is x) (feedless x fit.0))
+        ∙ ap (λ (next : Result WrittenRows RowsFault). next >>= (λ written. rows_with_lines (number + 1) written (lines_of_rows (flat_map line rest ++ tail))))
+        (added number seen x fit.0 fit.1)
+        ∙ taken_in (number + 1) (seen ++ x ∷ []) rest tail fit.2
+        ∙ ap (λ (all : List X). rows_with_lines ((number + 1) + length rest) (with_all all) (lines_of_rows tail)) (append_assoc seen (x ∷ []) rest)
+        ∙ ap (λ (at : ℕ). rows_with_lines at (with_all (seen ++ x ∷ rest)) (lines_of_rows tail)) (omega arith)
 
 -- what stands behind all that was taken in, where there may be one more
 pub record Follows (X : Type 0) (order : X → ℕ) (most : ℕ) (seen : List X) (x : X) : Type 0 where
@@ -134,7 +139,8 @@ pub record Follows (X : Type 0) (order : X → ℕ) (most : ℕ) (seen : List X)
   pub few : length seen < most
 
 entry_some : (entry : RowEntry) → 0 < length (entry_words entry)
-entry_some entry = omega (arith, length-append (decimal entry.peer.kind) (32 ∷ (address_text entry.peer.address ++ 32 ∷ (decimal entry.handle ++ 32 ∷ decimal entry.bits))))
+entry_some entry =
+    omega (arith, length-append (decimal entry.peer.kind) (32 ∷ (address_text entry.peer.address ++ 32 ∷ (decimal entry.handle ++ 32 ∷ decimal entry.bits))))
 
 entry_line_added : (number : ℕ) (seen : List RowEntry) (entry : RowEntry) → IsConfigured entry → Follows RowEntry order_of 4096 seen entry
     → rows_with_line number (writing seen []) (entry_words entry) ≡ Ok (writing (seen ++ entry ∷ []) [])
@@ -150,7 +156,8 @@ owed_line_added entries number seen peer good follows =
 
 module _ (X : Type 0) (line : X → Octets) (words : X → Octets) (with_all : List X → WrittenRows) (order : X → ℕ) (most : ℕ) (Good : X → Type 0)
     (line_is : (x : X) → line x ≡ words x ++ 10 ∷ []) (feedless : (x : X) → Good x → HasNoFeed (words x))
-    (added : (number : ℕ) (seen : List X) (x : X) → Good x → Follows X order most seen x → rows_with_line number (with_all seen) (words x) ≡ Ok (with_all (seen ++ x ∷ []))) where
+    (added : (number : ℕ) (seen : List X) (x : X) → Good x → Follows X order most seen x → rows_with_line number (with_all seen) (words x)
+    ≡ Ok (with_all (seen ++ x ∷ []))) where
   all_fit : (seen rest : List X) → All Good rest → Climbs order (seen ++ rest) → length (seen ++ rest) ≤ most
       → AllFit X line words with_all (Follows X order most) Good line_is feedless added seen rest
   all_fit seen [] good climbs few = tt
@@ -158,11 +165,13 @@ module _ (X : Type 0) (line : X → Octets) (words : X → Octets) (with_all : L
       let again : (seen ++ x ∷ []) ++ rest ≡ seen ++ x ∷ rest = append_assoc seen (x ∷ []) rest in (
         All-head Good x rest good,
         record { before = in_front order seen x rest climbs; few = omega (arith, few, length-append seen (x ∷ rest)) },
-        all_fit (seen ++ x ∷ []) rest (All-tail Good x rest good) (subst (Climbs order) (sym again) climbs) (subst (λ (all : List X). length all ≤ most) (sym again) few),
+        all_fit (seen ++ x ∷ []) rest (All-tail Good x rest good) (subst (Climbs order) (sym again) climbs)
+            (subst (λ (all : List X). length all ≤ most) (sym again) few),
       )
 
   pub all_taken_in : (number : ℕ) (all : List X) (tail : Octets) → All Good all → Climbs order all → length all ≤ most
-      → rows_with_lines number (with_all []) (lines_of_rows (flat_map line all ++ tail)) ≡ rows_with_lines (number + length all) (with_all all) (lines_of_rows tail)
+      → rows_with_lines number (with_all []) (lines_of_rows (flat_map line all ++ tail)) ≡ rows_with_lines (number + length all) (with_all all)
+      (lines_of_rows tail)
   all_taken_in number all tail good climbs few =
       taken_in X line words with_all (Follows X order most) Good line_is feedless added number [] all tail (all_fit [] all good climbs few)
 
@@ -171,6 +180,7 @@ unfolding rows_read rows_text
 reads_back rows is =
     all_taken_in RowEntry entry_line entry_words (λ entries. writing entries []) order_of 4096 IsConfigured entry_ended entry_feedless entry_line_added
     1 (configured rows) (flat_map owed_line (owed_in rows)) is.entries is.climbs is.few
-    ∙ ap (λ (text : Octets). rows_with_lines (1 + length (configured rows)) (writing (configured rows) []) (lines_of_rows text)) (sym (append-nil (flat_map owed_line (owed_in rows))))
+    ∙ ap (λ (text : Octets). rows_with_lines (1 + length (configured rows)) (writing (configured rows) []) (lines_of_rows text))
+    (sym (append-nil (flat_map owed_line (owed_in rows))))
     ∙ all_taken_in Peer owed_line owed_words (writing (configured rows)) rank_of 64 IsNamed owed_ended owed_feedless (owed_line_added (configured rows))
     (1 + length (configured rows)) (owed_in rows) [] is.owed is.owed_climb is.owed_few

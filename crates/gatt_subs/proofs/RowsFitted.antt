@@ -30,23 +30,29 @@ later : (handle bits : ℕ) (row : Row) (entries : List RowEntry) → All (λ (e
 later handle bits row [] others = All-nil (λ (entry : RowEntry). has_entry row entry.handle ≡ false)
 later handle bits row (entry ∷ entries) others =
     All-cons (λ (entry : RowEntry). has_entry row entry.handle ≡ false) entry entries
-    (or_parts (handle == entry.handle) (has_entry row entry.handle) (All-head (λ (entry : RowEntry). has_entry ((handle, bits) ∷ row) entry.handle ≡ false) entry entries others)).1
+    (or_parts (handle == entry.handle) (has_entry row entry.handle)
+    (All-head (λ (entry : RowEntry). has_entry ((handle, bits) ∷ row) entry.handle ≡ false) entry entries others)).1
     (later handle bits row entries (All-tail (λ (entry : RowEntry). has_entry ((handle, bits) ∷ row) entry.handle ≡ false) entry entries others))
 
 apart : (peer : Peer) (handle bits : ℕ) (row : Row) (entries : List RowEntry) → handle < 65536 → All IsConfigured entries
     → All (λ (entry : RowEntry). has_entry ((handle, bits) ∷ row) entry.handle ≡ false) entries
     → All (λ (other : RowEntry). order_of other ≢ order_of (record { peer = peer; handle = handle; bits = bits })) entries
-apart peer handle bits row [] small good others = All-nil (λ (other : RowEntry). order_of other ≢ order_of (record { peer = peer; handle = handle; bits = bits }))
+apart peer handle bits row [] small good others =
+    All-nil (λ (other : RowEntry). order_of other ≢ order_of (record { peer = peer; handle = handle; bits = bits }))
 apart peer handle bits row (entry ∷ entries) small good others =
-    let differs = or_parts (handle == entry.handle) (has_entry row entry.handle) (All-head (λ (entry : RowEntry). has_entry ((handle, bits) ∷ row) entry.handle ≡ false) entry entries others) in
+    let differs =
+    or_parts (handle == entry.handle) (has_entry row entry.handle)
+    (All-head (λ (entry : RowEntry). has_entry ((handle, bits) ∷ row) entry.handle ≡ false) entry entries others) in
     All-cons (λ (other : RowEntry). order_of other ≢ order_of (record { peer = peer; handle = handle; bits = bits })) entry entries
     (λ same.
     let parts = place_then (rank_of entry.peer) (rank_of peer) entry.handle handle (All-head IsConfigured entry entries good).handle small same in
     clash (sym (eq-eqb handle entry.handle (sym parts.1)) ∙ differs.0))
-    (apart peer handle bits row entries small (All-tail IsConfigured entry entries good) (All-tail (λ (entry : RowEntry). has_entry ((handle, bits) ∷ row) entry.handle ≡ false) entry entries others))
+    (apart peer handle bits row entries small (All-tail IsConfigured entry entries good)
+    (All-tail (λ (entry : RowEntry). has_entry ((handle, bits) ∷ row) entry.handle ≡ false) entry entries others))
 
 -- one entry of the row more
-one_more : (peer : Peer) (handle bits : ℕ) (row : Row) (entries : List RowEntry) → IsNamed peer → 0 < handle → handle < 65536 → bits ≤ 3 → has_entry row handle ≡ false
+one_more : (peer : Peer) (handle bits : ℕ) (row : Row) (entries : List RowEntry) → IsNamed peer → 0 < handle → handle < 65536 → bits ≤ 3
+    → has_entry row handle ≡ false
     → (none : Bool) → (bits == 0) ≡ none → AreEntriesOf peer ((handle, bits) ∷ row) entries
     → AreEntriesOf peer row (if none then entries else in_order order_of (record { peer = peer; handle = handle; bits = bits }) entries)
 one_more peer handle bits row entries named some small few once true is are = record {
@@ -66,19 +72,23 @@ one_more peer handle bits row entries named some small few once false is are =
     }
 
 -- all entries of the row
-row_entries : (peer : Peer) (row : Row) (entries : List RowEntry) → IsNamed peer → All IsEntry row → All (λ (entry : Handle × ℕ). entry.0 < 65536) row → HasOneEntryEach row
+row_entries : (peer : Peer) (row : Row) (entries : List RowEntry) → IsNamed peer → All IsEntry row → All (λ (entry : Handle × ℕ). entry.0 < 65536) row
+    → HasOneEntryEach row
     → AreEntriesOf peer row entries → AreEntriesOf peer [] (entries_with entries peer row)
 row_entries peer [] entries named all small once are = are
 row_entries peer ((handle, bits) ∷ row) entries named all small once are =
     let first : IsEntry (handle, bits) = All-head IsEntry (handle, bits) row all in
     row_entries peer row (if bits == 0 then entries else in_order order_of (record { peer = peer; handle = handle; bits = bits }) entries) named
     (All-tail IsEntry (handle, bits) row all) (All-tail (λ (entry : Handle × ℕ). entry.0 < 65536) (handle, bits) row small) once.1
-    (one_more peer handle bits row entries named first.0 (All-head (λ (entry : Handle × ℕ). entry.0 < 65536) (handle, bits) row small) first.1 once.0 (bits == 0) refl are)
+    (one_more peer handle bits row entries named first.0 (All-head (λ (entry : Handle × ℕ). entry.0 < 65536) (handle, bits) row small) first.1 once.0
+    (bits == 0) refl are)
 
 as_many : (peer : Peer) (row : Row) (entries : List RowEntry) → length (entries_with entries peer row) ≤ length entries + length row
 as_many peer [] entries = omega arith
 as_many peer ((handle, bits) ∷ row) entries =
-    elim (bits == 0) as (λ none. length (entries_with (if none then entries else in_order order_of (record { peer = peer; handle = handle; bits = bits }) entries) peer row) ≤ length entries + suc (length row)) [
+    elim (bits == 0) as
+    (λ none. length (entries_with (if none then entries else in_order order_of (record { peer = peer; handle = handle; bits = bits }) entries) peer row)
+    ≤ length entries + suc (length row)) [
       | true ↦ let most = as_many peer row entries in omega (arith, most)
       | false ↦
           let entry : RowEntry = record { peer = peer; handle = handle; bits = bits } in
@@ -98,7 +108,8 @@ of_bond : (peer : Peer) (bond : Bond) → IsNamed peer → IsBondOfAFile bond �
 of_bond peer bond named is = row_entries peer bond.row [] named is.entries is.handles is.once (no_entries peer bond.row)
 
 -- lists that climb, one above the other
-climbs_append : {X : Type 0} (order : X → ℕ) (most : ℕ) (xs ys : List X) → Climbs order xs → Climbs order ys → All (λ x. order x ≤ most) xs → All (λ y. most < order y) ys
+climbs_append : {X : Type 0} (order : X → ℕ) (most : ℕ) (xs ys : List X) → Climbs order xs → Climbs order ys → All (λ x. order x ≤ most) xs
+    → All (λ y. most < order y) ys
     → Climbs order (xs ++ ys)
 climbs_append order most [] ys low high below above = high
 climbs_append {X} order most (x ∷ xs) ys low high below above =
@@ -140,14 +151,16 @@ all_above less (peer ∷ peers) (bond ∷ bonds) named good higher =
     All-append (λ (entry : RowEntry). less * 65536 + 65535 < order_of entry) (entries_of peer bond.row) (bond_entries peers bonds)
     (above less peer (entries_of peer bond.row) (All-head (λ peer. less < rank_of peer) peer peers higher)
     (of_bond peer bond (All-head IsNamed peer peers named) (All-head IsBondOfAFile bond bonds good)).own)
-    (all_above less peers bonds (All-tail IsNamed peer peers named) (All-tail IsBondOfAFile bond bonds good) (All-tail (λ peer. less < rank_of peer) peer peers higher))
+    (all_above less peers bonds (All-tail IsNamed peer peers named) (All-tail IsBondOfAFile bond bonds good)
+    (All-tail (λ peer. less < rank_of peer) peer peers higher))
 
 record AreEntries (peers : List Peer) (entries : List RowEntry) : Type 0 where
   good : All IsConfigured entries
   climbs : Climbs order_of entries
   few : length entries ≤ 64 * length peers
 
-of_bonds : (peers : List Peer) (bonds : List Bond) → All IsNamed peers → Climbs rank_of peers → All IsBondOfAFile bonds → AreEntries peers (bond_entries peers bonds)
+of_bonds : (peers : List Peer) (bonds : List Bond) → All IsNamed peers → Climbs rank_of peers → All IsBondOfAFile bonds
+    → AreEntries peers (bond_entries peers bonds)
 of_bonds [] bonds named climbs good = record { good = All-nil IsConfigured; climbs = tt; few = omega arith }
 of_bonds (peer ∷ peers) [] named climbs good = record { good = All-nil IsConfigured; climbs = tt; few = omega arith }
 of_bonds (peer ∷ peers) (bond ∷ bonds) named climbs good =
@@ -194,7 +207,8 @@ pub fitted_can_be_written : (rows : Subscriptions) → FittedCanBeWritten rows
 fitted_can_be_written rows is =
     let entries = of_bonds rows.peers rows.bonds is.peers is.climbs is.bonds in
     let fitted : IsOfAFile (record { entries = bond_entries rows.peers rows.bonds ++ []; owed = owed_peers rows.peers rows.bonds ++ [] }) =
-    subst IsOfAFile (λ i. record { entries = sym (append-nil (bond_entries rows.peers rows.bonds)) i; owed = sym (append-nil (owed_peers rows.peers rows.bonds)) i })
+    subst IsOfAFile
+    (λ i. record { entries = sym (append-nil (bond_entries rows.peers rows.bonds)) i; owed = sym (append-nil (owed_peers rows.peers rows.bonds)) i })
     (record {
       entries = entries.good;
       owed = all_owed IsNamed rows.peers rows.bonds is.peers;
@@ -203,5 +217,6 @@ fitted_can_be_written rows is =
       few = omega (arith, entries.few, is.few);
       owed_few = omega (arith, few_owed rows.peers rows.bonds, is.few);
     }) in
-    subst (λ (unfitted : WrittenRows). IsOfAFile (record { entries = bond_entries rows.peers rows.bonds ++ unfitted.entries; owed = owed_peers rows.peers rows.bonds ++ unfitted.owed }))
+    subst (λ (unfitted : WrittenRows).
+    IsOfAFile (record { entries = bond_entries rows.peers rows.bonds ++ unfitted.entries; owed = owed_peers rows.peers rows.bonds ++ unfitted.owed }))
     (sym is.unfitted) fitted

@@ -16,9 +16,11 @@ handle_parsed word (Ok number) first is some =
     rw (first, is.0.0, is.1) (grind (arith, nat_tests))
 handle_parsed word (Err fault) first is some =
     rw first (
-    elim (all_ascii_digits word) as (λ digits. all_ascii_digits word ≡ digits → None ≡ (if digits && nat_lt (digits_value 10 word) 65536 then Some (digits_value 10 word) else None)) [
+    elim (all_ascii_digits word) as
+    (λ digits. all_ascii_digits word ≡ digits → None ≡ (if digits && nat_lt (digits_value 10 word) 65536 then Some (digits_value 10 word) else None)) [
       | true ↦ λ digits.
-          elim (nat_lt (digits_value 10 word) 65536) as (λ small. nat_lt (digits_value 10 word) 65536 ≡ small → None ≡ (if small then Some (digits_value 10 word) else None)) [
+          elim (nat_lt (digits_value 10 word) 65536) as (λ small. nat_lt (digits_value 10 word) 65536 ≡ small
+          → None ≡ (if small then Some (digits_value 10 word) else None)) [
             | true ↦ λ small. absurd (is (digits, some, grind (arith, nat_tests)))
             | false ↦ λ large. refl
           ] refl

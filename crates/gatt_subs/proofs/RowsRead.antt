@@ -43,7 +43,8 @@ unfolding rank_of
 rank_is kind a b c d e f = regrouped kind a b c d e f
 
 six_of : (address : Octets) → length address ≡ 6
-    → address ≡ slice_index address 0 ∷ slice_index address 1 ∷ slice_index address 2 ∷ slice_index address 3 ∷ slice_index address 4 ∷ slice_index address 5 ∷ []
+    → address ≡ slice_index address 0 ∷ slice_index address 1 ∷ slice_index address 2 ∷ slice_index address 3 ∷ slice_index address 4 ∷ slice_index address 5
+    ∷ []
 six_of (a ∷ b ∷ c ∷ d ∷ e ∷ f ∷ []) six = refl
 six_of [] six = absurd (omega (arith, six))
 six_of (a ∷ []) six = absurd (omega (arith, six))
@@ -54,10 +55,12 @@ six_of (a ∷ b ∷ c ∷ d ∷ e ∷ []) six = absurd (omega (arith, six))
 six_of (a ∷ b ∷ c ∷ d ∷ e ∷ f ∷ g ∷ more) six = absurd (omega (arith, six))
 
 rank_of_six : (peer : Peer) → IsNamed peer
-    → rank_of peer ≡ seven (slice_index peer.address 0) (slice_index peer.address 1) (slice_index peer.address 2) (slice_index peer.address 3) (slice_index peer.address 4) (slice_index peer.address 5) peer.kind
+    → rank_of peer ≡ seven (slice_index peer.address 0) (slice_index peer.address 1) (slice_index peer.address 2) (slice_index peer.address 3)
+    (slice_index peer.address 4) (slice_index peer.address 5) peer.kind
 rank_of_six peer is =
     ap (λ (address : Octets). rank_of (record { kind = peer.kind; address = address })) (six_of peer.address is.address)
-    ∙ rank_is peer.kind (slice_index peer.address 0) (slice_index peer.address 1) (slice_index peer.address 2) (slice_index peer.address 3) (slice_index peer.address 4) (slice_index peer.address 5)
+    ∙ rank_is peer.kind (slice_index peer.address 0) (slice_index peer.address 1) (slice_index peer.address 2) (slice_index peer.address 3)
+    (slice_index peer.address 4) (slice_index peer.address 5)
 
 small_at : (peer : Peer) (i : ℕ) → IsNamed peer → i < 6 → slice_index peer.address i < 256
 small_at peer i is within = All-get_or (λ octet. octet < 256) peer.address i 0 (omega (arith, within, is.address)) is.octets
@@ -72,7 +75,8 @@ one_peer one other is is' same =
     let fifth = octet_then _ _ _ _ (small_at one 4 is (omega arith)) (small_at other 4 is' (omega arith)) fourth.1 in
     let sixth = octet_then _ _ _ _ (small_at one 5 is (omega arith)) (small_at other 5 is' (omega arith)) fifth.1 in
     let address : one.address ≡ other.address =
-    six_of one.address is.address ∙ (λ i. first.0 i ∷ second.0 i ∷ third.0 i ∷ fourth.0 i ∷ fifth.0 i ∷ sixth.0 i ∷ []) ∙ sym (six_of other.address is'.address) in
+    six_of one.address is.address ∙ (λ i. first.0 i ∷ second.0 i ∷ third.0 i ∷ fourth.0 i ∷ fifth.0 i ∷ sixth.0 i ∷ []) ∙ sym (six_of other.address is'.address)
+    in
     λ i. record { kind = sixth.1 i; address = address i }
 
 -- a list that climbs, with one more that is none of its elements
@@ -98,7 +102,8 @@ all_above order less least (y ∷ ys) lt all =
     let here : least < order y = All-head (λ y. least < order y) y ys all in
     All-cons (λ y. less < order y) y ys (omega (arith, lt, here)) (all_above order less least ys lt (All-tail (λ y. least < order y) y ys all))
 
-pub climbs_in_order : {X : Type 0} (order : X → ℕ) (x : X) (xs : List X) → Climbs order xs → All (λ y. order y ≢ order x) xs → Climbs order (in_order order x xs)
+pub climbs_in_order : {X : Type 0} (order : X → ℕ) (x : X) (xs : List X) → Climbs order xs → All (λ y. order y ≢ order x) xs
+    → Climbs order (in_order order x xs)
 climbs_in_order order x [] climbs apart = (All-nil (λ y. order x < order y), tt)
 climbs_in_order {X} order x (y ∷ ys) climbs apart =
     elim (nat_lt (order x) (order y)) as (λ before. nat_lt (order x) (order y) ≡ before → Climbs order (if before then x ∷ y ∷ ys else y ∷ in_order order x ys)) [
@@ -123,7 +128,8 @@ is_there entry other good good' same =
 pub clash : true ≡ false → ⊥
 clash is = cc is
 
-entries_apart : (entry : RowEntry) (entries : List RowEntry) → IsConfigured entry → All IsConfigured entries → has_row_entry entries entry.peer entry.handle ≡ false
+entries_apart : (entry : RowEntry) (entries : List RowEntry) → IsConfigured entry → All IsConfigured entries → has_row_entry entries entry.peer entry.handle
+    ≡ false
     → All (λ other. order_of other ≢ order_of entry) entries
 entries_apart entry [] good all none = All-nil (λ other. order_of other ≢ order_of entry)
 entries_apart entry (other ∷ entries) good all none =
@@ -132,7 +138,8 @@ entries_apart entry (other ∷ entries) good all none =
     (λ same. clash (sym (is_there entry other good (All-head IsConfigured other entries all) same) ∙ apart.0))
     (entries_apart entry entries good (All-tail IsConfigured other entries all) apart.1)
 
-peers_apart : (peer : Peer) (peers : List Peer) → IsNamed peer → All IsNamed peers → has_peer peers peer ≡ false → All (λ other. rank_of other ≢ rank_of peer) peers
+peers_apart : (peer : Peer) (peers : List Peer) → IsNamed peer → All IsNamed peers → has_peer peers peer ≡ false
+    → All (λ other. rank_of other ≢ rank_of peer) peers
 peers_apart peer [] good all none = All-nil (λ other. rank_of other ≢ rank_of peer)
 peers_apart peer (other ∷ peers) good all none =
     let apart = or_parts (same_peer other peer) (has_peer peers peer) none in
@@ -147,7 +154,8 @@ Stays read = IfOk read IsOfAFile
 
 entry_if : (number : ℕ) (written : WrittenRows) (entry : RowEntry) (has room : Bool) → has_row_entry written.entries entry.peer entry.handle ≡ has
     → nat_lt (length written.entries) 4096 ≡ room → IsOfAFile written → IsConfigured entry
-    → Stays (unless (not has) (Twice number) >>= (λ _. unless room TooMany >>= (λ _. Ok (record written { entries = in_order order_of entry written.entries }))))
+    → Stays (unless (not has) (Twice number) >>=
+    (λ _. unless room TooMany >>= (λ _. Ok (record written { entries = in_order order_of entry written.entries }))))
 entry_if number written entry true room has few is good = tt
 entry_if number written entry false false has few is good = tt
 entry_if number written entry false true has few is good =
@@ -220,7 +228,8 @@ pub read_can_be_written : (text : Octets) (result : Result Subscriptions RowsFau
 read_can_be_written text (Err fault) gives = tt
 read_can_be_written text (Ok rows) gives = by (rows_read text) refl gives
   where
-    by : (read : Result WrittenRows RowsFault) → rows_read text ≡ read → (read >>= (λ written. Ok (unfitted_rows written))) ≡ Ok rows → IsOfAFile (written_by rows)
+    by : (read : Result WrittenRows RowsFault) → rows_read text ≡ read → (read >>= (λ written. Ok (unfitted_rows written))) ≡ Ok rows
+        → IsOfAFile (written_by rows)
     by (Err fault) is reads = cc reads
     by (Ok written) is reads =
         subst (λ (rows : Subscriptions). IsOfAFile (written_by rows)) (same_rows (unfitted_rows written) rows reads)

@@ -26,7 +26,8 @@ use Rattle.gatt_subs.specs.Fit.{peers_with, with_peer, with_entries}
 use Rattle.gatt_subs.specs.Rows.{row_in}
 
 -- bits that are supported are bits of a configuration
-pub supported_configuration : (attributes : List Attr) (handle bits : ℕ) → is_supported attributes (handle, bits) ≡ true → is_configuration_at attributes handle ≡ true
+pub supported_configuration : (attributes : List Attr) (handle bits : ℕ) → is_supported attributes (handle, bits) ≡ true → is_configuration_at attributes handle
+    ≡ true
 supported_configuration attributes handle bits is = (and_parts (is_configuration_at attributes handle) _ is).0
 
 configuration_handle : (attributes : List Attr) (handle : ℕ) → is_configuration_at attributes handle ≡ true → 0 < handle
@@ -51,19 +52,22 @@ few_bits attributes handle = few_of (attribute_at attributes (handle - 1))
 
 pub supported_bits : (attributes : List Attr) (handle bits : ℕ) → is_supported attributes (handle, bits) ≡ true → bits ≤ 3
 supported_bits attributes handle bits is =
-    let same : bit_and bits (configuration_bits_at attributes handle) ≡ bits = grind (arith, nat_tests, (and_parts (is_configuration_at attributes handle) _ is).1) in
+    let same : bit_and bits (configuration_bits_at attributes handle) ≡ bits =
+    grind (arith, nat_tests, (and_parts (is_configuration_at attributes handle) _ is).1) in
     omega (arith, and_le_r bits (configuration_bits_at attributes handle), few_bits attributes handle)
 
 pub ruleset supports = (supported_configuration, supported_handle, supported_bits)
 
 -- a step of the loops that fit rows
 fits_more : (attributes : List Attr) (row entries : Row) (i : ℕ) (d : Handle × ℕ) → i < length entries
-    → with_entries (if is_supported attributes (get_or entries i d) then with_bits row (get_or entries i d).0 (get_or entries i d).1 else row) (filter (is_supported attributes) (drop (i + 1) entries))
+    → with_entries (if is_supported attributes (get_or entries i d) then with_bits row (get_or entries i d).0 (get_or entries i d).1 else row)
+    (filter (is_supported attributes) (drop (i + 1) entries))
     ≡ with_entries row (filter (is_supported attributes) (drop i entries))
 fits_more attributes row entries i d within =
     let entry = get_or entries i d in
     let rest = filter (is_supported attributes) (drop (i + 1) entries) in
-    elim (is_supported attributes entry) as (λ is. with_entries (if is then with_bits row entry.0 entry.1 else row) rest ≡ with_entries row (if is then entry ∷ rest else rest)) [
+    elim (is_supported attributes entry) as (λ is. with_entries (if is then with_bits row entry.0 entry.1 else row) rest
+    ≡ with_entries row (if is then entry ∷ rest else rest)) [
       | true ↦ refl
       | false ↦ refl
     ]
@@ -74,34 +78,45 @@ pub fits_next : (attributes : List Attr) (row entries : Row) (place : ℕ) (entr
     ≡ with_entries row (filter (is_supported attributes) (drop place entries))
 fits_next attributes row entries place entry at =
     let rest = filter (is_supported attributes) (drop (place + 1) entries) in
-    ap (λ (of : Handle × ℕ). with_entries (if is_supported attributes of then with_bits row of.0 of.1 else row) rest) (sym (get_or_from_slice_get entries place entry entry at))
+    ap (λ (of : Handle × ℕ). with_entries (if is_supported attributes of then with_bits row of.0 of.1 else row) rest)
+    (sym (get_or_from_slice_get entries place entry entry at))
     ∙ fits_more attributes row entries place entry (slice_get_within entries place entry at)
 
 -- the same of what was read: entries of other peers are passed over
-pub fits_entry : (attributes : List Attr) (row : Row) (entries : List RowEntry) (peer : Peer) (i : ℕ) (d : RowEntry) → i < length entries → same_peer (get_or entries i d).peer peer ≡ true
-    → with_entries (if is_supported attributes ((get_or entries i d).handle, (get_or entries i d).bits) then with_bits row (get_or entries i d).handle (get_or entries i d).bits else row)
+pub fits_entry : (attributes : List Attr) (row : Row) (entries : List RowEntry) (peer : Peer) (i : ℕ) (d : RowEntry) → i < length entries
+    → same_peer (get_or entries i d).peer peer ≡ true
+    → with_entries (if is_supported attributes ((get_or entries i d).handle, (get_or entries i d).bits)
+    then with_bits row (get_or entries i d).handle (get_or entries i d).bits else row)
     (filter (is_supported attributes) (row_in (drop (i + 1) entries) peer))
     ≡ with_entries row (filter (is_supported attributes) (row_in (drop i entries) peer))
 fits_entry attributes row entries peer i d within own =
     let entry = get_or entries i d in
     let rest = filter (is_supported attributes) (row_in (drop (i + 1) entries) peer) in
     let pair : Handle × ℕ = (entry.handle, entry.bits) in
-    let step : with_entries (if is_supported attributes pair then with_bits row entry.handle entry.bits else row) rest ≡ with_entries row (filter (is_supported attributes) (pair ∷ row_in (drop (i + 1) entries) peer)) =
-    elim (is_supported attributes pair) as (λ is. with_entries (if is then with_bits row entry.handle entry.bits else row) rest ≡ with_entries row (if is then pair ∷ rest else rest)) [
+    let step : with_entries (if is_supported attributes pair then with_bits row entry.handle entry.bits else row) rest
+    ≡ with_entries row (filter (is_supported attributes) (pair ∷ row_in (drop (i + 1) entries) peer)) =
+    elim (is_supported attributes pair) as (λ is. with_entries (if is then with_bits row entry.handle entry.bits else row) rest
+    ≡ with_entries row (if is then pair ∷ rest else rest)) [
       | true ↦ refl
       | false ↦ refl
     ] in
     let others = filter (λ (other : RowEntry). same_peer other.peer peer) (drop (i + 1) entries) in
     step
-    ∙ sym (ap (λ same. with_entries row (filter (is_supported attributes) (map (λ (entry : RowEntry). (entry.handle, entry.bits)) (if same then entry ∷ others else others)))) own)
+    ∙ sym (ap
+    (λ same.
+    with_entries row (filter (is_supported attributes) (map (λ (entry : RowEntry). (entry.handle, entry.bits)) (if same then entry ∷ others else others)))) own)
     ∙ sym (at_drop_more (λ (left : List RowEntry). with_entries row (filter (is_supported attributes) (row_in left peer))) entries i d within)
 
-pub passes_entry : (attributes : List Attr) (row : Row) (entries : List RowEntry) (peer : Peer) (i : ℕ) (d : RowEntry) → i < length entries → same_peer (get_or entries i d).peer peer ≡ false
-    → with_entries row (filter (is_supported attributes) (row_in (drop (i + 1) entries) peer)) ≡ with_entries row (filter (is_supported attributes) (row_in (drop i entries) peer))
+pub passes_entry : (attributes : List Attr) (row : Row) (entries : List RowEntry) (peer : Peer) (i : ℕ) (d : RowEntry) → i < length entries
+    → same_peer (get_or entries i d).peer peer ≡ false
+    → with_entries row (filter (is_supported attributes) (row_in (drop (i + 1) entries) peer))
+    ≡ with_entries row (filter (is_supported attributes) (row_in (drop i entries) peer))
 passes_entry attributes row entries peer i d within other =
     let entry = get_or entries i d in
     let others = filter (λ (other : RowEntry). same_peer other.peer peer) (drop (i + 1) entries) in
-    sym (ap (λ same. with_entries row (filter (is_supported attributes) (map (λ (entry : RowEntry). (entry.handle, entry.bits)) (if same then entry ∷ others else others)))) other)
+    sym (ap (λ same.
+    with_entries row (filter (is_supported attributes) (map (λ (entry : RowEntry). (entry.handle, entry.bits)) (if same then entry ∷ others else others))))
+    other)
     ∙ sym (at_drop_more (λ (left : List RowEntry). with_entries row (filter (is_supported attributes) (row_in left peer))) entries i d within)
 
 -- a step of the loop over keys

@@ -48,7 +48,11 @@ pub tells_only_what_is_heard : TellsOnlyWhatIsHeard
 tells_only_what_is_heard attributes hearer one other agree =
     let found = indicated_handle hearer.pending attributes hearer.row hearer.standing hearer.backlog in
     record {
-      raised = λ handle. raised_same attributes hearer one other handle (hearer.live && is_notified hearer.pending attributes hearer.row hearer.standing handle hearer.backlog) agree refl;
-      released = released_same hearer.live (option_map (λ handle. indication_of one handle hearer.mtu) found) (option_map (λ handle. indication_of other handle hearer.mtu) found)
+      raised =
+          λ handle. raised_same attributes hearer one other handle
+          (hearer.live && is_notified hearer.pending attributes hearer.row hearer.standing handle hearer.backlog) agree refl;
+      released =
+          released_same hearer.live (option_map (λ handle. indication_of one handle hearer.mtu) found)
+          (option_map (λ handle. indication_of other handle hearer.mtu) found)
           (indicated_same attributes hearer one other found agree refl);
     }

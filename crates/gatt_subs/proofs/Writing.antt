@@ -51,23 +51,29 @@ bonds_break peers bonds i d e entries within within' is =
     ∙ flat_map-append entry_line (entries_of (get_or peers i d) (get_or bonds i e).row) (bond_entries (drop (i + 1) peers) (drop (i + 1) bonds))
     ∙ sym (ap (λ (entries : List RowEntry). flat_map entry_line entries ++ flat_map entry_line (bond_entries (drop (i + 1) peers) (drop (i + 1) bonds))) is)
 
-pub bonds_more : (peers : List Peer) (bonds : List Bond) (i : ℕ) (d : Peer) (e : Bond) (entries : List RowEntry) (held mid holds : Option Octets) → i < length peers → i < length bonds
+pub bonds_more : (peers : List Peer) (bonds : List Bond) (i : ℕ) (d : Peer) (e : Bond) (entries : List RowEntry) (held mid holds : Option Octets)
+    → i < length peers → i < length bonds
     → entries ≡ entries_of (get_or peers i d) (get_or bonds i e).row
     → HasWritten (flat_map entry_line (bond_entries peers bonds)) (flat_map entry_line (bond_entries (drop i peers) (drop i bonds))) held mid
     → Appends mid holds (flat_map entry_line entries)
     → HasWritten (flat_map entry_line (bond_entries peers bonds)) (flat_map entry_line (bond_entries (drop (i + 1) peers) (drop (i + 1) bonds))) held holds
 bonds_more peers bonds i d e entries held mid holds within within' is so_far appended =
-    written_more (flat_map entry_line (bond_entries peers bonds)) (flat_map entry_line entries) (flat_map entry_line (bond_entries (drop (i + 1) peers) (drop (i + 1) bonds))) held mid holds
-    (subst (λ (rest : Octets). HasWritten (flat_map entry_line (bond_entries peers bonds)) rest held mid) (bonds_break peers bonds i d e entries within within' is) so_far)
+    written_more (flat_map entry_line (bond_entries peers bonds)) (flat_map entry_line entries)
+    (flat_map entry_line (bond_entries (drop (i + 1) peers) (drop (i + 1) bonds))) held mid holds
+    (subst (λ (rest : Octets). HasWritten (flat_map entry_line (bond_entries peers bonds)) rest held mid)
+    (bonds_break peers bonds i d e entries within within' is) so_far)
     appended
 
-pub bonds_break_off : (peers : List Peer) (bonds : List Bond) (i : ℕ) (d : Peer) (e : Bond) (entries : List RowEntry) (held mid holds : Option Octets) → i < length peers → i < length bonds
+pub bonds_break_off : (peers : List Peer) (bonds : List Bond) (i : ℕ) (d : Peer) (e : Bond) (entries : List RowEntry) (held mid holds : Option Octets)
+    → i < length peers → i < length bonds
     → entries ≡ entries_of (get_or peers i d) (get_or bonds i e).row
     → HasWritten (flat_map entry_line (bond_entries peers bonds)) (flat_map entry_line (bond_entries (drop i peers) (drop i bonds))) held mid
     → WritesFront (flat_map entry_line entries) mid holds → WritesFront (flat_map entry_line (bond_entries peers bonds)) held holds
 bonds_break_off peers bonds i d e entries held mid holds within within' is so_far front =
-    breaks_off (flat_map entry_line (bond_entries peers bonds)) (flat_map entry_line entries) (flat_map entry_line (bond_entries (drop (i + 1) peers) (drop (i + 1) bonds))) held mid holds
-    (subst (λ (rest : Octets). HasWritten (flat_map entry_line (bond_entries peers bonds)) rest held mid) (bonds_break peers bonds i d e entries within within' is) so_far)
+    breaks_off (flat_map entry_line (bond_entries peers bonds)) (flat_map entry_line entries)
+    (flat_map entry_line (bond_entries (drop (i + 1) peers) (drop (i + 1) bonds))) held mid holds
+    (subst (λ (rest : Octets). HasWritten (flat_map entry_line (bond_entries peers bonds)) rest held mid)
+    (bonds_break peers bonds i d e entries within within' is) so_far)
     front
 
 -- the same of who is owed
@@ -80,7 +86,8 @@ owed_from peers bonds i d e within within' =
     ∙ (
     let peer = get_or peers i d in
     let rest = owed_peers (drop (i + 1) peers) (drop (i + 1) bonds) in
-    elim ((get_or bonds i e).owed) as (λ owed. flat_map owed_line (if owed then peer ∷ rest else rest) ≡ (if owed then owed_line peer else []) ++ flat_map owed_line rest) [
+    elim ((get_or bonds i e).owed) as (λ owed. flat_map owed_line (if owed then peer ∷ rest else rest) ≡ (if owed then owed_line peer else [])
+    ++ flat_map owed_line rest) [
       | true ↦ refl
       | false ↦ refl
     ])
@@ -90,15 +97,19 @@ pub owed_more : (peers : List Peer) (bonds : List Bond) (i : ℕ) (d : Peer) (e 
     → Appends mid holds (if (get_or bonds i e).owed then owed_line (get_or peers i d) else [])
     → HasWritten (flat_map owed_line (owed_peers peers bonds)) (flat_map owed_line (owed_peers (drop (i + 1) peers) (drop (i + 1) bonds))) held holds
 owed_more peers bonds i d e held mid holds within within' so_far appended =
-    written_more (flat_map owed_line (owed_peers peers bonds)) (if (get_or bonds i e).owed then owed_line (get_or peers i d) else []) (flat_map owed_line (owed_peers (drop (i + 1) peers) (drop (i + 1) bonds))) held mid holds
+    written_more (flat_map owed_line (owed_peers peers bonds)) (if (get_or bonds i e).owed then owed_line (get_or peers i d) else [])
+    (flat_map owed_line (owed_peers (drop (i + 1) peers) (drop (i + 1) bonds))) held mid holds
     (subst (λ (rest : Octets). HasWritten (flat_map owed_line (owed_peers peers bonds)) rest held mid) (owed_from peers bonds i d e within within') so_far)
     appended
 
-pub owed_break_off : (peers : List Peer) (bonds : List Bond) (i : ℕ) (d : Peer) (e : Bond) (held mid holds : Option Octets) → i < length peers → i < length bonds
+pub owed_break_off : (peers : List Peer) (bonds : List Bond) (i : ℕ) (d : Peer) (e : Bond) (held mid holds : Option Octets) → i < length peers
+    → i < length bonds
     → HasWritten (flat_map owed_line (owed_peers peers bonds)) (flat_map owed_line (owed_peers (drop i peers) (drop i bonds))) held mid
-    → WritesFront (if (get_or bonds i e).owed then owed_line (get_or peers i d) else []) mid holds → WritesFront (flat_map owed_line (owed_peers peers bonds)) held holds
+    → WritesFront (if (get_or bonds i e).owed then owed_line (get_or peers i d) else []) mid holds
+    → WritesFront (flat_map owed_line (owed_peers peers bonds)) held holds
 owed_break_off peers bonds i d e held mid holds within within' so_far front =
-    breaks_off (flat_map owed_line (owed_peers peers bonds)) (if (get_or bonds i e).owed then owed_line (get_or peers i d) else []) (flat_map owed_line (owed_peers (drop (i + 1) peers) (drop (i + 1) bonds))) held mid holds
+    breaks_off (flat_map owed_line (owed_peers peers bonds)) (if (get_or bonds i e).owed then owed_line (get_or peers i d) else [])
+    (flat_map owed_line (owed_peers (drop (i + 1) peers) (drop (i + 1) bonds))) held mid holds
     (subst (λ (rest : Octets). HasWritten (flat_map owed_line (owed_peers peers bonds)) rest held mid) (owed_from peers bonds i d e within within') so_far)
     front
 
@@ -131,10 +142,12 @@ both_written (Err e) first second held mid holds is written = tt
 pub first_lines_break_off : {X : Type 0} (line : X → Octets) (xs ys : List X) (held holds : Option Octets)
     → WritesFront (flat_map line xs) held holds → WritesFront (flat_map line (xs ++ ys)) held holds
 first_lines_break_off line xs ys held holds front =
-    subst (λ (text : Octets). WritesFront text held holds) (sym (flat_map-append line xs ys)) (first_breaks_off (flat_map line xs) (flat_map line ys) held holds front)
+    subst (λ (text : Octets). WritesFront text held holds) (sym (flat_map-append line xs ys))
+    (first_breaks_off (flat_map line xs) (flat_map line ys) held holds front)
 
 pub second_lines_break_off : {T E : Type 0} (result : Result T E) {X : Type 0} (line : X → Octets) (xs ys : List X) (held mid holds : Option Octets)
-    → Appends held mid (flat_map line xs) → OnErr result (WritesFront (flat_map line ys) mid holds) → OnErr result (WritesFront (flat_map line (xs ++ ys)) held holds)
+    → Appends held mid (flat_map line xs) → OnErr result (WritesFront (flat_map line ys) mid holds)
+    → OnErr result (WritesFront (flat_map line (xs ++ ys)) held holds)
 second_lines_break_off result line xs ys held mid holds is front =
     subst (λ (text : Octets). OnErr result (WritesFront text held holds)) (sym (flat_map-append line xs ys))
     (second_breaks_off result (flat_map line xs) (flat_map line ys) held mid holds is front)

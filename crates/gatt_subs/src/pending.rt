@@ -261,7 +261,7 @@ impl<const ROOM: usize> PendingOf<ROOM> {
     }
 
     /// Adapts to a replaced table: nothing waits, and the unconfirmed indication is outdated.
-    pub fn replaced(&mut self)
+    pub fn replace_table(&mut self)
         ensures { self.new ≡ after_replacement self.old }
     {
         self.waiting.clear();

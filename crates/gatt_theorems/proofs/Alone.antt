@@ -2,7 +2,7 @@
 use Rattle.std.proofs.Common.{◌≡◌, Bool, [], ◌∷◌, ◌++◌, refl, sym, ap, subst, ◌∙◌}
 use Rattle.att_numbers.specs.Types.{Handle, Row}
 use Rattle.att_policy.specs.declared.standing.Standing.{Standing}
-use Rattle.gatt_laws.proofs.Ends.{end_keeps}
+use Rattle.gatt_laws.proofs.runs.Ends.{end_keeps}
 use Rattle.gatt_laws.specs.laws.Alike.{MayNotKnow}
 use Rattle.gatt_laws.specs.laws.Runs.{events_of}
 use Rattle.gatt_laws.specs.laws.Given.{packets_given_in_order}
@@ -35,7 +35,8 @@ changes-alike ordinal peer hidden one other event alike agrees =
       controller = controller i;
     } in
     subst (λ (s : State). SameChange ordinal peer hidden (change_of one event) (change_of s event)) is
-    (change-same ordinal peer hidden one other.shared.table.values other.owed other.connections alike.values alike.owed alike.owed_too alike.own alike.others event
+    (change-same ordinal peer hidden one other.shared.table.values other.owed other.connections alike.values alike.owed alike.owed_too alike.own alike.others
+    event
     agrees.no_replacement agrees.hides agrees.of agrees.spares (subst (λ (s : State). SparesOthers ordinal s event) (sym is) agrees.spares_too))
 
 -- what the connection may not know at the end it may not know before
@@ -46,10 +47,13 @@ hides-before ordinal hidden state event hides live handle is =
     let change : Change = change_of state event in
     let shared : SharedState = change.state.shared in
     let mark = end_keeps (λ (of : ConnectionState). of.mark) (λ of pdus pending given reply reason. refl) state event ordinal in
-    let row = end_keeps (λ (of : ConnectionState). row_in_force (change.state.bonds of.peer) of) (λ of pdus pending given reply reason. refl) state event ordinal in
+    let row =
+    end_keeps (λ (of : ConnectionState). row_in_force (change.state.bonds of.peer) of) (λ of pdus pending given reply reason. refl) state event ordinal in
     let standing = end_keeps (λ (of : ConnectionState). standing_of shared of) (λ of pdus pending given reply reason. refl) state event ordinal in
     subst (λ (of : Row). MayNotKnow shared.table.attributes of (standing_of shared (change.state.connections ordinal)) handle) row
-    (subst (λ (of : Standing). MayNotKnow shared.table.attributes (row_in_force ((step state event).bonds ((step state event).connections ordinal).peer) ((step state event).connections ordinal)) of handle)
+    (subst (λ (of : Standing).
+    MayNotKnow shared.table.attributes
+    (row_in_force ((step state event).bonds ((step state event).connections ordinal).peer) ((step state event).connections ordinal)) of handle)
     standing (hides (ap is_live mark ∙ live) handle is))
 
 -- the end of an event
@@ -63,7 +67,8 @@ finished-one ordinal peer hidden one other same hides =
     let bonds = same.state.bonds in
     let raised = same.to_notify in
     let connection = same.state.own in
-    finished-same hidden one.state.shared other.state.shared.table.values one.state.bonds (one.to_notify ordinal) (one.state.connections ordinal) same.state.values hides
+    finished-same hidden one.state.shared other.state.shared.table.values one.state.bonds (one.to_notify ordinal) (one.state.connections ordinal)
+    same.state.values hides
     ∙ (λ i. finished (shared i) (bonds i) (raised i) (connection i))
 
 ended-alike : (ordinal : Ordinal) (peer : Peer) (hidden : Handle → Bool) (one other : Change) → SameChange ordinal peer hidden one other

@@ -8,7 +8,7 @@ use Rattle.att_reads.specs.Access.{refusal_at}
 use Rattle.att_attributes.specs.declared.attr.Attr.{Attr}
 use Rattle.att_table.specs.Table.{value_at}
 use Rattle.att_writes.specs.SameBut.{SameBut}
-use Rattle.gatt_laws.proofs.Silence.{only_serves_the_live}
+use Rattle.gatt_laws.proofs.runs.Silence.{only_serves_the_live}
 use Rattle.octet_io.proofs.Choices.{both_choices, either_choice}
 use Rattle.gatt_laws.specs.laws.Alike.{erased, MayNotKnow}
 use Rattle.gatt_laws.specs.machine.Controller.{Slots, command_of_init, command_for, commands_for, commands_due, count_before, without_command, enabling, controller_after}
@@ -63,15 +63,18 @@ pub finished-same : (hidden : Handle → Bool) (shared : SharedState) (ys : Valu
     → finished shared bonds handles connection ≡ finished (with_values shared ys) bonds handles connection
 unfolding after_hearing
 finished-same hidden shared ys bonds handles connection same hides =
-    elim (is_live connection.mark) as (λ (live : Bool). is_live connection.mark ≡ live → finished shared bonds handles connection ≡ finished (with_values shared ys) bonds handles connection) [
+    elim (is_live connection.mark) as (λ (live : Bool). is_live connection.mark ≡ live → finished shared bonds handles connection
+    ≡ finished (with_values shared ys) bonds handles connection) [
       | false ↦ λ is. only_serves_the_live shared bonds handles connection is ∙ sym (only_serves_the_live (with_values shared ys) bonds handles connection is)
       | true ↦ λ is.
           ap (λ (heard : Heard). after_giving shared (with_heard connection heard))
           (heard-same shared.table.attributes shared.table.values ys (hearer_of shared (bonds connection.peer) connection) shared.time handles
-          (heard-there hidden shared.table.attributes (row_in_force (bonds connection.peer) connection) (standing_of shared connection) shared.table.values ys same (hides is)))
+          (heard-there hidden shared.table.attributes (row_in_force (bonds connection.peer) connection) (standing_of shared connection) shared.table.values ys
+          same (hides is)))
     ] refl
 
-pub finished-erased : (shared : SharedState) (bonds : Bonds) (handles : List Handle) (connection : ConnectionState) → erased (finished shared bonds handles connection) ≡ erased connection
+pub finished-erased : (shared : SharedState) (bonds : Bonds) (handles : List Handle) (connection : ConnectionState)
+    → erased (finished shared bonds handles connection) ≡ erased connection
 unfolding after_hearing
 finished-erased shared bonds handles connection =
     let heard : ConnectionState = after_hearing shared (bonds connection.peer) handles connection in
@@ -92,7 +95,8 @@ module _ (parts others : Ordinal → ConnectionState) (same : (ordinal : Ordinal
 
 without-erased : (connection other : ConnectionState) → erased connection ≡ erased other → erased (without_command connection) ≡ erased (without_command other)
 without-erased connection other same =
-    both_choices (λ (a b : ConnectionState). erased a ≡ erased b) (is_some connection.reason) (is_some other.reason) (record connection { reason = None }) (record connection { reply = None })
+    both_choices (λ (a b : ConnectionState). erased a ≡ erased b) (is_some connection.reason) (is_some other.reason) (record connection { reason = None })
+    (record connection { reply = None })
     (record other { reason = None }) (record other { reply = None }) (λ i. is_some (same i).reason)
     (λ is i. record (same i) { reason = None }) (λ is i. record (same i) { reply = None })
 
@@ -119,7 +123,8 @@ commands-alike ordinal peer hidden one other alike =
       owed_too = alike.owed_too;
       own = λ i. if tests ordinal i then without_command (own i) else own i;
       others = λ at.
-          both_choices (λ (a b : ConnectionState). erased a ≡ erased b) (sent one at) (sent other at) (without_command (one.connections at)) (one.connections at)
+          both_choices (λ (a b : ConnectionState). erased a ≡ erased b) (sent one at) (sent other at) (without_command (one.connections at))
+          (one.connections at)
           (without_command (other.connections at)) (other.connections at) (tests at)
           (λ is. without-erased (one.connections at) (other.connections at) (alike.others at)) (λ is. alike.others at);
       slots = slots;

@@ -8,12 +8,12 @@ use Rattle.att_pdu.specs.Grammar.{request_of, is_due}
 use Rattle.att_table.specs.Table.{with_value}
 use Rattle.att_writes.proofs.Lengths.{stored_both}
 use Rattle.att_writes.specs.SameBut.{SameBut}
-use Rattle.gatt_laws.proofs.EffectsAlike.{SameEffect, OwnEffect, OtherEffect, own_effect, other_effect}
+use Rattle.gatt_laws.proofs.isolation.EffectsAlike.{SameEffect, OwnEffect, OtherEffect, own_effect, other_effect}
 use Rattle.octet_io.proofs.Choices.{both_choices}
 use Rattle.gatt_laws.specs.laws.Alike.{erased}
 use Rattle.gatt_laws.specs.laws.RowNotices.{is_replacement}
 use Rattle.gatt_laws.specs.laws.TwoWorlds.{finds_no_room, is_answer_due}
-use Rattle.gatt_laws.proofs.Steady.{completed_steady}
+use Rattle.gatt_laws.proofs.runs.Steady.{completed_steady}
 use Rattle.gatt_laws.specs.machine.Event.{Ordinal, Own, Event, Connected, Disconnected, Asks, Of, Completed, Credit, Update, Tick, Replaced}
 use Rattle.gatt_laws.specs.machine.ConnectionState.{Mark, ConnectionState, Absent, Live, Ending, is_live, is_there, row_in_force, connection_mtu, standing_of, after_ending}
 use Rattle.gatt_laws.specs.machine.SharedState.{SharedState, ServiceChangedPending}
@@ -36,13 +36,15 @@ moved state values owed parts = record state { shared = with_values state.shared
 
 -- a peer that is owed nothing comes to be owed nothing
 served-unowed : (shared : SharedState) (bond : Row) (connection : ConnectionState) (pdu : Octets) (ended live : Bool)
-    → (if live then (if ended then effect_on_connection shared bond false (after_ending connection remote_user_terminated) else served shared bond false connection pdu (request_of pdu (connection_mtu shared connection)))
+    → (if live then (if ended then effect_on_connection shared bond false (after_ending connection remote_user_terminated)
+    else served shared bond false connection pdu (request_of pdu (connection_mtu shared connection)))
     else effect_on_connection shared bond false connection).owed ≡ false
 served-unowed shared bond connection pdu true true = refl
 served-unowed shared bond connection pdu false true = refl
 served-unowed shared bond connection pdu ended false = refl
 
-live-unowed : (shared : SharedState) (bond : Row) (connection : ConnectionState) (own : Own) (live : Bool) → (live_effect shared bond false connection own).owed ≡ false
+live-unowed : (shared : SharedState) (bond : Row) (connection : ConnectionState) (own : Own) (live : Bool) → (live_effect shared bond false connection own).owed
+    ≡ false
     → (if live then live_effect shared bond false connection own else effect_on_connection shared bond false connection).owed ≡ false
 live-unowed shared bond connection own true is = is
 live-unowed shared bond connection own false is = refl
@@ -51,10 +53,12 @@ unowed : (shared : SharedState) (bond : Row) (connection : ConnectionState) (own
 unfolding live_effect
 unowed shared bond connection (Connected handle peer) = refl
 unowed shared bond connection Disconnected = refl
-unowed shared bond connection (Asks pdu) = served-unowed shared bond connection pdu (is_due (request_of pdu (connection_mtu shared connection)) && is_full shared connection) (is_live connection.mark)
+unowed shared bond connection (Asks pdu) =
+    served-unowed shared bond connection pdu (is_due (request_of pdu (connection_mtu shared connection)) && is_full shared connection) (is_live connection.mark)
 unowed shared bond connection own = live-unowed shared bond connection own (is_live connection.mark) refl
 
-unowed-at : (shared : SharedState) (bond : Row) (connection : ConnectionState) (own : Own) (peer : Peer) (owing : ServiceChangedPending) (same : Bool) → same_peer peer connection.peer ≡ same
+unowed-at : (shared : SharedState) (bond : Row) (connection : ConnectionState) (own : Own) (peer : Peer) (owing : ServiceChangedPending) (same : Bool)
+    → same_peer peer connection.peer ≡ same
     → owing peer ≡ false → (if same then (effect_of shared bond (owing connection.peer) connection own).owed else owing peer) ≡ false
 unowed-at shared bond connection own peer owing true is none =
     let equal : peer ≡ connection.peer = equal_peers peer connection.peer is in
@@ -84,10 +88,12 @@ record SameHere (one other : Effect) : Type 0 where
   to_notify_here : one.to_notify_here ≡ other.to_notify_here
 
 module _ (shared there : SharedState) (bond : Row) (owed its : Bool) (connection : ConnectionState) (away : is_there connection.mark ≡ false) where
-  kept-here : (own : Own) → SameHere (if is_live connection.mark then live_effect shared bond owed connection own else effect_on_connection shared bond owed connection)
+  kept-here : (own : Own)
+      → SameHere (if is_live connection.mark then live_effect shared bond owed connection own else effect_on_connection shared bond owed connection)
       (if is_live connection.mark then live_effect there bond its connection own else effect_on_connection there bond its connection)
   kept-here own =
-      both_choices SameHere (is_live connection.mark) (is_live connection.mark) (live_effect shared bond owed connection own) (effect_on_connection shared bond owed connection)
+      both_choices SameHere (is_live connection.mark) (is_live connection.mark) (live_effect shared bond owed connection own)
+      (effect_on_connection shared bond owed connection)
       (live_effect there bond its connection own) (effect_on_connection there bond its connection) refl
       (λ is. absurd (cc (is, away-live connection away))) (λ is. record { connection = refl; to_notify_here = refl })
 
@@ -96,7 +102,8 @@ module _ (shared there : SharedState) (bond : Row) (owed its : Bool) (connection
   away-here Disconnected = record { connection = refl; to_notify_here = refl }
   away-here own = kept-here own
 
-module _ (ordinal : Ordinal) (peer : Peer) (hidden : Handle → Bool) (state : State) (ys : Values) (owing : ServiceChangedPending) (others : Ordinal → ConnectionState)
+module _ (ordinal : Ordinal) (peer : Peer) (hidden : Handle → Bool) (state : State) (ys : Values) (owing : ServiceChangedPending)
+    (others : Ordinal → ConnectionState)
     (same : SameBut hidden state.shared.table.values ys) (owes : state.owed peer ≡ false) (owes_too : owing peer ≡ false)
     (own : state.connections ordinal ≡ others ordinal) (rest : (at : Ordinal) → erased (state.connections at) ≡ erased (others at)) where
   abbrev far : State
@@ -109,7 +116,8 @@ module _ (ordinal : Ordinal) (peer : Peer) (hidden : Handle → Bool) (state : S
   turn_far at act = effect_of (with_values state.shared ys) (state.bonds (others at).peer) (owing (others at).peer) (others at) act
 
   after-turns : (at : Ordinal) (act : Own) → SameEffect hidden (turn_at at act) (turn_far at act)
-      → (if ordinal == at then (turn_at at act).connection else state.connections ordinal) ≡ (if ordinal == at then (turn_far at act).connection else others ordinal)
+      → (if ordinal == at then (turn_at at act).connection else state.connections ordinal)
+      ≡ (if ordinal == at then (turn_far at act).connection else others ordinal)
       → erased (turn_at at act).connection ≡ erased (turn_far at act).connection
       → (if ordinal == at then (turn_at at act).to_notify_here else (turn_at at act).to_notify)
       ≡ (if ordinal == at then (turn_far at act).to_notify_here else (turn_far at act).to_notify)
@@ -122,11 +130,14 @@ module _ (ordinal : Ordinal) (peer : Peer) (hidden : Handle → Bool) (state : S
           shared = refl;
           values = turns.values;
           bonds = λ i. at_peer (peers i) (bonds i) state.bonds;
-          owed = unowed-at state.shared (state.bonds (state.connections at).peer) (state.connections at) act peer state.owed (same_peer peer (state.connections at).peer) refl owes;
-          owed_too = unowed-at (with_values state.shared ys) (state.bonds (others at).peer) (others at) act peer owing (same_peer peer (others at).peer) refl owes_too;
+          owed = unowed-at state.shared (state.bonds (state.connections at).peer) (state.connections at) act peer state.owed
+              (same_peer peer (state.connections at).peer) refl owes;
+          owed_too =
+              unowed-at (with_values state.shared ys) (state.bonds (others at).peer) (others at) act peer owing (same_peer peer (others at).peer) refl owes_too;
           own = connection;
           others = λ one.
-              both_choices (λ (a b : ConnectionState). erased a ≡ erased b) (one == at) (one == at) (turn_at at act).connection (state.connections one) (turn_far at act).connection (others one) refl
+              both_choices (λ (a b : ConnectionState). erased a ≡ erased b) (one == at) (one == at) (turn_at at act).connection (state.connections one)
+              (turn_far at act).connection (others one) refl
               (λ is. erasure) (λ is. rest one);
           slots = refl;
           next = refl;
@@ -136,7 +147,8 @@ module _ (ordinal : Ordinal) (peer : Peer) (hidden : Handle → Bool) (state : S
       }
 
   -- what happens to the connection itself
-  own-turns : (act : Own) → KnowsNone hidden state.shared state.bonds (state.connections ordinal) → state.owed (state.connections ordinal).peer ≡ owing (others ordinal).peer
+  own-turns : (act : Own) → KnowsNone hidden state.shared state.bonds (state.connections ordinal) → state.owed (state.connections ordinal).peer
+      ≡ owing (others ordinal).peer
       → OwnEffect hidden (turn_at ordinal act) (turn_far ordinal act)
   own-turns act hides owed =
       let connection : ConnectionState = state.connections ordinal in
@@ -146,7 +158,9 @@ module _ (ordinal : Ordinal) (peer : Peer) (hidden : Handle → Bool) (state : S
       (own_effect hidden state.shared ys same bond (state.owed connection.peer) connection act
       (λ live. record {
         attributes = refl;
-        readable = readable-there hidden state.shared.table.attributes (row_in_force bond connection) (standing_of state.shared connection) state.shared.table.values ys same (hides live);
+        readable =
+            readable-there hidden state.shared.table.attributes (row_in_force bond connection) (standing_of state.shared connection) state.shared.table.values
+            ys same (hides live);
       }))
 
   -- what happens to any connection, as that of another peer
@@ -160,9 +174,11 @@ module _ (ordinal : Ordinal) (peer : Peer) (hidden : Handle → Bool) (state : S
       let peer_there : Peer = other-peer connection.peer in
       subst (λ (t : Effect). OtherEffect peer_there hidden (turn_at at act) t)
       (λ i. effect_of (with_values state.shared ys) (state.bonds (parts i).peer) (owing (others at).peer) (others at) act)
-      (other_effect hidden state.shared ys same peer_there bond (state.owed connection.peer) (owing (others at).peer) connection (others at) parts (is-other connection.peer) act spared spared_too)
+      (other_effect hidden state.shared ys same peer_there bond (state.owed connection.peer) (owing (others at).peer) connection (others at) parts
+      (is-other connection.peer) act spared spared_too)
 
-  no-room-away : (shared : SharedState) (connection : ConnectionState) (act : Own) → is_there connection.mark ≡ false → finds_no_room shared connection act ≡ false
+  no-room-away : (shared : SharedState) (connection : ConnectionState) (act : Own) → is_there connection.mark ≡ false → finds_no_room shared connection act
+      ≡ false
   no-room-away shared connection act away =
       ap (λ (live : Bool). live && (is_answer_due shared connection act && is_full shared connection)) (away-live connection away)
 
@@ -196,10 +212,13 @@ module _ (ordinal : Ordinal) (peer : Peer) (hidden : Handle → Bool) (state : S
   away-change act away =
       let away_too : is_there (others ordinal).mark ≡ false = sym (ap (λ (connection : ConnectionState). is_there connection.mark) own) ∙ away in
       let turns =
-      other-turns ordinal act (no-room-away state.shared (state.connections ordinal) act away) (no-room-away (with_values state.shared ys) (others ordinal) act away_too) in
+      other-turns ordinal act (no-room-away state.shared (state.connections ordinal) act away)
+      (no-room-away (with_values state.shared ys) (others ordinal) act away_too) in
       let same_here : SameHere (turn_at ordinal act) (turn_far ordinal act) =
-      subst (λ (connection : ConnectionState). SameHere (turn_at ordinal act) (effect_of (with_values state.shared ys) (state.bonds connection.peer) (owing (others ordinal).peer) connection act)) own
-      (away-here state.shared (with_values state.shared ys) (state.bonds (state.connections ordinal).peer) (state.owed (state.connections ordinal).peer) (owing (others ordinal).peer)
+      subst (λ (connection : ConnectionState).
+      SameHere (turn_at ordinal act) (effect_of (with_values state.shared ys) (state.bonds connection.peer) (owing (others ordinal).peer) connection act)) own
+      (away-here state.shared (with_values state.shared ys) (state.bonds (state.connections ordinal).peer) (state.owed (state.connections ordinal).peer)
+      (owing (others ordinal).peer)
       (state.connections ordinal) away act) in
       let connection = same_here.connection in
       let here = same_here.to_notify_here in
@@ -208,7 +227,8 @@ module _ (ordinal : Ordinal) (peer : Peer) (hidden : Handle → Bool) (state : S
       (λ i. if ordinal == ordinal then here i else raised i)
 
   of-change : (at : Ordinal) (act : Own) (mine there : Bool) → (ordinal == at) ≡ mine → is_there (state.connections ordinal).mark ≡ there
-      → KnowsNone hidden state.shared state.bonds (state.connections ordinal) → (is_there (state.connections ordinal).mark ≡ true → (state.connections ordinal).peer ≡ peer)
+      → KnowsNone hidden state.shared state.bonds (state.connections ordinal)
+      → (is_there (state.connections ordinal).mark ≡ true → (state.connections ordinal).peer ≡ peer)
       → SparesOthers ordinal state (Of at act) → SparesOthers ordinal far (Of at act)
       → SameChange ordinal peer hidden (own_change state at act) (own_change far at act)
   of-change at act true true is there hides named spares spares_too =
@@ -219,7 +239,8 @@ module _ (ordinal : Ordinal) (peer : Peer) (hidden : Handle → Bool) (state : S
       (away-change act away)
   of-change at act false there is was hides named spares spares_too = other-change at act is (spares is) (spares_too is)
 
-  completed-erased : (at : Ordinal) (entries : List (Ordinal × ℕ)) (connection : ConnectionState) → erased (after_packets_completed at entries connection) ≡ erased connection
+  completed-erased : (at : Ordinal) (entries : List (Ordinal × ℕ)) (connection : ConnectionState) → erased (after_packets_completed at entries connection)
+      ≡ erased connection
   completed-erased = completed_steady erased (λ of done. refl)
 
   stored-too : (handle : Handle) (value : Octets) → SameBut hidden (with_value state.shared.table.values handle value) (with_value ys handle value)
@@ -248,7 +269,9 @@ module _ (ordinal : Ordinal) (peer : Peer) (hidden : Handle → Bool) (state : S
     };
     to_notify = refl;
   }
-  change-same (Credit allowed opcode status (Some init)) kept hides named spares spares_too = record { state = record { shared = refl; values = same; bonds = refl; owed = owes; owed_too = owes_too; own = own; others = rest; slots = refl; next = refl; controller = refl }; to_notify = refl }
+  change-same (Credit allowed opcode status (Some init)) kept hides named spares spares_too =
+  record { state = record { shared = refl; values = same; bonds = refl; owed = owes; owed_too = owes_too; own = own; others = rest; slots = refl; next = refl;
+  controller = refl }; to_notify = refl }
   change-same (Update handle value) kept hides named spares spares_too = record {
     state = record {
       shared = refl;

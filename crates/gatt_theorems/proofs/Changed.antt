@@ -15,11 +15,11 @@ use Rattle.att_writes.specs.Applied.{Stored, stored_in, applied_to, stored_after
 use Rattle.att_writes.specs.Queue.{touched_by}
 use Rattle.att_writes.specs.SameBut.{is_touched}
 use Rattle.gatt_conn.specs.Answer.{Question, Writing, writing_asked, stored_after_writing, handles_after}
-use Rattle.gatt_laws.proofs.Ends.{end_keeps}
-use Rattle.gatt_laws.proofs.Headline.{writes_what_may_be_written}
-use Rattle.gatt_laws.proofs.Notices.{is_among, none-once, none-touched}
-use Rattle.gatt_laws.proofs.Steady.{completed_steady, live_steady}
-use Rattle.gatt_laws.proofs.Stores.{other-value}
+use Rattle.gatt_laws.proofs.runs.Ends.{end_keeps}
+use Rattle.gatt_laws.proofs.policy.Headline.{writes_what_may_be_written}
+use Rattle.gatt_laws.proofs.notices.Notices.{is_among, none-once, none-touched}
+use Rattle.gatt_laws.proofs.runs.Steady.{completed_steady, live_steady}
+use Rattle.gatt_laws.proofs.policy.Stores.{other-value}
 use Rattle.gatt_laws.specs.laws.Headline.{Each, MayUse}
 use Rattle.gatt_laws.specs.machine.Event.{Ordinal, Own, Event, Connected, Disconnected, Asks, Of, Completed, Credit, Update, Replaced}
 use Rattle.gatt_laws.specs.machine.ConnectionState.{ConnectionState, fresh_connection, is_live, is_there, key_of, row_in_force, connection_mtu, standing_of, bearer_of, prepared_of, after_ending}
@@ -110,11 +110,13 @@ module _ (shared : SharedState) (bond : Row) (owed : Bool) (connection : Connect
   -- a PDU that is served may write
   record Writes (pdu : Octets) (attribute : Handle) : Type 0 where
     serves : is_live connection.mark ≡ true
-    right : IsRight shared.table (row_in_force bond connection) (standing_of shared connection) attribute (writing_asked (prepared_of connection) (request_of pdu (connection_mtu shared connection)))
+    right : IsRight shared.table (row_in_force bond connection) (standing_of shared connection) attribute
+        (writing_asked (prepared_of connection) (request_of pdu (connection_mtu shared connection)))
 
   served-writes : (pdu : Octets) (attribute : Handle) → is_live connection.mark ≡ true
       → NotSame shared.table (row_in_force bond connection) (standing_of shared connection) attribute
-      (stored_after_writing shared.table (row_in_force bond connection) (standing_of shared connection) (writing_asked (prepared_of connection) (request_of pdu (connection_mtu shared connection))))
+      (stored_after_writing shared.table (row_in_force bond connection) (standing_of shared connection)
+      (writing_asked (prepared_of connection) (request_of pdu (connection_mtu shared connection))))
       → Writes pdu attribute
   served-writes pdu attribute live differs =
       let asked : Question = request_of pdu (connection_mtu shared connection) in
@@ -125,7 +127,9 @@ module _ (shared : SharedState) (bond : Row) (owed : Bool) (connection : Connect
       }
 
   abbrev stored_then : Octets → Stored
-  stored_then pdu = stored_after_writing shared.table (row_in_force bond connection) (standing_of shared connection) (writing_asked (prepared_of connection) (request_of pdu (connection_mtu shared connection)))
+  stored_then pdu =
+      stored_after_writing shared.table (row_in_force bond connection) (standing_of shared connection)
+      (writing_asked (prepared_of connection) (request_of pdu (connection_mtu shared connection)))
 
   -- the values, the row of the bond, and its own row
   record TurnsByRight (own : Own) (attribute : Handle) (effect : Effect) : Type 0 where
@@ -175,10 +179,12 @@ module _ (shared : SharedState) (bond : Row) (owed : Bool) (connection : Connect
   -- a PDU of the Attribute Protocol
   abbrev asked_turn : Octets → Bool → Bool → Effect
   asked_turn pdu live ended =
-      if live then (if ended then effect_on_connection shared bond owed (after_ending connection remote_user_terminated) else served shared bond owed connection pdu (request_of pdu (connection_mtu shared connection)))
+      if live then (if ended then effect_on_connection shared bond owed (after_ending connection remote_user_terminated)
+      else served shared bond owed connection pdu (request_of pdu (connection_mtu shared connection)))
       else effect_on_connection shared bond owed connection
 
-  asks-right : (pdu : Octets) (attribute : Handle) (live ended : Bool) → is_live connection.mark ≡ live → TurnsByRight (Asks pdu) attribute (asked_turn pdu live ended)
+  asks-right : (pdu : Octets) (attribute : Handle) (live ended : Bool) → is_live connection.mark ≡ live
+      → TurnsByRight (Asks pdu) attribute (asked_turn pdu live ended)
   asks-right pdu attribute true true is = left (Asks pdu) attribute (asked_turn pdu true true) refl refl
   asks-right pdu attribute true false is = record {
     by_value = λ used differs. (pdu, refl, served-writes pdu attribute is (λ same. differs (same.value used)));
@@ -186,7 +192,8 @@ module _ (shared : SharedState) (bond : Row) (owed : Bool) (connection : Connect
   }
   asks-right pdu attribute false ended is = left (Asks pdu) attribute (asked_turn pdu false ended) refl refl
 
-  asks-own : (pdu : Octets) (attribute : Handle) (live ended : Bool) → is_live connection.mark ≡ live → OwnByRight (Asks pdu) attribute (asked_turn pdu live ended)
+  asks-own : (pdu : Octets) (attribute : Handle) (live ended : Bool) → is_live connection.mark ≡ live
+      → OwnByRight (Asks pdu) attribute (asked_turn pdu live ended)
   asks-own pdu attribute true true is = left-own (Asks pdu) attribute (asked_turn pdu true true) refl
   asks-own pdu attribute true false is = λ differs.
       let writes = own-right pdu attribute (is_some (key_of connection)) refl is differs in (writes.0, pdu, refl, writes.1)
@@ -201,7 +208,8 @@ module _ (shared : SharedState) (bond : Row) (owed : Bool) (connection : Connect
 
   turn-right : (own : Own) (attribute : Handle) → TurnsByRight own attribute (effect_of shared bond owed connection own)
   unfolding live_effect
-  turn-right (Connected handle peer) attribute = left (Connected handle peer) attribute (effect_of shared bond owed connection (Connected handle peer)) refl refl
+  turn-right (Connected handle peer) attribute =
+      left (Connected handle peer) attribute (effect_of shared bond owed connection (Connected handle peer)) refl refl
   turn-right Disconnected attribute = left Disconnected attribute (effect_of shared bond owed connection Disconnected) refl refl
   turn-right (Asks pdu) attribute =
       asks-right pdu attribute (is_live connection.mark) (is_due (request_of pdu (connection_mtu shared connection)) && is_full shared connection) refl
@@ -221,8 +229,11 @@ module _ (shared : SharedState) (bond : Row) (owed : Bool) (connection : Connect
   unfolding live_effect
   turn-own (Connected handle peer) attribute = tt
   turn-own Disconnected attribute = tt
-  turn-own (Asks pdu) attribute = asks-own pdu attribute (is_live connection.mark) (is_due (request_of pdu (connection_mtu shared connection)) && is_full shared connection) refl
-  turn-own own attribute = live-own own attribute (is_live connection.mark) (live_steady (λ (of : ConnectionState). of.row) (λ of mark until steps said pending pdus reply reason. refl) shared bond owed connection own refl)
+  turn-own (Asks pdu) attribute =
+      asks-own pdu attribute (is_live connection.mark) (is_due (request_of pdu (connection_mtu shared connection)) && is_full shared connection) refl
+  turn-own own attribute =
+      live-own own attribute (is_live connection.mark)
+      (live_steady (λ (of : ConnectionState). of.row) (λ of mark until steps said pending pdus reply reason. refl) shared bond owed connection own refl)
 
 -- An event.
 
@@ -243,17 +254,20 @@ module _ (state : State) (at : Ordinal) where
   turns : (own : Own) (attribute : Handle)
       → TurnsByRight state.shared (state.bonds (state.connections at).peer) (state.owed (state.connections at).peer) (state.connections at) own attribute
       (effect_of state.shared (state.bonds (state.connections at).peer) (state.owed (state.connections at).peer) (state.connections at) own)
-  turns own attribute = turn-right state.shared (state.bonds (state.connections at).peer) (state.owed (state.connections at).peer) (state.connections at) own attribute
+  turns own attribute =
+      turn-right state.shared (state.bonds (state.connections at).peer) (state.owed (state.connections at).peer) (state.connections at) own attribute
 
   value-right : (own : Own) (attribute : Handle) → 0 < attribute
-      → (value_at (effect_of state.shared (state.bonds (state.connections at).peer) (state.owed (state.connections at).peer) (state.connections at) own).values attribute
+      → (value_at (effect_of state.shared (state.bonds (state.connections at).peer) (state.owed (state.connections at).peer) (state.connections at) own).values
+      attribute
       ≡ value_at state.shared.table.values attribute → ⊥)
       → MayWriteThere state at own attribute
   value-right own attribute used differs =
       let writes = (turns own attribute).by_value used differs in may-write own attribute writes.0 writes.1 writes.2
 
   bond-right-if : (own : Own) (peer : Peer) (attribute : Handle) (same : Bool) → same_peer peer (state.connections at).peer ≡ same
-      → (bits_at (if same then (effect_of state.shared (state.bonds (state.connections at).peer) (state.owed (state.connections at).peer) (state.connections at) own).bond
+      → (bits_at
+      (if same then (effect_of state.shared (state.bonds (state.connections at).peer) (state.owed (state.connections at).peer) (state.connections at) own).bond
       else state.bonds peer) attribute ≡ bits_at (state.bonds peer) attribute → ⊥)
       → ConfiguresItsBond state at own peer attribute
   bond-right-if own peer attribute true is differs =
@@ -275,7 +289,8 @@ module _ (state : State) (at : Ordinal) where
   row-then own =
       end_keeps (λ (of : ConnectionState). of.row) (λ of pdus pending given reply reason. refl) state (Of at own) at
       ∙ ap (λ (same : Bool). (if same
-      then (effect_of state.shared (state.bonds (state.connections at).peer) (state.owed (state.connections at).peer) (state.connections at) own).connection else state.connections at).row)
+      then (effect_of state.shared (state.bonds (state.connections at).peer) (state.owed (state.connections at).peer) (state.connections at) own).connection
+      else state.connections at).row)
       (eq-eqb at at refl)
 
   come-anew : (handle : ℕ) (peer : Peer) (attribute : Handle) (there : Bool)
@@ -285,17 +300,23 @@ module _ (state : State) (at : Ordinal) where
   come-anew handle peer attribute false differs = refl
 
   own-right-at : (own : Own) (attribute : Handle)
-      → (bits_at (effect_of state.shared (state.bonds (state.connections at).peer) (state.owed (state.connections at).peer) (state.connections at) own).connection.row attribute
+      → (bits_at
+      (effect_of state.shared (state.bonds (state.connections at).peer) (state.owed (state.connections at).peer) (state.connections at) own).connection.row
+      attribute
       ≡ bits_at (state.connections at).row attribute → ⊥)
       → ConfiguresOwn state at own attribute
   own-right-at (Connected handle peer) attribute differs =
       ap (λ (row : Row). bits_at row attribute) (row-then (Connected handle peer))
       ∙ come-anew handle peer attribute (is_there (state.connections at).mark) differs
   own-right-at Disconnected attribute differs = ap (λ (row : Row). bits_at row attribute) (row-then Disconnected)
-  own-right-at own attribute differs = its-own own attribute (turn-own state.shared (state.bonds (state.connections at).peer) (state.owed (state.connections at).peer) (state.connections at) own attribute differs)
+  own-right-at own attribute differs =
+      its-own own attribute
+      (turn-own state.shared (state.bonds (state.connections at).peer) (state.owed (state.connections at).peer) (state.connections at) own attribute differs)
 
   own-right-if : (own : Own) (ordinal : Ordinal) (attribute : Handle) (same : Bool) → (ordinal == at) ≡ same
-      → (bits_at (if same then (effect_of state.shared (state.bonds (state.connections at).peer) (state.owed (state.connections at).peer) (state.connections at) own).connection
+      → (bits_at
+      (if same
+      then (effect_of state.shared (state.bonds (state.connections at).peer) (state.owed (state.connections at).peer) (state.connections at) own).connection
       else state.connections ordinal).row attribute ≡ bits_at (state.connections ordinal).row attribute → ⊥)
       → (ordinal ≡ at) × ConfiguresOwn state at own attribute
   own-right-if own ordinal attribute true is differs =
@@ -336,7 +357,8 @@ change-own : (state : State) (event : Event) (ordinal : Ordinal) (attribute : Ha
 unfolding change_of
 change-own state (Of at own) ordinal attribute differs = own-right-if state at own ordinal attribute (ordinal == at) refl differs
 change-own state (Completed entries) ordinal attribute differs =
-    differs (ap (λ (row : Row). bits_at row attribute) (completed_steady (λ (of : ConnectionState). of.row) (λ of done. refl) ordinal entries (state.connections ordinal)))
+    differs (ap (λ (row : Row). bits_at row attribute)
+    (completed_steady (λ (of : ConnectionState). of.row) (λ of done. refl) ordinal entries (state.connections ordinal)))
 change-own state (Credit allowed opcode status (Some init)) ordinal attribute differs = differs refl
 change-own state (Replaced table) ordinal attribute differs = tt
 change-own state event ordinal attribute differs = differs refl
@@ -344,4 +366,6 @@ change-own state event ordinal attribute differs = differs refl
 pub changes_own_rows_by_right : ChangesOwnRowsByRight
 changes_own_rows_by_right state event ordinal attribute differs =
     change-own state event ordinal attribute
-    (λ same. differs (ap (λ (row : Row). bits_at row attribute) (end_keeps (λ (of : ConnectionState). of.row) (λ of pdus pending given reply reason. refl) state event ordinal) ∙ same))
+    (λ same.
+    differs (ap (λ (row : Row). bits_at row attribute)
+    (end_keeps (λ (of : ConnectionState). of.row) (λ of pdus pending given reply reason. refl) state event ordinal) ∙ same))

@@ -56,7 +56,8 @@ information-refused table mtu first last =
 found-refused : (table : Contents) (row : Row) (standing : Standing) (mtu : ℕ) (first last : Handle) (kind : AttributeType) (value : Octets)
     → error_in (Some (found_answer table row standing mtu first last kind value))
     ≡ option_map (error FIND_BY_TYPE_VALUE_REQUEST) (option_or (range_refusal first last)
-    (option_or (case_if (are_none (filter (is_match table row standing value) (handles_of_type table.attributes kind first last))) first ATTRIBUTE_NOT_FOUND) None))
+    (option_or (case_if (are_none (filter (is_match table row standing value) (handles_of_type table.attributes kind first last))) first ATTRIBUTE_NOT_FOUND)
+    None))
 unfolding found_answer
 found-refused table row standing mtu first last kind value =
     let found : List Handle = filter (is_match table row standing value) (handles_of_type table.attributes kind first last) in
@@ -150,11 +151,13 @@ refuses_by_the_first_case table row conn (Ok (ExchangeMtuRequest client_rx_mtu))
 refuses_by_the_first_case table row conn (Ok (FindInformationRequest first last)) = information-refused table conn.mtu first last
 refuses_by_the_first_case table row conn (Ok (FindByTypeValueRequest first last kind value)) =
     found-refused table row conn.standing conn.mtu first last (of_16_bits kind) value
-refuses_by_the_first_case table row conn (Ok (ReadByTypeRequest first last kind)) = values-refused table row conn.standing conn.mtu first last (uuid_number kind)
+refuses_by_the_first_case table row conn (Ok (ReadByTypeRequest first last kind)) =
+    values-refused table row conn.standing conn.mtu first last (uuid_number kind)
 refuses_by_the_first_case table row conn (Ok (ReadRequest handle)) = value-refused table row conn.standing conn.mtu handle
 refuses_by_the_first_case table row conn (Ok (ReadBlobRequest handle offset)) = part-refused table row conn.standing conn.mtu handle offset
 refuses_by_the_first_case table row conn (Ok (ReadMultipleRequest handles)) = multiple-refused table row conn.standing conn.mtu handles
-refuses_by_the_first_case table row conn (Ok (ReadByGroupTypeRequest first last kind)) = groups-refused table row conn.standing conn.mtu first last (uuid_number kind)
+refuses_by_the_first_case table row conn (Ok (ReadByGroupTypeRequest first last kind)) =
+    groups-refused table row conn.standing conn.mtu first last (uuid_number kind)
 refuses_by_the_first_case table row conn (Ok (WriteRequest handle value)) =
     write-refused table row conn.standing (whole_value handle value ∷ []) WRITE_REQUEST WriteResponse refl
 refuses_by_the_first_case table row conn (Ok (PrepareWriteRequest handle offset part)) = prepare-refused table.attributes conn (entry_at handle offset part)

@@ -54,7 +54,8 @@ same-broken : (handle : Handle) (broken : Option (Rule × Code))
 same-broken handle None = refl
 same-broken handle (Some broken) = refl
 
-pub same-refusal : (attributes : List Attr) (standing : Standing) (handle : Handle) → read_refusal attributes standing handle ≡ broken_at Read attributes standing handle
+pub same-refusal : (attributes : List Attr) (standing : Standing) (handle : Handle) → read_refusal attributes standing handle
+    ≡ broken_at Read attributes standing handle
 same-refusal attributes standing handle = same-broken handle (first_broken_of Read (guard_at attributes handle) standing)
 
 pub same-group : (first : Handle) (service : Bool)
@@ -125,7 +126,8 @@ form-case attributes size entry false =
 
 -- the policy goes before it
 policy-case : (handle : Handle) (broken : Option (Rule × Code)) (form : Option Code) (cases : Option Refusal) → cases ≡ named handle form
-    → option_or (option_map {U = Refusal} (λ (of : Rule × Code). record { handle = handle; code = of.1 }) broken) cases ≡ named handle (unless_broken broken form)
+    → option_or (option_map {U = Refusal} (λ (of : Rule × Code). record { handle = handle; code = of.1 }) broken) cases
+    ≡ named handle (unless_broken broken form)
 unfolding named
 policy-case handle None form cases is = is
 policy-case handle (Some broken) form cases is = refl

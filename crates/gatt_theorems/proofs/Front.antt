@@ -2,10 +2,10 @@
 use Rattle.std.proofs.Common.{◌≡◌, ℕ, zero, suc, ◌+◌, Bool, true, false, List, [], ◌∷◌, ◌++◌, length, map, take, drop, Option, Some, None, refl, sym, ap, subst, ◌∙◌, append_assoc, append-nil}
 use Rattle.std.specs.Prelude.{nat_lt, if◌then◌else◌}
 use Rattle.std.specs.Option.{option_to_list}
-use Rattle.gatt_laws.proofs.Given.{is_given_the_front}
-use Rattle.gatt_laws.proofs.Placed.{is_always_placed}
-use Rattle.gatt_laws.proofs.Runs.{is_where_events_lead}
-use Rattle.gatt_laws.proofs.Settled.{is_always_settled}
+use Rattle.gatt_laws.proofs.invariants.Given.{is_given_the_front}
+use Rattle.gatt_laws.proofs.invariants.Placed.{is_always_placed}
+use Rattle.gatt_laws.proofs.runs.Runs.{is_where_events_lead}
+use Rattle.gatt_laws.proofs.invariants.Settled.{is_always_settled}
 use Rattle.gatt_laws.specs.laws.Given.{packets_given_by_now, packets_at, packets_given_in_order}
 use Rattle.gatt_laws.specs.laws.Placed.{IsPlaced}
 use Rattle.gatt_laws.specs.laws.Runs.{after_events, events_in, events_of}
@@ -31,14 +31,16 @@ events-append : (old : Run) (items more : List Item) → events_in old (items ++
 events-append old [] more = refl
 events-append old (item ∷ items) more =
     ap (λ (events : List Event). option_to_list (event_at old.intake item) ++ events) (events-append (after_item old item) items more)
-    ∙ sym (append_assoc (option_to_list (event_at old.intake item)) (events_in (after_item old item) items) (events_in (after_items (after_item old item) items) more))
+    ∙ sym (append_assoc (option_to_list (event_at old.intake item)) (events_in (after_item old item) items)
+    (events_in (after_items (after_item old item) items) more))
 
 after-append : (state : State) (events more : List Event) → after_events state (events ++ more) ≡ after_events (after_events state events) more
 after-append state [] more = refl
 after-append state (event ∷ events) more = after-append (step state event) events more
 
 packets-append : (ordinal : Ordinal) (state : State) (events more : List Event)
-    → packets_given_in_order ordinal state (events ++ more) ≡ packets_given_in_order ordinal state events ++ packets_given_in_order ordinal (after_events state events) more
+    → packets_given_in_order ordinal state (events ++ more) ≡ packets_given_in_order ordinal state events
+    ++ packets_given_in_order ordinal (after_events state events) more
 packets-append ordinal state [] more = refl
 packets-append ordinal state (event ∷ events) more =
     ap (λ (packets : List Octets). packets_at ordinal state event ++ packets) (packets-append ordinal (step state event) events more)
@@ -68,17 +70,22 @@ none-given state event ordinal none =
     let old : ConnectionState = state.connections ordinal in
     let new : ConnectionState = connections_finished change ordinal in
     let empty : new.pdus ≡ [] =
-    sym (sent_queue new (nat_lt (length (command_of_init change.state.controller) + count_before ordinal (connections_finished change) change.state.slots) change.state.controller.credit))
+    sym (sent_queue new
+    (nat_lt (length (command_of_init change.state.controller) + count_before ordinal (connections_finished change) change.state.slots)
+    change.state.controller.credit))
     ∙ none in
-    ap (λ (pdus : List Pdu). map (acl_octets new.handle) (drop old.given (take new.given (packets_of (fragment_size_of change.state.shared.buffers) pdus)))) empty
+    ap (λ (pdus : List Pdu). map (acl_octets new.handle) (drop old.given (take new.given (packets_of (fragment_size_of change.state.shared.buffers) pdus))))
+    empty
     ∙ ap (λ (fragments : List Fragment). map (acl_octets new.handle) (drop old.given fragments)) (take-none new.given)
     ∙ ap (map (acl_octets new.handle)) (drop-none old.given)
 
-no-slot : (state : State) (ordinal : Ordinal) (has : Bool) → has_slot ordinal state.slots ≡ has → IsPlaced state → is_there (state.connections ordinal).mark ≡ false → has ≡ false
+no-slot : (state : State) (ordinal : Ordinal) (has : Bool) → has_slot ordinal state.slots ≡ has → IsPlaced state → is_there (state.connections ordinal).mark
+    ≡ false → has ≡ false
 no-slot state ordinal true is placed away = absurd (cc (placed.there ordinal is, away))
 no-slot state ordinal false is placed away = refl
 
-no-queue : (state : State) (ordinal : Ordinal) → IsSettled state → IsPlaced state → is_there (state.connections ordinal).mark ≡ false → (state.connections ordinal).pdus ≡ []
+no-queue : (state : State) (ordinal : Ordinal) → IsSettled state → IsPlaced state → is_there (state.connections ordinal).mark ≡ false
+    → (state.connections ordinal).pdus ≡ []
 no-queue state ordinal settled placed away =
     ap (λ (connection : ConnectionState). connection.pdus)
     (settled.absent ordinal (no-slot state ordinal (has_slot ordinal state.slots) refl placed away))
@@ -104,7 +111,8 @@ module _ (start : Start) (ordinal : Ordinal) where
         settled = subst IsSettled leads (is_always_settled start input);
         placed = subst IsPlaced leads (is_always_placed start input);
         given = subst (λ (state : State). is_there (state.connections ordinal).mark ≡ true
-            → packets_given_in_order ordinal (state_at start) (events_of start input) ≡ packets_given_by_now state.shared.buffers (state.connections ordinal)) leads
+            → packets_given_in_order ordinal (state_at start) (events_of start input) ≡ packets_given_by_now state.shared.buffers (state.connections ordinal))
+            leads
             (is_given_the_front start ordinal input);
       }
 
@@ -118,7 +126,8 @@ module _ (start : Start) (ordinal : Ordinal) where
       let new : after_events (state_at start) (events ++ event ∷ []) ≡ step (after_events (state_at start) events) event =
       after-append (state_at start) events (event ∷ []) in
       subst (λ (state : State). is_there (state.connections ordinal).mark ≡ true
-      → packets_given_in_order ordinal (state_at start) (events ++ event ∷ []) ≡ packets_given_by_now state.shared.buffers (state.connections ordinal)) new reaches.given is
+      → packets_given_in_order ordinal (state_at start) (events ++ event ∷ []) ≡ packets_given_by_now state.shared.buffers (state.connections ordinal)) new
+      reaches.given is
   next-if events event false front reaches is =
       let before : State = after_events (state_at start) events in
       let new : after_events (state_at start) (events ++ event ∷ []) ≡ step before event = after-append (state_at start) events (event ∷ []) in
@@ -134,7 +143,8 @@ module _ (start : Start) (ordinal : Ordinal) where
       next-if events event (is_there ((step (after_events (state_at start) events) event).connections ordinal).mark) front reaches refl
       ∙ sym (front-append ordinal [] (state_at start) events (event ∷ []))
 
-  next-events : (events : List Event) (event : Option Event) → IsFront events → IsReached (events ++ option_to_list event) → IsFront (events ++ option_to_list event)
+  next-events : (events : List Event) (event : Option Event) → IsFront events → IsReached (events ++ option_to_list event)
+      → IsFront (events ++ option_to_list event)
   next-events events None front reaches = subst IsFront (sym (append-nil events)) front
   next-events events (Some event) front reaches = next-event events event front reaches
 

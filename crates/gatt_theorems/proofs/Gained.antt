@@ -5,14 +5,14 @@ use Rattle.std.specs.Option.{option_map, option_to_list}
 use Rattle.att_numbers.specs.Types.{Handle, Row, Mtu}
 use Rattle.att_pdu.specs.Response.{Response}
 use Rattle.att_policy.specs.declared.standing.Standing.{Standing}
-use Rattle.gatt_laws.proofs.Ends.{end_keeps}
+use Rattle.gatt_laws.proofs.runs.Ends.{end_keeps}
 use Rattle.gatt_laws.specs.laws.Headline.{Each}
 use Rattle.gatt_laws.specs.laws.OwnWrites.{row_of_connection}
 use Rattle.gatt_laws.specs.machine.Controller.{command_of_init, count_before, without_command}
 use Rattle.gatt_laws.specs.machine.Event.{Ordinal, Event}
 use Rattle.gatt_laws.specs.machine.Heard.{hearer_of, after_hearing, heard_in_turn, att_pdu}
 use Rattle.gatt_laws.specs.machine.ConnectionState.{ConnectionState, is_live, row_in_force, connection_mtu, standing_of}
-use Rattle.gatt_laws.specs.machine.SharedState.{SharedState, Bonds, quota_of, fragment_size_of}
+use Rattle.gatt_laws.specs.machine.SharedState.{SharedState, Bonds, share_of, fragment_size_of}
 use Rattle.gatt_laws.specs.machine.State.{State, Change, change_of, finished, connections_finished, step}
 use Rattle.gatt_subs.specs.Hearing.{wants_indications}
 use Rattle.gatt_subs.specs.Indications.{Indications, hears, is_waiting}
@@ -25,15 +25,18 @@ use Rattle.gatt_theorems.proofs.GainedBefore.{change-queue, change-raises, chang
 
 -- At its end.
 
-given-queue : (connection : ConnectionState) (given : ℕ) (live : Bool) → (if live then record connection { given = given } else connection).pdus ≡ connection.pdus
+given-queue : (connection : ConnectionState) (given : ℕ) (live : Bool) → (if live then record connection { given = given } else connection).pdus
+    ≡ connection.pdus
 given-queue connection given true = refl
 given-queue connection given false = refl
 
 pub sent_queue : (connection : ConnectionState) (sent : Bool) → (if sent then without_command connection else connection).pdus ≡ connection.pdus
-sent_queue connection true = elim (is_some connection.reason) as (λ (has : Bool). (if has then record connection { reason = None } else record connection { reply = None }).pdus ≡ connection.pdus) [
-  | true ↦ refl
-  | false ↦ refl
-]
+sent_queue connection true =
+    elim (is_some connection.reason) as (λ (has : Bool). (if has then record connection { reason = None } else record connection { reply = None }).pdus
+    ≡ connection.pdus) [
+      | true ↦ refl
+      | false ↦ refl
+    ]
 sent_queue connection false = refl
 
 told-at : SharedState → Bonds → List Handle → ConnectionState → List Response
@@ -45,27 +48,31 @@ finished-queue : (shared : SharedState) (bonds : Bonds) (handles : List Handle) 
 unfolding after_hearing told-at
 finished-queue shared bonds handles connection =
     let heard : ConnectionState = after_hearing shared (bonds connection.peer) handles connection in
-    given-queue heard (packets_allowed (quota_of shared.slots shared.buffers) (fragment_size_of shared.buffers) heard.pdus heard.done) (is_live heard.mark)
+    given-queue heard (packets_allowed (share_of shared.slots shared.buffers) (fragment_size_of shared.buffers) heard.pdus heard.done) (is_live heard.mark)
 
 step-queue : (state : State) (event : Event) (ordinal : Ordinal)
     → (let change : Change = change_of state event in
     ((step state event).connections ordinal).pdus
-    ≡ (change.state.connections ordinal).pdus ++ map att_pdu (told-at change.state.shared change.state.bonds (change.to_notify ordinal) (change.state.connections ordinal)))
+    ≡ (change.state.connections ordinal).pdus
+    ++ map att_pdu (told-at change.state.shared change.state.bonds (change.to_notify ordinal) (change.state.connections ordinal)))
 unfolding step
 step-queue state event ordinal =
     let change : Change = change_of state event in
     sent_queue (connections_finished change ordinal)
-    (nat_lt (length (command_of_init change.state.controller) + count_before ordinal (connections_finished change) change.state.slots) change.state.controller.credit)
+    (nat_lt (length (command_of_init change.state.controller) + count_before ordinal (connections_finished change) change.state.slots)
+    change.state.controller.credit)
     ∙ finished-queue change.state.shared change.state.bonds (change.to_notify ordinal) (change.state.connections ordinal)
 
 -- and what it leaves of the indications
-given-pending : (connection : ConnectionState) (given : ℕ) (live : Bool) → (if live then record connection { given = given } else connection).pending ≡ connection.pending
+given-pending : (connection : ConnectionState) (given : ℕ) (live : Bool) → (if live then record connection { given = given } else connection).pending
+    ≡ connection.pending
 given-pending connection given true = refl
 given-pending connection given false = refl
 
 sent-pending : (connection : ConnectionState) (sent : Bool) → (if sent then without_command connection else connection).pending ≡ connection.pending
 sent-pending connection true =
-    elim (is_some connection.reason) as (λ (has : Bool). (if has then record connection { reason = None } else record connection { reply = None }).pending ≡ connection.pending) [
+    elim (is_some connection.reason) as (λ (has : Bool). (if has then record connection { reason = None } else record connection { reply = None }).pending
+    ≡ connection.pending) [
       | true ↦ refl
       | false ↦ refl
     ]
@@ -86,8 +93,9 @@ step-pending state event ordinal =
     let connection : ConnectionState = change.state.connections ordinal in
     let heard : ConnectionState = after_hearing shared (change.state.bonds connection.peer) (change.to_notify ordinal) connection in
     sent-pending (connections_finished change ordinal)
-    (nat_lt (length (command_of_init change.state.controller) + count_before ordinal (connections_finished change) change.state.slots) change.state.controller.credit)
-    ∙ given-pending heard (packets_allowed (quota_of shared.slots shared.buffers) (fragment_size_of shared.buffers) heard.pdus heard.done) (is_live heard.mark)
+    (nat_lt (length (command_of_init change.state.controller) + count_before ordinal (connections_finished change) change.state.slots)
+    change.state.controller.credit)
+    ∙ given-pending heard (packets_allowed (share_of shared.slots shared.buffers) (fragment_size_of shared.buffers) heard.pdus heard.done) (is_live heard.mark)
 
 -- what is told, by what is notified
 record TellsOf (state : State) (event : Event) (ordinal : Ordinal) (told : List Response) (raised : List Handle) : Type 0 where
@@ -107,7 +115,8 @@ tells-only state event ordinal raised told hears leaves =
     let connection : ConnectionState = change.state.connections ordinal in
     let shared : SharedState = change.state.shared in
     let mtu = end_keeps (λ (of : ConnectionState). connection_mtu shared of) (λ of pdus pending given reply reason. refl) state event ordinal in
-    let row = end_keeps (λ (of : ConnectionState). row_in_force (change.state.bonds of.peer) of) (λ of pdus pending given reply reason. refl) state event ordinal in
+    let row =
+    end_keeps (λ (of : ConnectionState). row_in_force (change.state.bonds of.peer) of) (λ of pdus pending given reply reason. refl) state event ordinal in
     let standing = end_keeps (λ (of : ConnectionState). standing_of shared of) (λ of pdus pending given reply reason. refl) state event ordinal in
     let only : TellsOnly (step state event) ordinal raised (state.connections ordinal).pending.waiting told = record {
       picks = hears.picks;
@@ -116,11 +125,15 @@ tells-only state event ordinal raised told hears leaves =
           map (λ handle. notification_of shared.table.values handle of) (picked hears.picks raised)
           ++ option_to_list (option_map (λ handle. indication_of shared.table.values handle of) hears.indicated)) (sym mtu);
       due = if-some _ (λ handle. (is_waiting raised handle || is_waiting (state.connections ordinal).pending.waiting handle) ≡ true) hears.indicated
-          (λ handle is. waited (is_waiting raised handle) (is_waiting connection.pending.waiting handle) (is_waiting (state.connections ordinal).pending.waiting handle)
+          (λ handle is. waited (is_waiting raised handle) (is_waiting connection.pending.waiting handle)
+          (is_waiting (state.connections ordinal).pending.waiting handle)
           (change-waited state event ordinal handle) is) hears.due;
-      may = subst (λ (of : Standing). Each (MayHear shared.table.attributes (row_of_connection (step state event) ordinal) of) (picked hears.picks raised ++ option_to_list hears.indicated))
+      may = subst
+          (λ (of : Standing). Each (MayHear shared.table.attributes (row_of_connection (step state event) ordinal) of)
+          (picked hears.picks raised ++ option_to_list hears.indicated))
           (sym standing)
-          (subst (λ (of : Row). Each (MayHear shared.table.attributes of (standing_of shared connection)) (picked hears.picks raised ++ option_to_list hears.indicated))
+          (subst (λ (of : Row). Each (MayHear shared.table.attributes of (standing_of shared connection))
+          (picked hears.picks raised ++ option_to_list hears.indicated))
           (sym row) hears.may);
       notified = subst (λ (of : Row). Each (λ handle. wants_indications of handle ≡ false) (picked hears.picks raised)) (sym row) hears.notified;
       asked = subst (λ (of : Row). Each (λ handle. wants_indications of handle ≡ true) (option_to_list hears.indicated)) (sym row) hears.asked;

@@ -10,7 +10,7 @@ use Rattle.att_table.specs.Table.{Contents}
 use Rattle.gatt_conn.proofs.Dues.{answered_where_due}
 use Rattle.gatt_conn.specs.Answer.{Question, answer_to, handles_by, is_confirmation}
 use Rattle.gatt_conn.specs.Transcript.{Dropped}
-use Rattle.gatt_laws.proofs.Steady.{completed_steady}
+use Rattle.gatt_laws.proofs.runs.Steady.{completed_steady}
 use Rattle.gatt_laws.specs.machine.Event.{Ordinal, Own, Event, Connected, Disconnected, Encrypted, Refreshed, Asks, OtherChannel, Ended, Of, Completed, Credit, Tick, Replaced}
 use Rattle.gatt_laws.specs.machine.Heard.{att_pdu}
 use Rattle.gatt_laws.specs.machine.ConnectionState.{ConnectionState, fresh_connection, is_live, is_there, key_of, row_in_force, connection_mtu, bearer_of, with_pdus, after_ending}
@@ -32,7 +32,8 @@ as-it-was pdus test = sym (append-nil pdus) ∙ ap (λ (more : List Pdu). pdus +
 
 -- a request, where there is room for an answer or none is due
 asked-queue : (shared : SharedState) (bond : Row) (owed : Bool) (connection : ConnectionState) (pdu : Octets) (due full : Bool)
-    → (let answer : Option Response = answer_to shared.table (row_in_force bond connection) (bearer_of shared connection) (request_of pdu (connection_mtu shared connection)) in
+    → (let answer : Option Response = answer_to shared.table (row_in_force bond connection) (bearer_of shared connection)
+    (request_of pdu (connection_mtu shared connection)) in
     is_some answer ≡ due
     → (if due && full then effect_on_connection shared bond owed (after_ending connection remote_user_terminated)
     else served shared bond owed connection pdu (request_of pdu (connection_mtu shared connection))).connection.pdus
@@ -51,10 +52,13 @@ asked-queue shared bond owed connection pdu false true is =
 request-queue : (shared : SharedState) (bond : Row) (owed : Bool) (connection : ConnectionState) (pdu : Octets)
     → (request_effect shared bond owed connection pdu).connection.pdus
     ≡ connection.pdus ++ (if not (is_full shared connection)
-    then map att_pdu (option_to_list (answer_to shared.table (row_in_force bond connection) (bearer_of shared connection) (request_of pdu (connection_mtu shared connection)))) else [])
+    then map att_pdu
+    (option_to_list (answer_to shared.table (row_in_force bond connection) (bearer_of shared connection) (request_of pdu (connection_mtu shared connection))))
+    else [])
 request-queue shared bond owed connection pdu =
     let asked : Question = request_of pdu (connection_mtu shared connection) in
-    asked-queue shared bond owed connection pdu (is_due asked) (is_full shared connection) (answered_where_due shared.table (row_in_force bond connection) (bearer_of shared connection) asked)
+    asked-queue shared bond owed connection pdu (is_due asked) (is_full shared connection)
+    (answered_where_due shared.table (row_in_force bond connection) (bearer_of shared connection) asked)
 
 channel-queue : (shared : SharedState) (connection : ConnectionState) (channel : ℕ) (answer : Option Octets) (full : Bool) → is_full shared connection ≡ full
     → (after_other_channel shared connection channel answer).pdus
@@ -91,14 +95,17 @@ module _ (state : State) (at : Ordinal) where
   if-live-queue own answer false full is = sym (append-nil (state.connections at).pdus)
 
   kept-queue : (own : Own) → (live_effect state.shared here-bond here-owed here own).connection.pdus ≡ here.pdus
-      → (if is_live here.mark then live_effect state.shared here-bond here-owed here own else effect_on_connection state.shared here-bond here-owed here).connection.pdus
+      → (if is_live here.mark then live_effect state.shared here-bond here-owed here own
+      else effect_on_connection state.shared here-bond here-owed here).connection.pdus
       ≡ here.pdus ++ (if is_live here.mark && not (is_full state.shared here) then [] else [])
   unfolding here here-bond here-owed
   kept-queue own is =
       if-live-queue own [] (is_live (state.connections at).mark) (is_full state.shared (state.connections at))
       (is ∙ as-it-was (state.connections at).pdus (not (is_full state.shared (state.connections at))))
 
-  link-queue : (step : Step) (lost : Bool) → (let new : ConnectionState = if lost then after_ending (with_step (state.connections at) step) authentication_failure else with_step (state.connections at) step in new).pdus ≡ (state.connections at).pdus
+  link-queue : (step : Step) (lost : Bool)
+      → (let new : ConnectionState = if lost then after_ending (with_step (state.connections at) step) authentication_failure
+      else with_step (state.connections at) step in new).pdus ≡ (state.connections at).pdus
   link-queue step true = refl
   link-queue step false = refl
 
@@ -119,14 +126,18 @@ module _ (state : State) (at : Ordinal) where
       if-live-queue (OtherChannel channel payload) _ (is_live (state.connections at).mark) (is_full state.shared (state.connections at))
       (channel-queue state.shared (state.connections at) channel (channel_answer channel payload) (is_full state.shared (state.connections at)) refl)
   own-queue (Encrypted status enabled) = kept-queue (Encrypted status enabled)
-      (link-queue (Encryption status enabled) (lost_encryption (key_of (state.connections at)) (key_of (with_step (state.connections at) (Encryption status enabled)))))
+      (link-queue (Encryption status enabled)
+      (lost_encryption (key_of (state.connections at)) (key_of (with_step (state.connections at) (Encryption status enabled)))))
   own-queue (Refreshed status) = kept-queue (Refreshed status)
       (link-queue (Refresh status) (lost_encryption (key_of (state.connections at)) (key_of (with_step (state.connections at) (Refresh status)))))
   own-queue own = kept-queue own refl
 
 of-queue : (state : State) (at ordinal : Ordinal) (own : Own) (same : Bool) → (ordinal == at) ≡ same
-    → (if same then (effect_of state.shared (state.bonds (state.connections at).peer) (state.owed (state.connections at).peer) (state.connections at) own).connection else state.connections ordinal).pdus
-    ≡ (if same then queue_kept_by (state.connections at) own else (state.connections ordinal).pdus) ++ (if same && is_answered state at then answer_to_own state at own else [])
+    → (if same
+    then (effect_of state.shared (state.bonds (state.connections at).peer) (state.owed (state.connections at).peer) (state.connections at) own).connection
+    else state.connections ordinal).pdus
+    ≡ (if same then queue_kept_by (state.connections at) own else (state.connections ordinal).pdus)
+    ++ (if same && is_answered state at then answer_to_own state at own else [])
 unfolding own-turn here here-bond here-owed
 of-queue state at ordinal own true is = own-queue state at own
 of-queue state at ordinal own false is = sym (append-nil (state.connections ordinal).pdus)
@@ -134,7 +145,8 @@ of-queue state at ordinal own false is = sym (append-nil (state.connections ordi
 replaced-queue : (old new : Contents) (connection : ConnectionState) → (connection_after_replacement old new connection).pdus ≡ connection.pdus
 replaced-queue old new connection =
     elim (is_live connection.mark) as (λ (live : Bool).
-    (if live then record connection { said = Dropped ∷ connection.said; pending = after_replacement connection.pending } else connection).pdus ≡ connection.pdus) [
+    (if live then record connection { said = Dropped ∷ connection.said; pending = after_replacement connection.pending } else connection).pdus
+    ≡ connection.pdus) [
       | true ↦ refl
       | false ↦ refl
     ]
@@ -143,9 +155,12 @@ pub change-queue : (state : State) (event : Event) (ordinal : Ordinal)
     → ((change_of state event).state.connections ordinal).pdus ≡ kept_queue state ordinal event ++ answers_at state ordinal event
 unfolding change_of
 change-queue state (Of at own) ordinal = of-queue state at ordinal own (ordinal == at) refl
-change-queue state (Completed entries) ordinal = completed_steady (λ (of : ConnectionState). of.pdus) (λ of done. refl) ordinal entries (state.connections ordinal) ∙ sym (append-nil (state.connections ordinal).pdus)
+change-queue state (Completed entries) ordinal =
+    completed_steady (λ (of : ConnectionState). of.pdus) (λ of done. refl) ordinal entries (state.connections ordinal)
+    ∙ sym (append-nil (state.connections ordinal).pdus)
 change-queue state (Credit allowed opcode status (Some init)) ordinal = sym (append-nil (state.connections ordinal).pdus)
-change-queue state (Replaced table) ordinal = replaced-queue state.shared.table table (state.connections ordinal) ∙ sym (append-nil (state.connections ordinal).pdus)
+change-queue state (Replaced table) ordinal =
+    replaced-queue state.shared.table table (state.connections ordinal) ∙ sym (append-nil (state.connections ordinal).pdus)
 change-queue state event ordinal = sym (append-nil (state.connections ordinal).pdus)
 
 -- What it notifies.
@@ -162,7 +177,9 @@ none-raised false none = refl
 
 -- nothing is notified to the connection itself but by its link
 served-here : (shared : SharedState) (bond : Row) (owed : Bool) (connection : ConnectionState) (pdu : Octets) (asked : Question) (live ended : Bool)
-    → (if live then (if ended then effect_on_connection shared bond owed (after_ending connection remote_user_terminated) else served shared bond owed connection pdu asked)
+    → (if live
+    then (if ended then effect_on_connection shared bond owed (after_ending connection remote_user_terminated)
+    else served shared bond owed connection pdu asked)
     else effect_on_connection shared bond owed connection).to_notify_here ≡ []
 served-here shared bond owed connection pdu asked true true = refl
 served-here shared bond owed connection pdu asked true false = refl
@@ -170,12 +187,14 @@ served-here shared bond owed connection pdu asked false ended = refl
 
 live-here : (shared : SharedState) (bond : Row) (owed : Bool) (connection : ConnectionState) (own : Own) (live : Bool) (raised : List Handle)
     → (live_effect shared bond owed connection own).to_notify_here ≡ raised
-    → (if live then live_effect shared bond owed connection own else effect_on_connection shared bond owed connection).to_notify_here ≡ (if live then raised else [])
+    → (if live then live_effect shared bond owed connection own else effect_on_connection shared bond owed connection).to_notify_here
+    ≡ (if live then raised else [])
 live-here shared bond owed connection own true raised is = is
 live-here shared bond owed connection own false raised is = refl
 
 module _ (state : State) (at : Ordinal) where
-  raised-here : (own : Own) → (effect_of state.shared (state.bonds (state.connections at).peer) (state.owed (state.connections at).peer) (state.connections at) own).to_notify_here
+  raised-here : (own : Own)
+      → (effect_of state.shared (state.bonds (state.connections at).peer) (state.owed (state.connections at).peer) (state.connections at) own).to_notify_here
       ≡ to_notify_by_own state at own
   unfolding live_effect
   raised-here (Connected handle peer) = refl
@@ -183,7 +202,8 @@ module _ (state : State) (at : Ordinal) where
   raised-here (Asks pdu) =
       let connection : ConnectionState = state.connections at in
       let asked : Question = request_of pdu (connection_mtu state.shared connection) in
-      served-here state.shared (state.bonds connection.peer) (state.owed connection.peer) connection pdu asked (is_live connection.mark) (is_due asked && is_full state.shared connection)
+      served-here state.shared (state.bonds connection.peer) (state.owed connection.peer) connection pdu asked (is_live connection.mark)
+      (is_due asked && is_full state.shared connection)
   raised-here (Encrypted status enabled) =
       let connection : ConnectionState = state.connections at in
       live-here state.shared (state.bonds connection.peer) (state.owed connection.peer) connection (Encrypted status enabled) (is_live connection.mark) _ refl
@@ -199,14 +219,18 @@ module _ (state : State) (at : Ordinal) where
 
 -- and for the others the values that are written
 served-raises : (shared : SharedState) (bond : Row) (owed : Bool) (connection : ConnectionState) (pdu : Octets) (asked : Question) (live ended : Bool)
-    → (if live then (if ended then effect_on_connection shared bond owed (after_ending connection remote_user_terminated) else served shared bond owed connection pdu asked)
+    → (if live
+    then (if ended then effect_on_connection shared bond owed (after_ending connection remote_user_terminated)
+    else served shared bond owed connection pdu asked)
     else effect_on_connection shared bond owed connection).to_notify
-    ≡ values_among shared.table.attributes (if live && not ended then handles_by shared.table (row_in_force bond connection) (bearer_of shared connection) asked else [])
+    ≡ values_among shared.table.attributes (if live && not ended then handles_by shared.table (row_in_force bond connection) (bearer_of shared connection) asked
+    else [])
 served-raises shared bond owed connection pdu asked true true = refl
 served-raises shared bond owed connection pdu asked true false = refl
 served-raises shared bond owed connection pdu asked false ended = refl
 
-raises-none : (shared : SharedState) (bond : Row) (owed : Bool) (connection : ConnectionState) (own : Own) (live : Bool) → (live_effect shared bond owed connection own).to_notify ≡ []
+raises-none : (shared : SharedState) (bond : Row) (owed : Bool) (connection : ConnectionState) (own : Own) (live : Bool)
+    → (live_effect shared bond owed connection own).to_notify ≡ []
     → (if live then live_effect shared bond owed connection own else effect_on_connection shared bond owed connection).to_notify ≡ []
 raises-none shared bond owed connection own true is = is
 raises-none shared bond owed connection own false is = refl
@@ -235,10 +259,13 @@ change-raises state event ordinal = refl
 abbrev WaitedIn : List Handle → Handle → ConnectionState → Type 0
 WaitedIn waiting handle new = is_waiting new.pending.waiting handle ≡ true → is_waiting waiting handle ≡ true
 
-served-waited : (shared : SharedState) (bond : Row) (owed : Bool) (connection : ConnectionState) (pdu : Octets) (asked : Question) (handle : Handle) (live ended confirms : Bool)
+served-waited : (shared : SharedState) (bond : Row) (owed : Bool) (connection : ConnectionState) (pdu : Octets) (asked : Question) (handle : Handle)
+    (live ended confirms : Bool)
     → is_confirmation pdu ≡ confirms
     → WaitedIn connection.pending.waiting handle
-    (if live then (if ended then effect_on_connection shared bond owed (after_ending connection remote_user_terminated) else served shared bond owed connection pdu asked)
+    (if live
+    then (if ended then effect_on_connection shared bond owed (after_ending connection remote_user_terminated)
+    else served shared bond owed connection pdu asked)
     else effect_on_connection shared bond owed connection).connection
 served-waited shared bond owed connection pdu asked handle true true confirms is = λ waits. cc waits
 served-waited shared bond owed connection pdu asked handle true false true is = rw is (λ waits. waits)
@@ -250,7 +277,8 @@ link-waited : (connection : ConnectionState) (step : Step) (handle : Handle) (lo
 link-waited connection step handle true = λ waits. cc waits
 link-waited connection step handle false = λ waits. waits
 
-channel-waited : (shared : SharedState) (connection : ConnectionState) (channel : ℕ) (answer : Option Octets) (handle : Handle) (full : Bool) → is_full shared connection ≡ full
+channel-waited : (shared : SharedState) (connection : ConnectionState) (channel : ℕ) (answer : Option Octets) (handle : Handle) (full : Bool)
+    → is_full shared connection ≡ full
     → WaitedIn connection.pending.waiting handle (after_other_channel shared connection channel answer)
 channel-waited shared connection channel None handle full is = λ waits. waits
 channel-waited shared connection channel (Some answer) handle true is = rw is (λ waits. cc waits)
@@ -258,7 +286,8 @@ channel-waited shared connection channel (Some answer) handle false is = rw is (
 
 live-waited : (shared : SharedState) (bond : Row) (owed : Bool) (connection : ConnectionState) (own : Own) (handle : Handle) (live : Bool)
     → WaitedIn connection.pending.waiting handle (live_effect shared bond owed connection own).connection
-    → WaitedIn connection.pending.waiting handle (if live then live_effect shared bond owed connection own else effect_on_connection shared bond owed connection).connection
+    → WaitedIn connection.pending.waiting handle (if live then live_effect shared bond owed connection own
+    else effect_on_connection shared bond owed connection).connection
 live-waited shared bond owed connection own handle true waited = waited
 live-waited shared bond owed connection own handle false waited = λ waits. waits
 
@@ -279,7 +308,8 @@ turn-waited shared bond owed connection (OtherChannel channel payload) handle =
     (channel-waited shared connection channel (channel_answer channel payload) handle (is_full shared connection) refl)
 turn-waited shared bond owed connection (Encrypted status enabled) handle =
     live-waited shared bond owed connection (Encrypted status enabled) handle (is_live connection.mark)
-    (link-waited connection (Encryption status enabled) handle (lost_encryption (key_of connection) (key_of (with_step connection (Encryption status enabled)))))
+    (link-waited connection (Encryption status enabled) handle
+    (lost_encryption (key_of connection) (key_of (with_step connection (Encryption status enabled)))))
 turn-waited shared bond owed connection (Refreshed status) handle =
     live-waited shared bond owed connection (Refreshed status) handle (is_live connection.mark)
     (link-waited connection (Refresh status) handle (lost_encryption (key_of connection) (key_of (with_step connection (Refresh status)))))
@@ -288,10 +318,13 @@ turn-waited shared bond owed connection own handle = live-waited shared bond owe
 
 of-waited : (state : State) (at ordinal : Ordinal) (own : Own) (handle : Handle) (same : Bool) → (ordinal == at) ≡ same
     → WaitedIn (state.connections ordinal).pending.waiting handle
-    (if same then (effect_of state.shared (state.bonds (state.connections at).peer) (state.owed (state.connections at).peer) (state.connections at) own).connection else state.connections ordinal)
+    (if same
+    then (effect_of state.shared (state.bonds (state.connections at).peer) (state.owed (state.connections at).peer) (state.connections at) own).connection
+    else state.connections ordinal)
 of-waited state at ordinal own handle true is =
     let connection : ConnectionState = state.connections at in
-    subst (λ (one : Ordinal). WaitedIn (state.connections one).pending.waiting handle (effect_of state.shared (state.bonds connection.peer) (state.owed connection.peer) connection own).connection)
+    subst (λ (one : Ordinal). WaitedIn (state.connections one).pending.waiting handle
+    (effect_of state.shared (state.bonds connection.peer) (state.owed connection.peer) connection own).connection)
     (sym (eqb-true ordinal at is)) (turn-waited state.shared (state.bonds connection.peer) (state.owed connection.peer) connection own handle)
 of-waited state at ordinal own handle false is = λ waits. waits
 
@@ -300,7 +333,8 @@ pub change-waited : (state : State) (event : Event) (ordinal : Ordinal) (handle 
 unfolding change_of
 change-waited state (Of at own) ordinal handle = of-waited state at ordinal own handle (ordinal == at) refl
 change-waited state (Completed entries) ordinal handle =
-    λ waits. ap (λ (pending : Indications). is_waiting pending.waiting handle) (sym (completed_steady (λ (of : ConnectionState). of.pending) (λ of done. refl) ordinal entries (state.connections ordinal))) ∙ waits
+    λ waits. ap (λ (pending : Indications). is_waiting pending.waiting handle)
+    (sym (completed_steady (λ (of : ConnectionState). of.pending) (λ of done. refl) ordinal entries (state.connections ordinal))) ∙ waits
 change-waited state (Credit allowed opcode status (Some init)) ordinal handle = λ waits. waits
 change-waited state (Tick time) ordinal handle =
     elim (times_out (state.connections ordinal).pending time) as (λ (late : Bool).
@@ -312,7 +346,8 @@ change-waited state (Tick time) ordinal handle =
 change-waited state (Replaced table) ordinal handle =
     let connection : ConnectionState = state.connections ordinal in
     elim (is_live connection.mark) as (λ (live : Bool).
-    is_waiting (if live then record connection { said = Dropped ∷ connection.said; pending = after_replacement connection.pending } else connection).pending.waiting handle ≡ true
+    is_waiting (if live then record connection { said = Dropped ∷ connection.said; pending = after_replacement connection.pending }
+    else connection).pending.waiting handle ≡ true
     → is_waiting connection.pending.waiting handle ≡ true) [
       | true ↦ λ waits. cc waits
       | false ↦ λ waits. waits

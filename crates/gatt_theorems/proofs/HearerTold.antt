@@ -122,7 +122,8 @@ hears-at-end attributes values hearer false =
 raised-waits-if : (waiting : List Handle) (handle other : Handle) (waits : Bool)
     → is_waiting (if waits then waiting else waiting ++ handle ∷ []) other ≡ true → ((handle == other) || is_waiting waiting other) ≡ true
 raised-waits-if waiting handle other true is = ap (λ (waits : Bool). (handle == other) || waits) is ∙ or_with_true (handle == other)
-raised-waits-if waiting handle other false is = last (is_waiting waiting other) (handle == other) (sym (list_any-append (λ (one : Handle). one == other) waiting (handle ∷ [])) ∙ is)
+raised-waits-if waiting handle other false is =
+    last (is_waiting waiting other) (handle == other) (sym (list_any-append (λ (one : Handle). one == other) waiting (handle ∷ [])) ∙ is)
   where
     last : (before here : Bool) → (before || (here || false)) ≡ true → (here || before) ≡ true
     last before true is = refl
@@ -207,7 +208,8 @@ hears-next attributes values hearer handle handles later true is rest =
       asked = rest.asked;
       in_time = λ late. cc (late, due.in_time);
       single = if-some _ (λ other. hearer.pending.unconfirmed ≡ None) rest.indicated
-          (λ other none. sym (raised-keeps (λ (pending : Indications). pending.unconfirmed) attributes hearer handle (λ pending waiting. refl)) ∙ none) rest.single;
+          (λ other none. sym (raised-keeps (λ (pending : Indications). pending.unconfirmed) attributes hearer handle (λ pending waiting. refl)) ∙ none)
+          rest.single;
     }
 hears-next attributes values hearer handle handles later false is rest = record {
   picks = false ∷ rest.picks;
@@ -250,7 +252,8 @@ pub record Leaves (hearer : Hearer) (raised : List Handle) (pending : Indication
 
 leaves-at-end : (attributes : List Attr) (hearer : Hearer) (now : ℕ) (live may : Bool)
     → Leaves hearer [] (if live then (if may then (let due = from_due (is_indicated attributes hearer.row hearer.standing) hearer.pending.waiting in
-    record hearer.pending { waiting = rest_of due; unconfirmed = option_map (unconfirmed_since now) (first_handle due) }) else hearer.pending) else hearer.pending)
+    record hearer.pending { waiting = rest_of due; unconfirmed = option_map (unconfirmed_since now) (first_handle due) }) else hearer.pending)
+    else hearer.pending)
 leaves-at-end attributes hearer now true true = record {
   waits = λ handle. rest-waits (is_indicated attributes hearer.row hearer.standing) handle hearer.pending.waiting;
   late = refl;

@@ -1,27 +1,27 @@
 -- The promise is kept.
 use Rattle.gatt_conn.proofs.Dues.{answered_where_due}
-use Rattle.gatt_laws.proofs.Inputs.{continues, has_gone_by_events, keeps_what_is_gone}
-use Rattle.gatt_laws.proofs.Given.{brings_what_it_gives, is_given_the_front}
-use Rattle.gatt_laws.proofs.Headline.{refusals_change_nothing, sends_what_may_be_read, writes_what_may_be_written}
-use Rattle.gatt_laws.proofs.MayBeHeard.{tells_what_may_be_heard}
-use Rattle.gatt_laws.proofs.NextConnections.{gives_nothing_to_the_absent}
-use Rattle.gatt_laws.proofs.NothingCrosses.{crosses_nowhere, leaves_connections_the_same, nothing_crosses}
-use Rattle.gatt_laws.proofs.OwnQueues.{leaves_others_prepared}
-use Rattle.gatt_laws.proofs.OwnWrites.{executes_its_own}
-use Rattle.gatt_laws.proofs.Preparing.{prepares_by_itself, prepares_the_same}
-use Rattle.gatt_laws.proofs.RowsOfTheTable.{always_has_rows_of_its_table}
-use Rattle.gatt_laws.proofs.SameView.{does_the_same_to_who_sees_the_same, leaves_who_sees_nothing}
-use Rattle.gatt_laws.proofs.Streams.{takes_the_division}
-use Rattle.gatt_laws.proofs.TwoWorlds.{gives_the_same, keeps_alike}
-use Rattle.gatt_laws.proofs.Unfinished.{leaves_less_than_a_packet}
-use Rattle.gatt_laws.proofs.ValuesOfTheTable.{always_has_a_table}
-use Rattle.gatt_laws.proofs.WaitingOfTheTable.{always_has_waiting_of_its_table}
-use Rattle.gatt_laws.proofs.Queued.{always_has_bounded_queues}
-use Rattle.gatt_laws.proofs.Refusals.{refuses_by_the_first_broken_rule, refuses_the_first_entry, refuses_the_first_handle, refuses_the_first_listed}
-use Rattle.gatt_laws.proofs.Runs.{is_where_events_lead}
-use Rattle.gatt_laws.proofs.SameRun.{same_view_same_packets}
-use Rattle.gatt_laws.proofs.Silence.{gives_all_that_it_may, only_serves_the_live, only_the_live_act}
-use Rattle.gatt_laws.proofs.Telling.{tells_the_application}
+use Rattle.gatt_laws.proofs.runs.Inputs.{continues, has_gone_by_events, keeps_what_is_gone}
+use Rattle.gatt_laws.proofs.invariants.Given.{brings_what_it_gives, is_given_the_front}
+use Rattle.gatt_laws.proofs.policy.Headline.{refusals_change_nothing, sends_what_may_be_read, writes_what_may_be_written}
+use Rattle.gatt_laws.proofs.policy.MayBeHeard.{tells_what_may_be_heard}
+use Rattle.gatt_laws.proofs.runs.NextConnections.{gives_nothing_to_the_absent}
+use Rattle.gatt_laws.proofs.isolation.NothingCrosses.{crosses_nowhere, leaves_connections_the_same, nothing_crosses}
+use Rattle.gatt_laws.proofs.isolation.OwnQueues.{leaves_others_prepared}
+use Rattle.gatt_laws.proofs.policy.OwnWrites.{executes_its_own}
+use Rattle.gatt_laws.proofs.policy.Preparing.{prepares_by_itself, prepares_the_same}
+use Rattle.gatt_laws.proofs.invariants.RowsOfTheTable.{always_has_rows_of_its_table}
+use Rattle.gatt_laws.proofs.isolation.SameView.{does_the_same_to_who_sees_the_same, leaves_who_sees_nothing}
+use Rattle.gatt_laws.proofs.runs.Streams.{takes_the_division}
+use Rattle.gatt_laws.proofs.isolation.TwoWorlds.{gives_the_same, keeps_alike}
+use Rattle.gatt_laws.proofs.runs.Unfinished.{leaves_less_than_a_packet}
+use Rattle.gatt_laws.proofs.invariants.ValuesOfTheTable.{always_has_a_table}
+use Rattle.gatt_laws.proofs.invariants.WaitingOfTheTable.{always_has_waiting_of_its_table}
+use Rattle.gatt_laws.proofs.invariants.Queued.{always_has_bounded_queues}
+use Rattle.gatt_laws.proofs.policy.Refusals.{refuses_by_the_first_broken_rule, refuses_the_first_entry, refuses_the_first_handle, refuses_the_first_listed}
+use Rattle.gatt_laws.proofs.runs.Runs.{is_where_events_lead}
+use Rattle.gatt_laws.proofs.isolation.SameRun.{same_view_same_packets}
+use Rattle.gatt_laws.proofs.runs.Silence.{gives_all_that_it_may, only_serves_the_live, only_the_live_act}
+use Rattle.gatt_laws.proofs.notices.Telling.{tells_the_application}
 use Rattle.gatt_theorems.proofs.Alone.{gives_the_same_to_one, keeps_alike_to_one, nothing_crosses_to_one_in_runs}
 use Rattle.gatt_theorems.proofs.Changed.{changes_bonds_by_right, changes_own_rows_by_right, changes_values_by_right}
 use Rattle.gatt_theorems.proofs.FirstCase.{ignored_changes_nothing, refused_changes_nothing, refuses_by_the_first_case}

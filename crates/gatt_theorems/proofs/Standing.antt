@@ -7,7 +7,7 @@ use Rattle.att_pdu.specs.Grammar.{request_of, is_due}
 use Rattle.att_table.specs.ConfigRow.{kept_row}
 use Rattle.att_table.specs.Table.{Contents}
 use Rattle.gatt_conn.specs.Transcript.{Dropped}
-use Rattle.gatt_laws.proofs.Ends.{end_keeps, KeepsAtEnd}
+use Rattle.gatt_laws.proofs.runs.Ends.{end_keeps, KeepsAtEnd}
 use Rattle.gatt_laws.specs.machine.Event.{Ordinal, Own, Event, Connected, Disconnected, KeyAsked, Encrypted, Refreshed, Asks, OtherChannel, Authorized, Ended, Of, Completed, Credit, Tick, Replaced}
 use Rattle.gatt_laws.specs.machine.ConnectionState.{ConnectionState, is_live, key_of, connection_mtu, with_pdus, after_ending}
 use Rattle.gatt_laws.specs.machine.SharedState.{SharedState}
@@ -40,13 +40,16 @@ tells_the_time_alone state event differs = differs refl
 
 -- A fact of a connection that reads its steps and its authorization alone.
 
-module _ {A : Type 0} (fact : ConnectionState → A) (ended : (connection : ConnectionState) (reason : ℕ) → fact (after_ending connection reason) ≡ fact connection) (at_end : KeepsAtEnd fact) where
+module _ {A : Type 0} (fact : ConnectionState → A) (ended : (connection : ConnectionState) (reason : ℕ) → fact (after_ending connection reason)
+    ≡ fact connection) (at_end : KeepsAtEnd fact) where
   abbrev KeepsBySaying : Type 0
-  KeepsBySaying = (shared : SharedState) (bond : Row) (owed : Bool) (connection : ConnectionState) (pdu : Octets) → fact (served shared bond owed connection pdu (request_of pdu (connection_mtu shared connection))).connection ≡ fact connection
+  KeepsBySaying = (shared : SharedState) (bond : Row) (owed : Bool) (connection : ConnectionState) (pdu : Octets)
+      → fact (served shared bond owed connection pdu (request_of pdu (connection_mtu shared connection))).connection ≡ fact connection
 
   asked-keeps : KeepsBySaying → (shared : SharedState) (bond : Row) (owed : Bool) (connection : ConnectionState) (pdu : Octets) (live full : Bool)
       → fact (if live then (if full then effect_on_connection shared bond owed (after_ending connection remote_user_terminated)
-      else served shared bond owed connection pdu (request_of pdu (connection_mtu shared connection))) else effect_on_connection shared bond owed connection).connection ≡ fact connection
+      else served shared bond owed connection pdu (request_of pdu (connection_mtu shared connection)))
+      else effect_on_connection shared bond owed connection).connection ≡ fact connection
   asked-keeps says shared bond owed connection pdu true true = ended connection remote_user_terminated
   asked-keeps says shared bond owed connection pdu true false = says shared bond owed connection pdu
   asked-keeps says shared bond owed connection pdu false full = refl
@@ -62,7 +65,8 @@ module _ {A : Type 0} (fact : ConnectionState → A) (ended : (connection : Conn
       ap (λ (full : Bool). fact (if full then after_ending connection remote_user_terminated else with_pdus connection ((channel, answer) ∷ []))) is
       ∙ queues connection channel answer
 
-  live-keeps : (shared : SharedState) (bond : Row) (owed : Bool) (connection : ConnectionState) (own : Own) (live : Bool) → fact (live_effect shared bond owed connection own).connection ≡ fact connection
+  live-keeps : (shared : SharedState) (bond : Row) (owed : Bool) (connection : ConnectionState) (own : Own) (live : Bool)
+      → fact (live_effect shared bond owed connection own).connection ≡ fact connection
       → fact (if live then live_effect shared bond owed connection own else effect_on_connection shared bond owed connection).connection ≡ fact connection
   live-keeps shared bond owed connection own true is = is
   live-keeps shared bond owed connection own false is = refl
@@ -72,7 +76,8 @@ module _ {A : Type 0} (fact : ConnectionState → A) (ended : (connection : Conn
   link-keeps connection step true is = ended (with_step connection step) authentication_failure ∙ is
   link-keeps connection step false is = is
 
-  completed-keeps : (ordinal : Ordinal) (entries : List (Ordinal × ℕ)) (connection : ConnectionState) → ((one : ConnectionState) (done : ℕ) → fact (record one { done = done }) ≡ fact one)
+  completed-keeps : (ordinal : Ordinal) (entries : List (Ordinal × ℕ)) (connection : ConnectionState)
+      → ((one : ConnectionState) (done : ℕ) → fact (record one { done = done }) ≡ fact one)
       → fact (after_packets_completed ordinal entries connection) ≡ fact connection
   completed-keeps ordinal [] connection counts = refl
   completed-keeps ordinal (entry ∷ entries) connection counts =
@@ -87,7 +92,9 @@ module _ {A : Type 0} (fact : ConnectionState → A) (ended : (connection : Conn
       → fact (connection_after_replacement old new connection) ≡ fact connection
   replaced-keeps old new connection rows drops =
       rows _ (kept_row old.attributes new.attributes connection.row)
-      ∙ elim (is_live connection.mark) as (λ (live : Bool). fact (if live then record connection { said = Dropped ∷ connection.said; pending = after_replacement connection.pending } else connection) ≡ fact connection) [
+      ∙ elim (is_live connection.mark) as
+      (λ (live : Bool). fact (if live then record connection { said = Dropped ∷ connection.said; pending = after_replacement connection.pending }
+      else connection) ≡ fact connection) [
         | true ↦ drops connection
         | false ↦ refl
       ]
@@ -104,43 +111,57 @@ module _ (shared : SharedState) (bond : Row) (owed : Bool) (connection : Connect
   by-application Disconnected differs = tt
   by-application (Authorized moment) differs = tt
   by-application (Asks pdu) differs =
-      differs (asked-keeps until (λ one reason. refl) (λ of pdus pending given reply reason. refl) (λ shared bond owed connection pdu. refl) shared bond owed connection pdu (is_live connection.mark)
+      differs (asked-keeps until (λ one reason. refl) (λ of pdus pending given reply reason. refl) (λ shared bond owed connection pdu. refl) shared bond owed
+      connection pdu (is_live connection.mark)
       (is_due (request_of pdu (connection_mtu shared connection)) && is_full shared connection))
   by-application (OtherChannel channel payload) differs =
-      differs (live-keeps until (λ one reason. refl) (λ of pdus pending given reply reason. refl) shared bond owed connection (OtherChannel channel payload) (is_live connection.mark)
-      (channel-keeps until (λ one reason. refl) (λ of pdus pending given reply reason. refl) (λ one channel answer. refl) shared connection channel (channel_answer channel payload) (is_full shared connection) refl))
+      differs (live-keeps until (λ one reason. refl) (λ of pdus pending given reply reason. refl) shared bond owed connection (OtherChannel channel payload)
+      (is_live connection.mark)
+      (channel-keeps until (λ one reason. refl) (λ of pdus pending given reply reason. refl) (λ one channel answer. refl) shared connection channel
+      (channel_answer channel payload) (is_full shared connection) refl))
   by-application (Encrypted status enabled) differs =
-      differs (live-keeps until (λ one reason. refl) (λ of pdus pending given reply reason. refl) shared bond owed connection (Encrypted status enabled) (is_live connection.mark)
+      differs (live-keeps until (λ one reason. refl) (λ of pdus pending given reply reason. refl) shared bond owed connection (Encrypted status enabled)
+      (is_live connection.mark)
       (link-keeps until (λ one reason. refl) (λ of pdus pending given reply reason. refl) connection (Encryption status enabled)
       (lost_encryption (key_of connection) (key_of (with_step connection (Encryption status enabled)))) refl))
   by-application (Refreshed status) differs =
-      differs (live-keeps until (λ one reason. refl) (λ of pdus pending given reply reason. refl) shared bond owed connection (Refreshed status) (is_live connection.mark)
+      differs (live-keeps until (λ one reason. refl) (λ of pdus pending given reply reason. refl) shared bond owed connection (Refreshed status)
+      (is_live connection.mark)
       (link-keeps until (λ one reason. refl) (λ of pdus pending given reply reason. refl) connection (Refresh status)
       (lost_encryption (key_of connection) (key_of (with_step connection (Refresh status)))) refl))
   by-application own differs =
-      differs (live-keeps until (λ one reason. refl) (λ of pdus pending given reply reason. refl) shared bond owed connection own (is_live connection.mark) refl)
+      differs (live-keeps until (λ one reason. refl) (λ of pdus pending given reply reason. refl) shared bond owed connection own (is_live connection.mark)
+      refl)
 
   -- and the key of its link
   by-controller : (own : Own) → (key_of (effect_of shared bond owed connection own).connection ≡ key_of connection → ⊥) → Encrypts own
   unfolding live_effect
   by-controller (Asks pdu) differs =
-      differs (asked-keeps key_of (λ one reason. refl) (λ of pdus pending given reply reason. refl) (λ shared bond owed connection pdu. refl) shared bond owed connection pdu (is_live connection.mark)
+      differs (asked-keeps key_of (λ one reason. refl) (λ of pdus pending given reply reason. refl) (λ shared bond owed connection pdu. refl) shared bond owed
+      connection pdu (is_live connection.mark)
       (is_due (request_of pdu (connection_mtu shared connection)) && is_full shared connection))
   by-controller (OtherChannel channel payload) differs =
-      differs (live-keeps key_of (λ one reason. refl) (λ of pdus pending given reply reason. refl) shared bond owed connection (OtherChannel channel payload) (is_live connection.mark)
-      (channel-keeps key_of (λ one reason. refl) (λ of pdus pending given reply reason. refl) (λ one channel answer. refl) shared connection channel (channel_answer channel payload) (is_full shared connection) refl))
+      differs (live-keeps key_of (λ one reason. refl) (λ of pdus pending given reply reason. refl) shared bond owed connection (OtherChannel channel payload)
+      (is_live connection.mark)
+      (channel-keeps key_of (λ one reason. refl) (λ of pdus pending given reply reason. refl) (λ one channel answer. refl) shared connection channel
+      (channel_answer channel payload) (is_full shared connection) refl))
   by-controller (KeyAsked random_number diversifier) differs =
-      differs (live-keeps key_of (λ one reason. refl) (λ of pdus pending given reply reason. refl) shared bond owed connection (KeyAsked random_number diversifier) (is_live connection.mark) refl)
+      differs (live-keeps key_of (λ one reason. refl) (λ of pdus pending given reply reason. refl) shared bond owed connection
+      (KeyAsked random_number diversifier) (is_live connection.mark) refl)
   by-controller (Authorized moment) differs =
-      differs (live-keeps key_of (λ one reason. refl) (λ of pdus pending given reply reason. refl) shared bond owed connection (Authorized moment) (is_live connection.mark) refl)
+      differs (live-keeps key_of (λ one reason. refl) (λ of pdus pending given reply reason. refl) shared bond owed connection (Authorized moment)
+      (is_live connection.mark) refl)
   by-controller Ended differs =
-      differs (live-keeps key_of (λ one reason. refl) (λ of pdus pending given reply reason. refl) shared bond owed connection Ended (is_live connection.mark) refl)
+      differs (live-keeps key_of (λ one reason. refl) (λ of pdus pending given reply reason. refl) shared bond owed connection Ended (is_live connection.mark)
+      refl)
   by-controller own differs = tt
 
 -- Each event.
 
 authorized-if : (state : State) (at ordinal : Ordinal) (own : Own) (same : Bool) → (ordinal == at) ≡ same
-    → ((if same then (effect_of state.shared (state.bonds (state.connections at).peer) (state.owed (state.connections at).peer) (state.connections at) own).connection else state.connections ordinal).until
+    → ((if same
+    then (effect_of state.shared (state.bonds (state.connections at).peer) (state.owed (state.connections at).peer) (state.connections at) own).connection
+    else state.connections ordinal).until
     ≡ (state.connections ordinal).until → ⊥)
     → (ordinal ≡ at) × Authorizes own
 authorized-if state at ordinal own true is differs =
@@ -156,10 +177,12 @@ change-authorizes : (state : State) (event : Event) (ordinal : Ordinal)
 unfolding change_of
 change-authorizes state (Of at own) ordinal differs = authorized-if state at ordinal own (ordinal == at) refl differs
 change-authorizes state (Completed entries) ordinal differs =
-    differs (completed-keeps (λ (of : ConnectionState). of.until) (λ one reason. refl) (λ of pdus pending given reply reason. refl) ordinal entries (state.connections ordinal) (λ one done. refl))
+    differs (completed-keeps (λ (of : ConnectionState). of.until) (λ one reason. refl) (λ of pdus pending given reply reason. refl) ordinal entries
+    (state.connections ordinal) (λ one done. refl))
 change-authorizes state (Credit allowed opcode status (Some init)) ordinal differs = differs refl
 change-authorizes state (Replaced table) ordinal differs =
-    differs (replaced-keeps (λ (of : ConnectionState). of.until) (λ one reason. refl) (λ of pdus pending given reply reason. refl) state.shared.table table (state.connections ordinal)
+    differs (replaced-keeps (λ (of : ConnectionState). of.until) (λ one reason. refl) (λ of pdus pending given reply reason. refl) state.shared.table table
+    (state.connections ordinal)
     (λ one row. refl) (λ one. refl))
 change-authorizes state event ordinal differs = differs refl
 
@@ -169,7 +192,10 @@ authorizes_by_the_application state event ordinal differs =
     (λ same. differs (end_keeps (λ (of : ConnectionState). of.until) (λ of pdus pending given reply reason. refl) state event ordinal ∙ same))
 
 encrypted-if : (state : State) (at ordinal : Ordinal) (own : Own) (same : Bool) → (ordinal == at) ≡ same
-    → (key_of (if same then (effect_of state.shared (state.bonds (state.connections at).peer) (state.owed (state.connections at).peer) (state.connections at) own).connection else state.connections ordinal)
+    → (key_of
+    (if same
+    then (effect_of state.shared (state.bonds (state.connections at).peer) (state.owed (state.connections at).peer) (state.connections at) own).connection
+    else state.connections ordinal)
     ≡ key_of (state.connections ordinal) → ⊥)
     → (ordinal ≡ at) × Encrypts own
 encrypted-if state at ordinal own true is differs =
@@ -185,7 +211,8 @@ change-encrypts : (state : State) (event : Event) (ordinal : Ordinal)
 unfolding change_of
 change-encrypts state (Of at own) ordinal differs = encrypted-if state at ordinal own (ordinal == at) refl differs
 change-encrypts state (Completed entries) ordinal differs =
-    differs (completed-keeps key_of (λ one reason. refl) (λ of pdus pending given reply reason. refl) ordinal entries (state.connections ordinal) (λ one done. refl))
+    differs (completed-keeps key_of (λ one reason. refl) (λ of pdus pending given reply reason. refl) ordinal entries (state.connections ordinal)
+    (λ one done. refl))
 change-encrypts state (Credit allowed opcode status (Some init)) ordinal differs = differs refl
 change-encrypts state (Replaced table) ordinal differs =
     differs (replaced-keeps key_of (λ one reason. refl) (λ of pdus pending given reply reason. refl) state.shared.table table (state.connections ordinal)

@@ -18,7 +18,8 @@ rest-none : (now : ℕ) (due : List Handle) → option_map (unconfirmed_since no
 rest-none now [] none = refl
 rest-none now (handle ∷ rest) none = cc none
 
-held-back : (pending : Indications) (backlog : ℕ) → may_indicate pending backlog ≡ false → pending.unconfirmed ≡ None → pending.timed_out ≡ false → MAX_BACKLOG ≤ backlog
+held-back : (pending : Indications) (backlog : ℕ) → may_indicate pending backlog ≡ false → pending.unconfirmed ≡ None → pending.timed_out ≡ false
+    → MAX_BACKLOG ≤ backlog
 held-back pending backlog may none in_time =
     omega (
       arith,

@@ -71,7 +71,7 @@ pub record KeepsThePolicy : Type 0 where
   pub time : TellsTheTimeAlone
   -- A connection, even a disconnected one, was given a prefix of what was queued for it; if it is
   -- there, exactly the number of packets that its state counts as given. One that serves is given
-  -- all that its quota allows, and at most 16 PDUs wait. Nothing is queued for or given to one that
+  -- all that its share allows, and at most 16 PDUs wait. Nothing is queued for or given to one that
   -- is ending or absent.
   pub gives : IsAlwaysGivenTheFront
   pub gives_by_now : IsGivenTheFront

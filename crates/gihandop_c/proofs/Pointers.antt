@@ -92,4 +92,5 @@ module _ {M : Type 1} {𝓤 : Ura M} (𝓛 : Logic 𝓤) (d : pointer.the_row.De
   comes_back e w =
       qed 𝓛 (‵ (part_at OpenRow full_share w b o) ∷ ‵ Beside ∷ []) ∵ move ! (1 ∷ []) $ fsplit ! $ move ! (2 ∷ 0 ∷ []) $ fjoin ! $
       rewrite ! 0 (λ (p : Ptr). ‵ (owns_the_host OpenRow p (Some w))) (sym e) refl $ pointer_in ! d.at (Some w) $ move ! (1 ∷ 0 ∷ []) $ fjoin ! $
-      fpack ! (List Val) (λ vs. fsep (cell_at full_share pointer.the_row.mir vs rb ro) (pointer.the_row.own_val (with_host d w) vs)) (pointer_word d.at ∷ []) $ done !
+      fpack ! (List Val) (λ vs. fsep (cell_at full_share pointer.the_row.mir vs rb ro) (pointer.the_row.own_val (with_host d w) vs)) (pointer_word d.at ∷ []) $
+      done !

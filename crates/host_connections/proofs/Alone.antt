@@ -42,10 +42,12 @@ pub told_stays : (pending : Indications) (attributes : List Attr) (row : Row) (s
     → telling_alone pending attributes row standing handle backlog ≡ Some telling
     → (after_notify_alone pending attributes row standing handle backlog now).waiting ≡ pending.waiting
 told_stays pending attributes row standing handle backlog now telling =
-    by (hears pending attributes row standing handle) (wants_indications row handle) (nat_lt backlog MAX_BACKLOG) (none_waits pending.waiting) (may_indicate pending backlog)
+    by (hears pending attributes row standing handle) (wants_indications row handle) (nat_lt backlog MAX_BACKLOG) (none_waits pending.waiting)
+    (may_indicate pending backlog)
   where
     by : (heard wanted few none free : Bool)
-        → (let told : Option Telling = if heard && not wanted && few then Some Notification else (if heard && wanted && none && free then Some Indication else None) in told) ≡ Some telling
+        → (let told : Option Telling = if heard && not wanted && few then Some Notification
+        else (if heard && wanted && none && free then Some Indication else None) in told) ≡ Some telling
         → (let after : Indications = if heard && wanted && none && free then record pending { unconfirmed = Some (unconfirmed_since now handle) }
         else (if heard && wanted then record pending { waiting = with_handle pending.waiting handle } else pending) in after).waiting ≡ pending.waiting
     by true true few true true is = refl
@@ -55,7 +57,8 @@ told_stays pending attributes row standing handle backlog now telling =
     by false wanted few none free is = refl
 
 -- so that its slot waits as before
-pub waits_as_before : (used : Use) (handle : ℕ) (peer : Peer) (key_known : Bool) (until : ℕ) (row : Row) (link : Linking) (conn : Bearer) (pending new : Indications) (sender new-sender : Sending)
+pub waits_as_before : (used : Use) (handle : ℕ) (peer : Peer) (key_known : Bool) (until : ℕ) (row : Row) (link : Linking) (conn : Bearer)
+    (pending new : Indications) (sender new-sender : Sending)
     (reply : Option KeyReply) (reason : Option ℕ) → new.waiting ≡ pending.waiting
     → waits (slot_state_where used handle peer key_known until row link conn new new-sender reply reason)
     ≡ waits (slot_state_where used handle peer key_known until row link conn pending sender reply reason)
@@ -64,7 +67,8 @@ waits_as_before Live handle peer key_known until row link conn pending new sende
 waits_as_before Ending handle peer key_known until row link conn pending new sender new-sender reply reason same = ap is_some_handle same
 
 -- and where no packet was queued, it gives as before
-pub gives_as_before : (used : Use) (handle : ℕ) (peer : Peer) (key_known : Bool) (until : ℕ) (row : Row) (link : Linking) (conn : Bearer) (pending new : Indications) (sender : Sending)
+pub gives_as_before : (used : Use) (handle : ℕ) (peer : Peer) (key_known : Bool) (until : ℕ) (row : Row) (link : Linking) (conn : Bearer)
+    (pending new : Indications) (sender : Sending)
     (reply : Option KeyReply) (reason : Option ℕ)
     → gives (slot_state_where used handle peer key_known until row link conn new sender reply reason)
     ≡ gives (slot_state_where used handle peer key_known until row link conn pending sender reply reason)
@@ -74,7 +78,8 @@ gives_as_before Ending handle peer key_known until row link conn pending new sen
 
 module _ (table : Contents) (ear : HearerFacts) (now : ℕ) (handle : Handle) where
   abbrev told-with : List Handle → Option Unconfirmed → Bool → Outgoing → Delivery
-  told-with waiting unconfirmed timed_out outgoing = record { pending = record { waiting = waiting; unconfirmed = unconfirmed; timed_out = timed_out }; outgoing = outgoing }
+  told-with waiting unconfirmed timed_out outgoing =
+      record { pending = record { waiting = waiting; unconfirmed = unconfirmed; timed_out = timed_out }; outgoing = outgoing }
 
   -- what is left, by whether the connection may hear of the value, has asked for indications, and has few PDUs queued
   abbrev alone : Bool → Bool → Bool → List Handle → Option Unconfirmed → Bool → Outgoing → Delivery
@@ -83,7 +88,10 @@ module _ (table : Contents) (ear : HearerFacts) (now : ℕ) (handle : Handle) wh
       let heard : Bool = not timed_out && may in
       let at-once : Bool = heard && wanted && none_waits waiting && (not (is_some unconfirmed) && not timed_out && few) in
       delivery_with_heard told (record {
-        responses = option_to_list (option_map (telling_of table.values handle ear.mtu) (if heard && not wanted && few then Some Notification else (if at-once then Some Indication else None)));
+        responses =
+            option_to_list
+            (option_map (telling_of table.values handle ear.mtu) (if heard && not wanted && few then Some Notification
+            else (if at-once then Some Indication else None)));
         pending = if at-once then record told.pending { unconfirmed = Some (unconfirmed_since now handle) }
             else (if heard && wanted then record told.pending { waiting = with_handle waiting handle } else told.pending);
       })
@@ -104,10 +112,12 @@ module _ (table : Contents) (ear : HearerFacts) (now : ℕ) (handle : Handle) wh
       let told : Delivery = told-with (handle ∷ []) None false outgoing in
       delivery_with_heard told (record {
         responses = option_to_list (option_map (λ (it : Handle). indication_of table.values it ear.mtu) (if few then first_handle due else None));
-        pending = if few then record told.pending { waiting = rest_of due; unconfirmed = option_map (unconfirmed_since now) (first_handle due) } else told.pending;
+        pending = if few then record told.pending { waiting = rest_of due; unconfirmed = option_map (unconfirmed_since now) (first_handle due) }
+            else told.pending;
       })
 
-  same-by : (outgoing : Outgoing) (may wanted few : Bool) → may_hear_at table.attributes ear.row ear.standing handle ≡ may → wants_indications ear.row handle ≡ wanted
+  same-by : (outgoing : Outgoing) (may wanted few : Bool) → may_hear_at table.attributes ear.row ear.standing handle ≡ may → wants_indications ear.row handle
+      ≡ wanted
       → nat_lt (length outgoing.queue) MAX_BACKLOG ≡ few → (waiting : List Handle) (unconfirmed : Option Unconfirmed) (timed_out : Bool)
       → delivery_when_indicating table ear now (alone may wanted few waiting unconfirmed timed_out outgoing)
       ≡ delivery_when_indicating table ear now (notified may wanted few waiting unconfirmed timed_out outgoing)
@@ -125,19 +135,23 @@ module _ (table : Contents) (ear : HearerFacts) (now : ℕ) (handle : Handle) wh
   same-released : (told : Delivery) → delivery_when_indicating table ear now (delivery_when_notifying_alone table ear now handle told)
       ≡ delivery_when_indicating table ear now (delivery_when_notifying table ear handle told)
   same-released told =
-      same-by told.outgoing (may_hear_at table.attributes ear.row ear.standing handle) (wants_indications ear.row handle) (nat_lt (length told.outgoing.queue) MAX_BACKLOG)
+      same-by told.outgoing (may_hear_at table.attributes ear.row ear.standing handle) (wants_indications ear.row handle)
+      (nat_lt (length told.outgoing.queue) MAX_BACKLOG)
       refl refl refl told.pending.waiting told.pending.unconfirmed told.pending.timed_out
 
   -- one that may not hear of it is told nothing
-  unheard-by : (outgoing : Outgoing) (may : Bool) → may ≡ false → (wanted few : Bool) (waiting : List Handle) (unconfirmed : Option Unconfirmed) (timed_out : Bool)
+  unheard-by : (outgoing : Outgoing) (may : Bool) → may ≡ false → (wanted few : Bool) (waiting : List Handle) (unconfirmed : Option Unconfirmed)
+      (timed_out : Bool)
       → alone may wanted few waiting unconfirmed timed_out outgoing ≡ told-with waiting unconfirmed timed_out outgoing
   unheard-by outgoing true none wanted few waiting unconfirmed timed_out = cc none
   unheard-by outgoing false none wanted few waiting unconfirmed true = refl
   unheard-by outgoing false none wanted few waiting unconfirmed false = refl
 
-  unheard-alone : (told : Delivery) → may_hear_at table.attributes ear.row ear.standing handle ≡ false → delivery_when_notifying_alone table ear now handle told ≡ told
+  unheard-alone : (told : Delivery) → may_hear_at table.attributes ear.row ear.standing handle ≡ false → delivery_when_notifying_alone table ear now handle told
+      ≡ told
   unheard-alone told silent =
-      unheard-by told.outgoing (may_hear_at table.attributes ear.row ear.standing handle) silent (wants_indications ear.row handle) (nat_lt (length told.outgoing.queue) MAX_BACKLOG)
+      unheard-by told.outgoing (may_hear_at table.attributes ear.row ear.standing handle) silent (wants_indications ear.row handle)
+      (nat_lt (length told.outgoing.queue) MAX_BACKLOG)
       told.pending.waiting told.pending.unconfirmed told.pending.timed_out
 
 module _ (table : Contents) (now : ℕ) (rows : Subscriptions) (handle : Handle) where
@@ -157,8 +171,11 @@ module _ (table : Contents) (now : ℕ) (rows : Subscriptions) (handle : Handle)
   silent-alone silent None = refl
   silent-alone silent (Some slot_state) =
       let ear : HearerFacts = hearer_facts_of now (row_of rows slot_state.peer) slot_state in
-      elim slot_state.live as (λ live. Some (if live then with_delivery slot_state (delivery_when_notifying_alone table ear now handle (delivery_of slot_state)) else slot_state) ≡ Some slot_state) [
-        | true ↦ ap (λ (told : Delivery). Some (with_delivery slot_state told)) (unheard-alone table ear now handle (delivery_of slot_state) (silent ear.row ear.standing))
+      elim slot_state.live as
+      (λ live. Some (if live then with_delivery slot_state (delivery_when_notifying_alone table ear now handle (delivery_of slot_state)) else slot_state)
+      ≡ Some slot_state) [
+        | true ↦ ap (λ (told : Delivery). Some (with_delivery slot_state told))
+            (unheard-alone table ear now handle (delivery_of slot_state) (silent ear.row ear.standing))
         | false ↦ refl
       ]
 
@@ -167,14 +184,16 @@ pub nobody_hears_alone : (table : Contents) (now : ℕ) (rows : Subscriptions) (
     → ((row : Row) (standing : Standing) → may_hear_at table.attributes row standing handle ≡ false)
     → slots ≡ all_notified_alone table now rows places handle slots
 nobody_hears_alone table now rows places handle slots silent =
-    sym (alike (λ place slot. if is_in places place then slot_notified_alone table now rows handle slot else slot) (λ place slot. slot) slots (λ place slot. same (is_in places place) slot) ∙ nothing 0 slots)
+    sym (alike (λ place slot. if is_in places place then slot_notified_alone table now rows handle slot else slot) (λ place slot. slot) slots
+    (λ place slot. same (is_in places place) slot) ∙ nothing 0 slots)
   where
     same : (among : Bool) (slot : Option SlotState) → (if among then slot_notified_alone table now rows handle slot else slot) ≡ slot
     same true slot = silent-alone table now rows handle silent slot
     same false slot = refl
 
 -- for all: of those that may listen, `theirs` has those that it did not happen to
-module _ (table : Contents) (now : ℕ) (rows : Subscriptions) (own : Option ℕ) (theirs listening : ℕ) (handle : Handle) (slots : SlotStates) (covers : Covers Value listening slots)
+module _ (table : Contents) (now : ℕ) (rows : Subscriptions) (own : Option ℕ) (theirs listening : ℕ) (handle : Handle) (slots : SlotStates)
+    (covers : Covers Value listening slots)
     (own_theirs : (place : ℕ) → place < MAX_SLOTS → is_own_place own place ≡ true → bit_at theirs place ≡ 0)
     (others_theirs : (place : ℕ) → place < MAX_SLOTS → is_own_place own place ≡ false → bit_at theirs place ≡ bit_at listening place) where
   abbrev by-bit : ℕ → Option SlotState → Option SlotState
@@ -208,7 +227,8 @@ module _ (table : Contents) (now : ℕ) (rows : Subscriptions) (own : Option ℕ
   nobody-there false is = refl
 
   each : length slots ≤ MAX_SLOTS → (place : ℕ)
-      → by-bit (bit_at theirs (0 + place)) (slot_state_at slots place) ≡ slot_heard table now rows (handles_for own [] (handle ∷ []) (0 + place)) (slot_state_at slots place)
+      → by-bit (bit_at theirs (0 + place)) (slot_state_at slots place) ≡ slot_heard table now rows (handles_for own [] (handle ∷ []) (0 + place))
+      (slot_state_at slots place)
   each few place =
       let first : 0 + place ≡ place = omega arith in
       subst (λ (at : ℕ). by-bit (bit_at theirs at) (slot_state_at slots place) ≡ heard-by (is_own_place own at) (slot_state_at slots place)) (sym first)
@@ -223,4 +243,5 @@ module _ (table : Contents) (now : ℕ) (rows : Subscriptions) (own : Option ℕ
       let told : ℕ → Option SlotState → Option SlotState = λ place slot. if is_in theirs place then slot_notified_alone table now rows handle slot else slot in
       let due : ℕ → Option SlotState → Option SlotState = λ place slot. slot_heard table now rows [] slot in
       together due told 0 slots
-      ∙ alike-there (λ place slot. due place (told place slot)) (λ place slot. slot_heard table now rows (handles_for own [] (handle ∷ []) place) slot) 0 slots (each few)
+      ∙ alike-there (λ place slot. due place (told place slot)) (λ place slot. slot_heard table now rows (handles_for own [] (handle ∷ []) place) slot) 0 slots
+      (each few)

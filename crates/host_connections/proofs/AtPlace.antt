@@ -30,14 +30,16 @@ set_at_place {A = A} xs place change x within is =
     ap (λ (it : A). set xs place (change it)) is
     ∙ sym (ap (λ (found : Option A). option_map_or (λ (it : A). set xs place (change it)) found xs) (slice_get-get_or xs place x within))
 
-module _ (slots self : SlotStates) (view : slots ≡ self) (place : ℕ) (slot : Option SlotState) (within : place < length slots) (is : slot ≡ get_or slots place slot) where
+module _ (slots self : SlotStates) (view : slots ≡ self) (place : ℕ) (slot : Option SlotState) (within : place < length slots)
+    (is : slot ≡ get_or slots place slot) where
   pub there_at : slot ≡ slot_state_at self place
   there_at = sym (read_at slots place slot within is) ∙ ap (λ (it : SlotStates). slot_state_at it place) view
 
   pub kept_at : (left : Option SlotState) → left ≡ slot → set slots place left ≡ self
   kept_at left same = ap (λ (it : Option SlotState). set slots place it) (same ∙ is) ∙ set-get_or slots place slot ∙ view
 
-  pub changed_at : (change : SlotState → SlotState) (changed : Option SlotState) → changed ≡ option_map change slot → set slots place changed ≡ slots_at place change self
+  pub changed_at : (change : SlotState → SlotState) (changed : Option SlotState) → changed ≡ option_map change slot → set slots place changed
+      ≡ slots_at place change self
   changed_at change changed changes =
       ap (λ (it : Option SlotState). set slots place it) changes
       ∙ set_at_place slots place (λ (it : Option SlotState). option_map change it) slot within is
@@ -52,7 +54,8 @@ module _ (slots : SlotStates) (place : ℕ) (lent left : Option SlotState) (with
   lent_at change changes =
       ap (λ (it : Option SlotState). set slots place it) (changes ∙ ap (λ (it : Option SlotState). option_map change it)
       (is ∙ ap (λ (found : Option (Option SlotState)). option_map_or (λ (slot : Option SlotState). slot) found None) there))
-      ∙ sym (ap (λ (found : Option (Option SlotState)). option_map_or (λ (slot : Option SlotState). set slots place (option_map change slot)) found slots) there)
+      ∙ sym (ap (λ (found : Option (Option SlotState)). option_map_or (λ (slot : Option SlotState). set slots place (option_map change slot)) found slots)
+      there)
 
   pub left_at : (other : Option SlotState) → left ≡ other → set slots place left ≡ at_place place (λ slot. other) slots
   left_at other changes =
@@ -61,10 +64,12 @@ module _ (slots : SlotStates) (place : ℕ) (lent left : Option SlotState) (with
 
 -- a connection that is served goes on: nothing waits that did not wait
 confirmed-waits : (pdu : Octets) (pending : Indications) → (pending_after pdu pending).waiting ≡ pending.waiting
-confirmed-waits pdu pending = elim (is_confirmation pdu) as (λ (is : Bool). (let after : Indications = if is then record pending { unconfirmed = None } else pending in after).waiting ≡ pending.waiting) [
-  | true ↦ refl
-  | false ↦ refl
-]
+confirmed-waits pdu pending =
+    elim (is_confirmation pdu) as (λ (is : Bool). (let after : Indications = if is then record pending { unconfirmed = None } else pending in
+    after).waiting ≡ pending.waiting) [
+      | true ↦ refl
+      | false ↦ refl
+    ]
 
 served-waits : (table : Contents) (now : ℕ) (bond : Option Row) (pdu : Octets) (slot_state : SlotState)
     → is_some_handle (slot_after_request table now bond pdu slot_state).pending.waiting ≡ true → is_some_handle slot_state.pending.waiting ≡ true
@@ -81,12 +86,14 @@ served-command : (table : Contents) (now : ℕ) (bond : Option Row) (pdu : Octet
 served-command table now bond pdu slot_state not = by (overflows pdu slot_state) _ refl not
   where
     by : (full : Bool) (other : SlotState) → has_command (Some other) ≡ has_command (Some slot_state) → full ≡ false
-        → has_command (let served : SlotState = if full then slot_after_ending remote_user_terminated slot_state else other in Some served) ≡ has_command (Some slot_state)
+        → has_command (let served : SlotState = if full then slot_after_ending remote_user_terminated slot_state else other in
+        Some served) ≡ has_command (Some slot_state)
     by true other same not = cc not
     by false other same not = same
 
 pub served_goes_on : (table : Contents) (now : ℕ) (rows : Subscriptions) (pdu : Octets) (slot : Option SlotState) (ended : Bool)
-    → IfSome slot (λ slot_state. ended ≡ overflows pdu slot_state) → ended ≡ false → WaitsForNothingNew slot (option_map (λ slot_state. slot_after_request table now (row_of rows slot_state.peer) pdu slot_state) slot)
+    → IfSome slot (λ slot_state. ended ≡ overflows pdu slot_state) → ended ≡ false
+    → WaitsForNothingNew slot (option_map (λ slot_state. slot_after_request table now (row_of rows slot_state.peer) pdu slot_state) slot)
 served_goes_on table now rows pdu None ended says not = record { command = λ is. is; waiting = λ is. is; free = λ is. is }
 served_goes_on table now rows pdu (Some slot_state) ended says not = record {
   command = λ is. sym (served-command table now (row_of rows slot_state.peer) pdu slot_state (sym says ∙ not)) ∙ is;
@@ -136,7 +143,8 @@ module _ (count : ℕ) (slot left : Option SlotState) (is : left ≡ option_map 
       same (Some slot_state) = refl
 
 -- something happens to a connection by which no value comes to wait
-pub happened_at : (slots : SlotStates) (place : ℕ) (slot left : Option SlotState) → place < length slots → slot ≡ get_or slots place slot → (change : SlotState → SlotState)
+pub happened_at : (slots : SlotStates) (place : ℕ) (slot left : Option SlotState) → place < length slots → slot ≡ get_or slots place slot
+    → (change : SlotState → SlotState)
     → ((slot_state : SlotState) → waits (Some (change slot_state)) ≡ true → waits (Some slot_state) ≡ true) → left ≡ option_map change slot
     → HasNoValueMore (slot_state_at slots place) left
 happened_at slots place slot left within is change keeps changes =
@@ -147,7 +155,8 @@ happened_at slots place slot left within is change keeps changes =
     goes None = record { waiting = λ is. is; free = λ is. is }
     goes (Some slot_state) = record { waiting = keeps slot_state; free = λ is. is }
 
-ended-waits : (ended : Bool) (reason : ℕ) (slot_state other : SlotState) → waits (let after : SlotState = if ended then slot_after_ending reason slot_state else other in Some after) ≡ true
+ended-waits : (ended : Bool) (reason : ℕ) (slot_state other : SlotState)
+    → waits (let after : SlotState = if ended then slot_after_ending reason slot_state else other in Some after) ≡ true
     → waits (Some other) ≡ true
 ended-waits true reason slot_state other is = cc is
 ended-waits false reason slot_state other is = is
@@ -158,27 +167,33 @@ linked_waits step slot_state is =
     let new : SlotState = record slot_state { link = link } in
     ended-waits (lost_encryption slot_state.link.key link.key) authentication_failure new new is
 
-answered-waits : (channel : ℕ) (answer : Option Octets) (slot_state : SlotState) → waits (Some (with_channel_answer channel answer slot_state)) ≡ true → waits (Some slot_state) ≡ true
+answered-waits : (channel : ℕ) (answer : Option Octets) (slot_state : SlotState) → waits (Some (with_channel_answer channel answer slot_state)) ≡ true
+    → waits (Some slot_state) ≡ true
 answered-waits channel None slot_state is = is
 answered-waits channel (Some answer) slot_state is =
-    ended-waits (slot_backlog slot_state == MAX_PDUS) remote_user_terminated slot_state (record slot_state { outgoing = with_pdu slot_state.outgoing (channel, answer) }) is
+    ended-waits (slot_backlog slot_state == MAX_PDUS) remote_user_terminated slot_state
+    (record slot_state { outgoing = with_pdu slot_state.outgoing (channel, answer) }) is
 
-pub other_channel_waits : (channel : ℕ) (payload : Octets) (slot_state : SlotState) → waits (Some (slot_after_other_channel channel payload slot_state)) ≡ true → waits (Some slot_state) ≡ true
+pub other_channel_waits : (channel : ℕ) (payload : Octets) (slot_state : SlotState) → waits (Some (slot_after_other_channel channel payload slot_state)) ≡ true
+    → waits (Some slot_state) ≡ true
 other_channel_waits channel payload slot_state is = answered-waits channel (channel_answer channel payload) slot_state is
 
 -- the command that was due for one is sent
 module _ (slot_state : SlotState) where
-  sent-waits : (ending : Bool) → waits (let after : SlotState = if ending then record slot_state { reason = None } else record slot_state { reply = None } in Some after) ≡ true
+  sent-waits : (ending : Bool) → waits (let after : SlotState = if ending then record slot_state { reason = None } else record slot_state { reply = None } in
+      Some after) ≡ true
       → waits (Some slot_state) ≡ true
   sent-waits true is = is
   sent-waits false is = is
 
-  sent-listens : (ending : Bool) → may_listen (let after : SlotState = if ending then record slot_state { reason = None } else record slot_state { reply = None } in Some after) ≡ true
+  sent-listens : (ending : Bool)
+      → may_listen (let after : SlotState = if ending then record slot_state { reason = None } else record slot_state { reply = None } in Some after) ≡ true
       → may_listen (Some slot_state) ≡ true
   sent-listens true is = is
   sent-listens false is = is
 
-  sent-command : (reason : Option ℕ) → has_command (Some (slot_without_command (record slot_state { reason = reason }))) ≡ true → has_command (Some (record slot_state { reason = reason })) ≡ true
+  sent-command : (reason : Option ℕ) → has_command (Some (slot_without_command (record slot_state { reason = reason }))) ≡ true
+      → has_command (Some (record slot_state { reason = reason })) ≡ true
   sent-command None is = cc is
   sent-command (Some reason) is = refl
 

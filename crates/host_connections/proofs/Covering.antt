@@ -39,7 +39,8 @@ pub at-same : (slots : SlotStates) (place : ℕ) (slot : Option SlotState) → p
 at-same slots place slot within =
     kept-is (set slots place slot) place (omega (arith, length-set slots place slot)) ∙ get_or-set_same slots place slot None within
 
-pub at-other : (slots : SlotStates) (place other : ℕ) (slot : Option SlotState) → other ≢ place → slot_state_at (set slots place slot) other ≡ slot_state_at slots other
+pub at-other : (slots : SlotStates) (place other : ℕ) (slot : Option SlotState) → other ≢ place → slot_state_at (set slots place slot) other
+    ≡ slot_state_at slots other
 at-other slots place other slot apart = ⊎_elim
     (λ within.
     kept-is (set slots place slot) other (omega (arith, within, length-set slots place slot))
@@ -49,7 +50,8 @@ at-other slots place other slot apart = ⊎_elim
     (cases_lt other (length slots))
 
 -- what is read at a place
-pub read_at : (slots : SlotStates) (place : ℕ) (slot : Option SlotState) → place < length slots → slot ≡ get_or slots place slot → slot_state_at slots place ≡ slot
+pub read_at : (slots : SlotStates) (place : ℕ) (slot : Option SlotState) → place < length slots → slot ≡ get_or slots place slot → slot_state_at slots place
+    ≡ slot
 read_at slots place slot within is =
     ap (λ (found : Option (Option SlotState)). option_map_or (λ (it : Option SlotState). it) found None) (slice_get-get_or slots place slot within) ∙ sym is
 
@@ -62,7 +64,8 @@ covered_with due old new slots place slot covers added others = λ other is. ⊎
     (cases_eq other place)
 
 -- a slot is changed whose place comes into the set if something is due there
-pub covered_if : (due : Due) (so : Bool) (old new : ℕ) (slots : SlotStates) (place : ℕ) (slot : Option SlotState) → Covers due old slots → (so ≡ true → bit_at new place ≡ 1)
+pub covered_if : (due : Due) (so : Bool) (old new : ℕ) (slots : SlotStates) (place : ℕ) (slot : Option SlotState) → Covers due old slots
+    → (so ≡ true → bit_at new place ≡ 1)
     → ((other : ℕ) → other ≢ place → bit_at new other ≡ bit_at old other) → (so ≡ false → is_slot_due due slot ≡ false) → Covers due new (set slots place slot)
 covered_if due true old new slots place slot covers added others idle = covered_with due old new slots place slot covers (added refl) others
 covered_if due false old new slots place slot covers added others idle = λ other is. ⊎_elim
@@ -83,7 +86,8 @@ covered_still due places slots place slot covers still = λ other is. ⊎_elim
     (cases_eq other place)
 
 -- a place leaves it at which nothing is due
-pub covered_without : (due : Due) (old new : ℕ) (slots : SlotStates) (place : ℕ) → length slots ≤ MAX_SLOTS → Covers due old slots → is_slot_due due (slot_state_at slots place) ≡ false
+pub covered_without : (due : Due) (old new : ℕ) (slots : SlotStates) (place : ℕ) → length slots ≤ MAX_SLOTS → Covers due old slots
+    → is_slot_due due (slot_state_at slots place) ≡ false
     → ((other : ℕ) → other < MAX_SLOTS → other ≢ place → bit_at new other ≡ bit_at old other) → Covers due new slots
 covered_without due old new slots place few covers idle others = λ other is. ⊎_elim
     (λ same. clash is (ap (λ at. is_slot_due due (slot_state_at slots at)) same ∙ idle))
@@ -118,35 +122,38 @@ module _ (test : Option SlotState → Bool) (slot : Option SlotState) where
 
 -- the marks after a change of one slot
 module _ (slots : SlotStates) (place : ℕ) (slot : Option SlotState) (old new : Marks) (marked : IsMarked slots old)
-    (packets : bit_at new.packets.bits place ≡ 1) (other_packets : (other : ℕ) → other ≢ place → bit_at new.packets.bits other ≡ bit_at old.packets.bits other) where
-  pub marked_with : bit_at new.commands.bits place ≡ 1 → ((other : ℕ) → other ≢ place → bit_at new.commands.bits other ≡ bit_at old.commands.bits other)
-      → bit_at new.listening.bits place ≡ 1 → ((other : ℕ) → other ≢ place → bit_at new.listening.bits other ≡ bit_at old.listening.bits other)
-      → bit_at new.waiting.bits place ≡ 1 → ((other : ℕ) → other ≢ place → bit_at new.waiting.bits other ≡ bit_at old.waiting.bits other) → (new.free ≡ false → list_any (λ it. is_none it) (set slots place slot) ≡ false)
-      → IsMarked (set slots place slot) new
-  marked_with commands other_commands listening other_listening waiting other_waiting free = record {
-    few = omega (arith, marked.few, length-set slots place slot);
-    commands = covered_with Command old.commands.bits new.commands.bits slots place slot marked.commands commands other_commands;
-    packets = covered_with Packet old.packets.bits new.packets.bits slots place slot marked.packets packets other_packets;
-    listening = covered_with Value old.listening.bits new.listening.bits slots place slot marked.listening listening other_listening;
-    waiting = covered_with Indication old.waiting.bits new.waiting.bits slots place slot marked.waiting waiting other_waiting;
-    free = free;
-  }
+    (packets : bit_at new.packets.bits place ≡ 1) (other_packets : (other : ℕ) → other ≢ place → bit_at new.packets.bits other ≡ bit_at old.packets.bits other)
+  where
+    pub marked_with : bit_at new.commands.bits place ≡ 1 → ((other : ℕ) → other ≢ place → bit_at new.commands.bits other ≡ bit_at old.commands.bits other)
+        → bit_at new.listening.bits place ≡ 1 → ((other : ℕ) → other ≢ place → bit_at new.listening.bits other ≡ bit_at old.listening.bits other)
+        → bit_at new.waiting.bits place ≡ 1 → ((other : ℕ) → other ≢ place → bit_at new.waiting.bits other ≡ bit_at old.waiting.bits other)
+        → (new.free ≡ false → list_any (λ it. is_none it) (set slots place slot) ≡ false)
+        → IsMarked (set slots place slot) new
+    marked_with commands other_commands listening other_listening waiting other_waiting free = record {
+      few = omega (arith, marked.few, length-set slots place slot);
+      commands = covered_with Command old.commands.bits new.commands.bits slots place slot marked.commands commands other_commands;
+      packets = covered_with Packet old.packets.bits new.packets.bits slots place slot marked.packets packets other_packets;
+      listening = covered_with Value old.listening.bits new.listening.bits slots place slot marked.listening listening other_listening;
+      waiting = covered_with Indication old.waiting.bits new.waiting.bits slots place slot marked.waiting waiting other_waiting;
+      free = free;
+    }
 
-  pub marked_on : new.commands ≡ old.commands → new.waiting ≡ old.waiting → new.free ≡ old.free → WaitsForNothingNew (slot_state_at slots place) slot
-      → Covers Value new.listening.bits (set slots place slot) → IsMarked (set slots place slot) new
-  marked_on commands waiting free goes listening = record {
-    few = omega (arith, marked.few, length-set slots place slot);
-    commands = subst (λ (it : Places). Covers Command it.bits (set slots place slot)) (sym commands)
-        (covered_still Command old.commands.bits slots place slot marked.commands goes.command);
-    packets = covered_with Packet old.packets.bits new.packets.bits slots place slot marked.packets packets other_packets;
-    listening = listening;
-    waiting = subst (λ (it : Places). Covers Indication it.bits (set slots place slot)) (sym waiting)
-        (covered_still Indication old.waiting.bits slots place slot marked.waiting goes.waiting);
-    free = λ none. none_with (λ it. is_none it) slot slots place (marked.free (sym free ∙ none)) goes.free;
-  }
+    pub marked_on : new.commands ≡ old.commands → new.waiting ≡ old.waiting → new.free ≡ old.free → WaitsForNothingNew (slot_state_at slots place) slot
+        → Covers Value new.listening.bits (set slots place slot) → IsMarked (set slots place slot) new
+    marked_on commands waiting free goes listening = record {
+      few = omega (arith, marked.few, length-set slots place slot);
+      commands = subst (λ (it : Places). Covers Command it.bits (set slots place slot)) (sym commands)
+          (covered_still Command old.commands.bits slots place slot marked.commands goes.command);
+      packets = covered_with Packet old.packets.bits new.packets.bits slots place slot marked.packets packets other_packets;
+      listening = listening;
+      waiting = subst (λ (it : Places). Covers Indication it.bits (set slots place slot)) (sym waiting)
+          (covered_still Indication old.waiting.bits slots place slot marked.waiting goes.waiting);
+      free = λ none. none_with (λ it. is_none it) slot slots place (marked.free (sym free ∙ none)) goes.free;
+    }
 
 -- a connection has come to a slot, to which nothing is due
-pub marked_still : (slots : SlotStates) (place : ℕ) (slot : Option SlotState) (marks : Marks) → IsMarked slots marks → ((due : Due) → is_slot_due due slot ≡ false)
+pub marked_still : (slots : SlotStates) (place : ℕ) (slot : Option SlotState) (marks : Marks) → IsMarked slots marks
+    → ((due : Due) → is_slot_due due slot ≡ false)
     → is_none slot ≡ false → IsMarked (set slots place slot) marks
 marked_still slots place slot marks marked idle taken = record {
   few = omega (arith, marked.few, length-set slots place slot);
@@ -191,7 +198,8 @@ as-many-free zero slot = refl
 as-many-free (suc count) slot = ap suc (as-many-free count slot)
 
 pub none_marked_of_free : (count : ℕ) → count ≤ MAX_SLOTS
-    → IsMarked (replicate count None) (record { commands = record { bits = 0 }; packets = record { bits = 0 }; listening = record { bits = 0 }; waiting = record { bits = 0 }; free = true })
+    → IsMarked (replicate count None)
+    (record { commands = record { bits = 0 }; packets = record { bits = 0 }; listening = record { bits = 0 }; waiting = record { bits = 0 }; free = true })
 none_marked_of_free count few = record {
   few = omega (arith, few, as-many-free count None);
   commands = none-covered-of-free Command count;
@@ -202,7 +210,8 @@ none_marked_of_free count few = record {
 }
 
 -- the first ones, of which no more is marked
-front-at : (due : Due) (slots : SlotStates) (count place : ℕ) → is_slot_due due (slot_state_at (take count slots) place) ≡ true → is_slot_due due (slot_state_at slots place) ≡ true
+front-at : (due : Due) (slots : SlotStates) (count place : ℕ) → is_slot_due due (slot_state_at (take count slots) place) ≡ true
+    → is_slot_due due (slot_state_at slots place) ≡ true
 front-at due slots zero place is = clash is (none-due due)
 front-at due [] (suc count) place is = clash is (none-due due)
 front-at due (slot ∷ slots) (suc count) zero is = is
@@ -215,7 +224,8 @@ none-in-front test (slot ∷ slots) (suc count) none =
     let parts = or_parts (test slot) (list_any test slots) none in
     or_from (test slot) (list_any test (take count slots)) parts.0 (none-in-front test slots count parts.1)
 
-pub front_marked : (slots : SlotStates) (count : ℕ) (marks : Marks) → length (take count slots) ≤ MAX_SLOTS → IsMarked slots marks → IsMarked (take count slots) marks
+pub front_marked : (slots : SlotStates) (count : ℕ) (marks : Marks) → length (take count slots) ≤ MAX_SLOTS → IsMarked slots marks
+    → IsMarked (take count slots) marks
 front_marked slots count marks few marked = record {
   few = few;
   commands = λ place is. marked.commands place (front-at Command slots count place is);
@@ -227,7 +237,8 @@ front_marked slots count marks few marked = record {
 
 -- where something happens to each connection by which nothing comes to be due, no more is marked
 module _ (change : SlotState → SlotState) where
-  each-at : (slots : SlotStates) (place : ℕ) → slot_state_at (map (λ (slot : Option SlotState). option_map change slot) slots) place ≡ option_map change (slot_state_at slots place)
+  each-at : (slots : SlotStates) (place : ℕ) → slot_state_at (map (λ (slot : Option SlotState). option_map change slot) slots) place
+      ≡ option_map change (slot_state_at slots place)
   each-at [] place = refl
   each-at (slot ∷ slots) zero = refl
   each-at (slot ∷ slots) (suc place) = each-at slots place
@@ -240,7 +251,8 @@ module _ (change : SlotState → SlotState) where
       by None is = is
       by (Some slot_state) is = keeps slot_state is
 
-  none-free : (slots : SlotStates) → list_any (λ it. is_none it) slots ≡ false → list_any (λ it. is_none it) (map (λ (slot : Option SlotState). option_map change slot) slots) ≡ false
+  none-free : (slots : SlotStates) → list_any (λ it. is_none it) slots ≡ false
+      → list_any (λ it. is_none it) (map (λ (slot : Option SlotState). option_map change slot) slots) ≡ false
   none-free [] none = refl
   none-free (slot ∷ slots) none =
       let parts = or_parts (is_none slot) (list_any (λ it. is_none it) slots) none in
@@ -289,7 +301,8 @@ table_marked old new slots marks = each_marked (after_table old new) slots marks
       | true ↦ λ is. is
       | false ↦ λ is. is
     ])
-    (λ slot_state. elim slot_state.live as (λ (live : Bool). may_listen (Some (after live (record slot_state { live = live }))) ≡ true → may_listen (Some (record slot_state { live = live })) ≡ true) [
+    (λ slot_state. elim slot_state.live as (λ (live : Bool). may_listen (Some (after live (record slot_state { live = live }))) ≡ true
+    → may_listen (Some (record slot_state { live = live })) ≡ true) [
       | true ↦ λ is. configured (is_some slot_state.link.key) slot_state.row is
       | false ↦ λ is. is
     ])

@@ -28,7 +28,8 @@ past [] place beyond = refl
 past (slot ∷ slots) zero beyond = absurd (omega arith)
 past (slot ∷ slots) (suc place) beyond = past slots place (omega arith)
 
-pub some-passes : {A : Type 0} (test : A → Bool) (d : A) (n : ℕ) (xs : List A) (place : ℕ) → place < length xs → test (get_or xs place d) ≡ true → position_from test n xs ≡ None → ⊥
+pub some-passes : {A : Type 0} (test : A → Bool) (d : A) (n : ℕ) (xs : List A) (place : ℕ) → place < length xs → test (get_or xs place d) ≡ true
+    → position_from test n xs ≡ None → ⊥
 some-passes test d n [] place within is none = absurd (omega (arith, within))
 some-passes test d n (x ∷ xs) zero within is none = found (sym (ap (λ (it : Bool). cond it (Some n) (position_from test (n + 1) xs)) is) ∙ none)
   where
@@ -86,13 +87,21 @@ pub serving_there : (slots : SlotStates) (handle : ℕ) (found : Option ℕ) →
 serving_there slots handle None is = tt
 serving_there slots handle (Some place) is =
     let at = position-Some (is_serving handle) slots place None (sym is) in
-    record { within = at.0; some = subst (λ (slot : Option SlotState). IsSome slot) (sym (kept-is slots place at.0)) (serves-some handle (get_or slots place None) at.1) }
+    record {
+      within = at.0;
+      some = subst (λ (slot : Option SlotState). IsSome slot) (sym (kept-is slots place at.0))
+          (serves-some handle (get_or slots place None) at.1);
+    }
 
 pub holding_there : (slots : SlotStates) (handle : ℕ) (found : Option ℕ) → found ≡ place_holding slots handle → IfSome found (IsThere slots)
 holding_there slots handle None is = tt
 holding_there slots handle (Some place) is =
     let at = position-Some (is_holding handle) slots place None (sym is) in
-    record { within = at.0; some = subst (λ (slot : Option SlotState). IsSome slot) (sym (kept-is slots place at.0)) (holds-some handle (get_or slots place None) at.1) }
+    record {
+      within = at.0;
+      some = subst (λ (slot : Option SlotState). IsSome slot) (sym (kept-is slots place at.0))
+          (holds-some handle (get_or slots place None) at.1);
+    }
 
 pub free_within : (slots : SlotStates) (found : Option ℕ) → found ≡ place_free slots → IfSome found (λ place. place < length slots)
 free_within slots None is = tt

@@ -14,7 +14,8 @@ use Rattle.host_connections.specs.declared.places.Due.TheVariants.{Command, Valu
 
 -- what hears at each place
 module _ (hear : ℕ → Option SlotState → Option SlotState) (nobody : (place : ℕ) → hear place None ≡ None) where
-  pub heard-at : (start : ℕ) (slots : SlotStates) (place : ℕ) → slot_state_at (heard_from start hear slots) place ≡ hear (start + place) (slot_state_at slots place)
+  pub heard-at : (start : ℕ) (slots : SlotStates) (place : ℕ) → slot_state_at (heard_from start hear slots) place
+      ≡ hear (start + place) (slot_state_at slots place)
   heard-at start [] place = sym (nobody (start + place))
   heard-at start (slot ∷ slots) zero = ap (λ (at : ℕ). hear at slot) (omega arith)
   heard-at start (slot ∷ slots) (suc place) =
@@ -25,7 +26,11 @@ heard-command : (table : Contents) (now : ℕ) (rows : Subscriptions) (handles :
     → has_command (slot_heard table now rows handles slot) ≡ has_command slot
 heard-command table now rows handles None = refl
 heard-command table now rows handles (Some slot_state) =
-    elim slot_state.live as (λ (live : Bool). (let heard : SlotState = if live then with_delivery slot_state (delivery_in_turn table (hearer_facts_of now (row_of rows slot_state.peer) slot_state) now handles (delivery_of slot_state)) else slot_state in has_command (Some heard)) ≡ has_command (Some slot_state)) [
+    elim slot_state.live as
+    (λ (live : Bool).
+    (let heard : SlotState = if live
+    then with_delivery slot_state (delivery_in_turn table (hearer_facts_of now (row_of rows slot_state.peer) slot_state) now handles (delivery_of slot_state))
+    else slot_state in has_command (Some heard)) ≡ has_command (Some slot_state)) [
       | true ↦ refl
       | false ↦ refl
     ]
@@ -36,7 +41,8 @@ commands_heard table now rows own here handles places slots heard is covers = λ
     let hear : ℕ → Option SlotState → Option SlotState = λ at slot. slot_heard table now rows (handles_for own here handles at) slot in
     covers place
     (sym (heard-command table now rows (handles_for own here handles place) (slot_state_at slots place))
-    ∙ ap has_command (sym (heard-at hear (λ at. refl) 0 slots place ∙ ap (λ (at : ℕ). hear at (slot_state_at slots place)) (first place))) ∙ ap (λ (it : SlotStates). has_command (slot_state_at it place)) (sym is) ∙ due)
+    ∙ ap has_command (sym (heard-at hear (λ at. refl) 0 slots place ∙ ap (λ (at : ℕ). hear at (slot_state_at slots place)) (first place)))
+    ∙ ap (λ (it : SlotStates). has_command (slot_state_at it place)) (sym is) ∙ due)
   where
     first : (place : ℕ) → 0 + place ≡ place
     first place = omega arith
@@ -46,7 +52,11 @@ heard-listens : (table : Contents) (now : ℕ) (rows : Subscriptions) (handles :
     → may_listen (slot_heard table now rows handles slot) ≡ may_listen slot
 heard-listens table now rows handles None = refl
 heard-listens table now rows handles (Some slot_state) =
-    elim slot_state.live as (λ (live : Bool). (let heard : SlotState = if live then with_delivery slot_state (delivery_in_turn table (hearer_facts_of now (row_of rows slot_state.peer) slot_state) now handles (delivery_of slot_state)) else slot_state in may_listen (Some heard)) ≡ may_listen (Some slot_state)) [
+    elim slot_state.live as
+    (λ (live : Bool).
+    (let heard : SlotState = if live
+    then with_delivery slot_state (delivery_in_turn table (hearer_facts_of now (row_of rows slot_state.peer) slot_state) now handles (delivery_of slot_state))
+    else slot_state in may_listen (Some heard)) ≡ may_listen (Some slot_state)) [
       | true ↦ refl
       | false ↦ refl
     ]
@@ -57,7 +67,8 @@ listening_heard table now rows own here handles places slots heard is covers = �
     let hear : ℕ → Option SlotState → Option SlotState = λ at slot. slot_heard table now rows (handles_for own here handles at) slot in
     covers place
     (sym (heard-listens table now rows (handles_for own here handles place) (slot_state_at slots place))
-    ∙ ap may_listen (sym (heard-at hear (λ at. refl) 0 slots place ∙ ap (λ (at : ℕ). hear at (slot_state_at slots place)) (first place))) ∙ ap (λ (it : SlotStates). may_listen (slot_state_at it place)) (sym is) ∙ listens)
+    ∙ ap may_listen (sym (heard-at hear (λ at. refl) 0 slots place ∙ ap (λ (at : ℕ). hear at (slot_state_at slots place)) (first place)))
+    ∙ ap (λ (it : SlotStates). may_listen (slot_state_at it place)) (sym is) ∙ listens)
   where
     first : (place : ℕ) → 0 + place ≡ place
     first place = omega arith

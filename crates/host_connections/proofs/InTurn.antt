@@ -27,20 +27,23 @@ pub nothing : (start : ℕ) (slots : SlotStates) → heard_from start (λ place 
 nothing start [] = refl
 nothing start (slot ∷ slots) = ap (λ (rest : SlotStates). slot ∷ rest) (nothing (start + 1) slots)
 
-pub alike : (one other : ℕ → Option SlotState → Option SlotState) (slots : SlotStates) → ((place : ℕ) (slot : Option SlotState) → one place slot ≡ other place slot)
+pub alike : (one other : ℕ → Option SlotState → Option SlotState) (slots : SlotStates)
+    → ((place : ℕ) (slot : Option SlotState) → one place slot ≡ other place slot)
     → heard_from 0 one slots ≡ heard_from 0 other slots
 alike one other slots same = λ i. heard_from 0 (λ place slot. same place slot i) slots
 
 -- the same where the slots that are there hear the same
 pub alike-there : (one other : ℕ → Option SlotState → Option SlotState) (start : ℕ) (slots : SlotStates)
-    → ((place : ℕ) → one (start + place) (slot_state_at slots place) ≡ other (start + place) (slot_state_at slots place)) → heard_from start one slots ≡ heard_from start other slots
+    → ((place : ℕ) → one (start + place) (slot_state_at slots place) ≡ other (start + place) (slot_state_at slots place)) → heard_from start one slots
+    ≡ heard_from start other slots
 alike-there one other start [] same = refl
 alike-there one other start (slot ∷ slots) same =
     let here : start ≡ start + 0 = omega arith in
     λ i. (ap (λ (at : ℕ). one at slot) here ∙ same zero ∙ ap (λ (at : ℕ). other at slot) (sym here)) i
     ∷ alike-there one other (start + 1) slots (λ place. next one place ∙ same (suc place) ∙ sym (next other place)) i
   where
-    next : (hear : ℕ → Option SlotState → Option SlotState) (place : ℕ) → hear (start + 1 + place) (slot_state_at slots place) ≡ hear (start + suc place) (slot_state_at slots place)
+    next : (hear : ℕ → Option SlotState → Option SlotState) (place : ℕ) → hear (start + 1 + place) (slot_state_at slots place)
+        ≡ hear (start + suc place) (slot_state_at slots place)
     next hear place = let same : start + 1 + place ≡ start + suc place = omega arith in ap (λ (at : ℕ). hear at (slot_state_at slots place)) same
 
 either : (test : Bool) (slot : Option SlotState) → (if test then slot else slot) ≡ slot
@@ -63,12 +66,14 @@ module _ (table : Contents) (now : ℕ) (rows : Subscriptions) where
         | false ↦ refl
       ]
 
-  heard-in-turn : (handles : List Handle) (slot : Option SlotState) → slot_heard table now rows handles slot ≡ slot_heard table now rows [] (raised handles slot)
+  heard-in-turn : (handles : List Handle) (slot : Option SlotState) → slot_heard table now rows handles slot
+      ≡ slot_heard table now rows [] (raised handles slot)
   heard-in-turn [] slot = refl
   heard-in-turn (handle ∷ handles) slot = next-heard handle handles slot ∙ heard-in-turn handles (slot_notified table now rows handle slot)
 
   -- one that may not listen hears of no value
-  pub unlistened : (handles : List Handle) (slot : Option SlotState) → may_listen slot ≡ false → slot_heard table now rows handles slot ≡ slot_heard table now rows [] slot
+  pub unlistened : (handles : List Handle) (slot : Option SlotState) → may_listen slot ≡ false → slot_heard table now rows handles slot
+      ≡ slot_heard table now rows [] slot
   unlistened [] slot deaf = refl
   unlistened (handle ∷ handles) slot deaf =
       next-heard handle handles slot
@@ -92,12 +97,15 @@ module _ (table : Contents) (now : ℕ) (rows : Subscriptions) where
   in-turn places (handle ∷ handles) slots =
       in-turn places handles (all_notified table now rows places handle slots)
       ∙ together (raised-where places handles) (slot_notified_at table now rows places handle) 0 slots
-      ∙ alike (λ place slot. raised-where places handles place (slot_notified_at table now rows places handle place slot)) (raised-where places (handle ∷ handles)) slots
+      ∙ alike (λ place slot. raised-where places handles place (slot_notified_at table now rows places handle place slot))
+      (raised-where places (handle ∷ handles)) slots
       (λ place slot. both place slot)
     where
-      both : (place : ℕ) (slot : Option SlotState) → raised-where places handles place (slot_notified_at table now rows places handle place slot) ≡ raised-where places (handle ∷ handles) place slot
+      both : (place : ℕ) (slot : Option SlotState) → raised-where places handles place (slot_notified_at table now rows places handle place slot)
+          ≡ raised-where places (handle ∷ handles) place slot
       both place slot = elim (is_in places place) as (λ (among : Bool).
-          (if among then raised handles (if among then slot_notified table now rows handle slot else slot) else (if among then slot_notified table now rows handle slot else slot))
+          (if among then raised handles (if among then slot_notified table now rows handle slot else slot)
+          else (if among then slot_notified table now rows handle slot else slot))
           ≡ (if among then raised handles (slot_notified table now rows handle slot) else slot)) [
             | true ↦ refl
             | false ↦ refl
@@ -118,12 +126,15 @@ module _ (table : Contents) (now : ℕ) (rows : Subscriptions) where
   pub waiting_heard : (places : ℕ) (slots : SlotStates) → Covers Indication places slots
       → heard_from 0 (λ place slot. if is_in places place then slot_heard table now rows [] slot else slot) slots ≡ all_heard table now rows None [] [] slots
   waiting_heard places slots covers =
-      alike-there (λ place slot. if is_in places place then slot_heard table now rows [] slot else slot) (λ place slot. slot_heard table now rows (handles_for None [] [] place) slot) 0 slots
+      alike-there (λ place slot. if is_in places place then slot_heard table now rows [] slot else slot)
+      (λ place slot. slot_heard table now rows (handles_for None [] [] place) slot) 0 slots
       (λ place. let first : 0 + place ≡ place = omega arith in
-      ap (λ (it : ℕ). if is_in places it then slot_heard table now rows [] (slot_state_at slots place) else slot_state_at slots place) first ∙ by place (is_in places place) refl)
+      ap (λ (it : ℕ). if is_in places it then slot_heard table now rows [] (slot_state_at slots place) else slot_state_at slots place) first
+      ∙ by place (is_in places place) refl)
     where
       by : (place : ℕ) (is : Bool) → is_in places place ≡ is
-          → (if is then slot_heard table now rows [] (slot_state_at slots place) else slot_state_at slots place) ≡ slot_heard table now rows [] (slot_state_at slots place)
+          → (if is then slot_heard table now rows [] (slot_state_at slots place) else slot_state_at slots place)
+          ≡ slot_heard table now rows [] (slot_state_at slots place)
       by place true is = refl
       by place false is = sym (quiet_slot table now rows (slot_state_at slots place) (unmarked_idle Indication places slots place covers is))
 
@@ -174,7 +185,8 @@ module _ (table : Contents) (now : ℕ) (rows : Subscriptions) where
           ≡ slot_heard table now rows (handles_for own here handles (0 + place)) (slot_state_at slots place)
       each few place =
           let first : 0 + place ≡ place = omega arith in
-          subst (λ (at : ℕ). raised-by (bit_at mine at) (bit_at theirs at) (slot_state_at slots place) ≡ heard-by (is_own_place own at) (slot_state_at slots place)) (sym first)
+          subst (λ (at : ℕ). raised-by (bit_at mine at) (bit_at theirs at) (slot_state_at slots place)
+          ≡ heard-by (is_own_place own at) (slot_state_at slots place)) (sym first)
           (⊎_elim (λ within. each-within place within (is_own_place own place) refl)
           (λ beyond. subst (λ (it : Option SlotState). raised-by (bit_at mine place) (bit_at theirs place) it ≡ heard-by (is_own_place own place) it)
           (sym (past slots place (omega (arith, few, beyond)))) (nobody-there (bit_at mine place == 1) (bit_at theirs place == 1) (is_own_place own place)))
@@ -190,11 +202,13 @@ module _ (table : Contents) (now : ℕ) (rows : Subscriptions) where
           ap (heard_from 0 released) (in-turn theirs handles (all_notified_in_turn table now rows mine here slots)
           ∙ ap (heard_from 0 second) (in-turn mine here slots) ∙ together second first 0 slots)
           ∙ together released (λ place slot. second place (first place slot)) 0 slots
-          ∙ alike-there (λ place slot. released place (second place (first place slot))) (λ place slot. slot_heard table now rows (handles_for own here handles place) slot) 0 slots
+          ∙ alike-there (λ place slot. released place (second place (first place slot)))
+          (λ place slot. slot_heard table now rows (handles_for own here handles place) slot) 0 slots
           (each few)
 
     -- where no other connection may listen, what is notified changes nothing
-    pub nobody_listens : (handles : List Handle) (slots : SlotStates) → ((place : ℕ) → may_listen (slot_state_at slots place) ≡ true → is_own_place own place ≡ true)
+    pub nobody_listens : (handles : List Handle) (slots : SlotStates)
+        → ((place : ℕ) → may_listen (slot_state_at slots place) ≡ true → is_own_place own place ≡ true)
         → all_heard table now rows own [] handles slots ≡ all_heard table now rows None [] [] slots
     nobody_listens handles slots only =
         alike-there (λ place slot. slot_heard table now rows (handles_for own [] handles place) slot) (λ place slot. slot_heard table now rows [] slot) 0 slots

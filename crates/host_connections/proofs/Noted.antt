@@ -39,7 +39,8 @@ holds-noted handle below (Some slot_state) = refl
 
 module _ (slots : SlotStates) (noted : List ℕ) (are : AreNoted slots noted) where
   -- a slot is changed whose connection keeps its handle
-  pub noted_still : (place : ℕ) (slot : Option SlotState) → place < length slots → noted_of slot ≡ noted_of (slot_state_at slots place) → AreNoted (set slots place slot) noted
+  pub noted_still : (place : ℕ) (slot : Option SlotState) → place < length slots → noted_of slot ≡ noted_of (slot_state_at slots place)
+      → AreNoted (set slots place slot) noted
   noted_still place slot within same = λ other there. ⊎_elim
       (λ is. ap (λ at. get_or noted at 65536) is ∙ are place within ∙ sym same
       ∙ ap noted_of (sym (at-same slots place slot within)) ∙ ap (λ at. noted_of (slot_state_at (set slots place slot) at)) (sym is))
@@ -52,21 +53,26 @@ pub mapped_noted : (change : SlotState → SlotState) → ((slot_state : SlotSta
 mapped_noted change keeps None = refl
 mapped_noted change keeps (Some slot_state) = keeps slot_state
 
-pub changed_noted : (slots : SlotStates) (noted : List ℕ) (place : ℕ) (old new : Option SlotState) (change : SlotState → SlotState) → place < length slots → old ≡ get_or slots place old
-    → ((slot_state : SlotState) → (change slot_state).handle ≡ slot_state.handle) → new ≡ option_map change old → AreNoted slots noted → AreNoted (set slots place new) noted
+pub changed_noted : (slots : SlotStates) (noted : List ℕ) (place : ℕ) (old new : Option SlotState) (change : SlotState → SlotState) → place < length slots
+    → old ≡ get_or slots place old
+    → ((slot_state : SlotState) → (change slot_state).handle ≡ slot_state.handle) → new ≡ option_map change old → AreNoted slots noted
+    → AreNoted (set slots place new) noted
 changed_noted slots noted place old new change within is keeps changes are =
     noted_still slots noted are place new within
     (ap noted_of changes ∙ mapped_noted change keeps old ∙ ap noted_of (sym (read_at slots place old within is)))
 
 -- what becomes of a served one
-ended-or : (full : Bool) (reason : ℕ) (slot_state other : SlotState) → other.handle ≡ slot_state.handle → (let after : SlotState = if full then slot_after_ending reason slot_state else other in after).handle ≡ slot_state.handle
+ended-or : (full : Bool) (reason : ℕ) (slot_state other : SlotState) → other.handle ≡ slot_state.handle
+    → (let after : SlotState = if full then slot_after_ending reason slot_state else other in after).handle ≡ slot_state.handle
 ended-or true reason slot_state other same = refl
 ended-or false reason slot_state other same = same
 
-pub served_handle : (table : Contents) (now : ℕ) (bond : Option Row) (pdu : Octets) (slot_state : SlotState) → (slot_after_request table now bond pdu slot_state).handle ≡ slot_state.handle
+pub served_handle : (table : Contents) (now : ℕ) (bond : Option Row) (pdu : Octets) (slot_state : SlotState)
+    → (slot_after_request table now bond pdu slot_state).handle ≡ slot_state.handle
 served_handle table now bond pdu slot_state = ended-or (overflows pdu slot_state) remote_user_terminated slot_state _ refl
 
-table-handle : (live : Bool) (slot_state other : SlotState) → other.handle ≡ slot_state.handle → (let after : SlotState = if live then other else slot_state in after).handle ≡ slot_state.handle
+table-handle : (live : Bool) (slot_state other : SlotState) → other.handle ≡ slot_state.handle → (let after : SlotState = if live then other else slot_state in
+    after).handle ≡ slot_state.handle
 table-handle true slot_state other same = same
 table-handle false slot_state other same = refl
 
@@ -80,7 +86,8 @@ given_noted slot given true after stays = ap noted_of (OnTrue_at refl after) ∙
 given_noted slot given false after stays = ap noted_of (OnFalse_at refl stays)
 
 -- the first ones alone
-first-kept : (slots : SlotStates) (count place : ℕ) → place < length (take count slots) → (slot_state_at (take count slots) place ≡ slot_state_at slots place) × (place < length slots)
+first-kept : (slots : SlotStates) (count place : ℕ) → place < length (take count slots) → (slot_state_at (take count slots) place ≡ slot_state_at slots place)
+    × (place < length slots)
 first-kept [] zero place there = absurd (omega (arith, there))
 first-kept [] (suc count) place there = absurd (omega (arith, there))
 first-kept (slot ∷ slots) zero place there = absurd (omega (arith, there))
@@ -103,7 +110,8 @@ map-kept f (slot ∷ slots) (suc place) there =
     let rest = map-kept f slots place (omega (arith, there)) in
     (rest.0, omega (arith, rest.1))
 
-pub each_noted : (slots others : SlotStates) (noted : List ℕ) (change : SlotState → SlotState) → ((slot_state : SlotState) → (change slot_state).handle ≡ slot_state.handle)
+pub each_noted : (slots others : SlotStates) (noted : List ℕ) (change : SlotState → SlotState)
+    → ((slot_state : SlotState) → (change slot_state).handle ≡ slot_state.handle)
     → others ≡ map (λ (slot : Option SlotState). option_map change slot) slots → AreNoted slots noted → AreNoted others noted
 each_noted slots others noted change keeps is are =
     subst (λ (it : SlotStates). AreNoted it noted) (sym is) (λ place there.
@@ -119,7 +127,9 @@ written_over len old new same is =
 heard-handle : (table : Contents) (now : ℕ) (rows : Subscriptions) (handles : List Handle) (slot : Option SlotState)
     → noted_of (slot_heard table now rows handles slot) ≡ noted_of slot
 heard-handle table now rows handles None = refl
-heard-handle table now rows handles (Some slot_state) = table-handle slot_state.live slot_state (with_delivery slot_state (delivery_in_turn table (hearer_facts_of now (row_of rows slot_state.peer) slot_state) now handles (delivery_of slot_state))) refl
+heard-handle table now rows handles (Some slot_state) =
+    table-handle slot_state.live slot_state
+    (with_delivery slot_state (delivery_in_turn table (hearer_facts_of now (row_of rows slot_state.peer) slot_state) now handles (delivery_of slot_state))) refl
 
 pub heard_noted : (table : Contents) (now : ℕ) (rows : Subscriptions) (own : Option ℕ) (here handles : List Handle) (slots heard : SlotStates) (noted : List ℕ)
     → heard ≡ all_heard table now rows own here handles slots → length heard ≡ length slots → AreNoted slots noted → AreNoted heard noted
@@ -154,7 +164,8 @@ module _ (slots : SlotStates) (noted : List ℕ) (any : AreNotedIfAny slots note
   pub noted_found : (place : ℕ) → position (λ (it : ℕ). it == handle) noted ≡ Some place → place < length slots → Some place ≡ place_holding slots handle
   noted_found place is there =
       let found = position-Some (λ (it : ℕ). it == handle) noted place 65536 is in
-      let some : get_or noted place 65536 < 65536 = ⊎_elim (λ same. omega (arith, same.1, below)) (λ apart. clash found.1 apart.0) (eqb_tells (get_or noted place 65536) handle) in
+      let some : get_or noted place 65536 < 65536 =
+      ⊎_elim (λ same. omega (arith, same.1, below)) (λ apart. clash found.1 apart.0) (eqb_tells (get_or noted place 65536) handle) in
       let are : AreNoted slots noted = any place some in
       let is-noted : (at : ℕ) → at < length slots → is_holding handle (slot_state_at slots at) ≡ (get_or noted at 65536 == handle) =
       λ at within. holds-noted handle below (slot_state_at slots at) ∙ ap (λ (it : ℕ). it == handle) (sym (are at within)) in
@@ -166,11 +177,13 @@ live-holds : (handle : ℕ) (slot : Option SlotState) → is_holding handle slot
 live-holds handle None not = refl
 live-holds handle (Some slot_state) not = and_right slot_state.live (slot_state.handle == handle) not
 
-serves-live : (handle : ℕ) (slot : Option SlotState) → is_holding handle slot ≡ true → option_map_or (λ (slot_state : SlotState). slot_state.live) slot false ≡ true → is_serving handle slot ≡ true
+serves-live : (handle : ℕ) (slot : Option SlotState) → is_holding handle slot ≡ true → option_map_or (λ (slot_state : SlotState). slot_state.live) slot false
+    ≡ true → is_serving handle slot ≡ true
 serves-live handle None holds live = holds
 serves-live handle (Some slot_state) holds live = λ i. live i && holds i
 
-pub found_serving : (slots : SlotStates) (handle place : ℕ) → Some place ≡ place_holding slots handle → option_map_or (λ (slot_state : SlotState). slot_state.live) (slot_state_at slots place) false ≡ true
+pub found_serving : (slots : SlotStates) (handle place : ℕ) → Some place ≡ place_holding slots handle
+    → option_map_or (λ (slot_state : SlotState). slot_state.live) (slot_state_at slots place) false ≡ true
     → Some place ≡ place_serving slots handle
 found_serving slots handle place is live =
     let found = position-Some (is_holding handle) slots place None (sym is) in
@@ -189,14 +202,17 @@ linked_handle step slot_state =
 answered-handle : (channel : ℕ) (answer : Option Octets) (slot_state : SlotState) → (with_channel_answer channel answer slot_state).handle ≡ slot_state.handle
 answered-handle channel None slot_state = refl
 answered-handle channel (Some answer) slot_state =
-    ended-or (slot_backlog slot_state == MAX_PDUS) remote_user_terminated slot_state (record slot_state { outgoing = with_pdu slot_state.outgoing (channel, answer) }) refl
+    ended-or (slot_backlog slot_state == MAX_PDUS) remote_user_terminated slot_state
+    (record slot_state { outgoing = with_pdu slot_state.outgoing (channel, answer) }) refl
 
-pub other_channel_handle : (channel : ℕ) (payload : Octets) (slot_state : SlotState) → (slot_after_other_channel channel payload slot_state).handle ≡ slot_state.handle
+pub other_channel_handle : (channel : ℕ) (payload : Octets) (slot_state : SlotState) → (slot_after_other_channel channel payload slot_state).handle
+    ≡ slot_state.handle
 other_channel_handle channel payload slot_state = answered-handle channel (channel_answer channel payload) slot_state
 
 pub sent_handle : (slot_state : SlotState) → (slot_without_command slot_state).handle ≡ slot_state.handle
 sent_handle slot_state = by (is_some slot_state.reason)
   where
-    by : (ending : Bool) → (let after : SlotState = if ending then record slot_state { reason = None } else record slot_state { reply = None } in after).handle ≡ slot_state.handle
+    by : (ending : Bool) → (let after : SlotState = if ending then record slot_state { reason = None } else record slot_state { reply = None } in
+        after).handle ≡ slot_state.handle
     by true = refl
     by false = refl

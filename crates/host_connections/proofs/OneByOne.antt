@@ -55,7 +55,8 @@ module _ (hear : Option SlotState → Option SlotState) (nobody : hear None ≡ 
   off : (whom left place : ℕ) → is_in whom place ≡ true → is_in left place ≡ false → is_done whom left place ≡ true
   off whom left place is gone = λ i. is i && not (gone i)
 
-  module _ (whom left rest place : ℕ) (old now : SlotStates) (so : IsSoFar hear whom left old now) (few : place < MAX_SLOTS) (is : bit_at left place ≡ 1) (gone : bit_at rest place ≡ 0)
+  module _ (whom left rest place : ℕ) (old now : SlotStates) (so : IsSoFar hear whom left old now) (few : place < MAX_SLOTS) (is : bit_at left place ≡ 1)
+      (gone : bit_at rest place ≡ 0)
       (others : (other : ℕ) → other < MAX_SLOTS → other ≢ place → bit_at rest other ≡ bit_at left other) where
     in-left : is_in left place ≡ true
     in-left = ap (λ (bit : ℕ). bit == 1) is
@@ -133,7 +134,8 @@ module _ (hear : Option SlotState → Option SlotState) (nobody : hear None ≡ 
       at : (place : ℕ) → slot_state_at now place ≡ heard place (slot_state_at old place)
       at place = ⊎_elim
           (λ within. so.each place within
-          ∙ ap (λ (done : Bool). heard_if hear done (slot_state_at old place)) (ap (λ (it : Bool). is_in whom place && not it) (empty place) ∙ and_with_true (is_in whom place)))
+          ∙ ap (λ (done : Bool). heard_if hear done (slot_state_at old place))
+          (ap (λ (it : Bool). is_in whom place && not it) (empty place) ∙ and_with_true (is_in whom place)))
           (λ beyond. past now place (omega (arith, beyond, few, so.count))
           ∙ sym (ap (heard place) (past old place (omega (arith, beyond, few))) ∙ nobody-there place))
           (cases_lt place MAX_SLOTS)

@@ -28,7 +28,8 @@ use Rattle.le_acl.specs.Outgoing.{Outgoing}
 use Rattle.octet_io.proofs.Choices.{same_choice}
 
 abbrev told_with : List Handle → Option Unconfirmed → Bool → Outgoing → Delivery
-told_with waiting unconfirmed timed_out outgoing = record { pending = record { waiting = waiting; unconfirmed = unconfirmed; timed_out = timed_out }; outgoing = outgoing }
+told_with waiting unconfirmed timed_out outgoing =
+    record { pending = record { waiting = waiting; unconfirmed = unconfirmed; timed_out = timed_out }; outgoing = outgoing }
 
 none_released : (table : Contents) (ear : HearerFacts) (now : ℕ) (unconfirmed : Option Unconfirmed) (timed_out : Bool) (outgoing : Outgoing)
     → delivery_when_indicating table ear now (told_with [] unconfirmed timed_out outgoing) ≡ told_with [] unconfirmed timed_out outgoing
@@ -40,7 +41,8 @@ none_released table ear now None false outgoing =
     let pending : Indications = record { waiting = []; unconfirmed = None; timed_out = false } in
     rw (same_choice few nothing, same_choice few pending) refl
 
-pub idle_released : (table : Contents) (ear : HearerFacts) (now : ℕ) (told : Delivery) → told.pending.waiting ≡ [] → delivery_when_indicating table ear now told ≡ told
+pub idle_released : (table : Contents) (ear : HearerFacts) (now : ℕ) (told : Delivery) → told.pending.waiting ≡ [] → delivery_when_indicating table ear now told
+    ≡ told
 idle_released table ear now told none =
     let unconfirmed : Option Unconfirmed = told.pending.unconfirmed in
     let timed_out : Bool = told.pending.timed_out in
@@ -48,10 +50,12 @@ idle_released table ear now told none =
     ∙ none_released table ear now unconfirmed timed_out told.outgoing
     ∙ sym (ap (λ (waiting : List Handle). told_with waiting unconfirmed timed_out told.outgoing) none)
 
-pub nothing_heard : (table : Contents) (now : ℕ) (bond : Option Row) (slot_state : SlotState) → slot_state.pending.waiting ≡ [] → slot_after_hearing table now bond [] slot_state ≡ slot_state
+pub nothing_heard : (table : Contents) (now : ℕ) (bond : Option Row) (slot_state : SlotState) → slot_state.pending.waiting ≡ []
+    → slot_after_hearing table now bond [] slot_state ≡ slot_state
 nothing_heard table now bond slot_state none =
     let ear : HearerFacts = hearer_facts_of now bond slot_state in
-    elim slot_state.live as (λ live. (if live then with_delivery slot_state (delivery_when_indicating table ear now (delivery_of slot_state)) else slot_state) ≡ slot_state) [
+    elim slot_state.live as (λ live. (if live then with_delivery slot_state (delivery_when_indicating table ear now (delivery_of slot_state)) else slot_state)
+    ≡ slot_state) [
       | true ↦ ap (with_delivery slot_state) (idle_released table ear now (delivery_of slot_state) none)
       | false ↦ refl
     ]
@@ -70,13 +74,16 @@ unheard-raised : (table : Contents) (ear : HearerFacts) (handle : Handle) (told 
     → delivery_when_notifying table ear handle told ≡ told
 unheard-raised table ear handle told silent = ap (raised-if table ear handle told) (and_right (not told.pending.timed_out) _ silent)
 
-pub nothing_raised : (table : Contents) (now : ℕ) (rows : Subscriptions) (handle : Handle) → ((row : Row) (standing : Standing) → may_hear_at table.attributes row standing handle ≡ false)
+pub nothing_raised : (table : Contents) (now : ℕ) (rows : Subscriptions) (handle : Handle)
+    → ((row : Row) (standing : Standing) → may_hear_at table.attributes row standing handle ≡ false)
     → (slot : Option SlotState) → slot_notified table now rows handle slot ≡ slot
 nothing_raised table now rows handle silent None = refl
 nothing_raised table now rows handle silent (Some slot_state) =
     let ear : HearerFacts = hearer_facts_of now (row_of rows slot_state.peer) slot_state in
-    elim slot_state.live as (λ live. Some (if live then with_delivery slot_state (delivery_when_notifying table ear handle (delivery_of slot_state)) else slot_state) ≡ Some slot_state) [
-      | true ↦ ap (λ (told : Delivery). Some (with_delivery slot_state told)) (unheard-raised table ear handle (delivery_of slot_state) (silent ear.row ear.standing))
+    elim slot_state.live as
+    (λ live. Some (if live then with_delivery slot_state (delivery_when_notifying table ear handle (delivery_of slot_state)) else slot_state) ≡ Some slot_state) [
+      | true ↦ ap (λ (told : Delivery). Some (with_delivery slot_state told))
+          (unheard-raised table ear handle (delivery_of slot_state) (silent ear.row ear.standing))
       | false ↦ refl
     ]
 
@@ -122,7 +129,8 @@ unasked attributes standing handle =
       | Some attr ↦ and_right (is_value attr.role) (may_hear_of attr.guard 0 standing) (unasked-of attr.guard standing)
     ]
 
-pub none_in_force : (bond : Option Row) (slot_state : SlotState) → (is_some slot_state.link.key || not (length slot_state.row == 0)) ≡ false → slot_row_in_force bond slot_state ≡ []
+pub none_in_force : (bond : Option Row) (slot_state : SlotState) → (is_some slot_state.link.key || not (length slot_state.row == 0)) ≡ false
+    → slot_row_in_force bond slot_state ≡ []
 none_in_force bond slot_state none =
     let parts = or_parts (is_some slot_state.link.key) (not (length slot_state.row == 0)) none in
     ap (λ (has : Bool). row_by_key has bond slot_state.row) parts.0 ∙ none_there slot_state.row (not-false (length slot_state.row == 0) parts.1)

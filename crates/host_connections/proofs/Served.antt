@@ -90,7 +90,8 @@ module _ (table : Contents) (now : ℕ) (changer : Option Handle) (pdu : Octets)
         → IfSome (slot_state_where used handle peer key_known until row link conn pending sender reply reason)
         (λ slot_state. ChangesBond (bond_served table now changer (row_of old slot_state.peer) pdu slot_state) slot_state.peer old old)
     bond_where_full used full =
-        of_each (λ slot_state. ChangesBond (bond_served table now changer (row_of old slot_state.peer) pdu slot_state) slot_state.peer old old) (λ live. unwritten (kept_as live) full) used
+        of_each (λ slot_state. ChangesBond (bond_served table now changer (row_of old slot_state.peer) pdu slot_state) slot_state.peer old old)
+        (λ live. unwritten (kept_as live) full) used
 
     -- and where there is room, the values and the handles that are written are those that serving tells
     pub table_served : (used : Use) (has_key : Bool) (stood : Bearer) (new_table : Contents) → overflows pdu (kept_as true) ≡ false
@@ -100,8 +101,10 @@ module _ (table : Contents) (now : ℕ) (changer : Option Handle) (pdu : Octets)
         (λ slot_state. new_table ≡ table_after table now (row_of old slot_state.peer) pdu slot_state)
     table_served used has_key stood new_table spare key stands is =
         of_each (λ slot_state. new_table ≡ table_after table now (row_of old slot_state.peer) pdu slot_state)
-        (λ live. is ∙ (λ i. record table { values = (stored_by table (row_by_key (key i) (row_of old peer) row) (stands i) (request_of pdu (stands i).mtu)).values })
-        ∙ sym (ap (λ (test : Bool). if test then table else record table { values = (stored_of table now (row_of old peer) pdu (kept_as live)).values }) spare)) used
+        (λ live. is
+        ∙ (λ i. record table { values = (stored_by table (row_by_key (key i) (row_of old peer) row) (stands i) (request_of pdu (stands i).mtu)).values })
+        ∙ sym (ap (λ (test : Bool). if test then table else record table { values = (stored_of table now (row_of old peer) pdu (kept_as live)).values }) spare))
+        used
 
     pub handles_served : (used : Use) (has_key : Bool) (stood : Bearer) (written : List Handle) → overflows pdu (kept_as true) ≡ false
         → has_key ≡ is_some link.key → stood ≡ slot_bearer now (kept_as true)
@@ -111,7 +114,8 @@ module _ (table : Contents) (now : ℕ) (changer : Option Handle) (pdu : Octets)
     handles_served used has_key stood written spare key stands is =
         of_each (λ slot_state. written ≡ handles_written_by table now (row_of old slot_state.peer) pdu slot_state)
         (λ live. is ∙ (λ i. handles_by table (row_by_key (key i) (row_of old peer) row) (stands i) (request_of pdu (stands i).mtu))
-        ∙ sym (ap (λ (test : Bool). if test then [] else handles_by table (row_by_key (is_some link.key) (row_of old peer) row) (slot_bearer now (kept_as live)) (request_of pdu conn.mtu)) spare)) used
+        ∙ sym (ap (λ (test : Bool). if test then [] else handles_by table (row_by_key (is_some link.key) (row_of old peer) row) (slot_bearer now (kept_as live))
+        (request_of pdu conn.mtu)) spare)) used
 
     -- a slot that is not free has a row in force
     pub row_of_table : (used : Use) (has_key : Bool) → has_key ≡ is_some link.key
@@ -126,17 +130,21 @@ module _ (table : Contents) (now : ℕ) (changer : Option Handle) (pdu : Octets)
         subst (λ (has : Bool). IsRowOf table.attributes (row_by_key has (row_of old peer) row)) (sym key) of
 
     -- what the fields of a slot keep is what serving leaves
-    pub kept_after_serving : (used : Use) (has_key told : Bool) (stood : Bearer) (row-then : Row) (conn-then : Bearer) (pending-then : Indications) (sender-then : Sending)
+    pub kept_after_serving : (used : Use) (has_key told : Bool) (stood : Bearer) (row-then : Row) (conn-then : Bearer) (pending-then : Indications)
+        (sender-then : Sending)
         → overflows pdu (kept_as true) ≡ false → has_key ≡ is_some link.key → stood ≡ slot_bearer now (kept_as true) → told ≡ is_confirmation pdu
-        → row-then ≡ slot_row_after has_key (row_of old peer) row (stored_by table (row_by_key has_key (row_of old peer) row) stood (request_of pdu stood.mtu)).row
+        → row-then
+        ≡ slot_row_after has_key (row_of old peer) row (stored_by table (row_by_key has_key (row_of old peer) row) stood (request_of pdu stood.mtu)).row
         → conn-then ≡ conn_after table.attributes stood (request_of pdu stood.mtu)
         → pending-then ≡ (if told then after_confirmation pending else pending)
         → sender-then.outgoing ≡ with_response sender.outgoing (answer_to table (row_by_key has_key (row_of old peer) row) stood (request_of pdu stood.mtu))
         → slot_state_where used handle peer key_known until row-then link conn-then pending-then sender-then reply reason
-        ≡ option_map (λ slot_state. slot_after_request table now (row_of old slot_state.peer) pdu slot_state) (slot_state_where used handle peer key_known until row link conn pending sender reply reason)
+        ≡ option_map (λ slot_state. slot_after_request table now (row_of old slot_state.peer) pdu slot_state)
+        (slot_state_where used handle peer key_known until row link conn pending sender reply reason)
     kept_after_serving used has_key told stood row-then conn-then pending-then sender-then spare key stands tells row-is conn-is pending-is sender-is =
         elim used as (λ used. slot_state_where used handle peer key_known until row-then link conn-then pending-then sender-then reply reason
-        ≡ option_map (λ slot_state. slot_after_request table now (row_of old slot_state.peer) pdu slot_state) (slot_state_where used handle peer key_known until row link conn pending sender reply reason)) [
+        ≡ option_map (λ slot_state. slot_after_request table now (row_of old slot_state.peer) pdu slot_state)
+        (slot_state_where used handle peer key_known until row link conn pending sender reply reason)) [
           | Free ↦ refl
           | Live ↦ ap (λ (slot_state : SlotState). Some slot_state) (serves true ∙ not-full true)
           | Ending ↦ ap (λ (slot_state : SlotState). Some slot_state) (serves false ∙ not-full false)
@@ -189,7 +197,8 @@ module _ (table : Contents) (now : ℕ) (changer : Option Handle) (pdu : Octets)
             (with_response sender.outgoing (answer_to table (force (is_some link.key)) stood' (asks stood')))
         serves live = λ i. final live (row-path i) (conn-path i) (pending-path i) (sender-path i)
 
-        not-full : (live : Bool) → final live (slot_row_after (is_some link.key) (row_of old peer) row (stored_by table (force (is_some link.key)) stood' (asks stood')).row)
+        not-full : (live : Bool)
+            → final live (slot_row_after (is_some link.key) (row_of old peer) row (stored_by table (force (is_some link.key)) stood' (asks stood')).row)
             (conn_after table.attributes stood' (asks stood')) (pending_after pdu pending)
             (with_response sender.outgoing (answer_to table (force (is_some link.key)) stood' (asks stood')))
             ≡ slot_after_request table now (row_of old peer) pdu (kept_as live)

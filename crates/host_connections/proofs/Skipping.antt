@@ -480,7 +480,8 @@ one_at_most table now rows places handle slots =
     by false slot = omega arith
 
 -- of one value: those miss all that is missed that may listen, but for the one that it happened to
-module _ (table : Contents) (now : ℕ) (rows : Subscriptions) (own : Option ℕ) (theirs listening : ℕ) (handle : Handle) (slots : SlotStates) (covers : Covers Value listening slots)
+module _ (table : Contents) (now : ℕ) (rows : Subscriptions) (own : Option ℕ) (theirs listening : ℕ) (handle : Handle) (slots : SlotStates)
+    (covers : Covers Value listening slots)
     (own_theirs : (place : ℕ) → place < MAX_SLOTS → is_own_place own place ≡ true → bit_at theirs place ≡ 0)
     (others_theirs : (place : ℕ) → place < MAX_SLOTS → is_own_place own place ≡ false → bit_at theirs place ≡ bit_at listening place) where
   abbrev missed-by : Bool → ℕ → List Skipped
@@ -490,7 +491,8 @@ module _ (table : Contents) (now : ℕ) (rows : Subscriptions) (own : Option ℕ
   noted-by bit place = if bit == 1 then slot_skips table now rows (handle ∷ []) (slot_state_at slots place) else []
 
   theirs-missed : (place : ℕ) (in-it : Bool) → is_in listening place ≡ in-it
-      → (if in-it then slot_skips table now rows (handle ∷ []) (slot_state_at slots place) else []) ≡ slot_skips table now rows (handle ∷ []) (slot_state_at slots place)
+      → (if in-it then slot_skips table now rows (handle ∷ []) (slot_state_at slots place) else [])
+      ≡ slot_skips table now rows (handle ∷ []) (slot_state_at slots place)
   theirs-missed place true is = refl
   theirs-missed place false is =
       sym (deaf_skips table now rows (handle ∷ []) (slot_state_at slots place) (unmarked_idle Value listening slots place covers is))

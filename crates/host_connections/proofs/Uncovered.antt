@@ -29,7 +29,8 @@ none_covered due places slots covers empty = none_due due slots (λ place. idle 
         bit e = absurd (omega (arith, e))
 
 -- nothing is due at a place that is not in the set
-pub idle_outside : (due : Due) (places : ℕ) (slots : SlotStates) (place : ℕ) → Covers due places slots → bit_at places place ≡ 0 → is_slot_due due (slot_state_at slots place) ≡ false
+pub idle_outside : (due : Due) (places : ℕ) (slots : SlotStates) (place : ℕ) → Covers due places slots → bit_at places place ≡ 0
+    → is_slot_due due (slot_state_at slots place) ≡ false
 idle_outside due places slots place covers outside = by (is_slot_due due (slot_state_at slots place)) refl
   where
     by : (so : Bool) → is_slot_due due (slot_state_at slots place) ≡ so → is_slot_due due (slot_state_at slots place) ≡ false
@@ -41,7 +42,8 @@ none-any : (due : Due) (slots : SlotStates) → ((place : ℕ) → is_slot_due d
 none-any due [] idle = refl
 none-any due (slot ∷ slots) idle = λ i. idle zero i || none-any due slots (λ place. idle (suc place)) i
 
-pub unmarked_idle : (due : Due) (places : ℕ) (slots : SlotStates) (place : ℕ) → Covers due places slots → is_in places place ≡ false → is_slot_due due (slot_state_at slots place) ≡ false
+pub unmarked_idle : (due : Due) (places : ℕ) (slots : SlotStates) (place : ℕ) → Covers due places slots → is_in places place ≡ false
+    → is_slot_due due (slot_state_at slots place) ≡ false
 unmarked_idle due places slots place covers outside = by (is_slot_due due (slot_state_at slots place)) refl
   where
     by : (so : Bool) → is_slot_due due (slot_state_at slots place) ≡ so → is_slot_due due (slot_state_at slots place) ≡ false
@@ -49,14 +51,16 @@ unmarked_idle due places slots place covers outside = by (is_slot_due due (slot_
     by true is = clash (ap (λ (bit : ℕ). bit == 1) (covers place is)) outside
 
 -- where none is marked at which a value waits, what is due of what waits is nothing
-pub quiet_where_unmarked : (table : Contents) (now : ℕ) (rows : Subscriptions) (own : Option ℕ) (places : ℕ) (slots : SlotStates) → Covers Indication places slots → places ≡ 0
+pub quiet_where_unmarked : (table : Contents) (now : ℕ) (rows : Subscriptions) (own : Option ℕ) (places : ℕ) (slots : SlotStates)
+    → Covers Indication places slots → places ≡ 0
     → slots ≡ all_heard table now rows own [] [] slots
 quiet_where_unmarked table now rows own places slots covers empty =
     nothing_heard_by_all table now rows own slots (none-any Indication slots (λ place.
     idle_outside Indication places slots place covers (ap (λ (it : ℕ). bit_at it place) empty ∙ bit_at-zero place)))
 
 -- nor does a value come to wait by it
-pub heard_waits : (table : Contents) (now : ℕ) (rows : Subscriptions) (slot : Option SlotState) → waits (slot_heard table now rows [] slot) ≡ true → waits slot ≡ true
+pub heard_waits : (table : Contents) (now : ℕ) (rows : Subscriptions) (slot : Option SlotState) → waits (slot_heard table now rows [] slot) ≡ true
+    → waits slot ≡ true
 heard_waits table now rows slot still = by (waits slot) refl
   where
     by : (so : Bool) → waits slot ≡ so → waits slot ≡ true

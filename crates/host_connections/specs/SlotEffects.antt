@@ -16,7 +16,7 @@ use Rattle.att_pdu.specs.declared.pdu_buf.TheConstants.{MIN_MTU}
 use Rattle.le_acl.specs.declared.pdus.TheConstants.{MAX_PDUS}
 
 abbrev pub new_slot_state : ℕ → Peer → Bool → Mtu → ℕ → ℕ → SlotState
-new_slot_state handle peer key_known rx_mtu quota size = record {
+new_slot_state handle peer key_known rx_mtu share size = record {
   live = true;
   handle = handle;
   peer = peer;
@@ -29,7 +29,7 @@ new_slot_state handle peer key_known rx_mtu quota size = record {
   exchanged = false;
   queue = [];
   pending = no_indications;
-  outgoing = none_queued quota size;
+  outgoing = none_queued share size;
   reply = None;
   reason = None;
 }

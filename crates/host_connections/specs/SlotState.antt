@@ -6,7 +6,7 @@ use Rattle.att_writes.specs.Entry.{Entry}
 use Rattle.gatt_conn.specs.Connection.{Bearer}
 use Rattle.gatt_conn.specs.Transcript.{first_exchange}
 use Rattle.gatt_laws.specs.machine.ConnectionState.{ConnectionState, KeyReply, is_live, is_there, connection_mtu, prepared_of}
-use Rattle.gatt_laws.specs.machine.SharedState.{SharedState, quota_of, fragment_size_of}
+use Rattle.gatt_laws.specs.machine.SharedState.{SharedState, share_of, fragment_size_of}
 use Rattle.gatt_subs.specs.Indications.{Indications}
 use Rattle.le_acl.specs.Outgoing.{Outgoing, outgoing_after, without_pdus}
 use Rattle.le_hci.specs.declared.peer.Peer.{Peer}
@@ -36,7 +36,7 @@ pub record SlotState : Type 0 where
 abbrev pub outgoing_of : SharedState → ConnectionState → ℕ → Outgoing
 outgoing_of shared connection handed =
     let outgoing =
-    outgoing_after (quota_of shared.slots shared.buffers) (fragment_size_of shared.buffers)
+    outgoing_after (share_of shared.slots shared.buffers) (fragment_size_of shared.buffers)
     connection.pdus handed connection.done in
     if is_live connection.mark then outgoing else without_pdus outgoing
 

@@ -69,12 +69,12 @@ impl Slot {
         self.sender.may_give()
     }
 
-    /// Cheap check of the quota alone: false means that no packet may be given.
+    /// Cheap check of the share alone: false means that no packet may be given.
     #[inline(always)]
-    pub(crate) fn has_quota(&self) -> bool
+    pub(crate) fn is_below_share(&self) -> bool
         ensures { OnFalse result (gives self.now ≡ false) }
     {
-        self.sender.has_quota()
+        self.sender.is_below_share()
     }
 
     #[inline(always)]

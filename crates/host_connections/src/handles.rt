@@ -45,7 +45,7 @@ impl Handles {
         ensures { AreNoted slots.now self.new.noted }
     {
         for place in 0..slots.len() {
-            self.noted[place] = slots[place].noted();
+            self.noted[place] = slots[place].noted_handle();
         }
     }
 
@@ -77,7 +77,7 @@ impl Handles {
 }
 
 impl Slot {
-    fn noted(&self) -> u32
+    fn noted_handle(&self) -> u32
         ensures { result ≡ noted_of self.now }
     {
         if self.used == Use::Free {

@@ -69,7 +69,7 @@ impl Marks {
 
     /// Marks a slot after a request.
     #[inline(always)]
-    pub(crate) fn serve(&mut self, place: usize, ended: bool, giving: bool)
+    pub(crate) fn note_served(&mut self, place: usize, ended: bool, giving: bool)
         requires { place < MAX_SLOTS }
         ensures { (slots : SlotStates) (slot : Option SlotState) → place < length slots
             → IsMarked slots self.old

@@ -16,7 +16,7 @@ use le_security::Keys;
 
 impl Slots {
     /// Connects a peer. The server receives PDUs of `rx_mtu` octets; the controller may have
-    /// `quota` packets with at most `acl_len` octets of data each.
+    /// `share` packets with at most `acl_len` octets of data each.
     pub fn connect(
         &mut self,
         place: usize,
@@ -24,30 +24,30 @@ impl Slots {
         peer: Peer,
         key_known: bool,
         rx_mtu: u16,
-        quota: u16,
+        share: u16,
         acl_len: u16,
     )
         requires place { place < length self.old }
         requires handle { handle < 2 ^ 12 }
         requires rx_mtu_least { MIN_MTU ≤ rx_mtu }
         requires rx_mtu_most { rx_mtu ≤ MAX_MTU }
-        requires quota { 0 < quota }
+        requires share { 0 < share }
         requires acl_len_least { MIN_ACL_LEN ≤ acl_len }
         requires acl_len_most { acl_len ≤ MAX_ACL_LEN }
         ensures { self.new ≡ at_place place
-            (λ slot. Some (new_slot_state handle peer key_known rx_mtu quota acl_len)) self.old }
+            (λ slot. Some (new_slot_state handle peer key_known rx_mtu share acl_len)) self.old }
     {
         // Nothing is pending on a new connection.
-        self.slots[place].connect(handle, peer, key_known, rx_mtu, quota, acl_len);
+        self.slots[place].connect(handle, peer, key_known, rx_mtu, share, acl_len);
         self.handles.note_all(self.slots.as_slice());
     }
 
     /// Frees the slot of a disconnected connection.
-    pub fn disconnected(&mut self, place: usize)
+    pub fn free(&mut self, place: usize)
         requires { place < length self.old }
         ensures { self.new ≡ at_place place (λ slot. None) self.old }
     {
-        self.slots[place].disconnected();
+        self.slots[place].free();
         self.marks.leave();
         self.handles.note_all(self.slots.as_slice());
     }

@@ -38,7 +38,7 @@ impl Slot {
     /// Serves a PDU as `Slots::serve` does. Borrows the changer, because only a confirmation reads
     /// it.
     #[inline(always)]
-    pub(crate) fn serve(
+    pub(crate) fn serve_pdu(
         &mut self,
         table: &mut Table,
         rows: &mut Rows,

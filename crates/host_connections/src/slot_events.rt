@@ -52,16 +52,16 @@ impl Slot {
         peer: Peer,
         key_known: bool,
         rx_mtu: u16,
-        quota: u16,
+        share: u16,
         acl_len: u16,
     )
         requires handle { handle < 2 ^ 12 }
         requires rx_mtu_least { MIN_MTU ≤ rx_mtu }
         requires rx_mtu_most { rx_mtu ≤ MAX_MTU }
-        requires quota { 0 < quota }
+        requires share { 0 < share }
         requires acl_len_least { MIN_ACL_LEN ≤ acl_len }
         requires acl_len_most { acl_len ≤ MAX_ACL_LEN }
-        ensures { self.new ≡ Some (new_slot_state handle peer key_known rx_mtu quota acl_len) }
+        ensures { self.new ≡ Some (new_slot_state handle peer key_known rx_mtu share acl_len) }
     {
         self.used = Use::Live;
         self.handle = handle;
@@ -73,12 +73,12 @@ impl Slot {
         self.conn.renew();
         self.conn.limit(rx_mtu);
         self.pending = PendingOfTable::new();
-        self.sender.reset(quota, acl_len);
+        self.sender.reset(share, acl_len);
         self.reply = None;
         self.reason = None;
     }
 
-    pub(crate) fn disconnected(&mut self)
+    pub(crate) fn free(&mut self)
         ensures { self.new ≡ None }
     {
         self.used = Use::Free;
@@ -215,7 +215,7 @@ impl Slot {
         self.row.keep(old, new);
         if self.used == Use::Live {
             self.conn.cancel();
-            self.pending.replaced();
+            self.pending.replace_table();
         }
     }
 }

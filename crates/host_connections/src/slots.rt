@@ -169,7 +169,7 @@ impl Slots {
     /// Serves a PDU of the Attribute Protocol; `written` then has the handles that it wrote. Ends
     /// the connection if an expected answer has no space.
     #[inline(always)]
-    pub fn serve(
+    pub fn serve_slot(
         &mut self,
         place: usize,
         table: &mut Table,
@@ -203,9 +203,9 @@ impl Slots {
             (λ slot_state. result.confirmed ≡ confirmed_of pdu.now slot_state) }
     {
         let slot = &mut self.slots[place];
-        let brought = slot.serve(table, rows, changer, now, pdu, written);
-        let giving = slot.has_quota();
-        self.marks.serve(place, brought.ended, giving);
+        let brought = slot.serve_pdu(table, rows, changer, now, pdu, written);
+        let giving = slot.is_below_share();
+        self.marks.note_served(place, brought.ended, giving);
         brought
     }
 

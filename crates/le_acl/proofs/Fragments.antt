@@ -60,7 +60,8 @@ fragments-next size zero pdu some h =
     ∙ ap (λ (n : ℕ). Beginning (take size (frame_octets pdu)) ∷ map Continuation (pieces size (drop n (frame_octets pdu)))) e
 fragments-next size (suc gone) pdu some h =
     ap (map Continuation) (pieces-next size (drop (suc gone) (frame_octets pdu)) some (omega (arith, length-drop (suc gone) (frame_octets pdu))))
-    ∙ ap (λ (xs : List ℕ). Continuation (take size (drop (suc gone) (frame_octets pdu))) ∷ map Continuation (pieces size xs)) (drop-drop size (suc gone) (frame_octets pdu))
+    ∙ ap (λ (xs : List ℕ). Continuation (take size (drop (suc gone) (frame_octets pdu))) ∷ map Continuation (pieces size xs))
+    (drop-drop size (suc gone) (frame_octets pdu))
 
 others-none : (size gone : ℕ) (frame : List ℕ) → length frame ≤ gone → others_of size gone frame ≡ []
 unfolding others_of

@@ -155,7 +155,8 @@ module _ (pdu : Pdu) where
       alone zero piece last = last
       alone (suc count) piece last = last
 
-  whole_frame : length pdu.1 ≤ MAX_PDU → frame_in_by (is_enough (frame_octets pdu)) true (is_frame (frame_octets pdu)) (frame_octets pdu) ≡ Some (frame_octets pdu)
+  whole_frame : length pdu.1 ≤ MAX_PDU → frame_in_by (is_enough (frame_octets pdu)) true (is_frame (frame_octets pdu)) (frame_octets pdu)
+      ≡ Some (frame_octets pdu)
   whole_frame fits =
       let stated : from_two (length pdu.1 % 256) (length pdu.1 / 256) ≡ length pdu.1 = omega arith in
       rw (

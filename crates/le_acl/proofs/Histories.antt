@@ -130,7 +130,8 @@ module _ (share size : ℕ) where
       → IsAfterHistory (with_completed outgoing count) share size pdus given (done + min count (given - done))
   stands-completed outgoing pdus given done count at =
       let left : given - done - count ≡ given - (done + min count (given - done)) = omega arith in
-      let after : ℕ → Outgoing = λ outstanding. record { queue = rest given (map (fragments_of size) pdus); outstanding = outstanding; share = share; size = size } in
+      let after : ℕ → Outgoing =
+      λ outstanding. record { queue = rest given (map (fragments_of size) pdus); outstanding = outstanding; share = share; size = size } in
       record {
         stands = ap (λ (old : Outgoing). with_completed old count) at.stands ∙ ap after left;
         most = omega (arith, at.most);

@@ -29,7 +29,8 @@ module _ {X : Type 0} (N k n : ℕ) (xs : List X) (start_in_range : k < N) (len_
       let length_tail = length-drop k xs in
       get_or-take n _ i d in_range ∙ elim (mod_wraps_once N (k + i) (omega arith)) [
         | inl unwrapped ↦ get_or_append_left _ _ d i (omega arith) ∙ get_or-drop k xs i d ∙ ap (λ j. get_or xs j d) (omega arith)
-        | inr wrapped ↦ get_or-append_right _ _ (N - k) i d (omega arith) (omega arith) ∙ get_or-take k xs _ d (omega arith) ∙ ap (λ j. get_or xs j d) (omega arith)
+        | inr wrapped ↦ get_or-append_right _ _ (N - k) i d (omega arith) (omega arith) ∙ get_or-take k xs _ d (omega arith)
+            ∙ ap (λ j. get_or xs j d) (omega arith)
       ]
 
 module _ {X : Type 0} (N k n : ℕ) (xs : List X) (start_in_range : k < N) (len_fits : n ≤ N) (length_xs : length xs ≡ N) where
@@ -66,7 +67,8 @@ module _ {X : Type 0} (N k n : ℕ) (xs : List X) (start_in_range : k < N) (len_
       let length_old = length-window N k n xs start_in_range len_fits length_xs in
       let length_new = length-window N ((k + 1) % N) (n - 1) xs next_in_range (omega arith) length_xs in
       let old_item = get_or-window N k n xs start_in_range len_fits length_xs in
-      drop_more _ 0 e (omega arith) ∙ ap₂ ◌∷◌ (grind (arith, old_item 0 e, mod_wraps_once N k)) (same_lists _ _ (simp length-drop (omega arith)) (λ i d in_range. grind (
+      drop_more _ 0 e (omega arith) ∙ ap₂ ◌∷◌ (grind (arith, old_item 0 e, mod_wraps_once N k))
+      (same_lists _ _ (simp length-drop (omega arith)) (λ i d in_range. grind (
         arith,
         length-drop 1 (window k n xs),
         get_or-drop 1 (window k n xs) i d,
@@ -117,7 +119,8 @@ module _ (first count : ℕ) (headers : List Header) (payloads : List (ArrayVec 
       let more_payloads : window first (count + 1) payloads ≡ window first count payloads ++ get_or payloads slot empty ∷ [] =
       window-longer 16 first count payloads ring.first_below ring.count_within ring.payloads_length empty has_room in
       ap₂ (λ (xs : List Header) (ys : List (ArrayVec ℕ)). map pdu_of (zip xs ys)) more_headers more_payloads
-      ∙ ap (map pdu_of) (zip-append (window first count headers) (window first count payloads) header (get_or payloads slot empty) (length-headers ∙ sym length-payloads))
+      ∙ ap (map pdu_of)
+      (zip-append (window first count headers) (window first count payloads) header (get_or payloads slot empty) (length-headers ∙ sym length-payloads))
       ∙ map-append pdu_of (zip (window first count headers) (window first count payloads)) ((header, get_or payloads slot empty) ∷ [])
 
   pub pdus-parts : 0 < count → (queued_of first count headers payloads).pdus
@@ -130,7 +133,8 @@ module _ (first count : ℕ) (headers : List Header) (payloads : List (ArrayVec 
   pub pop_is : 0 < count → (queued_of ((first + 1) % 16) (count - 1) headers payloads).pdus ≡ drop 1 (queued_of first count headers payloads).pdus
   pop_is some = ap (drop 1) (sym (pdus-parts some))
 
-  pub front_is : 0 < count → slice_get (queued_of first count headers payloads).pdus 0 ≡ Some (pdu_of (get_or headers first no_header, get_or payloads first empty))
+  pub front_is : 0 < count → slice_get (queued_of first count headers payloads).pdus 0
+      ≡ Some (pdu_of (get_or headers first no_header, get_or payloads first empty))
   front_is some = ap (λ (xs : List Pdu). slice_get xs 0) (pdus-parts some)
 
   pub room_is : (written : ArrayVec ℕ) → count < 16
@@ -139,7 +143,8 @@ module _ (first count : ℕ) (headers : List Header) (payloads : List (ArrayVec 
   room_is written has_room =
       let slot = (first + count) % 16 in
       let below : slot < length payloads = omega (arith, ring.payloads_length) in
-      ap₂ (λ (ys : List (ArrayVec ℕ)) (room : List ℕ). let held : Queued = record { pdus = map pdu_of (zip (window first count headers) ys); room = room } in held)
+      ap₂ (λ (ys : List (ArrayVec ℕ)) (room : List ℕ). let held : Queued = record { pdus = map pdu_of (zip (window first count headers) ys); room = room } in
+      held)
       (window-set 16 first count payloads ring.first_below ring.count_within ring.payloads_length written has_room)
       (ap (λ (payload : ArrayVec ℕ). payload.items) (get_or-set_same payloads slot written empty below))
 
@@ -159,7 +164,8 @@ module _ (first count : ℕ) (headers : List Header) (payloads : List (ArrayVec 
               (sym (get_or-set_other headers slot ((first + i) % 16) header no_header (slot-apart 16 first count i ring.first_below has_room older)))
               (ring.all_there i older)
           | inr newest ↦ subst (λ (place : ℕ). HasAll written payloads ((first + place) % 16)) (omega arith)
-              (subst (λ (found : Header). found.len ≤ length (get_or payloads slot empty).items) (sym (get_or-set_same headers slot header no_header below)) there)
+              (subst (λ (found : Header). found.len ≤ length (get_or payloads slot empty).items) (sym (get_or-set_same headers slot header no_header below))
+              there)
         ];
       }
 

@@ -1,4 +1,4 @@
--- What is given is a quota of what is queued.
+-- What is given is a share of what is queued.
 use Rattle.std.proofs.Common.{◌≡◌, ◌≢◌, ℕ, ◌+◌, ◌-◌, ◌<◌, ◌≤◌, List, [], ◌∷◌, ◌++◌, length, take, drop, Bool, true, false, refl, sym, ◌∙◌, ap, subst, arith, append_assoc, inl, inr}
 use Rattle.std.specs.Prelude.{cond, not, ◌&&◌, ◌==◌, nat_lt}
 use Rattle.std.specs.Option.{option_to_list}
@@ -8,7 +8,7 @@ use Rattle.std.proofs.lemmas.List.{append-nil, length-append, length-drop, take_
 use Rattle.le_acl.specs.Fragment.{Fragment}
 use Rattle.le_acl.specs.Packets.{Pdu, pieces, fragments_of, all_packets, rest}
 use Rattle.le_acl.specs.Outgoing.{Outgoing, none_queued, next_of, without_next, may_give, after_next}
-use Rattle.le_acl.specs.Acts.{SenderAct, Push, Next, Completed, Flush, Reset, after_sender_acts, fragments_given, queued_in, done_in, GivesWithinQuota, AlwaysGivesWithinQuota}
+use Rattle.le_acl.specs.Acts.{SenderAct, Push, Next, Completed, Flush, Reset, after_sender_acts, fragments_given, queued_in, done_in, GivesWithinQuota, AlwaysGivesWithinShare}
 
 -- each PDU that is queued has a packet not yet given
 abbrev pub EachSome : List (List Fragment) → Type 0
@@ -81,7 +81,8 @@ rest-next given (packets ∷ pdus) each some = elim (cases_lt given (length pack
       ]
   | inr past ↦
       let over : rest given (packets ∷ pdus) ≡ rest (given - length packets) pdus = rw (le-ltb given (length packets) past) refl in
-      let over_next : rest (given + 1) (packets ∷ pdus) ≡ rest (given + 1 - length packets) pdus = rw (le-ltb (given + 1) (length packets) (omega arith)) refl in
+      let over_next : rest (given + 1) (packets ∷ pdus) ≡ rest (given + 1 - length packets) pdus =
+      rw (le-ltb (given + 1) (length packets) (omega arith)) refl in
       let same : given - length packets + 1 ≡ given + 1 - length packets = omega arith in
       ap without_next over
       ∙ rest-next (given - length packets) pdus (subst EachSome over each) (subst (λ (left : List (List Fragment)). length left ≢ 0) over some)
@@ -125,7 +126,8 @@ keeps-next queued given done old true is kept =
     let parts = may-parts old is in
     let one = one-next old.queue kept.each parts.0 in
     let some : length (rest (length given) queued) ≢ 0 = subst (λ (queue : List (List Fragment)). length queue ≢ 0) kept.left parts.0 in
-    let more : length given + 1 ≡ length (given ++ option_to_list (next_of old.queue)) = omega (arith, one, length-append given (option_to_list (next_of old.queue))) in
+    let more : length given + 1 ≡ length (given ++ option_to_list (next_of old.queue)) =
+    omega (arith, one, length-append given (option_to_list (next_of old.queue))) in
     record {
       order = kept.order ∙ ap (λ (packets : List Fragment). given ++ packets) (all-without old.queue)
           ∙ sym (append_assoc given (option_to_list (next_of old.queue)) (all_packets (without_next old.queue)));
@@ -169,7 +171,8 @@ module _ (share size : ℕ) where
         each = each-append old.queue packets kept.each some;
       }
   keeps (Next ∷ earlier) =
-      keeps-next (queued_in start earlier) (fragments_given start earlier) (done_in start earlier) (after_sender_acts start earlier) (may_give (after_sender_acts start earlier)) refl (keeps earlier)
+      keeps-next (queued_in start earlier) (fragments_given start earlier) (done_in start earlier) (after_sender_acts start earlier)
+      (may_give (after_sender_acts start earlier)) refl (keeps earlier)
   keeps (Completed count ∷ earlier) =
       let kept = keeps earlier in
       record { order = kept.order; left = kept.left; count = omega (arith, kept.count); within = omega (arith, kept.within); each = kept.each }
@@ -178,9 +181,10 @@ module _ (share size : ℕ) where
       record { order = refl; left = sym (rest-all (fragments_given start earlier)); count = kept.count; within = kept.within; each = tt }
   keeps (Reset other_share other_size ∷ earlier) = record { order = refl; left = refl; count = refl; within = omega arith; each = tt }
 
--- once no more may be given, none is left or the quota is outstanding
+-- once no more may be given, none is left or the share is outstanding
 stopped : (now : Outgoing) → may_give now ≡ false → length now.queue ≢ 0 → now.share ≤ now.outstanding
-stopped now is queued = ltb-false now.outstanding now.share (second (length now.queue == 0) (nat_lt now.outstanding now.share) is (ne_eqb (length now.queue) 0 queued))
+stopped now is queued =
+    ltb-false now.outstanding now.share (second (length now.queue == 0) (nat_lt now.outstanding now.share) is (ne_eqb (length now.queue) 0 queued))
   where
     second : (a b : Bool) → (not a && b) ≡ false → a ≡ false → b ≡ false
     second true b is other = cc
@@ -190,9 +194,11 @@ none-left : (queue : List (List Fragment)) → length queue ≡ 0 → all_packet
 none-left [] none = refl
 none-left (first ∷ queue) none = absurd (omega arith)
 
-gives : (queued : List (List Fragment)) (given : List Fragment) (done : ℕ) (now : Outgoing) → Keeps queued given done now → GivesWithinQuota queued given done now
+gives : (queued : List (List Fragment)) (given : List Fragment) (done : ℕ) (now : Outgoing) → Keeps queued given done now
+    → GivesWithinQuota queued given done now
 gives queued given done now kept =
-    let first : given ≡ take (length given) (all_packets queued) = sym (ap (take (length given)) kept.order ∙ take_at given (all_packets now.queue) (length given) refl) in
+    let first : given ≡ take (length given) (all_packets queued) =
+    sym (ap (take (length given)) kept.order ∙ take_at given (all_packets now.queue) (length given) refl) in
     record {
       first = first;
       within = omega (arith, kept.count, kept.within);
@@ -208,7 +214,7 @@ gives queued given done now kept =
       outstanding = omega (arith, kept.count);
     }
 
--- whatever is done with a sender, what it gives is a quota of what is queued
-pub always_gives_a_share : (share size : ℕ) → AlwaysGivesWithinQuota share size
+-- whatever is done with a sender, what it gives is a share of what is queued
+pub always_gives_a_share : (share size : ℕ) → AlwaysGivesWithinShare share size
 unfolding start
 always_gives_a_share share size acts = gives _ _ _ _ (keeps share size acts)

@@ -57,7 +57,7 @@ done_in start (Completed count ∷ earlier) =
 done_in start (Flush ∷ earlier) = done_in start earlier
 done_in start (Reset share size ∷ earlier) = 0
 
--- The packets sent are a prefix of those queued, at most a quota beyond those completed, and that
+-- The packets sent are a prefix of those queued, at most a share beyond those completed, and that
 -- many once no packet may be sent.
 pub record GivesWithinQuota (queued : List (List Fragment)) (given : List Fragment) (done : ℕ)
     (now : Outgoing) : Type 0 where
@@ -67,9 +67,9 @@ pub record GivesWithinQuota (queued : List (List Fragment)) (given : List Fragme
   pub left : now.queue ≡ rest (length given) queued
   pub outstanding : now.outstanding ≡ length given - done
 
--- A sender keeps to its quota, whatever the calls.
-abbrev pub AlwaysGivesWithinQuota : ℕ → ℕ → Type 0
-AlwaysGivesWithinQuota share size = (acts : List SenderAct) →
+-- A sender keeps to its share, whatever the calls.
+abbrev pub AlwaysGivesWithinShare : ℕ → ℕ → Type 0
+AlwaysGivesWithinShare share size = (acts : List SenderAct) →
     let start = none_queued share size in
     GivesWithinQuota (queued_in start acts) (fragments_given start acts) (done_in start acts)
     (after_sender_acts start acts)

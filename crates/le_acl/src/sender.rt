@@ -3,7 +3,7 @@ ghost use Rattle.std.specs.Bool.{OnTrue, OnFalse};
 ghost use Rattle.std.specs.Borrow.{sem};
 ghost use Rattle.std.specs.Option.{option_map};
 ghost use Rattle.le_acl.specs.Outgoing.{with_pdu, next_of, without_next, may_give, after_next, with_completed, without_pdus, acl_octets};
-ghost use Rattle.le_acl.specs.Acts.{AlwaysGivesWithinQuota};
+ghost use Rattle.le_acl.specs.Acts.{AlwaysGivesWithinShare};
 ghost use Rattle.le_acl.specs.History.{FollowsHistory};
 ghost use Rattle.le_acl.specs.Sending.{idle, queue_of, IsWithin, IsOfFirst};
 ghost use Rattle.le_acl.specs.declared.frame.TheConstants.{MAX_FRAME};
@@ -33,7 +33,7 @@ pub const MAX_ACL_LEN: u16 = 251;
 #[derive(Clone, Copy, PartialEq, Eq)]
 pub struct Full;
 
-/// A queue of PDUs of one connection, sent as ACL packets within a quota of outstanding packets
+/// A queue of PDUs of one connection, sent as ACL packets within a share of outstanding packets
 /// (Core 5.0, Vol 2 Part E, 4.1.1).
 #[derive(Drop)]
 pub struct Sender {
@@ -63,16 +63,16 @@ impl Model for Sender {
 impl Sender {
     ghost use Rattle.le_acl.specs.SenderLends.{LendsRoom};
 
-    /// Creates an empty sender. At most `share` packets may be outstanding, with at most `acl_len`
-    /// octets of data.
+    /// Creates an empty sender. At most `share` packets may be outstanding, each with at most
+    /// `acl_len` octets of data.
     #[tactic(auto, using(crate::proofs::Shares::always_gives_a_share))]
     pub fn new(alloc: Global, share: u16, acl_len: u16) -> Result<Sender, AllocError>
         requires share { 0 < share }
         requires acl_len_least { MIN_ACL_LEN ≤ acl_len }
         requires acl_len_most { acl_len ≤ MAX_ACL_LEN }
         ensures idle { IfOk result (λ sender. sender ≡ idle share acl_len) }
-        // Packets are sent in order and within the quota, whatever the calls.
-        ensures share { AlwaysGivesWithinQuota share acl_len }
+        // Packets are sent in order and within the share, whatever the calls.
+        ensures share { AlwaysGivesWithinShare share acl_len }
         ensures history { FollowsHistory share acl_len }
     {
         Ok(Sender {
@@ -147,7 +147,7 @@ impl Sender {
         self.lent = false;
     }
 
-    /// Queues two slices, joined. The queue must not be full.
+    /// Queues two slices as one PDU of at most `MAX_PDU` octets. The queue must not be full.
     pub fn queue(&mut self, cid: u16, first: &[u8], rest: &[u8])
         requires room { length self.old.outgoing.queue < MAX_PDUS }
         requires fits { length first.now + length rest.now ≤ MAX_PDU }
@@ -162,7 +162,7 @@ impl Sender {
     }
 
     /// Writes the next packet in place of the contents of `out`. Returns false and changes nothing
-    /// if no PDU is queued or the quota is used up.
+    /// if no PDU is queued or the share is used up.
     pub fn next(&mut self, handle: u16, out: &mut PacketOctets) -> bool
         requires { handle < 2 ^ 12 }
         ensures gives { result ≡ may_give self.old.outgoing }
@@ -281,9 +281,9 @@ impl Sender {
         self.outstanding < self.share && self.backlog() > 0
     }
 
-    /// Returns true if the quota is not used up.
+    /// Returns true if the share is not used up.
     #[inline(always)]
-    pub fn has_quota(&self) -> bool
+    pub fn is_below_share(&self) -> bool
         ensures { result ≡ nat_lt self.now.outgoing.outstanding self.now.outgoing.share }
     {
         self.outstanding < self.share
@@ -314,7 +314,7 @@ impl Sender {
         self.pdus.len()
     }
 
-    /// Drops all PDUs and outstanding packets, and sets quota and packet size.
+    /// Drops all PDUs and outstanding packets, and sets share and packet size.
     pub fn reset(&mut self, share: u16, acl_len: u16)
         requires share { 0 < share }
         requires acl_len_least { MIN_ACL_LEN ≤ acl_len }

@@ -80,9 +80,13 @@ pub sized : (octets : List ℕ) (size : ℕ) → stated_size octets ≡ Some siz
 sized [] size is kept = absurd (cc)
 sized (indicator ∷ octets) size is kept =
     let found =
-    sizes-either octets (indicator == 0x02) acl_form (λ more. cond (indicator == 0x03) (sco_form more) (cond (indicator == 0x04) (event_form more) (NoPacket indicator))) _ _ (sizes-by octets acl_form _ (sized-acl indicator octets))
-    (sizes-either octets (indicator == 0x03) sco_form (λ more. cond (indicator == 0x04) (event_form more) (NoPacket indicator)) _ _ (sizes-by octets sco_form _ (sized-sco indicator octets))
-    (sizes-either octets (indicator == 0x04) event_form (λ more. NoPacket indicator) _ _ (sizes-by octets event_form _ (sized-event indicator octets)) (sizes-none octets (λ more. NoPacket indicator))))
+    sizes-either octets (indicator == 0x02) acl_form
+    (λ more. cond (indicator == 0x03) (sco_form more) (cond (indicator == 0x04) (event_form more) (NoPacket indicator))) _ _
+    (sizes-by octets acl_form _ (sized-acl indicator octets))
+    (sizes-either octets (indicator == 0x03) sco_form (λ more. cond (indicator == 0x04) (event_form more) (NoPacket indicator)) _ _
+    (sizes-by octets sco_form _ (sized-sco indicator octets))
+    (sizes-either octets (indicator == 0x04) event_form (λ more. NoPacket indicator) _ _ (sizes-by octets event_form _ (sized-event indicator octets))
+    (sizes-none octets (λ more. NoPacket indicator))))
     size is in
     let next : suc size ≡ size + 1 = omega arith in
     record {

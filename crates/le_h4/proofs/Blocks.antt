@@ -7,4 +7,5 @@ pub front_of_block : (count size : ℕ) (octets behind : Octets) → count ≤ s
 front_of_block zero size octets behind few there = refl
 front_of_block (suc count) zero octets behind few there = absurd (omega arith)
 front_of_block (suc count) (suc size) [] behind few there = absurd (omega arith)
-front_of_block (suc count) (suc size) (octet ∷ octets) behind few there = ap (λ (rest : Octets). octet ∷ rest) (front_of_block count size octets behind (omega arith) (omega arith))
+front_of_block (suc count) (suc size) (octet ∷ octets) behind few there =
+    ap (λ (rest : Octets). octet ∷ rest) (front_of_block count size octets behind (omega arith) (omega arith))

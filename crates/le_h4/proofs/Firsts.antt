@@ -31,7 +31,10 @@ stays-data more packet size octets =
     elim (cases_Bool (nat_le size (length octets))) [
       | inl yes_all ↦
           rw yes_all (with_data-whole packet size (octets ++ more) (omega (arith, leb-true size (length octets) yes_all, length-append octets more))
-          ∙ rw (take-append-le size octets more (leb-true size (length octets) yes_all), drop-append-le size octets more (leb-true size (length octets) yes_all)) refl)
+          ∙ rw (
+            take-append-le size octets more (leb-true size (length octets) yes_all),
+            drop-append-le size octets more (leb-true size (length octets) yes_all),
+          ) refl)
       | inr not_all ↦ rw not_all tt
     ]
 
@@ -121,7 +124,8 @@ IsSpelled octets (FirstPacket packet rest) = rest ≡ [] → Spells octets packe
 IsSpelled octets NoneYet = Unit {0}
 IsSpelled octets (NoPacket indicator) = Unit {0}
 
-spelled-either : (octets : List ℕ) (test : Bool) (a b : First) → (test ≡ true → IsSpelled octets a) → (test ≡ false → IsSpelled octets b) → IsSpelled octets (cond test a b)
+spelled-either : (octets : List ℕ) (test : Bool) (a b : First) → (test ≡ true → IsSpelled octets a) → (test ≡ false → IsSpelled octets b)
+    → IsSpelled octets (cond test a b)
 spelled-either octets true a b first second = first refl
 spelled-either octets false a b first second = second refl
 

@@ -61,11 +61,13 @@ alone-event (code ∷ size ∷ octets) = elim (cases_Bool (nat_le size (length o
 
 alone : (indicator : ℕ) (octets : List ℕ) → Alone octets (λ more. first_of (indicator ∷ more)) (first_of (indicator ∷ octets))
 alone indicator octets =
-    alone-either octets (indicator == 0x02) acl_form (λ more. cond (indicator == 0x03) (sco_form more) (cond (indicator == 0x04) (event_form more) (NoPacket indicator))) (alone-acl octets)
+    alone-either octets (indicator == 0x02) acl_form
+    (λ more. cond (indicator == 0x03) (sco_form more) (cond (indicator == 0x04) (event_form more) (NoPacket indicator))) (alone-acl octets)
     (alone-either octets (indicator == 0x03) sco_form (λ more. cond (indicator == 0x04) (event_form more) (NoPacket indicator)) (alone-sco octets)
     (alone-either octets (indicator == 0x04) event_form (λ more. NoPacket indicator) (alone-event octets) tt))
 
-pub first_alone : (octets rest : List ℕ) (packet : Packet) (used : ℕ) → first_of octets ≡ FirstPacket packet rest → used ≤ length octets → drop used octets ≡ rest
+pub first_alone : (octets rest : List ℕ) (packet : Packet) (used : ℕ) → first_of octets ≡ FirstPacket packet rest → used ≤ length octets
+    → drop used octets ≡ rest
     → first_of (take used octets) ≡ FirstPacket packet []
 first_alone [] rest packet used is within follows = absurd (cc is)
 first_alone (indicator ∷ octets) rest packet used is within follows =
@@ -117,8 +119,10 @@ still_at_border deframing is rest =
 
 -- what a deframer says of such a packet
 module _ (deframing : Deframing) (octets : Octets) (at_border : is_at_border deframing ≡ true) where
-  pub whole_divides : (found : Option WholePacket) → option_map (lying_in octets) found ≡ kept_first (first_of octets) → IfSome found (λ (whole : WholePacket). whole.used ≤ length octets)
-      → IfSome found (λ (whole : WholePacket). (rest : Octets) → still deframing (take whole.used octets ++ rest) ≡ before (packet_of_ref whole.packet ∷ []) (still deframing rest))
+  pub whole_divides : (found : Option WholePacket) → option_map (lying_in octets) found ≡ kept_first (first_of octets)
+      → IfSome found (λ (whole : WholePacket). whole.used ≤ length octets)
+      → IfSome found (λ (whole : WholePacket). (rest : Octets) → still deframing (take whole.used octets ++ rest)
+      ≡ before (packet_of_ref whole.packet ∷ []) (still deframing rest))
   whole_divides None same within = tt
   whole_divides (Some whole) same within = λ rest.
       let found = lies octets whole same within in
@@ -126,7 +130,8 @@ module _ (deframing : Deframing) (octets : Octets) (at_border : is_at_border def
       ∙ division-packet (take whole.used octets) rest (packet_of_ref whole.packet) found.alone found.short
       ∙ ap (before (packet_of_ref whole.packet ∷ [])) (sym (still_at_border deframing at_border rest))
 
-  pub whole_spelled : (found : Option WholePacket) → option_map (lying_in octets) found ≡ kept_first (first_of octets) → IfSome found (λ (whole : WholePacket). whole.used ≤ length octets)
+  pub whole_spelled : (found : Option WholePacket) → option_map (lying_in octets) found ≡ kept_first (first_of octets)
+      → IfSome found (λ (whole : WholePacket). whole.used ≤ length octets)
       → IfSome found (λ (whole : WholePacket). Spells (take whole.used octets) (packet_of_ref whole.packet))
   whole_spelled None same within = tt
   whole_spelled (Some whole) same within = (first_spelled (take whole.used octets) (packet_of_ref whole.packet) (lies octets whole same within).alone).0

@@ -153,6 +153,10 @@ agrees [] = (omega arith, refl, few)
         (ends-either (indicator ∷ []) (indicator == 0x03) _ _ tt (ends-either (indicator ∷ []) (indicator == 0x04) _ _ tt refl))
     few (indicator ∷ next ∷ more) h = absurd (omega arith)
 agrees (indicator ∷ octets) =
-    agrees-either (indicator ∷ octets) (indicator == 0x02) (λ more. acl_form (octets ++ more)) (λ more. cond (indicator == 0x03) (sco_form (octets ++ more)) (cond (indicator == 0x04) (event_form (octets ++ more)) (NoPacket indicator))) _ _ (agrees-acl (indicator ∷ octets) octets)
-    (agrees-either (indicator ∷ octets) (indicator == 0x03) (λ more. sco_form (octets ++ more)) (λ more. cond (indicator == 0x04) (event_form (octets ++ more)) (NoPacket indicator)) _ _ (agrees-sco (indicator ∷ octets) octets)
-    (agrees-either (indicator ∷ octets) (indicator == 0x04) (λ more. event_form (octets ++ more)) (λ more. NoPacket indicator) _ _ (agrees-event (indicator ∷ octets) octets) refl))
+    agrees-either (indicator ∷ octets) (indicator == 0x02) (λ more. acl_form (octets ++ more))
+    (λ more. cond (indicator == 0x03) (sco_form (octets ++ more)) (cond (indicator == 0x04) (event_form (octets ++ more)) (NoPacket indicator))) _ _
+    (agrees-acl (indicator ∷ octets) octets)
+    (agrees-either (indicator ∷ octets) (indicator == 0x03) (λ more. sco_form (octets ++ more))
+    (λ more. cond (indicator == 0x04) (event_form (octets ++ more)) (NoPacket indicator)) _ _ (agrees-sco (indicator ∷ octets) octets)
+    (agrees-either (indicator ∷ octets) (indicator == 0x04) (λ more. event_form (octets ++ more)) (λ more. NoPacket indicator) _ _
+    (agrees-event (indicator ∷ octets) octets) refl))

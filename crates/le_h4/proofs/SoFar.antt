@@ -54,7 +54,8 @@ passed skipping rest more =
     let left : skipping - length (take skipping rest) ≡ skipping - length rest = omega (arith, length-take skipping rest) in
     past_more skipping (take skipping rest) more
     ∙ ap (λ (n : ℕ). division_past n (drop skipping (take skipping rest) ++ more)) left
-    ∙ ap (λ (xs : List ℕ). division_past (skipping - length rest) (xs ++ more)) (drop_all skipping (take skipping rest) (omega (arith, length-take skipping rest)))
+    ∙ ap (λ (xs : List ℕ). division_past (skipping - length rest) (xs ++ more))
+    (drop_all skipping (take skipping rest) (omega (arith, length-take skipping rest)))
 
 module _ (skipping_first : ℕ) (gathered_first octets : List ℕ) where
   pub so_far-start : IsWithinFirst gathered_first → packet_in (first_of gathered_first) ≡ None → (0 < skipping_first → gathered_first ≡ [])
@@ -240,7 +241,8 @@ skipped skipping_first gathered_first octets skipping left gathered rest followi
     subst P (sym is_left) (subst Q (sym is_rest) (so_far-skip skipping_first gathered_first octets skipping gathered rest so_far))
 
 -- after a skip that left some octets, none are to be passed over
-pub idle_after : (skipping left : ℕ) (rest following : List ℕ) → left ≡ skipping - length rest → following ≡ drop skipping rest → 0 < length following → left ≡ 0
+pub idle_after : (skipping left : ℕ) (rest following : List ℕ) → left ≡ skipping - length rest → following ≡ drop skipping rest → 0 < length following
+    → left ≡ 0
 idle_after skipping left rest following is_left is_rest some = omega (arith, ap length is_rest, length-drop skipping rest)
 
 -- the same, of the values after octets were gathered

@@ -64,43 +64,52 @@ ready (returned ∷ answers) length packets = ready answers length packets
 enabling : (answers : List (List ℕ)) (buffers : Buffers) → IsPrefixOf (init_commands_sent answers (Enabling buffers)) (LeSetAdvertiseEnable ∷ [])
 enabling [] buffers = one_more _ _ _ (none_sent _)
 enabling (returned ∷ answers) buffers =
-    one_more _ _ _ (always (Enabling buffers) (Ready buffers.length buffers.packets) _ refl (λ _. refl) returned (init_commands_sent answers) _ (ready answers _ _))
+    one_more _ _ _ (always (Enabling buffers) (Ready buffers.length buffers.packets) _ refl (λ _. refl) returned (init_commands_sent answers) _
+    (ready answers _ _))
 
 filling : (answers : List (List ℕ)) (advertising : ArrayVec ℕ) (buffers : Buffers)
     → IsPrefixOf (init_commands_sent answers (Filling advertising buffers)) (LeSetAdvertisingData advertising.items ∷ LeSetAdvertiseEnable ∷ [])
 filling [] advertising buffers = one_more _ _ _ (none_sent _)
 filling (returned ∷ answers) advertising buffers =
-    one_more _ _ _ (always (Filling advertising buffers) (Enabling buffers) _ refl (λ _. refl) returned (init_commands_sent answers) _ (enabling answers buffers))
+    one_more _ _ _
+    (always (Filling advertising buffers) (Enabling buffers) _ refl (λ _. refl) returned (init_commands_sent answers) _ (enabling answers buffers))
 
 describing : (answers : List (List ℕ)) (kind : ℕ) (advertising : ArrayVec ℕ) (buffers : Buffers)
     → IsPrefixOf (init_commands_sent answers (Describing kind advertising buffers))
     (LeSetAdvertisingParameters kind ∷ LeSetAdvertisingData advertising.items ∷ LeSetAdvertiseEnable ∷ [])
 describing [] kind advertising buffers = one_more _ _ _ (none_sent _)
 describing (returned ∷ answers) kind advertising buffers =
-    one_more _ _ _ (always (Describing kind advertising buffers) (Filling advertising buffers) _ refl (λ _. refl) returned (init_commands_sent answers) _ (filling answers advertising buffers))
+    one_more _ _ _ (always (Describing kind advertising buffers) (Filling advertising buffers) _ refl (λ _. refl) returned (init_commands_sent answers) _
+    (filling answers advertising buffers))
 
 addressing : (answers : List (List ℕ)) (address : Option (List ℕ)) (advertising : ArrayVec ℕ) (buffers : Buffers)
-    → IsPrefixOf (init_commands_sent answers (addressed_from address advertising buffers)) (address_commands address ++ advertising_commands address advertising.items)
+    → IsPrefixOf (init_commands_sent answers (addressed_from address advertising buffers))
+    (address_commands address ++ advertising_commands address advertising.items)
 addressing answers None advertising buffers = describing answers 0x00 advertising buffers
 addressing [] (Some address) advertising buffers = one_more _ _ _ (none_sent _)
 addressing (returned ∷ answers) (Some address) advertising buffers =
-    one_more _ _ _ (always (Addressing address advertising buffers) (Describing 0x01 advertising buffers) _ refl (λ _. refl) returned (init_commands_sent answers) _ (describing answers 0x01 advertising buffers))
+    one_more _ _ _
+    (always (Addressing address advertising buffers) (Describing 0x01 advertising buffers) _ refl (λ _. refl) returned (init_commands_sent answers) _
+    (describing answers 0x01 advertising buffers))
 
 -- the commands after the buffers are told
 abbrev rest_of : Settings → List Commanded
 rest_of settings = address_commands settings.address ++ advertising_commands settings.address settings.advertising.items
 
-shared_sizing : (answers : List (List ℕ)) (settings : Settings) → IsPrefixOf (init_commands_sent answers (SharedSizing settings)) (ReadBufferSize ∷ rest_of settings)
+shared_sizing : (answers : List (List ℕ)) (settings : Settings)
+    → IsPrefixOf (init_commands_sent answers (SharedSizing settings)) (ReadBufferSize ∷ rest_of settings)
 shared_sizing [] settings = one_more _ _ _ (none_sent _)
 shared_sizing (returned ∷ answers) settings =
     one_more _ _ _ (after (SharedSizing settings) _ refl returned (init_commands_sent answers) (rest_of settings) (λ values following e.
     told (shared_buffers_of values) following e))
   where
-    told : (buffers : Result Buffers InitFault) (following : Init) → after_shared_sizing settings buffers ≡ Ok following → IsPrefixOf (init_commands_sent answers following) (rest_of settings)
+    told : (buffers : Result Buffers InitFault) (following : Init) → after_shared_sizing settings buffers ≡ Ok following
+        → IsPrefixOf (init_commands_sent answers following) (rest_of settings)
     told (Err fault) following e = absurd (cc)
     told (Ok buffers) following e =
         let same : with_buffers settings buffers ≡ following = cc in
-        subst (λ (s : Init). IsPrefixOf (init_commands_sent answers s) (rest_of settings)) same (addressing answers settings.address settings.advertising buffers)
+        subst (λ (s : Init). IsPrefixOf (init_commands_sent answers s) (rest_of settings)) same
+        (addressing answers settings.address settings.advertising buffers)
 
 sizing : (answers : List (List ℕ)) (settings : Settings)
     → IsPrefixOf (init_commands_sent answers (Sizing settings)) (LeReadBufferSize ∷ (shared_commands (tell_shared answers) ++ rest_of settings))
@@ -114,7 +123,8 @@ sizing (returned ∷ answers) settings = one_more _ _ _ (sized returned)
     own buffers false following e = absurd (cc)
     own buffers true following e =
         let same : with_buffers settings buffers ≡ following = cc in
-        subst (λ (s : Init). IsPrefixOf (init_commands_sent answers s) (rest_of settings)) same (addressing answers settings.address settings.advertising buffers)
+        subst (λ (s : Init). IsPrefixOf (init_commands_sent answers s) (rest_of settings)) same
+        (addressing answers settings.address settings.advertising buffers)
 
     pick : (b : Bool) (buffers : Buffers) (following : Init)
         → after_sizing settings (if b then Ok None else result_map_both Some (λ fault. fault) (usable_of buffers)) ≡ Ok following

@@ -20,7 +20,8 @@ use Rattle.arrayvec.specs.ArrayVec.{ArrayVec}
 abbrev Leads : Result Init InitFault → Type 0
 Leads result = IfOk result KnowsUsable
 
-addressed : (address : Option (List ℕ)) (advertising : ArrayVec ℕ) (buffers : Buffers) → AreUsable buffers → KnowsUsable (addressed_from address advertising buffers)
+addressed : (address : Option (List ℕ)) (advertising : ArrayVec ℕ) (buffers : Buffers) → AreUsable buffers
+    → KnowsUsable (addressed_from address advertising buffers)
 addressed None advertising buffers usable = usable
 addressed (Some address) advertising buffers usable = usable
 
@@ -34,7 +35,8 @@ usable : (buffers : Buffers) → IfOk (usable_of buffers) AreUsable
 usable buffers = usable-by buffers (nat_le LEAST_LENGTH buffers.length) (nat_lt 0 buffers.packets) refl refl
 
 shared : (returned : List ℕ) → IfOk (shared_buffers_of returned) AreUsable
-shared (low ∷ high ∷ sco ∷ packets_low ∷ packets_high ∷ sco_low ∷ sco_high ∷ rest) = usable (record { length = from_two low high; packets = from_two packets_low packets_high })
+shared (low ∷ high ∷ sco ∷ packets_low ∷ packets_high ∷ sco_low ∷ sco_high ∷ rest) =
+    usable (record { length = from_two low high; packets = from_two packets_low packets_high })
 shared _ = tt
 
 sized-shared : (settings : Settings) (told : Result Buffers InitFault) → IfOk told AreUsable → Leads (after_shared_sizing settings told)
@@ -89,5 +91,6 @@ known : (answers : List (List ℕ)) (state : Init) → KnowsUsable state → Kno
 known [] state knows = knows
 known (returned ∷ answers) state knows = known-by (opcode_awaited state) answers state returned knows (known answers)
 
-pub knows_usable : (address : Option (List ℕ)) (advertising : ArrayVec ℕ) (answers : List (List ℕ)) → KnowsUsable (state_after_answers answers (first_state address advertising))
+pub knows_usable : (address : Option (List ℕ)) (advertising : ArrayVec ℕ) (answers : List (List ℕ))
+    → KnowsUsable (state_after_answers answers (first_state address advertising))
 knows_usable address advertising answers = known answers (first_state address advertising) tt

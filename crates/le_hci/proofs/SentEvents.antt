@@ -104,7 +104,8 @@ record AreEntries (count : ℕ) (octets : List ℕ) (entries : List CompletedPac
   pub fields : octets ≡ flat_map entry_fields sent ++ extra
   pub same : map entry_told sent ≡ entries
 
-reads_entries : (count : ℕ) (octets : List ℕ) → AreOctets octets → (entries : List CompletedPackets) → completed_entries count octets ≡ Some entries → AreEntries count octets entries
+reads_entries : (count : ℕ) (octets : List ℕ) → AreOctets octets → (entries : List CompletedPackets) → completed_entries count octets ≡ Some entries
+    → AreEntries count octets entries
 reads_entries zero octets fits entries e = record { sent = []; extra = octets; counted = refl; fields = refl; same = cc }
 reads_entries (suc n) (a ∷ b ∷ c ∷ d ∷ rest) fits entries e =
     step (completed_entries n rest) e (reads_entries n rest (λ i. fits (suc (suc (suc (suc i))))))
@@ -165,7 +166,17 @@ reads_connection_by (s ∷ lo ∷ hi ∷ role ∷ kind ∷ a ∷ b ∷ c ∷ d �
       sent = ConnectionComplete s (from_two lo hi) role peer (from_two i j) (from_two k l) (from_two m n) accuracy;
       extra = rest;
       code_is = refl;
-      fields = cc (low lo hi (fits 1), high lo hi (fits 1), low i j (fits 11), high i j (fits 11), low k l (fits 13), high k l (fits 13), low m n (fits 15), high m n (fits 15));
+      fields =
+          cc (
+            low lo hi (fits 1),
+            high lo hi (fits 1),
+            low i j (fits 11),
+            high i j (fits 11),
+            low k l (fits 13),
+            high k l (fits 13),
+            low m n (fits 15),
+            high m n (fits 15),
+          );
       same = cc;
     }
 reads_connection_by _ fits event e other = absurd (cc)
@@ -216,7 +227,8 @@ is_sent [] fits event e other = absurd (cc)
 is_sent (code ∷ []) fits event e other = absurd (cc)
 is_sent (code ∷ stated ∷ ps) fits event e other = pick (length ps == stated) refl e
   where
-    pick : (b : Bool) → (length ps == stated) ≡ b → read_or_bad code (if b then reported_form code ps else None) ≡ Ok event → IsSentAs event (code ∷ stated ∷ ps)
+    pick : (b : Bool) → (length ps == stated) ≡ b → read_or_bad code (if b then reported_form code ps else None) ≡ Ok event
+        → IsSentAs event (code ∷ stated ∷ ps)
     pick false t e = absurd (cc)
     pick true t e =
         let form = reads_form code ps (λ i. fits (suc (suc i))) event (read_some code (reported_form code ps) event e) other in
@@ -233,7 +245,8 @@ restored n = omega arith
 entry_read : (entry : CompletedPackets) → completed_packets_of (entry_fields entry) ≡ entry_told entry
 entry_read entry = cc (restored entry.handle, restored entry.packets)
 
-entries_read : (entries : List CompletedPackets) (extra : List ℕ) → completed_entries (length entries) (flat_map entry_fields entries ++ extra) ≡ Some (map entry_told entries)
+entries_read : (entries : List CompletedPackets) (extra : List ℕ) → completed_entries (length entries) (flat_map entry_fields entries ++ extra)
+    ≡ Some (map entry_told entries)
 entries_read [] extra = refl
 entries_read (entry ∷ entries) extra =
     ap (option_map (λ (es : List CompletedPackets). completed_packets_of (entry_fields entry) ∷ es)) (entries_read entries extra)
@@ -252,7 +265,8 @@ form_read (ConnectionComplete status handle role peer interval latency timeout a
     six peer.address f
   where
     six : (address : List ℕ) → length address ≡ 6
-        → reported_form 0x3E (fields_of (ConnectionComplete status handle role (record { kind = peer.kind; address = address }) interval latency timeout accuracy) ++ extra)
+        → reported_form 0x3E
+        (fields_of (ConnectionComplete status handle role (record { kind = peer.kind; address = address }) interval latency timeout accuracy) ++ extra)
         ≡ Some (ConnectionComplete status (handle % 4096) role (record { kind = peer.kind; address = address }) interval latency timeout accuracy)
     six (a ∷ b ∷ c ∷ d ∷ e ∷ f ∷ []) l =
         let whole : Peer = record { kind = peer.kind; address = a ∷ b ∷ c ∷ d ∷ e ∷ f ∷ [] } in
@@ -271,11 +285,13 @@ form_read (LongTermKeyRequest handle random_number diversifier) extra f = eight 
 form_read Other extra f = absurd f
 
 -- what is sent is read
-pub is_read : (octets : List ℕ) (sent : Reported) (extra : List ℕ) → HasFields sent extra → event_packet (event_code sent) (fields_of sent ++ extra) ≡ octets → event_of octets ≡ Ok (report_read sent)
+pub is_read : (octets : List ℕ) (sent : Reported) (extra : List ℕ) → HasFields sent extra → event_packet (event_code sent) (fields_of sent ++ extra) ≡ octets
+    → event_of octets ≡ Ok (report_read sent)
 is_read octets sent extra f e =
     let parameters : List ℕ = fields_of sent ++ extra in
     ap event_of (sym e)
-    ∙ ap (λ b. read_or_bad (event_code sent) (if b then reported_form (event_code sent) parameters else None)) (eq-eqb (length parameters) (length parameters) refl)
+    ∙ ap (λ b. read_or_bad (event_code sent) (if b then reported_form (event_code sent) parameters else None))
+    (eq-eqb (length parameters) (length parameters) refl)
     ∙ ap (read_or_bad (event_code sent)) (form_read sent extra f)
 
 -- the same of a result of the code

@@ -9,7 +9,7 @@ use crate::peer::Peer;
 
 /// An event of the controller (Core 5.0, Vol 2 Part E, 7.7). Handles are below 4,096, and status 0
 /// is success.
-#[derive(Clone, Copy, PartialEq, Eq)]
+#[derive(Clone, Copy, Debug, PartialEq, Eq)]
 pub enum Event<'a> {
     /// End of a connection (7.7.5).
     DisconnectionComplete {

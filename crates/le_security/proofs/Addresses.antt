@@ -22,6 +22,7 @@ at text place = get_or text place 0
 pub address_of_places : (text : Octets) → length text ≡ 17
     → address_of text
     ≡ (if at text 2 == 58 && (at text 5 == 58 && (at text 8 == 58 && (at text 11 == 58 && (at text 14 == 58 && true))))
-    then address_octets (at text 0 ∷ at text 1 ∷ at text 3 ∷ at text 4 ∷ at text 6 ∷ at text 7 ∷ at text 9 ∷ at text 10 ∷ at text 12 ∷ at text 13 ∷ at text 15 ∷ at text 16 ∷ [])
+    then address_octets (at text 0 ∷ at text 1 ∷ at text 3 ∷ at text 4 ∷ at text 6 ∷ at text 7 ∷ at text 9 ∷ at text 10 ∷ at text 12 ∷ at text 13 ∷ at text 15
+    ∷ at text 16 ∷ [])
     else None)
 address_of_places text long = ap address_of (drop_characters text 0 17 (omega arith))

@@ -13,5 +13,6 @@ asked_after (Refresh status ∷ older) = asked_after older
 pub key_of_steps : (steps : List Step) → (after_steps steps).key ≡ key_after steps
 key_of_steps [] = refl
 key_of_steps (Request answer ∷ older) = key_of_steps older
-key_of_steps (Encryption status enabled ∷ older) = ap (λ (asked : Option KeyFacts). if (status == 0) && not (enabled == 0) then asked else None) (asked_after older)
+key_of_steps (Encryption status enabled ∷ older) =
+    ap (λ (asked : Option KeyFacts). if (status == 0) && not (enabled == 0) then asked else None) (asked_after older)
 key_of_steps (Refresh status ∷ older) = ap (λ (asked : Option KeyFacts). if status == 0 then asked else None) (asked_after older)

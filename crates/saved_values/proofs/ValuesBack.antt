@@ -68,7 +68,11 @@ short_back : (kind : ℕ) → is_of_16_bits kind ≡ true → type_named (short_
 short_back kind is =
     let number = short_number kind is in
     let octets = to_be_bytes w16 (kind / 2 ^ 96) in
-    rw (decode_sized-encode_lower octets 2 refl (small_bytes octets (bytes_small 2 (kind / 2 ^ 96))), from_be_bytes-to_be_bytes_2 (kind / 2 ^ 96) number.0, number.1) refl
+    rw (
+      decode_sized-encode_lower octets 2 refl (small_bytes octets (bytes_small 2 (kind / 2 ^ 96))),
+      from_be_bytes-to_be_bytes_2 (kind / 2 ^ 96) number.0,
+      number.1,
+    ) refl
 
 long_back : (kind : ℕ) → kind < 2 ^ 128 → type_named (long_type_text kind) ≡ Some kind
 long_back kind small =
@@ -167,9 +171,11 @@ value_ended value = ap line_of (append_assoc (decimal value.handle) (32 ∷ type
 
 joined_feedless : (word rest : Octets) → IsWord word → HasNoFeed rest → HasNoFeed (word ++ space ∷ rest)
 joined_feedless word rest seen other =
-    All-append (λ octet. (octet == 10) ≡ false) word (space ∷ rest) (lacks word 10 (omega arith) seen) (All-cons (λ octet. (octet == 10) ≡ false) space rest refl other)
+    All-append (λ octet. (octet == 10) ≡ false) word (space ∷ rest) (lacks word 10 (omega arith) seen)
+    (All-cons (λ octet. (octet == 10) ≡ false) space rest refl other)
 
 pub value_feedless : (value : Saved) → IsSavedValue value → HasNoFeed (value_words value)
 value_feedless value is =
     joined_feedless (decimal value.handle) (type_text value.kind ++ space ∷ value_text value.octets) (number_seen value.handle is.handle)
-    (joined_feedless (type_text value.kind) (value_text value.octets) (type_seen value.kind) (lacks (value_text value.octets) 10 (omega arith) (octets_seen value.octets is.octets)))
+    (joined_feedless (type_text value.kind) (value_text value.octets) (type_seen value.kind)
+    (lacks (value_text value.octets) 10 (omega arith) (octets_seen value.octets is.octets)))

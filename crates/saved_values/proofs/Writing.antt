@@ -17,7 +17,10 @@ all_attributes attributes last within = take_all last attributes within
 first_of_lines : (saves : Saves) (table initial : Contents) (attr : Attr) (rest : List Attr)
     → saved_lines saves table initial (attr ∷ rest) ≡ saved_lines saves table initial (attr ∷ []) ++ saved_lines saves table initial rest
 first_of_lines saves table initial attr rest =
-    elim (is_saved saves table initial attr) as (λ saved. values_text (map (value_of table) (if saved then attr ∷ filter (is_saved saves table initial) rest else filter (is_saved saves table initial) rest)) ≡ values_text (map (value_of table) (if saved then attr ∷ [] else [])) ++ saved_lines saves table initial rest) [
+    elim (is_saved saves table initial attr) as
+    (λ saved.
+    values_text (map (value_of table) (if saved then attr ∷ filter (is_saved saves table initial) rest else filter (is_saved saves table initial) rest))
+    ≡ values_text (map (value_of table) (if saved then attr ∷ [] else [])) ++ saved_lines saves table initial rest) [
       | true ↦ ap (λ (line : Octets). line ++ saved_lines saves table initial rest) (sym (append-nil (value_line (value_of table attr))))
       | false ↦ refl
     ]

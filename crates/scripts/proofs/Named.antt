@@ -54,7 +54,8 @@ act_named : (script : Acts) (name : Octets) (act : ℕ → Act) → ((phone coun
     → HasNamedPhones (record { acts = script.acts ++ act (phone_number_in script.names name) ∷ []; names = with_name script.names name })
 act_named script name act is below has =
     elim (phone_number_in script.names name == length script.names) as (λ new. (phone_number_in script.names name == length script.names) ≡ new
-    → HasNamedPhones (record { acts = script.acts ++ act (phone_number_in script.names name) ∷ []; names = if new then script.names ++ name ∷ [] else script.names })) [
+    → HasNamedPhones
+    (record { acts = script.acts ++ act (phone_number_in script.names name) ∷ []; names = if new then script.names ++ name ∷ [] else script.names })) [
       | true ↦ λ new.
           let place : phone_number_in script.names name ≡ length script.names = grind (arith, nat_tests) in
           let longer = length_push script.names name in
@@ -98,7 +99,8 @@ act_of_named number script name act is has =
 said_named : (has_next : Bool) (number : ℕ) (script : Acts) (said : Line) → HasNamedPhones script
     → IfOk (script_with_said has_next number script said) HasNamedPhones
 said_named has_next number script (line.Phone name does) has = act_of_named number script name (λ phone. act.Phone phone does) (λ phone count below. below) has
-said_named has_next number script (line.Authorize name until) has = act_of_named number script name (λ phone. act.Authorize phone until) (λ phone count below. below) has
+said_named has_next number script (line.Authorize name until) has =
+    act_of_named number script name (λ phone. act.Authorize phone until) (λ phone count below. below) has
 said_named has_next number script (line.Update handle value) has = act_added script (act.Update handle value) tt has
 said_named has_next number script (line.Tick time) has = act_added script (act.Tick time) tt has
 said_named has_next number script line.Replace has =

@@ -14,5 +14,7 @@ pub too_many_words : (first second third fourth line rest other behind : Octets)
 too_many_words first second third fourth line rest other behind one two three parts four =
     let some : 0 < length (words_of parts) = omega (arith, length-slice_split (λ (octet : ℕ). octet == 32) parts) in
     sym (
-    ap line_of_words (one ∙ ap (λ (words : List Octets). first ∷ words) (two ∙ ap (λ (words : List Octets). second ∷ words) (three ∙ ap (λ (words : List Octets). third ∷ words) four)))
+    ap line_of_words
+    (one ∙ ap (λ (words : List Octets). first ∷ words)
+    (two ∙ ap (λ (words : List Octets). second ∷ words) (three ∙ ap (λ (words : List Octets). third ∷ words) four)))
     ∙ more_words first second third fourth (words_of parts) some)

@@ -195,7 +195,8 @@ pub shown_among : (error text : Error) (kinds : Kinds) → HasKind kinds error �
     → IsAmong (kind_of text) kinds × ((kind_of text ≡ DisplayHelp) ⊎ (kind_of text ≡ DisplayVersion))
 shown_among error text kinds h e =
     let shown = only_shown error text (kind_of error) e in
-    let P : Error → Type 0 = λ shown_error. IsAmong (kind_of shown_error) kinds × ((kind_of shown_error ≡ DisplayHelp) ⊎ (kind_of shown_error ≡ DisplayVersion)) in
+    let P : Error → Type 0 = λ shown_error. IsAmong (kind_of shown_error) kinds × ((kind_of shown_error ≡ DisplayHelp) ⊎ (kind_of shown_error ≡ DisplayVersion))
+    in
     elim h [
       | inl memory ↦ absurd (memory-not_shown error text memory e)
       | inr among ↦ subst P shown.0 (among, shown.1)

@@ -6,7 +6,8 @@ use Rattle.shell_files.specs.Att.{Server, pdu_of, pdu_in, is_bad, good_lines, ba
 use Rattle.shell_files.specs.Session.{pdu_report, report}
 
 -- a line behind which the lines go on, if it is good
-with_line : (server : Server) (number : ℕ) (line : List ℕ) (lines : List (List ℕ)) (pdu : Option (List ℕ)) → pdu_of line ≡ pdu → is_bad line ≡ is_none pdu → pdu_in line ≡ pdu
+with_line : (server : Server) (number : ℕ) (line : List ℕ) (lines : List (List ℕ)) (pdu : Option (List ℕ)) → pdu_of line ≡ pdu → is_bad line ≡ is_none pdu
+    → pdu_in line ≡ pdu
     → ((next : Server) (from : ℕ) → (report next from lines).printed ≡ printed_by next lines)
     → (pdu_report server number pdu (λ next. report next (number + 1) lines)).printed ≡ printed_by server (line ∷ lines)
 with_line server number line lines None is bad none later = rw bad refl

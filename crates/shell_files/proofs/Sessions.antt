@@ -85,7 +85,8 @@ pass_octet old new octet held other line server number = record {
 }
 
 -- a line of more than 1,040 octets is not hexadecimal, whatever follows it
-report-long : (server : Server) (number : ℕ) (line : List ℕ) (lines : List (List ℕ)) → 1040 < length line → report server number (onto line lines) ≡ ends_at number
+report-long : (server : Server) (number : ℕ) (line : List ℕ) (lines : List (List ℕ)) → 1040 < length line → report server number (onto line lines)
+    ≡ ends_at number
 report-long server number [] lines long = absurd (omega arith)
 report-long server number (x ∷ xs) [] long = grind (arith, common_steps)
 report-long server number (x ∷ xs) (l ∷ lines) long = grind (arith, common_steps)
@@ -141,7 +142,8 @@ pass_line old mid new octet held holds feed begun answered line server number = 
   appended = answered.appended;
   left = λ rest.
       report_from-feed old octet rest feed
-      ∙ line_report-answered (server_of old) old.number old.line.items answered.pdu (λ next. report next (old.number + 1) (lines_of_input rest)) begun answered.spelled
+      ∙ line_report-answered (server_of old) old.number old.line.items answered.pdu (λ next. report next (old.number + 1) (lines_of_input rest)) begun
+      answered.spelled
       ∙ ap (report_after (printed_answer (answer_from (server_of old) answered.pdu))) (rw (line, server, answered.server, number, answered.number) refl);
 }
 
@@ -204,7 +206,9 @@ break_line old octet held holds feed begun broken = record {
   printed = broken.front.written;
   appended = broken.front.appended;
   front = λ rest.
-      let this = break_report (server_of old) old.number old.line.items broken.pdu (λ next. report next (old.number + 1) (lines_of_input rest)) held holds begun broken.spelled broken.front in
+      let this =
+      break_report (server_of old) old.number old.line.items broken.pdu (λ next. report next (old.number + 1) (lines_of_input rest)) held holds begun
+      broken.spelled broken.front in
       (this.0, ap (λ (r : Report). r.printed) (report_from-feed old octet rest feed) ∙ this.1);
 }
 
@@ -287,7 +291,8 @@ told : (input : List ℕ) (end : Report) (xs ys : List ℕ) (held holding holds 
     → (bad_line_of input ≡ end.not_hex) × Appends held holds (printed_for input)
 told input end xs ys held holding holds is blank first second =
     let printed : xs ++ ys ≡ printed_for input =
-    sym (ap (λ (r : Report). r.printed) is ∙ ap (λ (more : List ℕ). xs ++ (ys ++ more)) blank ∙ ap (λ (more : List ℕ). xs ++ more) (append-nil ys)) ∙ printed-of input in (
+    sym (ap (λ (r : Report). r.printed) is ∙ ap (λ (more : List ℕ). xs ++ (ys ++ more)) blank ∙ ap (λ (more : List ℕ). xs ++ more) (append-nil ys))
+    ∙ printed-of input in (
       sym (bad_line-of input) ∙ ap (λ (r : Report). r.not_hex) is,
       subst (Appends held holds) printed (appends-append held holding holds xs ys first second),
     )

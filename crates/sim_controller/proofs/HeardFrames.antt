@@ -59,7 +59,8 @@ phone_by link heard ended = record { link = link; heard = heard; ended = ended }
 
 data-moves : (link : Option Link) (heard : List Octets) (ended : Option ℕ) (fragment : Fragment) (older : List Fragment)
     → is_some link ≡ true → IsBehind link older
-    → Moves (phone_by link heard ended) (with_assembly (phone_by link heard ended) (assembled_in link fragment)) [] (frames_by (Some fragment) older) (fragment ∷ older)
+    → Moves (phone_by link heard ended) (with_assembly (phone_by link heard ended) (assembled_in link fragment)) [] (frames_by (Some fragment) older)
+    (fragment ∷ older)
 data-moves None heard ended fragment older here behind = absurd cc
 data-moves (Some link) heard ended fragment older here behind =
     let same : assembled_in (Some link) fragment ≡ assembly_after (fragment ∷ older) = same-assembly link fragment older behind in
@@ -107,10 +108,12 @@ module _ (phone : ℕ) (old : Simulated) (older : List Fragment) (below : phone 
           same (put other (new other)) (ap (λ (n : ℕ). put n (new n)) is ∙ own (new phone))
       pick false e = differs (eqb-false other phone e)
 
-  doing-moves : (act : SimulatedAct) → Moves (phone_at old phone) (phone_at (simulated_after_doing old act) phone) [] [] (if is_connect_of phone act then [] else older)
+  doing-moves : (act : SimulatedAct) → Moves (phone_at old phone) (phone_at (simulated_after_doing old act) phone) [] []
+      (if is_connect_of phone act then [] else older)
   doing-moves (Connect other peer) = pick (other == phone) refl
     where
-      pick : (b : Bool) → (other == phone) ≡ b → Moves (phone_at old phone) (put other (record (phone_at old other) { link = Some new_link })) [] [] (if b then [] else older)
+      pick : (b : Bool) → (other == phone) ≡ b → Moves (phone_at old phone) (put other (record (phone_at old other) { link = Some new_link })) [] []
+          (if b then [] else older)
       pick true e =
           let is : other ≡ phone = eqb-true other phone e in
           let now : put other (record (phone_at old other) { link = Some new_link }) ≡ record (phone_at old phone) { link = Some new_link } =
@@ -137,7 +140,8 @@ module _ (phone : ℕ) (old : Simulated) (older : List Fragment) (below : phone 
   doing-moves (Done other packets) = stays (phone_at old phone) (phone_at old phone) older refl so_far
 
   act-moves : (fault : Option SimFault) (act : SimulatedAct)
-      → Moves (phone_at old phone) (phone_at (if_accepted fault (simulated_after_act old act) old) phone) [] [] (if if_accepted fault (is_connect_of phone act) false then [] else older)
+      → Moves (phone_at old phone) (phone_at (if_accepted fault (simulated_after_act old act) old) phone) [] []
+      (if if_accepted fault (is_connect_of phone act) false then [] else older)
   act-moves None act = doing-moves act
   act-moves (Some fault) act = stays (phone_at old phone) (phone_at old phone) older refl so_far
 
@@ -163,7 +167,8 @@ module _ (phone : ℕ) (old : Simulated) (older : List Fragment) (below : phone 
   fragment-moves None fragment here = stays (phone_at old phone) (phone_at old phone) older refl so_far
   fragment-moves (Some other) fragment here = pick (other == phone) refl
     where
-      pick : (b : Bool) → (other == phone) ≡ b → Moves (phone_at old phone) (put other (with_assembly (phone_at old other) (assembled_in (phone_at old other).link fragment)))
+      pick : (b : Bool) → (other == phone) ≡ b
+          → Moves (phone_at old phone) (put other (with_assembly (phone_at old other) (assembled_in (phone_at old other).link fragment)))
           [] (frames_by (if b then Some fragment else None) older) (option_to_list (if b then Some fragment else None) ++ older)
       pick true e =
           let is : other ≡ phone = eqb-true other phone e in
@@ -185,7 +190,8 @@ module _ (phone : ℕ) (old : Simulated) (older : List Fragment) (below : phone 
       fragment-moves (phone_here old.phones handle) fragment (λ other e. here-by old.phones (phone_with handle) other e)
 
   packet-moves : (fault : Option SimFault) (taken : Option Taken)
-      → Moves (phone_at old phone) (phone_at (if_accepted fault (after_host old taken) old) phone) [] (frames_by (if_accepted fault (fragment_in old phone taken) None) older)
+      → Moves (phone_at old phone) (phone_at (if_accepted fault (after_host old taken) old) phone) []
+      (frames_by (if_accepted fault (fragment_in old phone taken) None) older)
       (option_to_list (if_accepted fault (fragment_in old phone taken) None) ++ older)
   packet-moves None taken = host-moves taken
   packet-moves (Some fault) taken = stays (phone_at old phone) (phone_at old phone) older refl so_far
@@ -283,7 +289,8 @@ record Follows (config : SimConfig) (phone : ℕ) (calls : List SimulatedCall) :
 
 follows : (config : SimConfig) (phone : ℕ) (calls : List SimulatedCall) → phone < PHONES → Follows config phone calls
 follows config phone [] below =
-    let absent-first : slice_index_or (after_calls config []).phones phone absent_phone ≡ absent_phone = get_or-replicate PHONES phone absent_phone absent_phone below in
+    let absent-first : slice_index_or (after_calls config []).phones phone absent_phone ≡ absent_phone =
+    get_or-replicate PHONES phone absent_phone absent_phone below in
     record {
       heard = ap (λ (p : Phone). p.heard) absent-first;
       behind = none-behind phone below (phone_at (after_calls config []) phone).link (ap (λ (p : Phone). p.link) absent-first);

@@ -55,7 +55,8 @@ data-first handle boundary octets small flag =
     let high : field / 16384 ≡ 0 = omega arith in
     let whole = take_all (length octets) octets (omega arith) in
     let none = drop_all (length octets) octets (omega arith) in
-    let parts : FirstPacket (acl_packet field (take (length octets) octets)) (drop (length octets) octets) ≡ FirstPacket (AclPacket handle boundary 0 octets) [] =
+    let parts : FirstPacket (acl_packet field (take (length octets) octets)) (drop (length octets) octets)
+    ≡ FirstPacket (AclPacket handle boundary 0 octets) [] =
     λ i. FirstPacket (AclPacket (low i) (middle i) (high i) (whole i)) (none i) in
     ap₂ (λ (flags : ℕ) (size : ℕ). with_data (acl_packet flags) size octets) (restored field) (restored (length octets))
     ∙ with_data-whole (acl_packet field) (length octets) octets (omega arith)

@@ -17,8 +17,8 @@ use Rattle.gatt_host.specs.Notices.{last_notices}
 use Rattle.gatt_host.specs.RunRefinement.{IsDrainedIn, ServerRefinesRun}
 use Rattle.gatt_host.specs.StateRefinement.{place_of_connection}
 use Rattle.gatt_host.specs.Telling.{noticed_in}
-use Rattle.gatt_laws.proofs.Meant.{MeantIfAny, call_meant, replacement_meant}
-use Rattle.gatt_laws.proofs.Renaming.{calls_mean_the_same, replacements_mean_the_same}
+use Rattle.gatt_laws.proofs.runs.Meant.{MeantIfAny, call_meant, replacement_meant}
+use Rattle.gatt_laws.proofs.isolation.Renaming.{calls_mean_the_same, replacements_mean_the_same}
 use Rattle.gatt_laws.specs.laws.Renaming.{renamed_if}
 use Rattle.gatt_laws.specs.machine.Calls.{Call, UpdateCall, AuthorizeCall, DisconnectCall, TickCall}
 use Rattle.gatt_laws.specs.machine.Calls.{Refused, NotAValue, BadLength, TimeWentBack}

@@ -29,7 +29,8 @@ free-at zero place = refl
 free-at (suc count) zero = refl
 free-at (suc count) (suc place) = free-at count place
 
-module _ (state : State) (server : ServerState) (is : Holds state (all_given state) server) (rows : HasRowsOfItsTable state) (waits : HasWaitingOfItsTable state) where
+module _ (state : State) (server : ServerState) (is : Holds state (all_given state) server) (rows : HasRowsOfItsTable state)
+    (waits : HasWaitingOfItsTable state) where
   abbrev held : List Attr
   held = state.shared.table.attributes
 
@@ -56,7 +57,8 @@ module _ (state : State) (server : ServerState) (is : Holds state (all_given sta
   slot-held (Some None) = tt
   slot-held (Some (Some ordinal)) =
       let connection : ConnectionState = state.connections ordinal in
-      elim (is_there connection.mark) as (λ (there : Bool). SlotIsOfTable held (if there then Some (slot_state_of state.shared connection connection.given) else None)) [
+      elim (is_there connection.mark) as
+      (λ (there : Bool). SlotIsOfTable held (if there then Some (slot_state_of state.shared connection connection.given) else None)) [
         | true ↦ one-held ordinal
         | false ↦ tt
       ]

@@ -26,7 +26,8 @@ same_too one other is =
     ] refl
 
 -- a part of which no command is due
-none-due : (handle : ℕ) (reason : Option ℕ) (reply : Option KeyReply) → disconnect_or handle reason (reply_due handle reply) ≡ None → (reason ≡ None) × (reply ≡ None)
+none-due : (handle : ℕ) (reason : Option ℕ) (reply : Option KeyReply) → disconnect_or handle reason (reply_due handle reply) ≡ None → (reason ≡ None)
+    × (reply ≡ None)
 none-due handle (Some reason) reply none = absurd (clash (sym (ap is_some none)))
 none-due handle None (Some reply) none = absurd (clash (sym (ap is_some none)))
 none-due handle None None none = (refl, refl)
@@ -38,11 +39,13 @@ unchanged connection none =
     λ i. if is_some (both.0 i) then record connection { reason = None } else record connection { reply = None } in
     first ∙ sym (λ i. record connection { reply = both.1 i })
 
-pub either_unchanged : (connection : ConnectionState) (sent : Bool) → command_for connection ≡ None → (if sent then without_command connection else connection) ≡ connection
+pub either_unchanged : (connection : ConnectionState) (sent : Bool) → command_for connection ≡ None → (if sent then without_command connection else connection)
+    ≡ connection
 either_unchanged connection true none = unchanged connection none
 either_unchanged connection false none = refl
 
-once-has : (connection : ConnectionState) (has : Bool) → is_some connection.reason ≡ has → WaitsOnce connection → command_for (if has then record connection { reason = None } else record connection { reply = None }) ≡ None
+once-has : (connection : ConnectionState) (has : Bool) → is_some connection.reason ≡ has → WaitsOnce connection
+    → command_for (if has then record connection { reason = None } else record connection { reply = None }) ≡ None
 once-has connection true is once = ap (reply_due connection.handle) no-reply
   where
     by-mark : (live : Bool) → is_live connection.mark ≡ live → connection.reply ≡ None
@@ -61,12 +64,14 @@ pub record Touched (old new : ConnectionState) : Type 0 where
   pub sent : Bool
   pub is : new ≡ (if sent then without_command old else old)
 
-with-has : (P : ConnectionState → Type 0) (connection : ConnectionState) (has : Bool) → P (record connection { reason = None }) → P (record connection { reply = None })
+with-has : (P : ConnectionState → Type 0) (connection : ConnectionState) (has : Bool) → P (record connection { reason = None })
+    → P (record connection { reply = None })
     → P (if has then record connection { reason = None } else record connection { reply = None })
 with-has P connection true one other = one
 with-has P connection false one other = other
 
-touched-so : (P : ConnectionState → Type 0) (old new : ConnectionState) → Touched old new → P old → P (record old { reason = None }) → P (record old { reply = None }) → P new
+touched-so : (P : ConnectionState → Type 0) (old new : ConnectionState) → Touched old new → P old → P (record old { reason = None })
+    → P (record old { reply = None }) → P new
 touched-so P old new touched so one other = subst P (sym touched.is) (either touched.sent)
   where
     either : (sent : Bool) → P (if sent then without_command old else old)
@@ -75,19 +80,25 @@ touched-so P old new touched so one other = subst P (sym touched.is) (either tou
 
 touched-once : (old new : ConnectionState) → Touched old new → WaitsOnce old → WaitsOnce new
 touched-once old new touched once =
-    touched-so WaitsOnce old new touched once (record { serving = λ live. refl; others = once.others }) (record { serving = once.serving; others = λ other. refl })
+    touched-so WaitsOnce old new touched once (record { serving = λ live. refl; others = once.others })
+    (record { serving = once.serving; others = λ other. refl })
 
 touched-partway : (shared : SharedState) (handed : ℕ) (old new : ConnectionState) → Touched old new → IsPartway shared old handed → IsPartway shared new handed
 touched-partway shared handed old new touched way =
-    let again : IsPartway shared (record old { reason = None }) handed = record { serving = way.serving; most = way.most; done = way.done; others = way.others } in
-    let replied : IsPartway shared (record old { reply = None }) handed = record { serving = way.serving; most = way.most; done = way.done; others = way.others } in
+    let again : IsPartway shared (record old { reason = None }) handed = record { serving = way.serving; most = way.most; done = way.done; others = way.others }
+    in
+    let replied : IsPartway shared (record old { reply = None }) handed =
+    record { serving = way.serving; most = way.most; done = way.done; others = way.others } in
     touched-so (λ connection. IsPartway shared connection handed) old new touched way again replied
 
-touched-left : (shared : SharedState) (handed : ℕ) (old new : ConnectionState) → Touched old new → packets_left shared old handed ≡ packets_left shared new handed
-touched-left shared handed old new touched = touched-so (λ connection. packets_left shared old handed ≡ packets_left shared connection handed) old new touched refl refl refl
+touched-left : (shared : SharedState) (handed : ℕ) (old new : ConnectionState) → Touched old new → packets_left shared old handed
+    ≡ packets_left shared new handed
+touched-left shared handed old new touched =
+    touched-so (λ connection. packets_left shared old handed ≡ packets_left shared connection handed) old new touched refl refl refl
 
 touched-absent : (old new : ConnectionState) → Touched old new → old ≡ no_connection → new ≡ no_connection
-touched-absent old new touched is = touched.is ∙ ap (λ (connection : ConnectionState). if touched.sent then without_command connection else connection) is ∙ none touched.sent
+touched-absent old new touched is = touched.is ∙ ap (λ (connection : ConnectionState). if touched.sent then without_command connection else connection) is
+    ∙ none touched.sent
   where
     none : (sent : Bool) → (if sent then without_command no_connection else no_connection) ≡ no_connection
     none true = refl
@@ -98,7 +109,8 @@ abbrev pub sent_state : State → (Ordinal → ConnectionState) → Commanded �
 sent_state state parts command = record state { connections = parts; controller = controller_after state.controller (command ∷ []) }
 
 pub record OneSent (state : State) (parts : Ordinal → ConnectionState) (command : Commanded) : Type 0 where
-  pub due : commands_due state.controller state.connections state.slots ≡ command ∷ commands_due (controller_after state.controller (command ∷ [])) parts state.slots
+  pub due : commands_due state.controller state.connections state.slots ≡ command ∷ commands_due (controller_after state.controller (command ∷ [])) parts
+      state.slots
   pub sent : (ordinal : Ordinal) → after_sending state.controller state.connections state.slots ordinal
       ≡ after_sending (controller_after state.controller (command ∷ [])) parts state.slots ordinal
   pub touched : (ordinal : Ordinal) → Touched (state.connections ordinal) (parts ordinal)
@@ -134,7 +146,8 @@ after-first controller command commands some = λ i. record controller {
     waits : (controller.awaiting || (is_some (command_awaited controller.init) && nat_lt 0 controller.credit))
         ≡ ((controller.awaiting || (is_some (command_awaited controller.init) && nat_lt 0 controller.credit))
         || (is_some (command_awaited controller.init) && nat_lt 0 (controller.credit - 1)))
-    waits = rw (lt-ltb 0 controller.credit some) (awaiting-still controller.awaiting (is_some (command_awaited controller.init)) (nat_lt 0 (controller.credit - 1)))
+    waits = rw (lt-ltb 0 controller.credit some)
+        (awaiting-still controller.awaiting (is_some (command_awaited controller.init)) (nat_lt 0 (controller.credit - 1)))
 
 sent-first : (state : State) (parts : Ordinal → ConnectionState) (command : Commanded) → OneSent state parts command → 0 < state.controller.credit
     → commands_sent state.controller state.connections state.slots
@@ -152,14 +165,17 @@ arrives-too state parts command one some =
     ap (controller_after state.controller) (sent-first state parts command one some) ∙ after-first state.controller command later some in
     λ i. record state { connections = λ ordinal. one.sent ordinal i; controller = controllers i }
 
-left-too : (state : State) (parts : Ordinal → ConnectionState) (command : Commanded) (handed : Handed) → ((ordinal : Ordinal) → Touched (state.connections ordinal) (parts ordinal)) → (slots : Slots)
+left-too : (state : State) (parts : Ordinal → ConnectionState) (command : Commanded) (handed : Handed)
+    → ((ordinal : Ordinal) → Touched (state.connections ordinal) (parts ordinal)) → (slots : Slots)
     → flat_map (slot_left state handed) slots ≡ flat_map (slot_left (sent_state state parts command) handed) slots
 left-too state parts command handed touched [] = refl
 left-too state parts command handed touched (None ∷ slots) = left-too state parts command handed touched slots
 left-too state parts command handed touched (Some ordinal ∷ slots) = λ i.
-    touched-left state.shared (handed ordinal) (state.connections ordinal) (parts ordinal) (touched ordinal) i ++ left-too state parts command handed touched slots i
+    touched-left state.shared (handed ordinal) (state.connections ordinal) (parts ordinal) (touched ordinal) i
+    ++ left-too state parts command handed touched slots i
 
-settled-too : (state : State) (parts : Ordinal → ConnectionState) (command : Commanded) → ((ordinal : Ordinal) → Touched (state.connections ordinal) (parts ordinal)) → IsSettled state
+settled-too : (state : State) (parts : Ordinal → ConnectionState) (command : Commanded)
+    → ((ordinal : Ordinal) → Touched (state.connections ordinal) (parts ordinal)) → IsSettled state
     → IsSettled (sent_state state parts command)
 settled-too state parts command touched settled = record {
   early = settled.early;
@@ -167,7 +183,8 @@ settled-too state parts command touched settled = record {
   absent = λ ordinal lacks. touched-absent (state.connections ordinal) (parts ordinal) (touched ordinal) (settled.absent ordinal lacks);
 }
 
-placed-too : (state : State) (parts : Ordinal → ConnectionState) (command : Commanded) → ((ordinal : Ordinal) → Touched (state.connections ordinal) (parts ordinal)) → IsPlaced state
+placed-too : (state : State) (parts : Ordinal → ConnectionState) (command : Commanded)
+    → ((ordinal : Ordinal) → Touched (state.connections ordinal) (parts ordinal)) → IsPlaced state
     → IsPlaced (sent_state state parts command)
 placed-too state parts command touched placed = record {
   there = λ ordinal has.
@@ -181,7 +198,8 @@ pub record Facts (state : State) (handed : Handed) : Type 0 where
   pub placed : IsPlaced state
   pub partway : (ordinal : Ordinal) → has_slot ordinal state.slots ≡ true → IsPartway state.shared (state.connections ordinal) (handed ordinal)
 
-pub command_goes : (state : State) (handed : Handed) (parts : Ordinal → ConnectionState) (command : Commanded) → Facts state handed → OneSent state parts command
+pub command_goes : (state : State) (handed : Handed) (parts : Ordinal → ConnectionState) (command : Commanded) → Facts state handed
+    → OneSent state parts command
     → nat_lt 0 state.controller.credit ≡ true
     → command_next state.controller (slot_states_handed state handed) ≡ Some command
     → slots_commanded state.controller (slot_states_handed state handed) ≡ slot_states_handed (sent_state state parts command) handed

@@ -25,7 +25,8 @@ record Turn (awaiting : Bool) (awaited : Option Commanded) (command : Commanded)
   waits : awaiting ≡ false
   is : awaited ≡ Some command
 
-its-turn : (awaiting : Bool) (awaited : Option Commanded) (command : Commanded) → (if awaiting then None else awaited) ≡ Some command → Turn awaiting awaited command
+its-turn : (awaiting : Bool) (awaited : Option Commanded) (command : Commanded) → (if awaiting then None else awaited) ≡ Some command
+    → Turn awaiting awaited command
 its-turn true awaited command is = absurd (clash (ap is_some is))
 its-turn false awaited command is = record { waits = refl; is = is }
 
@@ -39,24 +40,28 @@ no-turn-later true more awaited none = refl
 no-turn-later false more None none = refl
 no-turn-later false more (Some command) none = absurd (clash (sym (ap is_some none)))
 
-awaiting-too : (awaiting more : Bool) (awaited : Option Commanded) → (if awaiting then None else awaited) ≡ None → (awaiting || (is_some awaited && more)) ≡ awaiting
+awaiting-too : (awaiting more : Bool) (awaited : Option Commanded) → (if awaiting then None else awaited) ≡ None → (awaiting || (is_some awaited && more))
+    ≡ awaiting
 awaiting-too true more awaited none = refl
 awaiting-too false more None none = refl
 awaiting-too false more (Some command) none = absurd (clash (sym (ap is_some none)))
 
 -- commands of connections do not enable
-not-enabling : (handle : ℕ) (reason : Option ℕ) (reply : Option KeyReply) (command : Commanded) → disconnect_or handle reason (reply_due handle reply) ≡ Some command
+not-enabling : (handle : ℕ) (reason : Option ℕ) (reply : Option KeyReply) (command : Commanded) → disconnect_or handle reason (reply_due handle reply)
+    ≡ Some command
     → is_enabling command ≡ false
 not-enabling handle (Some reason) reply command is = sym (ap is_enabling (some_of _ _ is))
 not-enabling handle None (Some (Some key)) command is = sym (ap is_enabling (some_of _ _ is))
 not-enabling handle None (Some None) command is = sym (ap is_enabling (some_of _ _ is))
 not-enabling handle None None command is = absurd (clash (ap is_some is))
 
-none-commanded : (change : Option SlotState → Option SlotState) (slots : List (Option SlotState)) → first_slot_command slots ≡ None → with_first has_command change slots ≡ slots
+none-commanded : (change : Option SlotState → Option SlotState) (slots : List (Option SlotState)) → first_slot_command slots ≡ None
+    → with_first has_command change slots ≡ slots
 none-commanded change [] none = refl
 none-commanded change (slot ∷ slots) none =
     elim (slot_state.command_due slot) as
-    (λ due. option_or due (first_slot_command slots) ≡ None → (if is_some due then change slot ∷ slots else slot ∷ with_first has_command change slots) ≡ slot ∷ slots) [
+    (λ due. option_or due (first_slot_command slots) ≡ None → (if is_some due then change slot ∷ slots else slot ∷ with_first has_command change slots)
+    ≡ slot ∷ slots) [
       | Some command ↦ λ is. absurd (clash (sym (ap is_some is)))
       | None ↦ λ is. ap (λ later. slot ∷ later) (none-commanded change slots is)
     ] none
@@ -80,7 +85,8 @@ full-waits true awaited takes none = refl
 full-waits false true takes none = none
 full-waits false false takes none = refl
 
-less-one : (all before rest later credit : ℕ) → all ≡ 0 → rest ≡ 0 → before ≡ 1 + later → 0 < credit → nat_lt (all + before) credit ≡ nat_lt (rest + later) (credit - 1)
+less-one : (all before rest later credit : ℕ) → all ≡ 0 → rest ≡ 0 → before ≡ 1 + later → 0 < credit → nat_lt (all + before) credit
+    ≡ nat_lt (rest + later) (credit - 1)
 less-one all before rest later credit none none_too more some = elim (cases_lt (all + before) credit) [
   | inl below ↦ lt-ltb (all + before) credit below ∙ sym (lt-ltb (rest + later) (credit - 1) (omega arith))
   | inr past ↦ le-ltb (all + before) credit past ∙ sym (le-ltb (rest + later) (credit - 1) (omega arith))
@@ -98,7 +104,8 @@ module _ (state : State) (handed : Handed) (facts : Facts state handed) where
   gone-none ordinal lacks = ap command_for (facts.settled.absent ordinal lacks)
 
   same-parts : (one other : Bool) (ordinal : Ordinal) → command_for (state.connections ordinal) ≡ None
-      → (if one then without_command (state.connections ordinal) else state.connections ordinal) ≡ (if other then without_command (state.connections ordinal) else state.connections ordinal)
+      → (if one then without_command (state.connections ordinal) else state.connections ordinal)
+      ≡ (if other then without_command (state.connections ordinal) else state.connections ordinal)
   same-parts one other ordinal none = either_unchanged (state.connections ordinal) one none ∙ sym (either_unchanged (state.connections ordinal) other none)
 
   -- the command of initialisation is due
@@ -113,19 +120,22 @@ module _ (state : State) (handed : Handed) (facts : Facts state handed) where
       let old_due : commands_due state.controller state.connections state.slots ≡ command ∷ [] =
       λ i. (if effect.waits i then [] else option_to_list (effect.is i)) ++ commands_for state.connections (none i) ++ enabling state.controller (none i) in
       let new_due : commands_due new state.connections state.slots ≡ [] =
-      λ i. (if awaits i then [] else option_to_list (command_awaited state.controller.init)) ++ commands_for state.connections (none i) ++ enabling new (none i) in
+      λ i. (if awaits i then [] else option_to_list (command_awaited state.controller.init)) ++ commands_for state.connections (none i) ++ enabling new (none i)
+      in
       let one : OneSent state state.connections command = record {
         due = old_due ∙ sym (ap (λ later. command ∷ later) new_due);
         sent = λ ordinal. same-parts _ _ ordinal (gone-none ordinal (ap (has_slot ordinal) none));
         touched = untouched;
       } in
       let first : slots_commanded state.controller (slot_states_handed state handed) ≡ slot_states_handed state handed =
-      λ i. if is_some (init i) then slot_states_handed state handed else with_first has_command (option_map slot_state.slot_without_command) (slot_states_handed state handed) in
+      λ i. if is_some (init i) then slot_states_handed state handed else with_first has_command (option_map slot_state.slot_without_command)
+      (slot_states_handed state handed) in
       command_goes state handed state.connections command facts one takes (takes_init state.controller (slot_states_handed state handed) command takes init)
       (first ∙ told_same state handed new state.slots)
 
   -- that of a slot
-  slot_goes : (first : FirstDue state handed state.controller state.slots) → nat_lt 0 state.controller.credit ≡ true → init_command state.controller ≡ None → Gives first.command
+  slot_goes : (first : FirstDue state handed state.controller state.slots) → nat_lt 0 state.controller.credit ≡ true → init_command state.controller ≡ None
+      → Gives first.command
   unfolding commands_due
   slot_goes first takes init =
       let command : Commanded = first.command in
@@ -143,7 +153,8 @@ module _ (state : State) (handed : Handed) (facts : Facts state handed) where
       λ i. if has_free state.slots && not (same_advertising i) && not state.controller.refused then LeSetAdvertiseEnable ∷ [] else [] in
       let new_init_then = sym new_init in
       let enabling_then = sym same_enabling in
-      let before : commands_due state.controller state.connections state.slots ≡ command ∷ (commands_for parts state.slots ++ enabling state.controller state.slots) =
+      let before : commands_due state.controller state.connections state.slots
+      ≡ command ∷ (commands_for parts state.slots ++ enabling state.controller state.slots) =
       λ i. old_init i ++ first.commands i ++ enabling state.controller state.slots in
       let none_left : command_for (without_command old) ≡ None = none_after old (facts.placed.once first.ordinal) in
       let one : OneSent state parts command = record {
@@ -158,34 +169,42 @@ module _ (state : State) (handed : Handed) (facts : Facts state handed) where
         touched = λ ordinal.
             elim (ordinal == first.ordinal) as (λ (is : Bool). (ordinal == first.ordinal) ≡ is
             → Touched (state.connections ordinal) (if is then without_command old else state.connections ordinal)) [
-              | true ↦ λ is. record { sent = true; is = ap (λ (at : Ordinal). without_command (state.connections at)) (sym (eqb-true ordinal first.ordinal is)) }
+              | true ↦ λ is. record {
+                sent = true;
+                is = ap (λ (at : Ordinal). without_command (state.connections at)) (sym (eqb-true ordinal first.ordinal is));
+              }
               | false ↦ λ differs. record { sent = false; is = refl }
             ] refl;
       } in
       let commanded : slots_commanded state.controller (slot_states_handed state handed)
       ≡ with_first has_command (option_map slot_state.slot_without_command) (slot_states_handed state handed) =
-      λ i. if is_some (init i) then slot_states_handed state handed else with_first has_command (option_map slot_state.slot_without_command) (slot_states_handed state handed) in
+      λ i. if is_some (init i) then slot_states_handed state handed else with_first has_command (option_map slot_state.slot_without_command)
+      (slot_states_handed state handed) in
       command_goes state handed parts command facts one takes (takes_slot state.controller (slot_states_handed state handed) command takes init first.found)
       (commanded ∙ first.server ∙ told_same (moved state first.ordinal (without_command old) state.controller) handed new state.slots)
     where
       own-sent : (first : FirstDue state handed state.controller state.slots) → 0 < state.controller.credit → command_of_init state.controller ≡ []
           → after_sending state.controller state.connections state.slots first.ordinal
-          ≡ after_sending (controller_after state.controller (first.command ∷ [])) (at_ordinal first.ordinal (without_command (state.connections first.ordinal)) state.connections) state.slots first.ordinal
+          ≡ after_sending (controller_after state.controller (first.command ∷ []))
+          (at_ordinal first.ordinal (without_command (state.connections first.ordinal)) state.connections) state.slots first.ordinal
       own-sent first some old_init =
           let old : ConnectionState = state.connections first.ordinal in
           let parts : Ordinal → ConnectionState = at_ordinal first.ordinal (without_command old) state.connections in
           let own : parts first.ordinal ≡ without_command old = own_part state.connections first.ordinal (without_command old) in
           let none : command_for (parts first.ordinal) ≡ None = ap command_for own ∙ none_after old (facts.placed.once first.ordinal) in
-          let now : nat_lt (length (command_of_init state.controller) + count_before first.ordinal state.connections state.slots) state.controller.credit ≡ true =
+          let now : nat_lt (length (command_of_init state.controller) + count_before first.ordinal state.connections state.slots) state.controller.credit
+          ≡ true =
           lt-ltb _ _ (omega (arith, ap length old_init, first.own, some)) in
-          let before : after_sending state.controller state.connections state.slots first.ordinal ≡ without_command old = λ i. if now i then without_command old else old in
+          let before : after_sending state.controller state.connections state.slots first.ordinal ≡ without_command old =
+          λ i. if now i then without_command old else old in
           before ∙ sym own ∙ sym (either_unchanged (parts first.ordinal) _ none)
 
       other-sent : (first : FirstDue state handed state.controller state.slots) → 0 < state.controller.credit → command_of_init state.controller ≡ []
           → command_of_init (controller_after state.controller (first.command ∷ [])) ≡ [] → (ordinal : Ordinal) → (ordinal == first.ordinal) ≡ false
           → Other state handed (at_ordinal first.ordinal (without_command (state.connections first.ordinal)) state.connections) state.slots ordinal
           → after_sending state.controller state.connections state.slots ordinal
-          ≡ after_sending (controller_after state.controller (first.command ∷ [])) (at_ordinal first.ordinal (without_command (state.connections first.ordinal)) state.connections) state.slots ordinal
+          ≡ after_sending (controller_after state.controller (first.command ∷ []))
+          (at_ordinal first.ordinal (without_command (state.connections first.ordinal)) state.connections) state.slots ordinal
       other-sent first some old_init new_init ordinal differs (Behind count) =
           let old : ConnectionState = state.connections first.ordinal in
           let parts : Ordinal → ConnectionState = at_ordinal first.ordinal (without_command old) state.connections in
@@ -227,7 +246,8 @@ module _ (state : State) (handed : Handed) (facts : Facts state handed) where
       sym (ap (λ (free : Bool). free && not state.controller.advertising && not state.controller.refused) same-room) ∙ may in
       let advertises : new.advertising ≡ true = or_right state.controller.advertising true refl in
       let not_again : (has_free state.slots && not new.advertising && not state.controller.refused) ≡ false =
-      ap (λ (advertising : Bool). has_free state.slots && not advertising && not state.controller.refused) advertises ∙ and-false (has_free state.slots) (not state.controller.refused) in
+      ap (λ (advertising : Bool). has_free state.slots && not advertising && not state.controller.refused) advertises
+      ∙ and-false (has_free state.slots) (not state.controller.refused) in
       let old_due : commands_due state.controller state.connections state.slots ≡ LeSetAdvertiseEnable ∷ [] =
       λ i. old_init i ++ none.commands i ++ (if free i then LeSetAdvertiseEnable ∷ [] else []) in
       let new_due : commands_due new state.connections state.slots ≡ [] =
@@ -239,9 +259,12 @@ module _ (state : State) (handed : Handed) (facts : Facts state handed) where
       } in
       let commanded : slots_commanded state.controller (slot_states_handed state handed)
       ≡ with_first has_command (option_map slot_state.slot_without_command) (slot_states_handed state handed) =
-      λ i. if is_some (init i) then slot_states_handed state handed else with_first has_command (option_map slot_state.slot_without_command) (slot_states_handed state handed) in
-      command_goes state handed state.connections LeSetAdvertiseEnable facts one takes (takes_enabling state.controller (slot_states_handed state handed) true takes init none.none may)
-      (commanded ∙ none-commanded (option_map slot_state.slot_without_command) (slot_states_handed state handed) none.none ∙ told_same state handed new state.slots)
+      λ i. if is_some (init i) then slot_states_handed state handed else with_first has_command (option_map slot_state.slot_without_command)
+      (slot_states_handed state handed) in
+      command_goes state handed state.connections LeSetAdvertiseEnable facts one takes
+      (takes_enabling state.controller (slot_states_handed state handed) true takes init none.none may)
+      (commanded ∙ none-commanded (option_map slot_state.slot_without_command) (slot_states_handed state handed) none.none
+      ∙ told_same state handed new state.slots)
 
   -- no command goes out
   pub record Quiet : Type 0 where
@@ -270,7 +293,8 @@ module _ (state : State) (handed : Handed) (facts : Facts state handed) where
       sym (ap (λ (free : Bool). free && not state.controller.advertising && not state.controller.refused) same-room) ∙ may in
       let due : commands_due state.controller state.connections state.slots ≡ [] =
       λ i. old_init i ++ none.commands i ++ (if free i then LeSetAdvertiseEnable ∷ [] else []) in
-      let out : commands_sent state.controller state.connections state.slots ≡ [] = ap (take state.controller.credit) due ∙ take-nothing state.controller.credit in
+      let out : commands_sent state.controller state.connections state.slots ≡ [] = ap (take state.controller.credit) due ∙ take-nothing state.controller.credit
+      in
       record {
         next = takes_enabling state.controller (slot_states_handed state handed) false takes init none.none may;
         none = out;
@@ -280,7 +304,8 @@ module _ (state : State) (handed : Handed) (facts : Facts state handed) where
 
   quiet_full : nat_lt 0 state.controller.credit ≡ false → Quiet
   quiet_full takes =
-      let out : commands_sent state.controller state.connections state.slots ≡ [] = take-none state.controller.credit (commands_due state.controller state.connections state.slots) takes in
+      let out : commands_sent state.controller state.connections state.slots ≡ [] =
+      take-none state.controller.credit (commands_due state.controller state.connections state.slots) takes in
       let none : state.controller.credit ≤ 0 = ltb-false 0 state.controller.credit takes in
       record {
         next = takes_none state.controller (slot_states_handed state handed) takes;
@@ -314,7 +339,8 @@ module _ (state : State) (handed : Handed) (facts : Facts state handed) where
   commanding = elim (nat_lt 0 state.controller.credit) as (λ (takes : Bool). nat_lt 0 state.controller.credit ≡ takes → Commanding) [
     | false ↦ λ takes. NoneGoes (quiet_full takes)
     | true ↦ λ takes. elim (init_command state.controller) as (λ due. init_command state.controller ≡ due → Commanding) [
-      | Some command ↦ λ init. CommandGoes command (takes_init state.controller (slot_states_handed state handed) command takes init) (init_goes command takes init)
+      | Some command ↦ λ init. CommandGoes command (takes_init state.controller (slot_states_handed state handed) command takes init)
+          (init_goes command takes init)
       | None ↦ λ init. after_init takes init
     ] refl
   ] refl

@@ -23,7 +23,8 @@ use Rattle.octet_io.proofs.Choices.{or_false_left, or_false_right}
 abbrev pub moved : State → Ordinal → ConnectionState → Controller → State
 moved state ordinal connection controller = record state { connections = at_ordinal ordinal connection state.connections; controller = controller }
 
-pub other_part : (parts : Ordinal → ConnectionState) (ordinal other : Ordinal) (new : ConnectionState) → (other == ordinal) ≡ false → at_ordinal ordinal new parts other ≡ parts other
+pub other_part : (parts : Ordinal → ConnectionState) (ordinal other : Ordinal) (new : ConnectionState) → (other == ordinal) ≡ false
+    → at_ordinal ordinal new parts other ≡ parts other
 other_part parts ordinal other new differs = λ i. if differs i then new else parts other
 
 pub own_part : (parts : Ordinal → ConnectionState) (ordinal : Ordinal) (new : ConnectionState) → at_ordinal ordinal new parts ordinal ≡ new
@@ -38,7 +39,8 @@ module _ (parts : Ordinal → ConnectionState) (ordinal : Ordinal) (new : Connec
       option_to_list (command_for (other_part parts ordinal one new (or_false_left (one == ordinal) (has_slot ordinal slots) lacks) i))
       ++ commands-same slots (or_false_right (one == ordinal) (has_slot ordinal slots) lacks) i
 
-  count-same : (other : Ordinal) (slots : Slots) → has_slot ordinal slots ≡ false → count_before other (at_ordinal ordinal new parts) slots ≡ count_before other parts slots
+  count-same : (other : Ordinal) (slots : Slots) → has_slot ordinal slots ≡ false → count_before other (at_ordinal ordinal new parts) slots
+      ≡ count_before other parts slots
   count-same other [] lacks = refl
   count-same other (None ∷ slots) lacks = count-same other slots lacks
   count-same other (Some one ∷ slots) lacks = λ i.
@@ -53,7 +55,8 @@ module _ (state : State) (handed : Handed) where
   held_same ordinal new controller (None ∷ slots) lacks = ap (λ later. None ∷ later) (held_same ordinal new controller slots lacks)
   held_same ordinal new controller (Some one ∷ slots) lacks =
       let same = sym (other_part state.connections ordinal one new (or_false_left (one == ordinal) (has_slot ordinal slots) lacks)) in
-      λ i. slot_state_if_there state.shared (same i) (handed one) ∷ held_same ordinal new controller slots (or_false_right (one == ordinal) (has_slot ordinal slots) lacks) i
+      λ i. slot_state_if_there state.shared (same i) (handed one) ∷ held_same ordinal new controller slots
+      (or_false_right (one == ordinal) (has_slot ordinal slots) lacks) i
 
   abbrev pub AllThere : Slots → Type 0
   AllThere slots = (ordinal : Ordinal) → has_slot ordinal slots ≡ true → is_there (state.connections ordinal).mark ≡ true
@@ -63,25 +66,30 @@ module _ (state : State) (handed : Handed) where
       → slot_state_handed state handed (Some ordinal) ≡ Some (slot_state_of state.shared (state.connections ordinal) (handed ordinal))
   held_there ordinal there = λ i. if there i then Some (slot_state_of state.shared (state.connections ordinal) (handed ordinal)) else None
 
-  held-due : (ordinal : Ordinal) → is_there (state.connections ordinal).mark ≡ true → slot_state.command_due (slot_state_handed state handed (Some ordinal)) ≡ command_for (state.connections ordinal)
+  held-due : (ordinal : Ordinal) → is_there (state.connections ordinal).mark ≡ true → slot_state.command_due (slot_state_handed state handed (Some ordinal))
+      ≡ command_for (state.connections ordinal)
   held-due ordinal there = ap slot_state.command_due (held_there ordinal there)
 
   -- the part and what is kept of it lose their command together
   kept-has : (connection : ConnectionState) (count : ℕ) (has : Bool)
-      → (if has then record (slot_state_of state.shared connection count) { reason = None } else record (slot_state_of state.shared connection count) { reply = None })
+      → (if has then record (slot_state_of state.shared connection count) { reason = None }
+      else record (slot_state_of state.shared connection count) { reply = None })
       ≡ slot_state_of state.shared (if has then record connection { reason = None } else record connection { reply = None }) count
   kept-has connection count true = refl
   kept-has connection count false = refl
 
-  there-has : (connection : ConnectionState) (has : Bool) → is_there connection.mark ≡ true → is_there (if has then record connection { reason = None } else record connection { reply = None }).mark ≡ true
+  there-has : (connection : ConnectionState) (has : Bool) → is_there connection.mark ≡ true
+      → is_there (if has then record connection { reason = None } else record connection { reply = None }).mark ≡ true
   there-has connection true there = there
   there-has connection false there = there
 
   kept-without : (connection : ConnectionState) (count : ℕ) → is_there connection.mark ≡ true
-      → option_map slot_state.slot_without_command (slot_state_if_there state.shared connection count) ≡ slot_state_if_there state.shared (without_command connection) count
+      → option_map slot_state.slot_without_command (slot_state_if_there state.shared connection count)
+      ≡ slot_state_if_there state.shared (without_command connection) count
   kept-without connection count there =
       let there_then : is_there (without_command connection).mark ≡ true = there-has connection (is_some connection.reason) there in
-      let now : slot_state_if_there state.shared connection count ≡ Some (slot_state_of state.shared connection count) = λ i. if there i then Some (slot_state_of state.shared connection count) else None in
+      let now : slot_state_if_there state.shared connection count ≡ Some (slot_state_of state.shared connection count) =
+      λ i. if there i then Some (slot_state_of state.shared connection count) else None in
       let new : slot_state_if_there state.shared (without_command connection) count ≡ Some (slot_state_of state.shared (without_command connection) count) =
       λ i. if there_then i then Some (slot_state_of state.shared (without_command connection) count) else None in
       ap (option_map slot_state.slot_without_command) now ∙ ap Some (kept-has connection count (is_some connection.reason)) ∙ sym new
@@ -96,7 +104,8 @@ module _ (state : State) (handed : Handed) where
       || room_same slots (λ ordinal has. there ordinal (or_right (one == ordinal) (has_slot ordinal slots) has)) i
 
   -- with another controller
-  pub told_same : (controller : Controller) (slots : Slots) → map (slot_state_handed state handed) slots ≡ map (slot_state_handed (record state { controller = controller }) handed) slots
+  pub told_same : (controller : Controller) (slots : Slots) → map (slot_state_handed state handed) slots
+      ≡ map (slot_state_handed (record state { controller = controller }) handed) slots
   told_same controller [] = refl
   told_same controller (None ∷ slots) = ap (λ later. None ∷ later) (told_same controller slots)
   told_same controller (Some one ∷ slots) = ap (λ later. slot_state_handed state handed (Some one) ∷ later) (told_same controller slots)
@@ -123,7 +132,8 @@ module _ (state : State) (handed : Handed) where
     pub server : with_first has_command (option_map slot_state.slot_without_command) (map (slot_state_handed state handed) slots)
         ≡ map (slot_state_handed (moved state ordinal (without_command (state.connections ordinal)) controller) handed) slots
     pub own : count_before ordinal state.connections slots ≡ 0
-    pub others : (other : Ordinal) → (other == ordinal) ≡ false → Other (at_ordinal ordinal (without_command (state.connections ordinal)) state.connections) slots other
+    pub others : (other : Ordinal) → (other == ordinal) ≡ false
+        → Other (at_ordinal ordinal (without_command (state.connections ordinal)) state.connections) slots other
 
   pub data Search (controller : Controller) (slots : Slots) : Type 0 where
     NoCommand : NoneDue slots → Search controller slots
@@ -156,18 +166,24 @@ module _ (state : State) (handed : Handed) where
         let new : Ordinal → ConnectionState = at_ordinal one (without_command connection) state.connections in
         let rest = first_slot_command (map (slot_state_handed state handed) slots) in
         let is_due : slot_state.command_due (slot_state_handed state handed (Some one)) ≡ Some command = held-due one there ∙ due in
-        let none : command_for (new one) ≡ None = ap command_for (own_part state.connections one (without_command connection)) ∙ none_after connection (once one) in
+        let none : command_for (new one) ≡ None =
+        ap command_for (own_part state.connections one (without_command connection)) ∙ none_after connection (once one) in
         let none_then = sym none in
         let same_then = sym (commands-same state.connections one (without_command connection) slots lacks) in
         let server = slot_state_handed state handed (Some one) in
         let later = map (slot_state_handed state handed) slots in
         let has_due : has_command server ≡ true = ap is_some is_due in
-        let kept_then : option_map slot_state.slot_without_command server ≡ slot_state_handed (moved state one (without_command connection) controller) handed (Some one) =
+        let kept_then : option_map slot_state.slot_without_command server ≡ slot_state_handed (moved state one (without_command connection) controller) handed
+        (Some one) =
         kept-without connection (handed one) there
-        ∙ sym (ap (λ (new_part : ConnectionState). slot_state_if_there state.shared new_part (handed one)) (own_part state.connections one (without_command connection))) in
-        let first : with_first has_command (option_map slot_state.slot_without_command) (server ∷ later) ≡ option_map slot_state.slot_without_command server ∷ later =
-        λ i. if has_due i then option_map slot_state.slot_without_command server ∷ later else server ∷ with_first has_command (option_map slot_state.slot_without_command) later in
-        let before : commands_for state.connections (Some one ∷ slots) ≡ command ∷ commands_for state.connections slots = λ i. option_to_list (due i) ++ commands_for state.connections slots in
+        ∙ sym (ap (λ (new_part : ConnectionState). slot_state_if_there state.shared new_part (handed one))
+        (own_part state.connections one (without_command connection))) in
+        let first : with_first has_command (option_map slot_state.slot_without_command) (server ∷ later) ≡ option_map slot_state.slot_without_command server
+        ∷ later =
+        λ i. if has_due i then option_map slot_state.slot_without_command server ∷ later
+        else server ∷ with_first has_command (option_map slot_state.slot_without_command) later in
+        let before : commands_for state.connections (Some one ∷ slots) ≡ command ∷ commands_for state.connections slots =
+        λ i. option_to_list (due i) ++ commands_for state.connections slots in
         record {
           ordinal = one;
           command = command;
@@ -182,15 +198,19 @@ module _ (state : State) (handed : Handed) where
               let old_count : count_before other state.connections (Some one ∷ slots) ≡ length (command ∷ []) + count_before other state.connections slots =
               λ i. if apart i then 0 else length (option_to_list (due i)) + count_before other state.connections slots in
               let new_count : count_before other new (Some one ∷ slots) ≡ 0 + count_before other state.connections slots =
-              λ i. if apart i then 0 else length (option_to_list (none i)) + count-same state.connections one (without_command connection) other slots lacks i in
+              λ i. if apart i then 0 else length (option_to_list (none i)) + count-same state.connections one (without_command connection) other slots lacks i
+              in
               Behind (omega (arith, old_count, new_count));
         }
 
-    differs-where : (one ordinal : Ordinal) (command : Commanded) → command_for (state.connections one) ≡ None → command_for (state.connections ordinal) ≡ Some command
+    differs-where : (one ordinal : Ordinal) (command : Commanded) → command_for (state.connections one) ≡ None → command_for (state.connections ordinal)
+        ≡ Some command
         → (one == ordinal) ≡ false
     differs-where one ordinal command none due =
         elim (one == ordinal) as (λ (is : Bool). (one == ordinal) ≡ is → is ≡ false) [
-          | true ↦ λ same. absurd (clash (sym (ap is_some none) ∙ ap (λ (at : Ordinal). is_some (command_for (state.connections at))) (eqb-true one ordinal same) ∙ ap is_some due))
+          | true ↦ λ same.
+              absurd (clash (sym (ap is_some none) ∙ ap (λ (at : Ordinal). is_some (command_for (state.connections at))) (eqb-true one ordinal same)
+              ∙ ap is_some due))
           | false ↦ λ differs. refl
         ] refl
 
@@ -222,10 +242,14 @@ module _ (state : State) (handed : Handed) where
         let server = slot_state_handed state handed (Some one) in
         let later = map (slot_state_handed state handed) slots in
         let not_due : has_command server ≡ false = ap is_some is_due in
-        let before : commands_for state.connections (Some one ∷ slots) ≡ first.command ∷ commands_for new slots = λ i. option_to_list (due i) ++ first.commands i in
-        let past : with_first has_command (option_map slot_state.slot_without_command) (server ∷ later) ≡ server ∷ with_first has_command (option_map slot_state.slot_without_command) later =
-        λ i. if not_due i then option_map slot_state.slot_without_command server ∷ later else server ∷ with_first has_command (option_map slot_state.slot_without_command) later in
-        let own : count_before first.ordinal state.connections (Some one ∷ slots) ≡ 0 + 0 = λ i. if differs i then 0 else length (option_to_list (due i)) + first.own i in
+        let before : commands_for state.connections (Some one ∷ slots) ≡ first.command ∷ commands_for new slots =
+        λ i. option_to_list (due i) ++ first.commands i in
+        let past : with_first has_command (option_map slot_state.slot_without_command) (server ∷ later)
+        ≡ server ∷ with_first has_command (option_map slot_state.slot_without_command) later =
+        λ i. if not_due i then option_map slot_state.slot_without_command server ∷ later
+        else server ∷ with_first has_command (option_map slot_state.slot_without_command) later in
+        let own : count_before first.ordinal state.connections (Some one ∷ slots) ≡ 0 + 0 =
+        λ i. if differs i then 0 else length (option_to_list (due i)) + first.own i in
         ACommand (record {
           ordinal = first.ordinal;
           command = first.command;
@@ -247,7 +271,8 @@ module _ (state : State) (handed : Handed) where
               ] refl;
         })
       where
-        behind : {new : Ordinal → ConnectionState} (other : Ordinal) → count_before other state.connections (Some one ∷ slots) ≡ 0 + count_before other state.connections slots
+        behind : {new : Ordinal → ConnectionState} (other : Ordinal) → count_before other state.connections (Some one ∷ slots)
+            ≡ 0 + count_before other state.connections slots
             → count_before other new (Some one ∷ slots) ≡ 0 + count_before other new slots → Other new slots other → Other new (Some one ∷ slots) other
         behind other old_count new_count (Behind count) = Behind (omega (arith, old_count, new_count, count))
         behind other old_count new_count (Without none) = Without none

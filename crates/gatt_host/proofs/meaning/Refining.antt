@@ -22,9 +22,9 @@ use Rattle.gatt_host.specs.RunRefinement.{AreNumbered, IsDrainedIn, IsPutTogethe
 use Rattle.gatt_host.specs.RunRefinement.{PacketStops, StopsForFault}
 use Rattle.gatt_host.specs.StateRefinement.{IsSound, RefinesStep, RefinesState, place_of_connection}
 use Rattle.gatt_host.specs.Telling.{noticed_in}
-use Rattle.gatt_laws.proofs.Meant.{MeantIfAny, packet_meant, possible_where_meant}
-use Rattle.gatt_laws.proofs.Renaming.{packets_mean_the_same}
-use Rattle.gatt_laws.proofs.Settled.{none_next}
+use Rattle.gatt_laws.proofs.runs.Meant.{MeantIfAny, packet_meant, possible_where_meant}
+use Rattle.gatt_laws.proofs.isolation.Renaming.{packets_mean_the_same}
+use Rattle.gatt_laws.proofs.invariants.Settled.{none_next}
 use Rattle.gatt_laws.specs.laws.Possible.{IsMeant}
 use Rattle.gatt_laws.specs.laws.Renaming.{renamed, renamed_if}
 use Rattle.gatt_laws.specs.machine.Context.{context_of, serving}

@@ -1,8 +1,8 @@
 -- What an event leaves of a state: it stays sound, and has as many slots.
 use Rattle.std.proofs.Common.{◌≡◌, Some, None, refl}
 use Rattle.gatt_host.specs.StateRefinement.{IsSound}
-use Rattle.gatt_laws.proofs.Placed.{stays_placed}
-use Rattle.gatt_laws.proofs.Queued.{IsKept, stays-kept}
+use Rattle.gatt_laws.proofs.invariants.Placed.{stays_placed}
+use Rattle.gatt_laws.proofs.invariants.Queued.{IsKept, stays-kept}
 use Rattle.gatt_laws.specs.laws.Possible.{Possible}
 use Rattle.gatt_laws.specs.machine.Event.{Event, Credit}
 use Rattle.gatt_laws.specs.machine.State.{State, change_of, step}

@@ -149,7 +149,8 @@ module _ (keep : Option Ordinal → Option SlotState) (free : keep None ≡ None
       ∙ ap (λ (place : Option ℕ). option_map suc place)
       (finds_free slots has (λ other other_has. there other (or_right (first == other) (has_slot other slots) other_has)))
 
-pub next_place : (next : Ordinal) (slots : Slots) → has_free slots ≡ true → has_slot next slots ≡ false → place_among (with_taken next slots) next ≡ first_free slots
+pub next_place : (next : Ordinal) (slots : Slots) → has_free slots ≡ true → has_slot next slots ≡ false → place_among (with_taken next slots) next
+    ≡ first_free slots
 unfolding first_free
 next_place next [] free lacks = absurd (clash free)
 next_place next (None ∷ slots) free lacks = ap (λ (own : Bool). if own then 0 else suc (place_among slots next)) (eq-eqb next next refl)
@@ -184,7 +185,8 @@ counted-as next = omega arith
 -- a connection comes, begins with nothing, and has the next ordinal
 pub together_coming : (state : State) (server : ServerState) (fragments : Fragments) (frames : Frames) (time handle : ℕ) (peer : Peer)
     → IsSound state → RefinesState state [] server → has_free state.slots ≡ true → IsPutTogether state fragments frames
-    → IsPutTogether (step state (Of state.next (Connected handle peer))) fragments (frames_after time (Of (first_free state.slots) (Connected handle peer)) frames)
+    → IsPutTogether (step state (Of state.next (Connected handle peer))) fragments
+    (frames_after time (Of (first_free state.slots) (Connected handle peer)) frames)
 unfolding step change_of
 together_coming state server fragments frames time handle peer sound refines free is = record {
   there = λ place ordinal there. read place ordinal (came-or-was state.next state.slots place ordinal there);

@@ -19,19 +19,22 @@ use Rattle.gatt_laws.specs.machine.Notice.{Received}
 use Rattle.octet_io.specs.Number.{Octets}
 
 -- what an error is made of
-pub error_told : {P : Fault → Type 0} (result : Result Unit Fault) (fault : Fault) → IsErrAnd result P → ((found : Fault) → P found → found ≡ fault) → result ≡ Err fault
+pub error_told : {P : Fault → Type 0} (result : Result Unit Fault) (fault : Fault) → IsErrAnd result P → ((found : Fault) → P found → found ≡ fault)
+    → result ≡ Err fault
 error_told (Ok done) fault is same = absurd is
 error_told (Err found) fault is same = ap (λ (found : Fault). Err found) (same found is)
 
 -- what the host answers to the call is answered
 pub answer_as : {P : AppFault → Fault → Type 0} (answer : Result Unit AppFault) (result : Result Unit Fault)
-    → MatchResult answer (λ done. result ≡ Ok done) (λ refused. IsErrAnd result (P refused)) → ((refused : AppFault) (found : Fault) → P refused found → found ≡ told.Call refused)
+    → MatchResult answer (λ done. result ≡ Ok done) (λ refused. IsErrAnd result (P refused))
+    → ((refused : AppFault) (found : Fault) → P refused found → found ≡ told.Call refused)
     → result ≡ answer_told None answer
 answer_as (Ok done) result is same = is
 answer_as (Err refused) result is same = error_told result (told.Call refused) is (same refused)
 
 -- the fault for which the host has stopped is answered
-pub stopped_answers : (call : Call) (old : HostModel) (found : Option HostFault) (fault : HostFault) → found ≡ Some fault → (result : Result Unit Fault) → result ≡ Err (told.Host fault)
+pub stopped_answers : (call : Call) (old : HostModel) (found : Option HostFault) (fault : HostFault) → found ≡ Some fault → (result : Result Unit Fault)
+    → result ≡ Err (told.Host fault)
     → Answers call old found result
 stopped_answers call old found fault is result answered = record {
   answer = Ok tt;
@@ -40,7 +43,8 @@ stopped_answers call old found fault is result answered = record {
 }
 
 -- what was owed is written, and changes nothing of the run
-module _ (call : Call) (old mid new : HostModel) (before between after : Option Octets) (still : mid.fault ≡ None) (feeds : Feeds [] old mid before between mid.fault) where
+module _ (call : Call) (old mid new : HostModel) (before between after : Option Octets) (still : mid.fault ≡ None)
+    (feeds : Feeds [] old mid before between mid.fault) where
   takes : TakesAll [] old mid before between
   takes = going_takes [] old mid before between mid.fault still feeds
 

@@ -49,7 +49,8 @@ module _ (call : Call) (old new : HostModel) (none : old.fault ≡ None) (out : 
   drained-there : (run : Run) (sent : List Octets) → ServerRefinesRun run sent old.server old.frames → IsDrainedIn run old.server old.frames
   drained-there run sent is = drained_in run sent old.server old.frames is (drained_where old none out)
 
-  call-stands : (result : Result Unit AppFault) → (IsOk result → IsOkAnd (call_happening old.server call) (λ happening. IsAfter happening old.server new.server))
+  call-stands : (result : Result Unit AppFault)
+      → (IsOk result → IsOkAnd (call_happening old.server call) (λ happening. IsAfter happening old.server new.server))
       → IfErr result (λ fault. call_happening old.server call ≡ Err (refused_of fault)) → OnErr result (new.server ≡ without_notices old.server)
       → (run : Run) (sent : List Octets) → ServerRefinesRun run sent old.server old.frames
       → ServerRefinesRun (after_result run (call_event run.intake.state call)) sent new.server old.frames
@@ -63,7 +64,8 @@ module _ (call : Call) (old new : HostModel) (none : old.fault ≡ None) (out : 
       (subst (λ (server : ServerState). ServerRefinesRun run sent server old.frames) (sym same) (stands_in_silence run sent old.server old.frames is))
 
   -- and what is told of it is what the run has
-  pub call_told : (result : Result Unit AppFault) → (IsOk result → IsOkAnd (call_happening old.server call) (λ happening. IsAfter happening old.server new.server))
+  pub call_told : (result : Result Unit AppFault)
+      → (IsOk result → IsOkAnd (call_happening old.server call) (λ happening. IsAfter happening old.server new.server))
       → IfErr result (λ fault. call_happening old.server call ≡ Err (refused_of fault)) → OnErr result (new.server ≡ without_notices old.server)
       → (run : Run) (sent : List Octets) → ServerRefinesRun run sent old.server old.frames
       → last_notices new.server ≡ noticed_in run.intake.state (call_event run.intake.state call)
@@ -72,8 +74,10 @@ module _ (call : Call) (old new : HostModel) (none : old.fault ≡ None) (out : 
       let refusal = call_is_refused run old.server old.frames (drained-there run sent is) call (refused_of fault) refused in
       ap last_notices same ∙ sym (ap (λ (result : Result Event Refused). noticed_in run.intake.state result) refusal)
 
-  pub takes_call : (result : Result Unit AppFault) → (IsOk result → IsOkAnd (call_happening old.server call) (λ happening. IsAfter happening old.server new.server))
-      → IfErr result (λ fault. call_happening old.server call ≡ Err (refused_of fault)) → OnErr result (new.server ≡ without_notices old.server) → KeepsTheRest old new
+  pub takes_call : (result : Result Unit AppFault)
+      → (IsOk result → IsOkAnd (call_happening old.server call) (λ happening. IsAfter happening old.server new.server))
+      → IfErr result (λ fault. call_happening old.server call ≡ Err (refused_of fault)) → OnErr result (new.server ≡ without_notices old.server)
+      → KeepsTheRest old new
       → Takes (ACall call) old new
   takes_call result after refused same keeps =
       takes_item (ACall call) old new none (λ run sent no_why is.
@@ -84,7 +88,8 @@ none-refused : (outcome : Result (Happening Place) Refused) (P : Happening Place
 none-refused (Ok happening) P so = refl
 none-refused (Err refused) P so = absurd so
 
-call-reason : (old : ServerState) (call : Call) (P : Happening Place → Type 0) (result : Result Unit AppFault) → (IsOk result → IsOkAnd (call_happening old call) P)
+call-reason : (old : ServerState) (call : Call) (P : Happening Place → Type 0) (result : Result Unit AppFault)
+    → (IsOk result → IsOkAnd (call_happening old call) P)
     → IfErr result (λ fault. call_happening old call ≡ Err (refused_of fault)) → refusal_in_result result ≡ refusal_in None (call_happening old call)
 call-reason old call P (Ok done) after refused = none-refused (call_happening old call) P (after refl)
 call-reason old call P (Err fault) after refused = ap (λ (outcome : Result (Happening Place) Refused). refusal_in None outcome) (sym refused)
@@ -131,12 +136,15 @@ module _ {A : Type 0} (table : Contents) (old new : HostModel) (none : old.fault
       (table_led run old.server old.frames (drained_in run sent old.server old.frames is (drained_where old none out)) new.server table
       (if-same (same_changer old.server.changer (changer_of table)) table (λ happening. IsAfter happening old.server new.server) (accepts refl) after)).told
   table_told (Err fault) after accepts refused same run sent is =
-      let refusal = table_is_refused run old.server old.frames (drained_in run sent old.server old.frames is (drained_where old none out)) table (refused_of fault.0) refused in
+      let refusal =
+      table_is_refused run old.server old.frames (drained_in run sent old.server old.frames is (drained_where old none out)) table
+      (refused_of fault.0) refused in
       ap last_notices same ∙ sym (ap (λ (result : Result Event Refused). noticed_in run.intake.state result) refusal)
 
   pub takes_table : (result : Result A (AppFault × Contents)) → OnOk result (new.server ≡ after_replacing table old.server)
       → (IsOk result → same_changer old.server.changer (changer_of table) ≡ true)
-      → IfErr result (λ fault. replacement_happening old.server table ≡ Err (refused_of fault.0)) → OnErr result (new.server ≡ without_notices old.server) → KeepsTheRest old new
+      → IfErr result (λ fault. replacement_happening old.server table ≡ Err (refused_of fault.0)) → OnErr result (new.server ≡ without_notices old.server)
+      → KeepsTheRest old new
       → Takes (ATable table) old new
   takes_table result after accepts refused same keeps =
       takes_item (ATable table) old new none (λ run sent no_why is.

@@ -5,7 +5,7 @@ use Rattle.std.specs.List.{reduce}
 use Rattle.gatt_host.proofs.model.Slots.{slots_read}
 use Rattle.gatt_host.specs.Owing.{Handed, slot_state_handed}
 use Rattle.gatt_host.specs.HostModel.{RefinesRun, HostModel}
-use Rattle.gatt_laws.proofs.Deadline.{tells_from_the_deadline_on}
+use Rattle.gatt_laws.proofs.notices.Deadline.{tells_from_the_deadline_on}
 use Rattle.gatt_laws.specs.machine.Controller.{command_of_init, count_before}
 use Rattle.gatt_laws.specs.laws.Deadline.{deadline, authorization_end, earlier_of, slot_deadline, TellsFromTheDeadlineOn}
 use Rattle.gatt_laws.specs.machine.Event.{Ordinal}

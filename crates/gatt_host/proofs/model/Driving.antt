@@ -9,7 +9,7 @@ use Rattle.gatt_host.specs.declared.driving.Input.{Input}
 use Rattle.gatt_host.specs.declared.host_fault.HostFault.{HostFault}
 use Rattle.gatt_host.specs.Feeding.{CountsRefused, Feeds, TakesAll, is_of_feeding, input_items, items_of, octet_items, refused_at, refused_in}
 use Rattle.gatt_host.specs.HostModel.{Refines, RefinesRun, Takes, HostModel}
-use Rattle.gatt_laws.proofs.Inputs.{items_append}
+use Rattle.gatt_laws.proofs.runs.Inputs.{items_append}
 use Rattle.gatt_laws.specs.machine.Calls.{Call, Refused}
 use Rattle.gatt_laws.specs.machine.Input.{ACall, AnOctet, Run, Item, after_item, after_items, run_at_start, call_refusal, run}
 use Rattle.gatt_laws.specs.machine.Start.{Start}
@@ -44,17 +44,20 @@ one_refused call host result refused none same refuses start input sent is =
     ap one_if (same ∙ refused-where result ∙ ap (λ (why : Option Refused). is_some why) why) in
     omega (arith, counted)
 
-pub call_feeds : (item : Item) (old mid new : HostModel) (before after : Option Octets) (found : Option HostFault) → Takes item old mid → Feeds [] mid new before after found
+pub call_feeds : (item : Item) (old mid new : HostModel) (before after : Option Octets) (found : Option HostFault) → Takes item old mid
+    → Feeds [] mid new before after found
     → Feeds (item ∷ []) old new before after found
 call_feeds item old mid new before after found takes feeds =
     feeds_then (item ∷ []) [] old mid new before before after found (takes_silently (item ∷ []) old mid before takes) feeds
 
 -- calls of one part, and then of the other
-refused-append : (at_run : Run) (items more : List Item) → refused_in at_run items + refused_in (after_items at_run items) more ≡ refused_in at_run (items ++ more)
+refused-append : (at_run : Run) (items more : List Item) → refused_in at_run items + refused_in (after_items at_run items) more
+    ≡ refused_in at_run (items ++ more)
 refused-append at_run [] more = omega arith
 refused-append at_run (item ∷ items) more = omega (arith, refused-append (after_item at_run item) items more)
 
-pub counts_then : (count next : ℕ) (items more : List Item) (packets : List Octets) (old mid : HostModel) → CountsRefused count items old → Refines items packets old mid
+pub counts_then : (count next : ℕ) (items more : List Item) (packets : List Octets) (old mid : HostModel) → CountsRefused count items old
+    → Refines items packets old mid
     → CountsRefused next more mid → CountsRefused (count + next) (items ++ more) old
 unfolding run
 counts_then count next items more packets old mid first leads second start input sent is =
@@ -66,7 +69,8 @@ counts_then count next items more packets old mid first leads second start input
     omega (arith, one, other, refused-append before items more)
 
 -- what follows a fault changes nothing
-pub past_fault : (items more : List Item) (old new : HostModel) (before after : Option Octets) (fault : HostFault) → new.fault ≡ Some fault → is_of_feeding fault ≡ true
+pub past_fault : (items more : List Item) (old new : HostModel) (before after : Option Octets) (fault : HostFault) → new.fault ≡ Some fault
+    → is_of_feeding fault ≡ true
     → Feeds items old new before after new.fault → Feeds (items ++ more) old new before after new.fault
 past_fault items more old new before after fault stopped comes feeds =
     subst (λ (found : Option HostFault). Feeds (items ++ more) old new before after found) (sym stopped)
@@ -90,15 +94,18 @@ driven_none inputs old new before after takes = record {
 }
 
 -- the next of them
-pub next_parts : (inputs : List Input) (index : ℕ) (last : Input) (items : List Item) → index < length inputs → items_of inputs ≡ items ++ items_of (drop index inputs)
+pub next_parts : (inputs : List Input) (index : ℕ) (last : Input) (items : List Item) → index < length inputs
+    → items_of inputs ≡ items ++ items_of (drop index inputs)
     → items_of inputs ≡ (items ++ input_items (get_or inputs index last)) ++ items_of (drop (index + 1) inputs)
 next_parts inputs index last items within parts =
     parts ∙ ap (λ (left : List Input). items ++ items_of left) (drop_more inputs index last within)
     ∙ sym (append_assoc items (input_items (get_or inputs index last)) (items_of (drop (index + 1) inputs)))
 
-module _ (inputs : List Input) (index : ℕ) (last : Input) (within : index < length inputs) (count : ℕ) (old mid new : HostModel) (before between after : Option Octets)
+module _ (inputs : List Input) (index : ℕ) (last : Input) (within : index < length inputs) (count : ℕ) (old mid new : HostModel)
+    (before between after : Option Octets)
     (has : HasDriven count inputs (drop index inputs) old mid before between) where
-  abbrev pub driven_more : (next : ℕ) → TakesAll (input_items (get_or inputs index last)) mid new between after → CountsRefused next (input_items (get_or inputs index last)) mid
+  abbrev pub driven_more : (next : ℕ) → TakesAll (input_items (get_or inputs index last)) mid new between after
+  → CountsRefused next (input_items (get_or inputs index last)) mid
       → HasDriven (count + next) inputs (drop (index + 1) inputs) old new before after
   driven_more next takes counts = record {
     items = has.items ++ input_items (get_or inputs index last);
@@ -121,7 +128,8 @@ module _ (inputs : List Input) (index : ℕ) (last : Input) (within : index < le
 driven-parts : (inputs rest : List Input) (items : List Item) → rest ≡ [] → items_of inputs ≡ items ++ items_of rest → items_of inputs ≡ items
 driven-parts inputs rest items none parts = parts ∙ ap (λ (left : List Input). items ++ items_of left) none ∙ append-nil items
 
-module _ (count : ℕ) (inputs rest : List Input) (old new : HostModel) (before after : Option Octets) (none : rest ≡ []) (has : HasDriven count inputs rest old new before after) where
+module _ (count : ℕ) (inputs rest : List Input) (old new : HostModel) (before after : Option Octets) (none : rest ≡ [])
+    (has : HasDriven count inputs rest old new before after) where
   pub driven_counts : CountsRefused count (items_of inputs) old
   driven_counts = subst (λ (items : List Item). CountsRefused count items old) (sym (driven-parts inputs rest has.items none has.parts)) has.counts
 

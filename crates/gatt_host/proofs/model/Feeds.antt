@@ -11,8 +11,8 @@ use Rattle.gatt_host.specs.declared.host_fault.HostFault.{HostFault}
 use Rattle.gatt_host.specs.declared.host_fault.HostFault.TheVariants as stop
 use Rattle.gatt_host.specs.Feeding.{BreaksOff, Feeds, TakesAll, is_of_feeding, is_write_fault, joined, octet_items}
 use Rattle.gatt_host.specs.HostModel.{Refines, SameFault, RefinesRun, HostModel, is_own_fault, fault_outcome}
-use Rattle.gatt_laws.proofs.Inputs.{items_append}
-use Rattle.gatt_laws.proofs.Streams.{stays_stopped}
+use Rattle.gatt_laws.proofs.runs.Inputs.{items_append}
+use Rattle.gatt_laws.proofs.runs.Streams.{stays_stopped}
 use Rattle.gatt_laws.specs.machine.Input.{AnOctet, Run, Item, after_items, run_at_start, run}
 use Rattle.gatt_laws.specs.machine.Packets.{Fault}
 use Rattle.octet_io.specs.Number.{Octets}
@@ -68,19 +68,25 @@ breaks_before items more old new before after breaks = record {
 }
 
 -- by the fault that stands then
-pub feeds_then : (items more : List Item) (old mid new : HostModel) (before between after : Option Octets) (fault : Option HostFault) → TakesAll items old mid before between
+pub feeds_then : (items more : List Item) (old mid new : HostModel) (before between after : Option Octets) (fault : Option HostFault)
+    → TakesAll items old mid before between
     → Feeds more mid new between after fault → Feeds (items ++ more) old new before after fault
 feeds_then items more old mid new before between after None first second = takes_then items more old mid new before between after first second
-feeds_then items more old mid new before between after (Some (stop.Desync indicator)) first second = takes_then items more old mid new before between after first second
-feeds_then items more old mid new before between after (Some (stop.BadEvent code)) first second = takes_then items more old mid new before between after first second
+feeds_then items more old mid new before between after (Some (stop.Desync indicator)) first second =
+    takes_then items more old mid new before between after first second
+feeds_then items more old mid new before between after (Some (stop.BadEvent code)) first second =
+    takes_then items more old mid new before between after first second
 feeds_then items more old mid new before between after (Some (stop.Init why)) first second = takes_then items more old mid new before between after first second
-feeds_then items more old mid new before between after (Some (stop.Hardware code)) first second = takes_then items more old mid new before between after first second
+feeds_then items more old mid new before between after (Some (stop.Hardware code)) first second =
+    takes_then items more old mid new before between after first second
 feeds_then items more old mid new before between after (Some stop.Read) first second = takes_then items more old mid new before between after first second
 feeds_then items more old mid new before between after (Some stop.Turns) first second = takes_then items more old mid new before between after first second
-feeds_then items more old mid new before between after (Some stop.Write) first second = takes_then_breaks items more old mid new before between after first second
+feeds_then items more old mid new before between after (Some stop.Write) first second =
+    takes_then_breaks items more old mid new before between after first second
 
 -- a host that has stopped as its run has takes in what follows and nothing changes
-module _ (items more : List Item) (packets : List Octets) (old new : HostModel) (fault : HostFault) (stopped : new.fault ≡ Some fault) (other : is_own_fault fault ≡ false) where
+module _ (items more : List Item) (packets : List Octets) (old new : HostModel) (fault : HostFault) (stopped : new.fault ≡ Some fault)
+    (other : is_own_fault fault ≡ false) where
   stays-by : (input : List Item) (sent : List Octets) (at_run : Run) (why : Option Fault) → at_run.intake.fault ≡ why → SameFault why (Some fault)
       → RefinesRun at_run sent new → RefinesRun (after_items at_run more) sent new
   stays-by input sent at_run None none same is = absurd (clash (sym other ∙ same))
@@ -97,7 +103,8 @@ module _ (items more : List Item) (packets : List Octets) (old new : HostModel) 
       (stays-by input (sent ++ packets) at_run at_run.intake.fault refl
       (subst (λ (refines : Option HostFault). SameFault at_run.intake.fault refines) stopped there.same) there))
 
-pub takes_past : (items more : List Item) (old new : HostModel) (before after : Option Octets) (fault : HostFault) → new.fault ≡ Some fault → is_own_fault fault ≡ false
+pub takes_past : (items more : List Item) (old new : HostModel) (before after : Option Octets) (fault : HostFault) → new.fault ≡ Some fault
+    → is_own_fault fault ≡ false
     → TakesAll items old new before after → TakesAll (items ++ more) old new before after
 takes_past items more old new before after fault stopped other takes = record {
   packets = takes.packets;
@@ -112,12 +119,16 @@ pub record HasTaken (octets rest : Octets) (old new : HostModel) (before after :
   pub takes : TakesAll (octet_items taken) old new before after
 
 -- so one that has stopped at what it was fed
-pub feeds_past : (items more : List Item) (old new : HostModel) (before after : Option Octets) (fault : HostFault) → new.fault ≡ Some fault → is_of_feeding fault ≡ true
+pub feeds_past : (items more : List Item) (old new : HostModel) (before after : Option Octets) (fault : HostFault) → new.fault ≡ Some fault
+    → is_of_feeding fault ≡ true
     → Feeds items old new before after (Some fault) → Feeds (items ++ more) old new before after (Some fault)
-feeds_past items more old new before after (stop.Desync indicator) stopped comes feeds = takes_past items more old new before after (stop.Desync indicator) stopped refl feeds
-feeds_past items more old new before after (stop.BadEvent code) stopped comes feeds = takes_past items more old new before after (stop.BadEvent code) stopped refl feeds
+feeds_past items more old new before after (stop.Desync indicator) stopped comes feeds =
+    takes_past items more old new before after (stop.Desync indicator) stopped refl feeds
+feeds_past items more old new before after (stop.BadEvent code) stopped comes feeds =
+    takes_past items more old new before after (stop.BadEvent code) stopped refl feeds
 feeds_past items more old new before after (stop.Init why) stopped comes feeds = takes_past items more old new before after (stop.Init why) stopped refl feeds
-feeds_past items more old new before after (stop.Hardware code) stopped comes feeds = takes_past items more old new before after (stop.Hardware code) stopped refl feeds
+feeds_past items more old new before after (stop.Hardware code) stopped comes feeds =
+    takes_past items more old new before after (stop.Hardware code) stopped refl feeds
 feeds_past items more old new before after stop.Read stopped comes feeds = absurd (clash comes)
 feeds_past items more old new before after stop.Turns stopped comes feeds = absurd (clash comes)
 feeds_past items more old new before after stop.Write stopped comes feeds = breaks_before items more old new before after feeds
@@ -155,7 +166,8 @@ broken_before items more old new before after found is feeds =
     (breaks_before items more old new before after (subst (λ (found : Option HostFault). Feeds items old new before after found) is feeds))
 
 -- where the host stops for another reason, all that is taken in is written
-pub stopped_feeds : (items : List Item) (old new : HostModel) (before after : Option Octets) (found : Option HostFault) (fault : HostFault) → found ≡ Some fault → is_own_fault fault ≡ false
+pub stopped_feeds : (items : List Item) (old new : HostModel) (before after : Option Octets) (found : Option HostFault) (fault : HostFault) → found ≡ Some fault
+    → is_own_fault fault ≡ false
     → TakesAll items old new before after → Feeds items old new before after found
 stopped_feeds items old new before after found fault is other takes =
     subst (λ (found : Option HostFault). Feeds items old new before after found) (sym is) (by-fault fault other)
@@ -174,13 +186,15 @@ pub going_takes : (items : List Item) (old new : HostModel) (before after : Opti
 going_takes items old new before after found none feeds = subst (λ (found : Option HostFault). Feeds items old new before after found) none feeds
 
 -- a packet is handed out, and written whole or its front
-pub takes_packet_more : (old at new : HostModel) (packet : Octets) (before between after : Option Octets) → TakesAll [] old at before between → Refines [] (packet ∷ []) at new
+pub takes_packet_more : (old at new : HostModel) (packet : Octets) (before between after : Option Octets) → TakesAll [] old at before between
+    → Refines [] (packet ∷ []) at new
     → Appends between after packet → TakesAll [] old new before after
 takes_packet_more old at new packet before between after takes leads written =
     takes_then [] [] old at new before between after takes
     (record { packets = packet ∷ []; refines = leads; written = subst (Appends between after) (sym (append-nil packet)) written })
 
-pub breaks_off_at : (old at mid : HostModel) (packet : Octets) (before between after : Option Octets) → TakesAll [] old at before between → Refines [] (packet ∷ []) at mid
+pub breaks_off_at : (old at mid : HostModel) (packet : Octets) (before between after : Option Octets) → TakesAll [] old at before between
+    → Refines [] (packet ∷ []) at mid
     → mid.fault ≡ None → WritesFront packet between after → BreaksOff [] old (record mid { fault = Some stop.Write }) before after
 breaks_off_at old at mid packet before between after takes leads none front =
     takes_then_breaks [] [] old at (record mid { fault = Some stop.Write }) before between after takes
@@ -200,14 +214,16 @@ items_append_octets octets rest = map-append (λ (octet : ℕ). AnOctet octet) o
 pub all_items : (octets taken rest : Octets) → octets ≡ taken ++ rest → octet_items octets ≡ octet_items taken ++ octet_items rest
 all_items octets taken rest parts = ap octet_items parts ∙ items_append_octets taken rest
 
-abbrev pub taken_none : (octets : Octets) (old new : HostModel) (before after : Option Octets) → TakesAll [] old new before after → HasTaken octets octets old new before after
+abbrev pub taken_none : (octets : Octets) (old new : HostModel) (before after : Option Octets) → TakesAll [] old new before after
+    → HasTaken octets octets old new before after
 taken_none octets old new before after takes = record { taken = []; parts = refl; takes = takes }
 
 abbrev pub taken_silently : (octets rest : Octets) (used : ℕ) (old at new : HostModel) (before after : Option Octets) → HasTaken octets rest old at before after
     → Refines (octet_items (take used rest)) [] at new → HasTaken octets (drop used rest) old new before after
 taken_silently octets rest used old at new before after has leads = record {
   taken = has.taken ++ take used rest;
-  parts = has.parts ∙ ap (λ (left : Octets). has.taken ++ left) (sym (take-append-drop used rest)) ∙ sym (append_assoc has.taken (take used rest) (drop used rest));
+  parts = has.parts ∙ ap (λ (left : Octets). has.taken ++ left) (sym (take-append-drop used rest))
+      ∙ sym (append_assoc has.taken (take used rest) (drop used rest));
   takes = subst (λ (items : List Item). TakesAll items old new before after) (sym (items_append_octets has.taken (take used rest)))
       (takes_then (octet_items has.taken) (octet_items (take used rest)) old at new before after after has.takes
       (takes_silently (octet_items (take used rest)) at new after leads));
@@ -223,7 +239,8 @@ taken_then octets rest old mid new before between after has takes = record {
 }
 
 -- the host stops at a packet
-pub taken_stops : (octets rest : Octets) (old at new : HostModel) (before after : Option Octets) (found : Option HostFault) (fault : HostFault) → HasTaken octets rest old at before after
+pub taken_stops : (octets rest : Octets) (old at new : HostModel) (before after : Option Octets) (found : Option HostFault) (fault : HostFault)
+    → HasTaken octets rest old at before after
     → Refines (octet_items rest) [] at new → found ≡ Some fault → is_own_fault fault ≡ false → Feeds (octet_items octets) old new before after found
 taken_stops octets rest old at new before after found fault has leads is other =
     stopped_feeds (octet_items octets) old new before after found fault is other
@@ -231,7 +248,8 @@ taken_stops octets rest old at new before after found fault has leads is other =
     (takes_then (octet_items has.taken) (octet_items rest) old at new before after after has.takes (takes_silently (octet_items rest) at new after leads)))
 
 -- or the writer fails
-pub taken_breaks : (octets rest : Octets) (old mid new : HostModel) (before between after : Option Octets) (found : Option HostFault) → HasTaken octets rest old mid before between
+pub taken_breaks : (octets rest : Octets) (old mid new : HostModel) (before between after : Option Octets) (found : Option HostFault)
+    → HasTaken octets rest old mid before between
     → found ≡ Some stop.Write → Feeds [] mid new between after found → Feeds (octet_items octets) old new before after found
 taken_breaks octets rest old mid new before between after found has is feeds =
     subst (λ (items : List Item). Feeds items old new before after found) (sym (all_items octets has.taken rest has.parts))
@@ -240,7 +258,8 @@ taken_breaks octets rest old mid new before between after found has is feeds =
     (feeds_then (octet_items has.taken) [] old mid new before between after found has.takes feeds)))
 
 -- the failures that are counted
-pub counts_where_going : (found : Option HostFault) (before after : Option ℕ) → found ≡ None → CountsIf (is_write_fault found) before after → CountsNone before after
+pub counts_where_going : (found : Option HostFault) (before after : Option ℕ) → found ≡ None → CountsIf (is_write_fault found) before after
+    → CountsNone before after
 counts_where_going found before after none fails = subst (λ (found : Option HostFault). CountsIf (is_write_fault found) before after) none fails
 
 -- by whether a call failed
@@ -252,6 +271,7 @@ pub on_ok_at : {T E : Type 0} (result : Result T E) (P : Type 0) → is_err resu
 on_ok_at (Ok x) P works so = so
 on_ok_at (Err e) P works so = absurd (clash (sym works))
 
-pub counts_none_at : {T E : Type 0} (result : Result T E) (before after : Option ℕ) → is_err result ≡ false → CountsFailure before after result → CountsNone before after
+pub counts_none_at : {T E : Type 0} (result : Result T E) (before after : Option ℕ) → is_err result ≡ false → CountsFailure before after result
+    → CountsNone before after
 counts_none_at (Ok x) before after works counts = counts
 counts_none_at (Err e) before after works counts = absurd (clash (sym works))

@@ -16,7 +16,7 @@ use Rattle.le_hci.specs.Command.{Commanded}
 use Rattle.octet_io.proofs.Choices.{and_true_right}
 use Rattle.octet_io.specs.Number.{Octets}
 
--- a command takes nothing of the quota of its slot
+-- a command takes nothing of the share of its slot
 same-kept : (slot_state : SlotState) (disconnects : Bool)
     → packets_out (Some (if disconnects then record slot_state { reason = None } else record slot_state { reply = None })) ≡ packets_out (Some slot_state)
 same-kept slot_state true = refl
@@ -45,7 +45,8 @@ fewer-slot : (slot : Option SlotState) → gives slot ≡ true → packets_out (
 fewer-slot None is = absurd (clash is)
 fewer-slot (Some slot_state) is =
     let outgoing = slot_state.outgoing in
-    let less = ltb-true outgoing.outstanding outgoing.share (and_true_right (not (length outgoing.queue == 0)) (nat_lt outgoing.outstanding outgoing.share) is) in
+    let less = ltb-true outgoing.outstanding outgoing.share (and_true_right (not (length outgoing.queue == 0)) (nat_lt outgoing.outstanding outgoing.share) is)
+    in
     omega (arith, less)
 
 fewer-by-slot : (slot : Option SlotState) (slots then_slots : List (Option SlotState)) (found octets : Option Octets) (test : Bool) → gives slot ≡ test
@@ -58,7 +59,8 @@ fewer-packets : (slots : List (Option SlotState)) (octets : Octets) → first_sl
     → all_packets_out (with_first gives (option_map slot_without_packet) slots) < all_packets_out slots
 fewer-packets [] octets is = absurd (clash (ap is_some is))
 fewer-packets (slot ∷ slots) octets is =
-    fewer-by-slot slot slots (with_first gives (option_map slot_without_packet) slots) (first_slot_packet slots) (Some octets) (gives slot) refl (fewer-packets slots octets) is
+    fewer-by-slot slot slots (with_first gives (option_map slot_without_packet) slots) (first_slot_packet slots) (Some octets) (gives slot) refl
+    (fewer-packets slots octets) is
 
 -- the credit is not 0 where a command goes out
 some-credit : (takes : Bool) (found : Option Commanded) (command : Commanded) → (if takes then found else None) ≡ Some command → takes ≡ true
@@ -76,7 +78,9 @@ module _ (controller : Controller) (slots : List (Option SlotState)) where
   fewer-by : (found : Option Commanded) (octets : Octets) → command_next controller slots ≡ found
       → option_or (option_map command_octets found) (first_slot_packet slots) ≡ Some octets → Fewer found
   fewer-by (Some command) octets next is =
-      let takes = some-credit (nat_lt 0 controller.credit) (option_or (init_command controller) (option_or (first_slot_command slots) (enabling_command controller slots))) command next in
+      let takes =
+      some-credit (nat_lt 0 controller.credit)
+      (option_or (init_command controller) (option_or (first_slot_command slots) (enabling_command controller slots))) command next in
       omega (arith, ltb-true 0 controller.credit takes, commanded-either slots (is_some (init_command controller)))
   fewer-by None octets next is = omega (arith, fewer-packets slots octets is)
 
@@ -102,12 +106,15 @@ open-then controller slots false now is = ap (λ (test : Bool). if test then slo
 pub fewer_out : (server : ServerState) (octets : Octets) → next_packet_out server ≡ Some octets → most_out (after_out server) < most_out server
 fewer_out server octets is =
     let then_open : open_slots (after_out server) ≡ slots_then server.controller (open_slots server) =
-    open-then server.controller server.slots (is_ready server.controller) (is_ready (controller_then server.controller (open_slots server))) (ready_then server.controller (open_slots server)) in
+    open-then server.controller server.slots (is_ready server.controller) (is_ready (controller_then server.controller (open_slots server)))
+    (ready_then server.controller (open_slots server)) in
     let credit : ℕ = (controller_then server.controller (open_slots server)).credit in
-    subst (λ (slots : List (Option SlotState)). credit + all_packets_out slots < most_out server) (sym then_open) (fewer-then server.controller (open_slots server) octets is)
+    subst (λ (slots : List (Option SlotState)). credit + all_packets_out slots < most_out server) (sym then_open)
+    (fewer-then server.controller (open_slots server) octets is)
 
 -- the same of a packet at the front of a buffer, by its length
-pub fewer_into : (server : ServerState) (count : Option ℕ) (out : Octets) → IfSome count (λ count. next_packet_out server ≡ Some (take count out)) → IsSome count
+pub fewer_into : (server : ServerState) (count : Option ℕ) (out : Octets) → IfSome count (λ count. next_packet_out server ≡ Some (take count out))
+    → IsSome count
     → most_out (after_out server) < most_out server
 fewer_into server (Some count) out next some = fewer_out server (take count out) next
 fewer_into server None out next some = absurd (clash some)

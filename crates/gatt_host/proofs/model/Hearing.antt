@@ -12,8 +12,8 @@ use Rattle.gatt_host.specs.Listening.{Hears, HearsOf, HearsTheFront, Listens}
 use Rattle.gatt_host.specs.Notices.{last_notices}
 use Rattle.gatt_host.specs.Telling.{TellsOfAll, notices_told, received_told}
 use Rattle.gatt_host.specs.HostModel.{Refines, SameFault, HostModel, is_own_fault}
-use Rattle.gatt_laws.proofs.Inputs.{items_append}
-use Rattle.gatt_laws.proofs.StreamNotices.{stopped_silent}
+use Rattle.gatt_laws.proofs.runs.Inputs.{items_append}
+use Rattle.gatt_laws.proofs.notices.StreamNotices.{stopped_silent}
 use Rattle.gatt_laws.specs.machine.Input.{Run, Item, after_item, after_items, run_at_start, run}
 use Rattle.gatt_laws.specs.machine.Notice.{Notice, Received, received_in, received_of, received_of_event, received_with}
 use Rattle.gatt_laws.specs.machine.Packets.{Fault}
@@ -79,7 +79,8 @@ hears_received items old new before after receives hears start input sent is =
     subst (λ (received : List Received). Hears received before after) (receives start input sent is) hears
 
 -- one that has stopped tells nothing of what follows
-stopped-hears : (items : List Item) (host : HostModel) (fault : HostFault) (known : Option (List Received)) → host.fault ≡ Some fault → is_own_fault fault ≡ false
+stopped-hears : (items : List Item) (host : HostModel) (fault : HostFault) (known : Option (List Received)) → host.fault ≡ Some fault
+    → is_own_fault fault ≡ false
     → HearsOf items host known known
 stopped-hears items host fault known stopped other start input sent is =
     by (run start input).intake.fault refl
@@ -89,10 +90,12 @@ stopped-hears items host fault known stopped other start input sent is =
         → Hears (received_in (run start input) items) known known
     by None none same = absurd (clash (sym other ∙ subst (λ (why : Option Fault). SameFault why (Some fault)) none same))
     by (Some why) there same =
-        subst (λ (notices : List Received). Hears notices known known) (sym (stopped_silent received_of_event (run start input) why items there)) (hears_none known)
+        subst (λ (notices : List Received). Hears notices known known) (sym (stopped_silent received_of_event (run start input) why items there))
+        (hears_none known)
 
 -- by the fault that stands then
-pub listens_by : (items : List Item) (old new : HostModel) (before after : Option (List Received)) (found : Option HostFault) (fault : HostFault) → found ≡ Some fault
+pub listens_by : (items : List Item) (old new : HostModel) (before after : Option (List Received)) (found : Option HostFault) (fault : HostFault)
+    → found ≡ Some fault
     → is_own_fault fault ≡ false → HearsOf items old before after → Listens items old new found before after
 listens_by items old new before after found fault is other hears =
     subst (λ (found : Option HostFault). Listens items old new found before after) (sym is) (by-fault fault other)
@@ -122,7 +125,8 @@ pub none_taken : (taken left : List Item) → [] ≡ taken ++ left → taken ≡
 none_taken [] left is = refl
 none_taken (item ∷ taken) left is = cc is
 
-pub breaks_heard : (items more : List Item) (packets : List Octets) (old mid new : HostModel) (between after : Option Octets) (before heard : Option (List Received))
+pub breaks_heard : (items more : List Item) (packets : List Octets) (old mid new : HostModel) (between after : Option Octets)
+    (before heard : Option (List Received))
     (found : Option HostFault) → found ≡ Some stop.Write → Refines items packets old mid → HearsOf items old before heard
     → Feeds [] mid new between after found → Listens (items ++ more) old new found before heard
 breaks_heard items more packets old mid new between after before heard found is leads hears feeds =
@@ -142,15 +146,24 @@ breaks_heard items more packets old mid new between after before heard found is 
     }
 
 -- items that were heard of, and then more
-pub listens_then : (items more : List Item) (packets : List Octets) (old mid new : HostModel) (before between after : Option (List Received)) (fault : Option HostFault)
-    → Refines items packets old mid → HearsOf items old before between → Listens more mid new fault between after → Listens (items ++ more) old new fault before after
-listens_then items more packets old mid new before between after None leads first second = hears_more items more packets old mid leads before between after first second
-listens_then items more packets old mid new before between after (Some (stop.Desync indicator)) leads first second = hears_more items more packets old mid leads before between after first second
-listens_then items more packets old mid new before between after (Some (stop.BadEvent code)) leads first second = hears_more items more packets old mid leads before between after first second
-listens_then items more packets old mid new before between after (Some (stop.Init why)) leads first second = hears_more items more packets old mid leads before between after first second
-listens_then items more packets old mid new before between after (Some (stop.Hardware code)) leads first second = hears_more items more packets old mid leads before between after first second
-listens_then items more packets old mid new before between after (Some stop.Read) leads first second = hears_more items more packets old mid leads before between after first second
-listens_then items more packets old mid new before between after (Some stop.Turns) leads first second = hears_more items more packets old mid leads before between after first second
+pub listens_then : (items more : List Item) (packets : List Octets) (old mid new : HostModel) (before between after : Option (List Received))
+    (fault : Option HostFault)
+    → Refines items packets old mid → HearsOf items old before between → Listens more mid new fault between after
+    → Listens (items ++ more) old new fault before after
+listens_then items more packets old mid new before between after None leads first second =
+    hears_more items more packets old mid leads before between after first second
+listens_then items more packets old mid new before between after (Some (stop.Desync indicator)) leads first second =
+    hears_more items more packets old mid leads before between after first second
+listens_then items more packets old mid new before between after (Some (stop.BadEvent code)) leads first second =
+    hears_more items more packets old mid leads before between after first second
+listens_then items more packets old mid new before between after (Some (stop.Init why)) leads first second =
+    hears_more items more packets old mid leads before between after first second
+listens_then items more packets old mid new before between after (Some (stop.Hardware code)) leads first second =
+    hears_more items more packets old mid leads before between after first second
+listens_then items more packets old mid new before between after (Some stop.Read) leads first second =
+    hears_more items more packets old mid leads before between after first second
+listens_then items more packets old mid new before between after (Some stop.Turns) leads first second =
+    hears_more items more packets old mid leads before between after first second
 listens_then items more packets old mid new before between after (Some stop.Write) leads first second = record {
   taken = items ++ second.taken;
   left = second.left;
@@ -211,7 +224,8 @@ module _ (octets rest : Octets) (used : ℕ) (old at mid new : HostModel) (serve
   heard-on : HearsOf (octet_items (so_far.has.taken ++ take used rest)) old before after
   heard-on =
       subst (λ (items : List Item). HearsOf items old before after) (sym (items_append_octets so_far.has.taken (take used rest)))
-      (hears_more (octet_items so_far.has.taken) (octet_items (take used rest)) so_far.has.takes.packets old at so_far.has.takes.refines before heard after so_far.heard
+      (hears_more (octet_items so_far.has.taken) (octet_items (take used rest)) so_far.has.takes.packets old at so_far.has.takes.refines before heard after
+      so_far.heard
       (hears_received (octet_items (take used rest)) at mid heard after (octets_received rest used at mid none leads tells up_to) hears))
 
   abbrev taken-on : HasTaken octets (drop used rest) old mid server between
@@ -229,7 +243,8 @@ module _ (octets rest : Octets) (used : ℕ) (old at mid new : HostModel) (serve
       taken-on.takes.refines heard-on feeds)
 
 -- the host stops at a packet
-pub heard_stops : (octets rest : Octets) (old at new : HostModel) (server holds : Option Octets) (before after : Option (List Received)) (found : Option HostFault) (fault : HostFault)
+pub heard_stops : (octets rest : Octets) (old at new : HostModel) (server holds : Option Octets) (before after : Option (List Received))
+    (found : Option HostFault) (fault : HostFault)
     → HasHeard octets rest old at server holds before after → at.fault ≡ None → TellsOfAll (octet_items rest) at new → new.fault ≡ Some fault
     → found ≡ Some fault → is_own_fault fault ≡ false → Listens (octet_items octets) old new found before after
 heard_stops octets rest old at new server holds before after found fault so_far none tells stopped is other =

@@ -18,7 +18,8 @@ use Rattle.gatt_laws.specs.machine.Notice.{Received}
 use Rattle.octet_io.specs.Number.{Octets}
 
 -- what is owed is written, and nothing is taken in
-pub nothing_heard : (old new : HostModel) (server holds : Option Octets) (known : Option (List Received)) (found : Option HostFault) → Feeds [] old new server holds found
+pub nothing_heard : (old new : HostModel) (server holds : Option Octets) (known : Option (List Received)) (found : Option HostFault)
+    → Feeds [] old new server holds found
     → Listens [] old new found known known
 nothing_heard old new server holds known None feeds = hears_nothing old known
 nothing_heard old new server holds known (Some (stop.Desync indicator)) feeds = hears_nothing old known
@@ -37,22 +38,28 @@ nothing_heard old new server holds known (Some stop.Write) feeds = record {
 }
 
 -- of the inputs all but the rest are taken in and heard of
-pub record HasDrivenTo (count : ℕ) (inputs rest : List Input) (old new : HostModel) (server holds : Option Octets) (before after : Option (List Received)) : Type 0 where
+pub record HasDrivenTo (count : ℕ) (inputs rest : List Input) (old new : HostModel) (server holds : Option Octets) (before after : Option (List Received)) :
+    Type 0 where
   pub driven : HasDriven count inputs rest old new server holds
   pub heard : HearsOf driven.items old before after
 
-module _ (inputs : List Input) (index : ℕ) (last : Input) (within : index < length inputs) (count : ℕ) (old mid new : HostModel) (server between holds : Option Octets)
+module _ (inputs : List Input) (index : ℕ) (last : Input) (within : index < length inputs) (count : ℕ) (old mid new : HostModel)
+    (server between holds : Option Octets)
     (before heard after : Option (List Received)) (so_far : HasDrivenTo count inputs (drop index inputs) old mid server between before heard) where
-  pub driven_to_more : (next : ℕ) → TakesAll (input_items (get_or inputs index last)) mid new between holds → CountsRefused next (input_items (get_or inputs index last)) mid
-      → HearsOf (input_items (get_or inputs index last)) mid heard after → HasDrivenTo (count + next) inputs (drop (index + 1) inputs) old new server holds before after
+  pub driven_to_more : (next : ℕ) → TakesAll (input_items (get_or inputs index last)) mid new between holds
+      → CountsRefused next (input_items (get_or inputs index last)) mid
+      → HearsOf (input_items (get_or inputs index last)) mid heard after
+      → HasDrivenTo (count + next) inputs (drop (index + 1) inputs) old new server holds before after
   driven_to_more next takes counts hears = record {
     driven = driven_more inputs index last within count old mid new server between holds so_far.driven next takes counts;
-    heard = hears_more so_far.driven.items (input_items (get_or inputs index last)) so_far.driven.takes.packets old mid so_far.driven.takes.refines before heard after so_far.heard hears;
+    heard = hears_more so_far.driven.items (input_items (get_or inputs index last)) so_far.driven.takes.packets old mid so_far.driven.takes.refines before heard
+        after so_far.heard hears;
   }
 
   -- the host stops at it
   pub driven_to_stops : (fault : HostFault) → new.fault ≡ Some fault → is_of_feeding fault ≡ true
-      → Feeds (input_items (get_or inputs index last)) mid new between holds new.fault → Listens (input_items (get_or inputs index last)) mid new new.fault heard after
+      → Feeds (input_items (get_or inputs index last)) mid new between holds new.fault
+      → Listens (input_items (get_or inputs index last)) mid new new.fault heard after
       → Listens (items_of inputs) old new new.fault before after
   driven_to_stops fault stopped comes feeds listens =
       let input : Input = get_or inputs index last in
@@ -60,10 +67,12 @@ module _ (inputs : List Input) (index : ℕ) (last : Input) (within : index < le
       subst (λ (items : List Item). Listens items old new new.fault before after) (sym (next_parts inputs index last items within so_far.driven.parts))
       (past_heard (items ++ input_items input) (items_of (drop (index + 1) inputs)) old new server holds before after fault stopped comes
       (feeds_then items (input_items input) old mid new server between holds new.fault so_far.driven.takes feeds)
-      (listens_then items (input_items input) so_far.driven.takes.packets old mid new before heard after new.fault so_far.driven.takes.refines so_far.heard listens))
+      (listens_then items (input_items input) so_far.driven.takes.packets old mid new before heard after new.fault so_far.driven.takes.refines so_far.heard
+      listens))
 
 -- all are taken in
-pub driven_to_all : (count : ℕ) (inputs rest : List Input) (old new : HostModel) (server holds : Option Octets) (before after : Option (List Received)) (found : Option HostFault)
+pub driven_to_all : (count : ℕ) (inputs rest : List Input) (old new : HostModel) (server holds : Option Octets) (before after : Option (List Received))
+    (found : Option HostFault)
     → rest ≡ [] → found ≡ None → HasDrivenTo count inputs rest old new server holds before after → Listens (items_of inputs) old new found before after
 driven_to_all count inputs rest old new server holds before after found nothing none so_far =
     listens_going (items_of inputs) old new before after found none
@@ -82,14 +91,17 @@ served_to_none old new remaining server holds known takes = record {
   heard = hears_nothing old known;
 }
 
-module _ (turns : ℕ) (octets : Octets) (old mid new : HostModel) (remaining between left server middle holds : Option Octets) (before heard after : Option (List Received))
+module _ (turns : ℕ) (octets : Octets) (old mid new : HostModel) (remaining between left server middle holds : Option Octets)
+    (before heard after : Option (List Received))
     (so_far : HasServedTo turns old mid remaining between server middle before heard) (consumed : Consumes between left octets) where
-  pub served_to_more : 1 ≤ length octets → length octets ≤ 512 → TakesAll (octet_items octets) mid new middle holds → HearsOf (octet_items octets) mid heard after
+  pub served_to_more : 1 ≤ length octets → length octets ≤ 512 → TakesAll (octet_items octets) mid new middle holds
+      → HearsOf (octet_items octets) mid heard after
       → HasServedTo (turns + 1) old new remaining left server holds before after
   served_to_more some most takes hears = record {
     served = served_more turns octets old mid new remaining between left server middle holds so_far.served consumed some most takes;
     heard = subst (λ (items : List Item). HearsOf items old before after) (sym (items_append_octets so_far.served.read octets))
-        (hears_more (octet_items so_far.served.read) (octet_items octets) so_far.served.takes.packets old mid so_far.served.takes.refines before heard after so_far.heard hears);
+        (hears_more (octet_items so_far.served.read) (octet_items octets) so_far.served.takes.packets old mid so_far.served.takes.refines before heard after
+        so_far.heard hears);
   }
 
   -- the host stops at them
@@ -114,7 +126,8 @@ not-broken items old new before after (Some stop.Read) other hears = hears
 not-broken items old new before after (Some stop.Turns) other hears = hears
 not-broken items old new before after (Some stop.Write) other hears = absurd (clash (sym other))
 
-module _ (turns : ℕ) (old mid new : HostModel) (remaining between left server holds : Option Octets) (before after : Option (List Received)) (found : Option HostFault)
+module _ (turns : ℕ) (old mid new : HostModel) (remaining between left server holds : Option Octets) (before after : Option (List Received))
+    (found : Option HostFault)
     (refines : new.fault ≡ found) (other : is_write_fault found ≡ false) (so_far : HasServedTo turns old mid remaining between server holds before after) where
   stopped-serving : Consumes remaining left so_far.served.read → ListensServing old new remaining left before after
   stopped-serving consumed = record {

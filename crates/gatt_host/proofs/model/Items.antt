@@ -8,9 +8,9 @@ use Rattle.gatt_host.specs.GoingOut.{is_drained}
 use Rattle.gatt_host.specs.ServerState.{open_slots}
 use Rattle.gatt_host.specs.Meaning.{IsOfItsTable}
 use Rattle.gatt_host.specs.HostModel.{all_out, is_own_fault, IsReached, Refines, SameFault, RefinesRun, Takes, HostModel}
-use Rattle.gatt_laws.proofs.Inputs.{continues}
-use Rattle.gatt_laws.proofs.RowsOfTheTable.{always_has_rows_of_its_table}
-use Rattle.gatt_laws.proofs.WaitingOfTheTable.{always_has_waiting_of_its_table}
+use Rattle.gatt_laws.proofs.runs.Inputs.{continues}
+use Rattle.gatt_laws.proofs.invariants.RowsOfTheTable.{always_has_rows_of_its_table}
+use Rattle.gatt_laws.proofs.invariants.WaitingOfTheTable.{always_has_waiting_of_its_table}
 use Rattle.gatt_laws.specs.machine.Input.{Run, Item, after_item, run, taken, unless_stopped}
 use Rattle.gatt_laws.specs.machine.Packets.{Fault}
 use Rattle.octet_io.specs.Number.{Octets}

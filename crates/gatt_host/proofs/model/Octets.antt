@@ -10,9 +10,9 @@ use Rattle.gatt_host.specs.ServerState.{ServerState}
 use Rattle.gatt_host.specs.Meaning.{Frames}
 use Rattle.gatt_host.specs.RunRefinement.{ServerRefinesRun}
 use Rattle.gatt_host.specs.HostModel.{is_own_fault, HoldsStream, Refines, RefinesPacket, SameFault, RefinesRun, RefinesRunWithFault, HostModel}
-use Rattle.gatt_laws.proofs.Inputs.{items_append}
-use Rattle.gatt_laws.proofs.Streams.{takes_the_division}
-use Rattle.gatt_laws.proofs.Unfinished.{divides_on, leaves_less_than_a_packet}
+use Rattle.gatt_laws.proofs.runs.Inputs.{items_append}
+use Rattle.gatt_laws.proofs.runs.Streams.{takes_the_division}
+use Rattle.gatt_laws.proofs.runs.Unfinished.{divides_on, leaves_less_than_a_packet}
 use Rattle.gatt_laws.specs.machine.Input.{Run, Item, after_items, after_packet, run_at_start, run, stopped, unless_stopped}
 use Rattle.gatt_laws.specs.laws.Laws.{after_division, after_packets, with_nothing_unfinished}
 use Rattle.gatt_laws.specs.machine.Packets.{Fault, Desync}
@@ -43,7 +43,8 @@ stands-alike : (one other : Run) (sent : List Octets) (server : ServerState) (fr
 stands-alike one other sent server frames alike is =
     let other_whole : ServerRefinesRun (with_nothing_unfinished other) sent server frames =
     record { owed = is.owed; all = is.all; sound = is.sound; refines = is.refines; together = is.together } in
-    let one_whole : ServerRefinesRun (with_nothing_unfinished one) sent server frames = subst (λ (run : Run). ServerRefinesRun run sent server frames) (sym alike) other_whole in
+    let one_whole : ServerRefinesRun (with_nothing_unfinished one) sent server frames =
+    subst (λ (run : Run). ServerRefinesRun run sent server frames) (sym alike) other_whole in
     record { owed = one_whole.owed; all = one_whole.all; sound = one_whole.sound; refines = one_whole.refines; together = one_whole.together }
 
 faults-alike : (one other : Run) → with_nothing_unfinished one ≡ with_nothing_unfinished other → one.intake.fault ≡ other.intake.fault
@@ -63,7 +64,8 @@ module _ (old : Run) (octets : Octets) (none : old.intake.fault ≡ None) (conne
   new-whole d divides = takes_the_division old octets none connection ∙ ap (λ (d : Division). with_nothing_unfinished (after_division old d)) divides
 
   -- what the deframer marks is what they divide into
-  module _ (stream then_stream : Deframing) (holds : HoldsStream old stream) (divides : Divides stream octets then_stream) (last : still then_stream [] ≡ unfinished) where
+  module _ (stream then_stream : Deframing) (holds : HoldsStream old stream) (divides : Divides stream octets then_stream)
+      (last : still then_stream [] ≡ unfinished) where
     divided : division (old.intake.unfinished ++ octets) ≡ before (marks then_stream) unfinished
     divided =
         sym (holds none octets) ∙ ap (still stream) (sym (append-nil octets)) ∙ divides [] ∙ ap (before (marks then_stream)) last
@@ -76,7 +78,8 @@ module _ (old : Run) (octets : Octets) (none : old.intake.fault ≡ None) (conne
         (ap (λ (d : Division). d.packets) divided ∙ append-nil (marks then_stream)))
 
     -- a packet is the division
-    division-of : (marked : Option Packet) → then_stream.marked ≡ marked → division (old.intake.unfinished ++ octets) ≡ before (option_to_list marked) unfinished
+    division-of : (marked : Option Packet) → then_stream.marked ≡ marked → division (old.intake.unfinished ++ octets)
+        ≡ before (option_to_list marked) unfinished
     division-of marked is = divided ∙ ap (λ (found : Option Packet). before (option_to_list found) unfinished) is
 
 -- octets that end no packet
@@ -103,7 +106,8 @@ octets_lost old octets indicator none divides =
     takes-all (octet_items octets) old (record old { stream = lost_at indicator; fault = Some (stop.Desync indicator) }) none (λ run sent no_why connection is.
     let new : Run = after_items run (octet_items octets) in
     let lost_there : Run = stopped run (Desync indicator) in
-    let alike : with_nothing_unfinished new ≡ with_nothing_unfinished lost_there = new-whole run octets no_why connection (lost indicator) (sym (is.stream no_why octets) ∙ divides) in
+    let alike : with_nothing_unfinished new ≡ with_nothing_unfinished lost_there =
+    new-whole run octets no_why connection (lost indicator) (sym (is.stream no_why octets) ∙ divides) in
     let fault : new.intake.fault ≡ Some (Desync indicator) = faults-alike new lost_there alike in
     record {
       refines = stands-alike new lost_there sent old.server old.frames alike
@@ -146,7 +150,8 @@ stopped_for None fault other same = absurd (clash (sym other ∙ same))
 
 -- octets that end a packet, which stops the host, and those behind them
 pub octets_stop : (old new : HostModel) (octets rest : Octets) (packet : Packet) (fault : HostFault) → old.fault ≡ None → Divides old.stream octets new.stream
-    → new.stream.marked ≡ Some packet → RefinesPacket packet old.server old.frames new.server new.frames new.fault → new.fault ≡ Some fault → is_own_fault fault ≡ false
+    → new.stream.marked ≡ Some packet → RefinesPacket packet old.server old.frames new.server new.frames new.fault → new.fault ≡ Some fault
+    → is_own_fault fault ≡ false
     → Refines (octet_items (octets ++ rest)) [] old new
 octets_stop old new octets rest packet fault none divides marked leads stops other =
     takes-all (octet_items (octets ++ rest)) old new none (λ run sent no_why connection is.

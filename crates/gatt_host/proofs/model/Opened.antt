@@ -33,11 +33,13 @@ use Rattle.octet_io.specs.Number.{Octets}
 use Rattle.gatt_laws.specs.declared.TheConstants.{MAX_SLOTS}
 
 -- a row that is fitted to a table is one of it
-entries-fitted : (attributes : List Attr) (row entries : Row) → IsRowOf attributes row → IsRowOf attributes (with_entries row (filter (is_supported attributes) entries))
+entries-fitted : (attributes : List Attr) (row entries : Row) → IsRowOf attributes row
+    → IsRowOf attributes (with_entries row (filter (is_supported attributes) entries))
 entries-fitted attributes row [] is = is
 entries-fitted attributes row (entry ∷ entries) is =
     let rest = filter (is_supported attributes) entries in
-    elim (is_supported attributes entry) as (λ (has : Bool). is_supported attributes entry ≡ has → IsRowOf attributes (with_entries row (if has then entry ∷ rest else rest))) [
+    elim (is_supported attributes entry) as (λ (has : Bool). is_supported attributes entry ≡ has
+    → IsRowOf attributes (with_entries row (if has then entry ∷ rest else rest))) [
       | true ↦ λ supported.
           let there = supported_configuration attributes entry.0 entry.1 supported in
           entries-fitted attributes (with_bits row entry.0 entry.1) entries (row_of attributes row entry.0 entry.1 there is)
@@ -92,7 +94,8 @@ module _ (table : Contents) (keys : List Entry) (old new : Subscriptions) (confi
   few : is_configured config ≡ true → config.slots ≤ MAX_SLOTS
   few configured = grind (arith, configured)
 
-  pub stands_when_opened : (host : HostModel) → is_configured config ≡ true → host.server ≡ held_at_first table keys new (replicate config.slots None) config → length host.frames.assembled ≡ MAX_SLOTS → host.frames.arrivals ≡ no_arrivals
+  pub stands_when_opened : (host : HostModel) → is_configured config ≡ true → host.server ≡ held_at_first table keys new (replicate config.slots None) config
+      → length host.frames.assembled ≡ MAX_SLOTS → host.frames.arrivals ≡ no_arrivals
       → host.stream ≡ deframing_at_start → host.fault ≡ None → RefinesRun (run (start_of table keys old config) []) [] host
   unfolding run
   stands_when_opened host configured server frames arrivals stream fault = record {
@@ -101,7 +104,9 @@ module _ (table : Contents) (keys : List Entry) (old new : Subscriptions) (confi
         stands_in_at_the_start (start_of table keys old config) host.server host.frames
         (subst (λ (server : ServerState). IsOpenedAs (start_of table keys old config) server) (sym server) opened-as) shared arrivals (few configured);
     same = subst (λ (fault : Option HostFault). SameFault None fault) (sym fault) tt;
-    stream = subst (λ (slot_state : Deframing). (run (start_of table keys old config) []).intake.fault ≡ None → (rest : Octets) → still slot_state rest ≡ division rest) (sym stream) (λ none rest. past_none rest);
+    stream =
+        subst (λ (slot_state : Deframing). (run (start_of table keys old config) []).intake.fault ≡ None → (rest : Octets)
+        → still slot_state rest ≡ division rest) (sym stream) (λ none rest. past_none rest);
   }
 
 pub reached_when_opened : (table : Contents) (keys : List Entry) (rows : Subscriptions) (config : Config) (host : HostModel)

@@ -36,14 +36,17 @@ first-length test change (x ∷ xs) =
 
 commanded-length : (controller : Controller) (slots : List (Option SlotState)) → length (slots_commanded controller slots) ≡ length slots
 commanded-length controller slots =
-    elim (is_some (init_command controller)) as (λ (initial : Bool). length (if initial then slots else with_first has_command (option_map slot_without_command) slots) ≡ length slots) [
+    elim (is_some (init_command controller)) as
+    (λ (initial : Bool). length (if initial then slots else with_first has_command (option_map slot_without_command) slots) ≡ length slots) [
       | true ↦ refl
       | false ↦ first-length has_command (option_map slot_without_command) slots
     ]
 
 then-length : (controller : Controller) (slots : List (Option SlotState)) → length (slots_then controller slots) ≡ length slots
 then-length controller slots =
-    elim (is_some (command_next controller slots)) as (λ (commands : Bool). length (if commands then slots_commanded controller slots else with_first gives (option_map slot_without_packet) slots) ≡ length slots) [
+    elim (is_some (command_next controller slots)) as
+    (λ (commands : Bool). length (if commands then slots_commanded controller slots else with_first gives (option_map slot_without_packet) slots)
+    ≡ length slots) [
       | true ↦ commanded-length controller slots
       | false ↦ first-length gives (option_map slot_without_packet) slots
     ]
@@ -57,7 +60,8 @@ none-then controller = either (is_some (command_next controller [])) (is_some (i
     either false initial = refl
 
 opened-then : (server : ServerState) (ready : Bool)
-    → (if ready then (if ready then slots_then server.controller server.slots else server.slots) else []) ≡ slots_then server.controller (if ready then server.slots else [])
+    → (if ready then (if ready then slots_then server.controller server.slots else server.slots) else [])
+    ≡ slots_then server.controller (if ready then server.slots else [])
 opened-then server true = refl
 opened-then server false = sym (none-then server.controller)
 
@@ -77,16 +81,19 @@ slots-where server early = ap (λ (ready : Bool). if ready then slots_then serve
 
 same-length : (server : ServerState) → length (after_out server).slots ≡ length server.slots
 same-length server =
-    elim (is_ready server.controller) as (λ (ready : Bool). length (if ready then slots_then server.controller server.slots else server.slots) ≡ length server.slots) [
+    elim (is_ready server.controller) as (λ (ready : Bool). length (if ready then slots_then server.controller server.slots else server.slots)
+    ≡ length server.slots) [
       | true ↦ then-length server.controller server.slots
       | false ↦ refl
     ]
 
 module _ (old new : HostModel) (octets : Octets) (next : next_packet_out old.server ≡ Some octets) (is_after : new.server ≡ after_out old.server) where
-  stands-out : (state : State) (owed : List Octets) → RefinesState state owed old.server → (rest : OwesTheRest state owed octets (after_out old.server).controller (open_slots (after_out old.server)))
+  stands-out : (state : State) (owed : List Octets) → RefinesState state owed old.server
+      → (rest : OwesTheRest state owed octets (after_out old.server).controller (open_slots (after_out old.server)))
       → RefinesState state rest.others (after_out old.server)
   stands-out state owed refines rest =
-      let same : is_ready state.controller ≡ is_ready old.server.controller = final-ready state owed old.server.controller (open_slots old.server) refines.owing in
+      let same : is_ready state.controller ≡ is_ready old.server.controller = final-ready state owed old.server.controller (open_slots old.server) refines.owing
+      in
       record {
         table = refines.table;
         changer = refines.changer;
@@ -101,9 +108,11 @@ module _ (old new : HostModel) (octets : Octets) (next : next_packet_out old.ser
         owing = rest.owing;
       }
 
-  goes : (state : State) (owed : List Octets) → RefinesState state owed old.server → OwesTheRest state owed octets (after_out old.server).controller (open_slots (after_out old.server))
+  goes : (state : State) (owed : List Octets) → RefinesState state owed old.server
+      → OwesTheRest state owed octets (after_out old.server).controller (open_slots (after_out old.server))
   goes state owed refines =
-      rest_is_owed state owed octets old.server.controller (after_out old.server).controller (open_slots old.server) (open_slots (after_out old.server)) refines.owing next refl (open-then old.server)
+      rest_is_owed state owed octets old.server.controller (after_out old.server).controller (open_slots old.server) (open_slots (after_out old.server))
+      refines.owing next refl (open-then old.server)
 
   pub goes_out : new.frames ≡ old.frames → new.stream ≡ old.stream → new.fault ≡ old.fault → Refines [] (octets ∷ []) old new
   goes_out frames stream fault start input sent is =
@@ -138,7 +147,8 @@ goes_where_not_out old reached none =
     ∙ sym (ap (λ (fault : Option HostFault). not (is_some fault || is_drained old.server.controller (open_slots old.server))) none)
 
 -- and the host is reached then, whether anything goes out or not
-pub reached_out : (old new : HostModel) (goes : Bool) (octets : Octets) → IsReached old → OnTrue goes (next_packet_out old.server ≡ Some octets) → new.server ≡ after_out old.server
+pub reached_out : (old new : HostModel) (goes : Bool) (octets : Octets) → IsReached old → OnTrue goes (next_packet_out old.server ≡ Some octets)
+    → new.server ≡ after_out old.server
     → OnFalse goes (new.server ≡ old.server) → new.frames ≡ old.frames → new.stream ≡ old.stream → new.fault ≡ old.fault → IsReached new
 reached_out old new true octets reached next is_after stays frames stream fault =
     reached_by [] (octets ∷ []) old new reached (goes_out old new octets next is_after frames stream fault)

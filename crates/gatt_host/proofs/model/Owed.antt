@@ -27,7 +27,8 @@ module _ (server new : ServerState) (octets : Octets) (next : next_packet_out se
       (by.0, by.1, reached_by [] (octets ∷ []) (going server by.0 by.1) (going new by.0 by.1) by.2 (leads_going by.0 by.1))
 
 -- nothing does
-pub drained_then : (server : ServerState) → IsStateOfOne server → is_some (next_packet_out server) ≡ false → is_drained server.controller (open_slots server) ≡ true
+pub drained_then : (server : ServerState) → IsStateOfOne server → is_some (next_packet_out server) ≡ false → is_drained server.controller (open_slots server)
+    ≡ true
 drained_then server by none =
     not-false (is_drained server.controller (open_slots server)) (sym (goes_where_not_out (going server by.0 by.1) by.2 refl) ∙ none)
 

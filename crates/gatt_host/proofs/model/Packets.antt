@@ -96,7 +96,8 @@ passes_long packet old new long none same =
     (subst (λ (host : HostModel). RefinesRun run sent host) (sym same) (stands_at_in_silence run sent old is)))
 
 -- by the result
-pub packet_leads_or_stops : (packet : Packet) (old new : ServerState) (frames after : Frames) (result : Result Unit HostFault) → is_drained old.controller (open_slots old) ≡ true
+pub packet_leads_or_stops : (packet : Packet) (old new : ServerState) (frames after : Frames) (result : Result Unit HostFault)
+    → is_drained old.controller (open_slots old) ≡ true
     → (IsOk result → TakesPacket packet old frames new after) → IfErr result (λ fault. packet_stop packet old ≡ Some fault)
     → OnErr result (new ≡ old) → OnErr result (after ≡ frames) → RefinesPacket packet old frames new after (result_err result)
 packet_leads_or_stops packet old new frames after (Ok done) drained takes stops same same_frames = packet_leads packet old new frames after drained (takes refl)

@@ -23,7 +23,8 @@ same-free (Some slot_state) = refl
 commands-stay : (slots : List (Option SlotState)) → first_slot_command (without-first slots) ≡ first_slot_command slots
 commands-stay [] = refl
 commands-stay (slot ∷ slots) =
-    elim (gives slot) as (λ (is : Bool). first_slot_command (if is then option_map slot_without_packet slot ∷ slots else slot ∷ without-first slots) ≡ first_slot_command (slot ∷ slots)) [
+    elim (gives slot) as (λ (is : Bool). first_slot_command (if is then option_map slot_without_packet slot ∷ slots else slot ∷ without-first slots)
+    ≡ first_slot_command (slot ∷ slots)) [
       | true ↦ ap (λ (due : Option Commanded). option_or due (first_slot_command slots)) (same-command slot)
       | false ↦ ap (option_or (command_due slot)) (commands-stay slots)
     ]
@@ -31,7 +32,8 @@ commands-stay (slot ∷ slots) =
 free-stays : (slots : List (Option SlotState)) → has_free_slot (without-first slots) ≡ has_free_slot slots
 free-stays [] = refl
 free-stays (slot ∷ slots) =
-    elim (gives slot) as (λ (is : Bool). has_free_slot (if is then option_map slot_without_packet slot ∷ slots else slot ∷ without-first slots) ≡ has_free_slot (slot ∷ slots)) [
+    elim (gives slot) as (λ (is : Bool). has_free_slot (if is then option_map slot_without_packet slot ∷ slots else slot ∷ without-first slots)
+    ≡ has_free_slot (slot ∷ slots)) [
       | true ↦ ap (λ (free : Bool). free || has_free_slot slots) (same-free slot)
       | false ↦ ap (λ (free : Bool). is_none slot || free) (free-stays slots)
     ]

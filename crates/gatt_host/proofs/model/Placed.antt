@@ -20,26 +20,32 @@ abbrev HoldsFrom : (ℕ → Ordinal → Type 0) → ℕ → Slots → Type 0
 HoldsFrom P place slots = (at : ℕ) (ordinal : Ordinal) → slice_get slots at ≡ Some (Some ordinal) → P (place + at) ordinal
 
 -- what is read of a slot is what is read of its connection in the state, where that holds, also while commands are still to go out
-pub record ReadsPlaced {A : Type 0} (keep : ℕ → Option SlotState → Option A) (of : State → ℕ → Option Ordinal → Option A) (P : ℕ → Ordinal → Type 0) : Type 0 where
-  pub free : (place : ℕ) → keep place None ≡ None
-  pub none : (state : State) (place : ℕ) → of state place None ≡ None
-  pub same : (state : State) (handed : Handed) (place : ℕ) (ordinal : Ordinal) → is_there (state.connections ordinal).mark ≡ true → P place ordinal
-      → keep place (slot_state_handed state handed (Some ordinal)) ≡ of (with_commands_sent state) place (Some ordinal)
+pub record ReadsPlaced {A : Type 0} (keep : ℕ → Option SlotState → Option A) (of : State → ℕ → Option Ordinal → Option A) (P : ℕ → Ordinal → Type 0) : Type 0
+  where
+    pub free : (place : ℕ) → keep place None ≡ None
+    pub none : (state : State) (place : ℕ) → of state place None ≡ None
+    pub same : (state : State) (handed : Handed) (place : ℕ) (ordinal : Ordinal) → is_there (state.connections ordinal).mark ≡ true → P place ordinal
+        → keep place (slot_state_handed state handed (Some ordinal)) ≡ of (with_commands_sent state) place (Some ordinal)
 
-module _ {A : Type 0} (keep : ℕ → Option SlotState → Option A) (of : State → ℕ → Option Ordinal → Option A) (P : ℕ → Ordinal → Type 0) (reads : ReadsPlaced keep of P) where
+module _ {A : Type 0} (keep : ℕ → Option SlotState → Option A) (of : State → ℕ → Option Ordinal → Option A) (P : ℕ → Ordinal → Type 0)
+    (reads : ReadsPlaced keep of P) where
   behind : (place : ℕ) (slot : Option Ordinal) (slots : Slots) → HoldsFrom P place (slot ∷ slots) → HoldsFrom P (place + 1) slots
   behind place slot slots holds at ordinal there = subst (λ (k : ℕ). P k ordinal) (omega arith) (holds (suc at) ordinal there)
 
-  all-kept : (state : State) (handed : Handed) (place : ℕ) (slots : Slots) → ((ordinal : Ordinal) → has_slot ordinal slots ≡ true → is_there (state.connections ordinal).mark ≡ true)
+  all-kept : (state : State) (handed : Handed) (place : ℕ) (slots : Slots)
+      → ((ordinal : Ordinal) → has_slot ordinal slots ≡ true → is_there (state.connections ordinal).mark ≡ true)
       → HoldsFrom P place slots → read_from keep place (map (slot_state_handed state handed) slots) ≡ read_from (of (with_commands_sent state)) place slots
   all-kept state handed place [] there holds = refl
   all-kept state handed place (None ∷ slots) there holds = λ i.
-      cons_option ((reads.free place ∙ sym (reads.none (with_commands_sent state) place)) i) (all-kept state handed (place + 1) slots there (behind place None slots holds) i)
+      cons_option ((reads.free place ∙ sym (reads.none (with_commands_sent state) place)) i)
+      (all-kept state handed (place + 1) slots there (behind place None slots holds) i)
   all-kept state handed place (Some ordinal ∷ slots) there holds =
       let own : P place ordinal = subst (λ (k : ℕ). P k ordinal) (omega arith) (holds 0 ordinal refl) in
-      let is : is_there (state.connections ordinal).mark ≡ true = there ordinal (or_left (ordinal == ordinal) (has_slot ordinal slots) (eq-eqb ordinal ordinal refl)) in
+      let is : is_there (state.connections ordinal).mark ≡ true =
+      there ordinal (or_left (ordinal == ordinal) (has_slot ordinal slots) (eq-eqb ordinal ordinal refl)) in
       λ i. cons_option (reads.same state handed place ordinal is own i)
-      (all-kept state handed (place + 1) slots (λ other has. there other (or_right (ordinal == other) (has_slot other slots) has)) (behind place (Some ordinal) slots holds) i)
+      (all-kept state handed (place + 1) slots (λ other has. there other (or_right (ordinal == other) (has_slot other slots) has))
+      (behind place (Some ordinal) slots holds) i)
 
   none-free : (count place : ℕ) → read_from keep place (replicate count None) ≡ []
   none-free zero place = refl
@@ -63,7 +69,8 @@ module _ {A : Type 0} (keep : ℕ → Option SlotState → Option A) (of : State
   pub placed_read : (state : State) (owed : List Octets) (server : ServerState) → RefinesState state owed server → Holds state.slots
       → read_from keep 0 server.slots ≡ read_from (of state) 0 state.slots
   placed_read state owed server is held =
-      elim (is_ready server.controller) as (λ (ready : Bool). is_ready server.controller ≡ ready → read_from keep 0 server.slots ≡ read_from (of state) 0 state.slots) [
+      elim (is_ready server.controller) as (λ (ready : Bool). is_ready server.controller ≡ ready → read_from keep 0 server.slots
+      ≡ read_from (of state) 0 state.slots) [
         | true ↦ λ ready.
             ap (λ (open_now : Bool). read_from keep 0 (if open_now then server.slots else [])) (sym ready) ∙ owing-read state owed server is.owing held
         | false ↦ λ early.

@@ -9,11 +9,11 @@ use Rattle.gatt_host.specs.Notices.{HasTheValue, notice_of, received_from}
 use Rattle.gatt_host.specs.Feeding.{IsUpToAPacket, TakesUpToAPacket, octet_items}
 use Rattle.gatt_host.specs.HostModel.{Refines, RefinesRun, HostModel}
 use Rattle.gatt_host.specs.Telling.{TellsOf, TellsOfAll, notices_told, received_told}
-use Rattle.gatt_laws.proofs.Inputs.{items_append}
-use Rattle.gatt_laws.proofs.ItemEvents.{means_its_event}
-use Rattle.gatt_laws.proofs.StreamNotices.{AreKept, all_kept, receives_of_the_division, tells_of_the_division}
-use Rattle.gatt_laws.proofs.Streams.{takes_the_division}
-use Rattle.gatt_laws.proofs.Unfinished.{leaves_less_than_a_packet}
+use Rattle.gatt_laws.proofs.runs.Inputs.{items_append}
+use Rattle.gatt_laws.proofs.runs.ItemEvents.{means_its_event}
+use Rattle.gatt_laws.proofs.notices.StreamNotices.{AreKept, all_kept, receives_of_the_division, tells_of_the_division}
+use Rattle.gatt_laws.proofs.runs.Streams.{takes_the_division}
+use Rattle.gatt_laws.proofs.runs.Unfinished.{leaves_less_than_a_packet}
 use Rattle.gatt_laws.specs.machine.Event.{Event}
 use Rattle.gatt_laws.specs.machine.Input.{Run, Item, APacket, after_item, after_items, after_packet, run, run_at_start, unless_stopped}
 use Rattle.gatt_laws.specs.machine.ItemEvents.{after_if, event_at}

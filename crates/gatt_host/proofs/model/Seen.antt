@@ -64,12 +64,14 @@ seen_where run gone host is =
 pub found_here : (handle : ℕ) (connection : Connection) (all rest : List Connection) → all ≡ connection ∷ rest → connection.handle ≡ handle
     → Some connection ≡ connection_with handle all
 found_here handle connection all rest is same =
-    sym (ap (connection_with handle) is ∙ ap (λ (found : Bool). if found then Some connection else connection_with handle rest) (eq-eqb connection.handle handle same))
+    sym (ap (connection_with handle) is ∙ ap (λ (found : Bool). if found then Some connection else connection_with handle rest)
+    (eq-eqb connection.handle handle same))
 
 pub found_later : (handle : ℕ) (connection : Connection) (all rest : List Connection) → all ≡ connection ∷ rest → connection.handle ≢ handle
     → connection_with handle all ≡ connection_with handle rest
 found_later handle connection all rest is other =
-    ap (connection_with handle) is ∙ ap (λ (found : Bool). if found then Some connection else connection_with handle rest) (ne_eqb connection.handle handle other)
+    ap (connection_with handle) is ∙ ap (λ (found : Bool). if found then Some connection else connection_with handle rest)
+    (ne_eqb connection.handle handle other)
 
 -- as the run has it
 pub found_where : (handle : ℕ) (host : HostModel) (found : Option Connection) → found ≡ connection_with handle (connections_in host)

@@ -51,7 +51,8 @@ pub record HasServed (turns : ℕ) (old new : HostModel) (remaining left before 
   pub takes : TakesAll (octet_items read) old new before after
   pub read_in : IsReadIn turns read
 
-abbrev pub served_none : (old new : HostModel) (remaining before after : Option Octets) → TakesAll [] old new before after → HasServed 0 old new remaining remaining before after
+abbrev pub served_none : (old new : HostModel) (remaining before after : Option Octets) → TakesAll [] old new before after
+    → HasServed 0 old new remaining remaining before after
 served_none old new remaining before after takes = record {
   read = [];
   consumed = Consumes-nil remaining;
@@ -59,7 +60,8 @@ served_none old new remaining before after takes = record {
   read_in = record { some = omega arith; most = omega arith };
 }
 
-abbrev pub served_more : (turns : ℕ) (octets : Octets) (old mid new : HostModel) (remaining between left before server after : Option Octets) → HasServed turns old mid remaining between before server
+abbrev pub served_more : (turns : ℕ) (octets : Octets) (old mid new : HostModel) (remaining between left before server after : Option Octets)
+    → HasServed turns old mid remaining between before server
     → Consumes between left octets → 1 ≤ length octets → length octets ≤ 512 → TakesAll (octet_items octets) mid new server after
     → HasServed (turns + 1) old new remaining left before after
 served_more turns octets old mid new remaining between left before server after served consumed some most takes = record {
@@ -109,8 +111,10 @@ own_feeds items old new before after stop.Write other takes = absurd (clash (sym
 own_feeds items old new before after stop.Turns other takes = takes
 
 -- by what a call answers: the reader fails, or the turns are over
-pub serves_stopped : (result : Result End HostFault) (fault : HostFault) (turns given : ℕ) (old mid new : HostModel) (remaining between left before after : Option Octets)
-    → result ≡ Err fault → mid.fault ≡ None → new ≡ record mid { fault = Some fault } → is_own_fault fault ≡ true → is_write_fault (Some fault) ≡ false → Keeps between left
+pub serves_stopped : (result : Result End HostFault) (fault : HostFault) (turns given : ℕ) (old mid new : HostModel)
+    (remaining between left before after : Option Octets)
+    → result ≡ Err fault → mid.fault ≡ None → new ≡ record mid { fault = Some fault } → is_own_fault fault ≡ true → is_write_fault (Some fault) ≡ false
+    → Keeps between left
     → HasServed given old mid remaining between before after → (fault ≡ stop.Turns → given ≡ turns) → Serves result turns old new remaining left before after
 serves_stopped result fault turns given old mid new remaining between left before after answers none is own other keeps served over =
     subst (λ (result : Result End HostFault). Serves result turns old new remaining left before after) (sym answers)
@@ -127,7 +131,8 @@ serves_stopped result fault turns given old mid new remaining between left befor
     }))
 
 -- the input ends
-pub serves_ended : (turns given : ℕ) (old mid new : HostModel) (remaining between left before after : Option Octets) → new.fault ≡ None → Consumes between left [] → IsAtEnd left
+pub serves_ended : (turns given : ℕ) (old mid new : HostModel) (remaining between left before after : Option Octets) → new.fault ≡ None
+    → Consumes between left [] → IsAtEnd left
     → Takes TheEnd mid new → HasServed given old mid remaining between before after → Serves (ended_in (given + 1)) turns old new remaining left before after
 serves_ended turns given old mid new remaining between left before after none nothing at_end takes served = record {
   read = served.read;
@@ -140,7 +145,8 @@ serves_ended turns given old mid new remaining between left before after none no
 }
 
 -- or the host stops at what is read
-pub serves_broken : (result : Result End HostFault) (fault : HostFault) (turns given : ℕ) (octets : Octets) (old mid new : HostModel) (remaining between left before server after : Option Octets)
+pub serves_broken : (result : Result End HostFault) (fault : HostFault) (turns given : ℕ) (octets : Octets) (old mid new : HostModel)
+    (remaining between left before server after : Option Octets)
     → result ≡ Err fault → is_of_feeding fault ≡ true → Consumes between left octets → (served : HasServed given old mid remaining between before server)
     → Feeds (octet_items octets) mid new server after new.fault → Serves result turns old new remaining left before after
 serves_broken result fault turns given octets old mid new remaining between left before server after answers comes consumed served feeds =
@@ -154,7 +160,8 @@ serves_broken result fault turns given octets old mid new remaining between left
     })
 
 -- the reads that were made where the host stops
-pub reads_stopped : (result : Result End HostFault) (fault : HostFault) (made turns : ℕ) (before after : Option ℕ) → result ≡ Err fault → CountsMany made before after → made ≤ turns
+pub reads_stopped : (result : Result End HostFault) (fault : HostFault) (made turns : ℕ) (before after : Option ℕ) → result ≡ Err fault
+    → CountsMany made before after → made ≤ turns
     → (fault ≡ stop.Turns → made ≡ turns) → Reads result turns before after
 reads_stopped result fault made turns before after answers counted most over =
     subst (λ (result : Result End HostFault). Reads result turns before after) (sym answers)
@@ -178,8 +185,10 @@ some_where [] is = absurd (clash (sym is))
 some_where (octet ∷ read) is = omega arith
 
 -- whether a read has found the end
-pub counts_where_none : (read : Octets) (before after : Option ℕ) → (length read == 0) ≡ true → CountsIf (length read == 0) before after → CountsOne before after
+pub counts_where_none : (read : Octets) (before after : Option ℕ) → (length read == 0) ≡ true → CountsIf (length read == 0) before after
+    → CountsOne before after
 counts_where_none read before after none counts = subst (λ (is : Bool). CountsIf is before after) none counts
 
-pub counts_where_some : (read : Octets) (before after : Option ℕ) → (length read == 0) ≡ false → CountsIf (length read == 0) before after → CountsNone before after
+pub counts_where_some : (read : Octets) (before after : Option ℕ) → (length read == 0) ≡ false → CountsIf (length read == 0) before after
+    → CountsNone before after
 counts_where_some read before after some counts = subst (λ (is : Bool). CountsIf is before after) some counts

@@ -22,7 +22,8 @@ pub record ReadsTheSame {A : Type 0} (keep : Option SlotState → Option A) (of 
       → keep (slot_state_handed state handed (Some ordinal)) ≡ of (with_commands_sent state) (Some ordinal)
 
 module _ {A : Type 0} (keep : Option SlotState → Option A) (of : State → Option Ordinal → Option A) (reads : ReadsTheSame keep of) where
-  all-kept : (state : State) (handed : Handed) (slots : Slots) → ((ordinal : Ordinal) → has_slot ordinal slots ≡ true → is_there (state.connections ordinal).mark ≡ true)
+  all-kept : (state : State) (handed : Handed) (slots : Slots)
+      → ((ordinal : Ordinal) → has_slot ordinal slots ≡ true → is_there (state.connections ordinal).mark ≡ true)
       → filter_map keep (map (slot_state_handed state handed) slots) ≡ filter_map (of (with_commands_sent state)) slots
   all-kept state handed [] there = refl
   all-kept state handed (None ∷ slots) there = λ i.
@@ -46,7 +47,8 @@ module _ {A : Type 0} (keep : Option SlotState → Option A) (of : State → Opt
   pub slots_read : (state : State) (owed : List Octets) (server : ServerState) → RefinesState state owed server
       → filter_map keep server.slots ≡ filter_map (of state) state.slots
   slots_read state owed server is =
-      elim (is_ready server.controller) as (λ (ready : Bool). is_ready server.controller ≡ ready → filter_map keep server.slots ≡ filter_map (of state) state.slots) [
+      elim (is_ready server.controller) as (λ (ready : Bool). is_ready server.controller ≡ ready → filter_map keep server.slots
+      ≡ filter_map (of state) state.slots) [
         | true ↦ λ ready.
             ap (λ (open_now : Bool). filter_map keep (if open_now then server.slots else [])) (sym ready) ∙ owing-read state owed server is.owing
         | false ↦ λ early.

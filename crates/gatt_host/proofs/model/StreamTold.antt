@@ -14,8 +14,8 @@ use Rattle.gatt_host.specs.Packet.{frames_after_first, frames_after_octets}
 use Rattle.gatt_host.specs.RunRefinement.{ServerRefinesRun}
 use Rattle.gatt_host.specs.Telling.{TellsOfAll, TellsOfPacket, notices_told}
 use Rattle.gatt_host.specs.HostModel.{RefinesPacket, SameFault, RefinesRun, RefinesRunWithFault, HostModel, is_own_fault}
-use Rattle.gatt_laws.proofs.StreamNotices.{AreKept, all_kept, stopped_silent, tells_of_the_division}
-use Rattle.gatt_laws.proofs.Unfinished.{leaves_less_than_a_packet}
+use Rattle.gatt_laws.proofs.notices.StreamNotices.{AreKept, all_kept, stopped_silent, tells_of_the_division}
+use Rattle.gatt_laws.proofs.runs.Unfinished.{leaves_less_than_a_packet}
 use Rattle.gatt_laws.specs.machine.Event.{Event}
 use Rattle.gatt_laws.specs.machine.Input.{APacket, Run, Item, after_item, after_packet, run, packet_taken, stopped, unless_stopped}
 use Rattle.gatt_laws.specs.machine.ItemEvents.{event_if}
@@ -142,6 +142,7 @@ tells_from old new items fault none same tells =
     subst (λ (host : HostModel). TellsOfAll items host new) (λ i. record old { fault = sym none i })
     (subst (λ (host : HostModel). TellsOfAll items (record old { fault = None }) host) (λ i. record new { fault = sym same i }) tells)
 
-pub up_to_from : (old : HostModel) (all : Octets) (used : ℕ) → old.fault ≡ None → TakesUpToAPacket all used (record old { fault = None }) → TakesUpToAPacket all used old
+pub up_to_from : (old : HostModel) (all : Octets) (used : ℕ) → old.fault ≡ None → TakesUpToAPacket all used (record old { fault = None })
+    → TakesUpToAPacket all used old
 up_to_from old all used none up_to =
     subst (λ (host : HostModel). TakesUpToAPacket all used host) (λ i. record old { fault = sym none i }) up_to

@@ -29,7 +29,8 @@ pub lost_leads : (old : HostModel) (octets : Octets) (stream : Deframing) (fault
     → ((indicator : ℕ) → failing fault ≡ Err (lost.Desync indicator) → stream ≡ lost_at indicator)
     → Refines (octet_items octets) [] old (record old { stream = stream; fault = Some (lost_fault fault) })
 lost_leads old octets stream (lost.Desync indicator) none divides lies =
-    subst (λ (slot_state : Deframing). Refines (octet_items octets) [] old (record old { stream = slot_state; fault = Some (stop.Desync indicator) })) (sym (lies indicator refl))
+    subst (λ (slot_state : Deframing). Refines (octet_items octets) [] old (record old { stream = slot_state; fault = Some (stop.Desync indicator) }))
+    (sym (lies indicator refl))
     (octets_lost old octets indicator none ((divides indicator).0 refl))
 
 -- nor do they tell anything
@@ -50,16 +51,20 @@ pub record EndsPacket (old : Deframing) (octets : Octets) (new : Deframing) (use
 
 module _ (lent : Option WholePacket) (old new : Deframing) (octets : Octets) (result : WholePacket) where
   pub packet_lent : is_some lent ≡ true → new ≡ old
-      → IfSome lent (λ (host : WholePacket). (rest : Octets) → still old (take host.used octets ++ rest) ≡ before (packet_of_ref host.packet ∷ []) (still old rest))
+      → IfSome lent (λ (host : WholePacket). (rest : Octets) → still old (take host.used octets ++ rest)
+      ≡ before (packet_of_ref host.packet ∷ []) (still old rest))
       → IfSome lent (λ (host : WholePacket). still old [] ≡ unfinished)
-      → IfSome lent (λ (host : WholePacket). packet_of_ref result.packet ≡ packet_of_ref host.packet) → IfSome lent (λ (host : WholePacket). result.used ≡ host.used)
+      → IfSome lent (λ (host : WholePacket). packet_of_ref result.packet ≡ packet_of_ref host.packet)
+      → IfSome lent (λ (host : WholePacket). result.used ≡ host.used)
       → EndsPacket old octets new result.used (packet_of_ref result.packet)
   packet_lent there same = by lent there
     where
       by : (lent : Option WholePacket) → is_some lent ≡ true
-          → IfSome lent (λ (host : WholePacket). (rest : Octets) → still old (take host.used octets ++ rest) ≡ before (packet_of_ref host.packet ∷ []) (still old rest))
+          → IfSome lent (λ (host : WholePacket). (rest : Octets) → still old (take host.used octets ++ rest)
+          ≡ before (packet_of_ref host.packet ∷ []) (still old rest))
           → IfSome lent (λ (host : WholePacket). still old [] ≡ unfinished)
-          → IfSome lent (λ (host : WholePacket). packet_of_ref result.packet ≡ packet_of_ref host.packet) → IfSome lent (λ (host : WholePacket). result.used ≡ host.used)
+          → IfSome lent (λ (host : WholePacket). packet_of_ref result.packet ≡ packet_of_ref host.packet)
+          → IfSome lent (λ (host : WholePacket). result.used ≡ host.used)
           → EndsPacket old octets new result.used (packet_of_ref result.packet)
       by None there divided last is_packet is_used = absurd (clash there)
       by (Some host) there divided last is_packet is_used =

@@ -68,7 +68,8 @@ module _ {A : Type 0} (test : A → Bool) where
   first_passes xs place d is = (first-at xs place d is).passes
 
 -- the first packet
-packet-at : (slots : List (Option SlotState)) (place : ℕ) (d : Option SlotState) → IsFirstAt gives slots place d → first_slot_packet slots ≡ option_and_then slot_packet (get_or slots place d)
+packet-at : (slots : List (Option SlotState)) (place : ℕ) (d : Option SlotState) → IsFirstAt gives slots place d → first_slot_packet slots
+    ≡ option_and_then slot_packet (get_or slots place d)
 packet-at [] place d is = absurd (omega (arith, is.within))
 packet-at (slot ∷ slots) zero d is = rw is.passes refl
 packet-at (slot ∷ slots) (suc place) d is = rw (is.before 0 (omega arith)) (packet-at slots place d (later-at gives slot slots place d is))
@@ -93,7 +94,8 @@ none-first : (due other : Option Commanded) → is_some due ≡ false → option
 none-first (Some command) other is = cc is
 none-first None other is = refl
 
-command-at : (slots : List (Option SlotState)) (place : ℕ) (d : Option SlotState) → IsFirstAt has_command slots place d → first_slot_command slots ≡ command_due (get_or slots place d)
+command-at : (slots : List (Option SlotState)) (place : ℕ) (d : Option SlotState) → IsFirstAt has_command slots place d → first_slot_command slots
+    ≡ command_due (get_or slots place d)
 command-at [] place d is = absurd (omega (arith, is.within))
 command-at (slot ∷ slots) zero d is = some-first (command_due slot) (first_slot_command slots) is.passes
 command-at (slot ∷ slots) (suc place) d is =
@@ -111,21 +113,23 @@ no_command slots none = empty slots (none-passes has_command slots none)
     empty (slot ∷ slots) none = none-first (command_due slot) (first_slot_command slots) none.0 ∙ empty slots none.1
 
 -- what is found at the first place that passes
-module _ (test : Option SlotState → Bool) (slots found : List (Option SlotState)) (same : found ≡ slots) (place : ℕ) (at : position test slots ≡ Some place) where
-  pub found_at : slot_state_at found place ≡ get_or slots place None
-  found_at =
-      ap (λ (slots : List (Option SlotState)). slot_state_at slots place) same
-      ∙ ap (λ (it : Option (Option SlotState)). option_map_or (λ (slot : Option SlotState). slot) it None) (slice_get-get_or slots place None (position-Some test slots place None at).0)
+module _ (test : Option SlotState → Bool) (slots found : List (Option SlotState)) (same : found ≡ slots) (place : ℕ) (at : position test slots ≡ Some place)
+  where
+    pub found_at : slot_state_at found place ≡ get_or slots place None
+    found_at =
+        ap (λ (slots : List (Option SlotState)). slot_state_at slots place) same
+        ∙ ap (λ (it : Option (Option SlotState)). option_map_or (λ (slot : Option SlotState). slot) it None)
+        (slice_get-get_or slots place None (position-Some test slots place None at).0)
 
-  pub found_passes : test (slot_state_at found place) ≡ true
-  found_passes = ap test found_at ∙ first_passes test slots place None at
+    pub found_passes : test (slot_state_at found place) ≡ true
+    found_passes = ap test found_at ∙ first_passes test slots place None at
 
-  pub found_changed : (change : SlotState → SlotState) → slots_at place change found ≡ with_first test (option_map change) slots
-  found_changed change =
-      ap (λ (slots : List (Option SlotState)). slots_at place change slots) same
-      ∙ ap (λ (it : Option (Option SlotState)). option_map_or (λ (slot : Option SlotState). set slots place (option_map change slot)) it slots)
-      (slice_get-get_or slots place None (position-Some test slots place None at).0)
-      ∙ sym (first_changed test (option_map change) slots place None at)
+    pub found_changed : (change : SlotState → SlotState) → slots_at place change found ≡ with_first test (option_map change) slots
+    found_changed change =
+        ap (λ (slots : List (Option SlotState)). slots_at place change slots) same
+        ∙ ap (λ (it : Option (Option SlotState)). option_map_or (λ (slot : Option SlotState). set slots place (option_map change slot)) it slots)
+        (slice_get-get_or slots place None (position-Some test slots place None at).0)
+        ∙ sym (first_changed test (option_map change) slots place None at)
 
 -- some slot has a command where there is a first one
 pub any_command : (slots : List (Option SlotState)) → list_any has_command slots ≡ is_some (first_slot_command slots)

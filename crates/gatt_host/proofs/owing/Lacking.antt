@@ -20,7 +20,8 @@ closed true false advertising refused is still = refl
 closed false shared advertising refused is still = ap (λ there. there && not advertising && not refused) (OnFalse_at refl is)
 
 -- none is, where initialisation has none, no slot has one, and none is to be told to advertise
-pub none_due : (controller : Controller) (slots : List (Option SlotState)) (free : Bool) → is_some (init_command controller) ≡ false → list_any has_command slots ≡ false
+pub none_due : (controller : Controller) (slots : List (Option SlotState)) (free : Bool) → is_some (init_command controller) ≡ false
+    → list_any has_command slots ≡ false
     → OnFalse free (has_free_slot slots ≡ false) → (free && not controller.advertising && not controller.refused) ≡ false → command_next controller slots ≡ None
 none_due controller slots free ready idle shared still =
     let init : init_command controller ≡ None = is_none_where (init_command controller) ready in
@@ -28,7 +29,8 @@ none_due controller slots free ready idle shared still =
     let quiet = closed free (has_free_slot slots) controller.advertising controller.refused shared still in
     by init slot quiet (nat_lt 0 controller.credit) refl
   where
-    by : init_command controller ≡ None → first_slot_command slots ≡ None → (has_free_slot slots && not controller.advertising && not controller.refused) ≡ false
+    by : init_command controller ≡ None → first_slot_command slots ≡ None → (has_free_slot slots && not controller.advertising && not controller.refused)
+        ≡ false
         → (takes : Bool) → nat_lt 0 controller.credit ≡ takes → command_next controller slots ≡ None
     by init slot quiet true takes = takes_enabling controller slots false takes init slot quiet
     by init slot quiet false takes = takes_none controller slots takes
@@ -38,7 +40,8 @@ pub drained_where : (controller : Controller) (slots : List (Option SlotState)) 
     → is_drained controller slots ≡ true
 drained_where controller slots none idle = λ i. is_none (none i) && not (idle i)
 
-pub open_drained : (server : ServerState) → is_ready server.controller ≡ true → is_drained server.controller server.slots ≡ true → is_drained server.controller (open_slots server) ≡ true
+pub open_drained : (server : ServerState) → is_ready server.controller ≡ true → is_drained server.controller server.slots ≡ true
+    → is_drained server.controller (open_slots server) ≡ true
 open_drained server ready drained = ap (λ (is : Bool). is_drained server.controller (if is then server.slots else [])) ready ∙ drained
 
 pub out_where : (host : HostModel) → is_drained host.server.controller (open_slots host.server) ≡ true → all_out host ≡ true

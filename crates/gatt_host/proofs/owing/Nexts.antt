@@ -49,19 +49,23 @@ module _ (controller : Controller) (slots : List (Option SlotState)) where
   Is found = command_next controller slots ≡ found
 
   pub takes_none : nat_lt 0 controller.credit ≡ false → Is None
-  takes_none takes = λ i. if takes i then option_or (init_command controller) (option_or (first_slot_command slots) (enabling_command controller slots)) else None
+  takes_none takes = λ i. if takes i then option_or (init_command controller) (option_or (first_slot_command slots) (enabling_command controller slots))
+      else None
 
   pub takes_init : (command : Commanded) → nat_lt 0 controller.credit ≡ true → init_command controller ≡ Some command → Is (Some command)
   takes_init command takes init = λ i. if takes i then option_or (init i) (option_or (first_slot_command slots) (enabling_command controller slots)) else None
 
-  pub takes_slot : (command : Commanded) → nat_lt 0 controller.credit ≡ true → init_command controller ≡ None → first_slot_command slots ≡ Some command → Is (Some command)
+  pub takes_slot : (command : Commanded) → nat_lt 0 controller.credit ≡ true → init_command controller ≡ None → first_slot_command slots ≡ Some command
+      → Is (Some command)
   takes_slot command takes init slot = λ i. if takes i then option_or (init i) (option_or (slot i) (enabling_command controller slots)) else None
 
   pub takes_enabling : (due : Bool) → nat_lt 0 controller.credit ≡ true → init_command controller ≡ None → first_slot_command slots ≡ None
       → (has_free_slot slots && not controller.advertising && not controller.refused) ≡ due → Is (if due then Some LeSetAdvertiseEnable else None)
-  takes_enabling due takes init slot is = λ i. if takes i then option_or (init i) (option_or (slot i) (if is i then Some LeSetAdvertiseEnable else None)) else None
+  takes_enabling due takes init slot is = λ i. if takes i then option_or (init i) (option_or (slot i) (if is i then Some LeSetAdvertiseEnable else None))
+      else None
 
-  pub then_controller : (found : Option Commanded) → Is found → controller_then controller slots ≡ option_map_or (λ command. controller_after controller (command ∷ [])) found controller
+  pub then_controller : (found : Option Commanded) → Is found → controller_then controller slots
+      ≡ option_map_or (λ command. controller_after controller (command ∷ [])) found controller
   then_controller found is = ap (λ due. option_map_or (λ command. controller_after controller (command ∷ [])) due controller) is
 
   -- the slots, by whether the command is that of initialisation
@@ -74,7 +78,8 @@ enabling_some true = refl
 enabling_some false = refl
 
 -- what goes out where no command does
-pub packet_next : (controller : Controller) (slots : List (Option SlotState)) → command_next controller slots ≡ None → next_out controller slots ≡ first_slot_packet slots
+pub packet_next : (controller : Controller) (slots : List (Option SlotState)) → command_next controller slots ≡ None → next_out controller slots
+    ≡ first_slot_packet slots
 packet_next controller slots none = ap (λ due. option_or (option_map command_octets due) (first_slot_packet slots)) none
 
 pub no_command_next : (controller : Controller) (slots : List (Option SlotState)) (goes : Bool) → goes ≡ is_some (command_next controller slots) → goes ≡ false

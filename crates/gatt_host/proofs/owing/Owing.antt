@@ -28,10 +28,12 @@ module _ (state : State) (handed : Handed) (facts : Facts state handed) where
   command-out command next = ap (λ due. option_or (option_map command_octets due) (first_slot_packet (slot_states_handed state handed))) next
 
   -- no command
-  packet-out : Quiet state handed facts → (found : Option Octets) → first_slot_packet (slot_states_handed state handed) ≡ found → next_out state.controller (slot_states_handed state handed) ≡ found
+  packet-out : Quiet state handed facts → (found : Option Octets) → first_slot_packet (slot_states_handed state handed) ≡ found
+      → next_out state.controller (slot_states_handed state handed) ≡ found
   packet-out quiet found is = packet_next state.controller (slot_states_handed state handed) quiet.next ∙ is
 
-  done : Quiet state handed facts → NonePacket state handed state.slots → IsAllSent (with_commands_sent state) (left_of state handed) state.controller (slot_states_handed state handed)
+  done : Quiet state handed facts → NonePacket state handed state.slots → IsAllSent (with_commands_sent state) (left_of state handed) state.controller
+      (slot_states_handed state handed)
   done quiet none = record {
     none = λ i. map command_octets (quiet.none i) ++ none.left i;
     controller_is = sym (ap (λ (at : State). at.controller) quiet.still);
@@ -57,7 +59,8 @@ module _ (state : State) (handed : Handed) (facts : Facts state handed) where
               elim (ordinal == first.ordinal) as (λ (is : Bool). (ordinal == first.ordinal) ≡ is
               → IsPartway state.shared (state.connections ordinal) (if is then handed first.ordinal + 1 else handed ordinal)) [
                 | true ↦ λ is.
-                    subst (λ (at : Ordinal). IsPartway state.shared (state.connections at) (handed first.ordinal + 1)) (sym (eqb-true ordinal first.ordinal is)) first.way
+                    subst (λ (at : Ordinal). IsPartway state.shared (state.connections at) (handed first.ordinal + 1)) (sym (eqb-true ordinal first.ordinal is))
+                    first.way
                 | false ↦ λ differs. facts.partway ordinal has
               ] refl;
           arrives = refl;
@@ -79,20 +82,23 @@ module _ (state : State) (handed : Handed) (facts : Facts state handed) where
 
   -- whether anything goes out
   drained-by : (next : Option Commanded) (any : Bool) (found : Option Octets) → command_next state.controller (slot_states_handed state handed) ≡ next
-      → list_any gives (slot_states_handed state handed) ≡ any → next_out state.controller (slot_states_handed state handed) ≡ found → (is_none next && not any) ≡ is_none found
+      → list_any gives (slot_states_handed state handed) ≡ any → next_out state.controller (slot_states_handed state handed) ≡ found → (is_none next && not any)
+      ≡ is_none found
       → is_drained state.controller (slot_states_handed state handed) ≡ is_none (next_out state.controller (slot_states_handed state handed))
   drained-by next any found commands packets out same = (λ i. is_none (commands i) && not (packets i)) ∙ same ∙ sym (ap is_none out)
 
   drained : is_drained state.controller (slot_states_handed state handed) ≡ is_none (next_out state.controller (slot_states_handed state handed))
   drained = elim (commanding state handed facts) [
-    | CommandGoes command next first ↦ drained-by (Some command) (list_any gives (slot_states_handed state handed)) (Some (command_octets command)) next refl (command-out command next) refl
+    | CommandGoes command next first ↦ drained-by (Some command) (list_any gives (slot_states_handed state handed)) (Some (command_octets command)) next refl
+        (command-out command next) refl
     | NoneGoes quiet ↦ elim (search_packets state handed state.next state.slots facts.settled.slots facts.placed.there facts.partway) [
       | NoPacket none ↦ drained-by None false None quiet.next none.any (packet-out quiet None none.none) refl
       | APacket first ↦ drained-by None true (Some first.octets) quiet.next first.any (packet-out quiet (Some first.octets) first.found) refl
     ]
   ]
 
-facts-of : (final : State) (owed : List Octets) (controller : Controller) (slots : List (Option SlotState)) (owing : IsOwing final owed controller slots) → Facts owing.state owing.handed
+facts-of : (final : State) (owed : List Octets) (controller : Controller) (slots : List (Option SlotState)) (owing : IsOwing final owed controller slots)
+    → Facts owing.state owing.handed
 facts-of final owed controller slots owing = record { settled = owing.settled; placed = owing.placed; partway = owing.partway }
 
 pub hands_out_what_is_owed : HandsOutWhatIsOwed
@@ -103,7 +109,8 @@ hands_out_what_is_owed final owed controller slots owing =
     let at_state : SendsTheNext (with_commands_sent state) left state.controller server (next_out state.controller server) =
     goes-on state owing.handed (facts-of final owed controller slots owing) in
     let with_slots : SendsTheNext (with_commands_sent state) left state.controller slots (next_out state.controller slots) =
-    subst (λ slot_state. SendsTheNext (with_commands_sent state) left state.controller slot_state (next_out state.controller slot_state)) (sym owing.slots_are) at_state in
+    subst (λ slot_state. SendsTheNext (with_commands_sent state) left state.controller slot_state (next_out state.controller slot_state))
+    (sym owing.slots_are) at_state in
     let with_controller : SendsTheNext (with_commands_sent state) left controller slots (next_out controller slots) =
     subst (λ told. SendsTheNext (with_commands_sent state) left told slots (next_out told slots)) (sym owing.controller_is) with_slots in
     let with_owed : SendsTheNext (with_commands_sent state) owed controller slots (next_out controller slots) =
@@ -116,7 +123,8 @@ is_drained_where_nothing_goes_out final owed controller slots owing =
     (λ i. is_drained (owing.controller_is i) (owing.slots_are i)) ∙ now ∙ sym (λ i. is_none (next_out (owing.controller_is i) (owing.slots_are i)))
 
 -- the same by what is so afterwards
-pub rest_is_owed : (final : State) (owed : List Octets) (octets : Octets) (old new : Controller) (before after : List (Option SlotState)) → IsOwing final owed old before
+pub rest_is_owed : (final : State) (owed : List Octets) (octets : Octets) (old new : Controller) (before after : List (Option SlotState))
+    → IsOwing final owed old before
     → next_out old before ≡ Some octets → new ≡ controller_then old before → after ≡ slots_then old before → OwesTheRest final owed octets new after
 rest_is_owed final owed octets old new before after owing goes controllers slots =
     let first : OwesTheRest final owed octets (controller_then old before) (slots_then old before) =

@@ -20,14 +20,16 @@ has-exact largest count true is so = eqb-true count largest is
 has-exact largest count false is so = cc so
 
 -- the room of a value is its largest length
-room-is : (table : Contents) (handle : Handle) (fixed : Bool) → is_fixed_at table.attributes handle ≡ fixed → (fixed ≡ true → length (value_at table.values handle) ≡ largest_at table.attributes handle)
+room-is : (table : Contents) (handle : Handle) (fixed : Bool) → is_fixed_at table.attributes handle ≡ fixed
+    → (fixed ≡ true → length (value_at table.values handle) ≡ largest_at table.attributes handle)
     → room_at table handle ≡ largest_at table.attributes handle
 room-is table handle true is has =
     ap (λ (fixed : Bool). if fixed then length (value_at table.values handle) else largest_at table.attributes handle) is ∙ has refl
 room-is table handle false is has =
     ap (λ (fixed : Bool). if fixed then length (value_at table.values handle) else largest_at table.attributes handle) is
 
-room-there : (table : Contents) (handle : Handle) (attr : Attr) → IsTable table → attribute_at table.attributes handle ≡ Some attr → room_at table handle ≡ attr.largest
+room-there : (table : Contents) (handle : Handle) (attr : Attr) → IsTable table → attribute_at table.attributes handle ≡ Some attr
+    → room_at table handle ≡ attr.largest
 room-there table handle attr facts there =
     room-is table handle (is_fixed_at table.attributes handle) refl (facts.fixed handle)
     ∙ ap (λ (found : Option Attr). option_map_or (λ (it : Attr). it.largest) found 0) there
@@ -49,7 +51,8 @@ none-either true found is = refl
 none-either false found is = is
 
 -- there is no attribute past the end
-pub none_past : (table : Contents) (handle : Handle) (count : ℕ) → count ≡ length table.attributes → count < handle → attribute_at table.attributes handle ≡ None
+pub none_past : (table : Contents) (handle : Handle) (count : ℕ) → count ≡ length table.attributes → count < handle → attribute_at table.attributes handle
+    ≡ None
 none_past table handle count is past =
     let before : length table.attributes ≤ handle - 1 = omega (arith, is, past) in
     none-either (handle == 0) (slice_get table.attributes (handle - 1)) (slice_get_past table.attributes (handle - 1) before)

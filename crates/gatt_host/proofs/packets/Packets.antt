@@ -12,7 +12,7 @@ use Rattle.gatt_host.specs.Owing.{Handed, slot_state_handed, packets_left, slot_
 use Rattle.gatt_laws.specs.machine.Controller.{Slots}
 use Rattle.gatt_laws.specs.machine.Event.{Ordinal}
 use Rattle.gatt_laws.specs.machine.ConnectionState.{ConnectionState, is_live, is_there}
-use Rattle.gatt_laws.specs.machine.SharedState.{SharedState, quota_of, fragment_size_of}
+use Rattle.gatt_laws.specs.machine.SharedState.{SharedState, share_of, fragment_size_of}
 use Rattle.gatt_laws.specs.laws.Settled.{has_slot, HaveOneSlotEach}
 use Rattle.gatt_laws.specs.machine.State.{State, at_ordinal}
 use Rattle.host_connections.specs.Commands.{gives, slot_packet, slot_without_packet}
@@ -48,7 +48,7 @@ none-left packets handed given is = drop_all handed (take given packets) (omega 
 -- one connection
 module _ (shared : SharedState) (connection : ConnectionState) where
   abbrev Share : ℕ
-  Share = quota_of shared.slots shared.buffers
+  Share = share_of shared.slots shared.buffers
 
   abbrev Size : ℕ
   Size = fragment_size_of shared.buffers
@@ -56,7 +56,8 @@ module _ (shared : SharedState) (connection : ConnectionState) where
   abbrev After : ℕ → Outgoing
   After handed = outgoing_after Share Size connection.pdus handed connection.done
 
-  refines : (handed : ℕ) → is_live connection.mark ≡ true → IsPartway shared connection handed → IsAfterHistory (After handed) Share Size connection.pdus handed connection.done
+  refines : (handed : ℕ) → is_live connection.mark ≡ true → IsPartway shared connection handed
+      → IsAfterHistory (After handed) Share Size connection.pdus handed connection.done
   refines handed live way = record {
     stands = refl;
     most = omega (arith, way.serving live, way.most live);
@@ -69,14 +70,16 @@ module _ (shared : SharedState) (connection : ConnectionState) where
   kept-other : (handed : ℕ) → is_live connection.mark ≡ false → outgoing_of shared connection handed ≡ without_pdus (After handed)
   kept-other handed other = λ i. if other i then After handed else without_pdus (After handed)
 
-  gives-live : (handed : ℕ) → is_live connection.mark ≡ true → IsPartway shared connection handed → may_give (outgoing_of shared connection handed) ≡ nat_lt handed connection.given
+  gives-live : (handed : ℕ) → is_live connection.mark ≡ true → IsPartway shared connection handed → may_give (outgoing_of shared connection handed)
+      ≡ nat_lt handed connection.given
   gives-live handed live way =
       let given = sym (way.serving live) in
       ap may_give (kept-live handed live) ∙ (follows_history Share Size).may (After handed) connection.pdus handed connection.done (refines handed live way)
       ∙ (λ i. nat_lt handed (given i))
 
   -- it may give none
-  pub all-handed : (handed : ℕ) (live : Bool) → is_live connection.mark ≡ live → IsPartway shared connection handed → may_give (outgoing_of shared connection handed) ≡ false → handed ≡ connection.given
+  pub all-handed : (handed : ℕ) (live : Bool) → is_live connection.mark ≡ live → IsPartway shared connection handed
+      → may_give (outgoing_of shared connection handed) ≡ false → handed ≡ connection.given
   all-handed handed false other way none = way.others other
   all-handed handed true live way none =
       let past : nat_lt handed connection.given ≡ false = sym (gives-live handed live way) ∙ none in
@@ -90,9 +93,11 @@ module _ (shared : SharedState) (connection : ConnectionState) where
     pub kept : slot_without_packet (slot_state_of shared connection handed) ≡ slot_state_of shared connection (handed + 1)
     pub way : IsPartway shared connection (handed + 1)
 
-  gives-one : (handed : ℕ) → is_live connection.mark ≡ true → IsPartway shared connection handed → (next : Option Fragment) → next_of (After handed).queue ≡ next
+  gives-one : (handed : ℕ) → is_live connection.mark ≡ true → IsPartway shared connection handed → (next : Option Fragment) → next_of (After handed).queue
+      ≡ next
       → handed < connection.given → connection.given ≤ length (packets_of Size connection.pdus)
-      → drop handed (take connection.given (packets_of Size connection.pdus)) ≡ option_to_list next ++ drop (handed + 1) (take connection.given (packets_of Size connection.pdus))
+      → drop handed (take connection.given (packets_of Size connection.pdus)) ≡ option_to_list next
+      ++ drop (handed + 1) (take connection.given (packets_of Size connection.pdus))
       → after_next (After handed) ≡ After (handed + 1) → GivesOne handed
   gives-one handed live way None first less most left after =
       absurd (omega (
@@ -122,7 +127,8 @@ module _ (shared : SharedState) (connection : ConnectionState) where
         };
       }
 
-  pub gives_one : (handed : ℕ) (live : Bool) → is_live connection.mark ≡ live → IsPartway shared connection handed → may_give (outgoing_of shared connection handed) ≡ true → GivesOne handed
+  pub gives_one : (handed : ℕ) (live : Bool) → is_live connection.mark ≡ live → IsPartway shared connection handed
+      → may_give (outgoing_of shared connection handed) ≡ true → GivesOne handed
   gives_one handed false other way may = absurd (none (sym (ap may_give (kept-other handed other)) ∙ may))
     where
       none : false ≡ true → ⊥
@@ -147,19 +153,23 @@ module _ (state : State) (handed : Handed) where
   own-handed : (ordinal : Ordinal) → with_handed ordinal ordinal ≡ handed ordinal + 1
   own-handed ordinal = λ i. if eq-eqb ordinal ordinal refl i then handed ordinal + 1 else handed ordinal
 
-  held-same : (ordinal : Ordinal) (slots : Slots) → has_slot ordinal slots ≡ false → map (slot_state_handed state handed) slots ≡ map (slot_state_handed state (with_handed ordinal)) slots
+  held-same : (ordinal : Ordinal) (slots : Slots) → has_slot ordinal slots ≡ false → map (slot_state_handed state handed) slots
+      ≡ map (slot_state_handed state (with_handed ordinal)) slots
   held-same ordinal [] lacks = refl
   held-same ordinal (None ∷ slots) lacks = ap (λ later. None ∷ later) (held-same ordinal slots lacks)
   held-same ordinal (Some one ∷ slots) lacks =
       let same = sym (other-handed ordinal one (or_false_left (one == ordinal) (has_slot ordinal slots) lacks)) in
-      λ i. slot_state_if_there state.shared (state.connections one) (same i) ∷ held-same ordinal slots (or_false_right (one == ordinal) (has_slot ordinal slots) lacks) i
+      λ i. slot_state_if_there state.shared (state.connections one) (same i)
+      ∷ held-same ordinal slots (or_false_right (one == ordinal) (has_slot ordinal slots) lacks) i
 
-  left-same : (ordinal : Ordinal) (slots : Slots) → has_slot ordinal slots ≡ false → flat_map (slot_left state handed) slots ≡ flat_map (slot_left state (with_handed ordinal)) slots
+  left-same : (ordinal : Ordinal) (slots : Slots) → has_slot ordinal slots ≡ false → flat_map (slot_left state handed) slots
+      ≡ flat_map (slot_left state (with_handed ordinal)) slots
   left-same ordinal [] lacks = refl
   left-same ordinal (None ∷ slots) lacks = left-same ordinal slots lacks
   left-same ordinal (Some one ∷ slots) lacks =
       let same = sym (other-handed ordinal one (or_false_left (one == ordinal) (has_slot ordinal slots) lacks)) in
-      λ i. packets_left state.shared (state.connections one) (same i) ++ left-same ordinal slots (or_false_right (one == ordinal) (has_slot ordinal slots) lacks) i
+      λ i. packets_left state.shared (state.connections one) (same i)
+      ++ left-same ordinal slots (or_false_right (one == ordinal) (has_slot ordinal slots) lacks) i
 
   pub record NonePacket (slots : Slots) : Type 0 where
     pub any : list_any gives (map (slot_state_handed state handed) slots) ≡ false
@@ -174,7 +184,8 @@ module _ (state : State) (handed : Handed) where
     pub any : list_any gives (map (slot_state_handed state handed) slots) ≡ true
     pub found : first_slot_packet (map (slot_state_handed state handed) slots) ≡ Some octets
     pub left : flat_map (slot_left state handed) slots ≡ octets ∷ flat_map (slot_left state (with_handed ordinal)) slots
-    pub server : with_first gives (option_map slot_without_packet) (map (slot_state_handed state handed) slots) ≡ map (slot_state_handed state (with_handed ordinal)) slots
+    pub server : with_first gives (option_map slot_without_packet) (map (slot_state_handed state handed) slots)
+        ≡ map (slot_state_handed state (with_handed ordinal)) slots
     pub way : IsPartway state.shared (state.connections ordinal) (handed ordinal + 1)
 
   pub data Packeting (slots : Slots) : Type 0 where
@@ -194,7 +205,8 @@ module _ (state : State) (handed : Handed) where
     way = first.way;
   })
 
-  here : (one : Ordinal) (slots : Slots) → is_there (state.connections one).mark ≡ true → has_slot one slots ≡ false → IsPartway state.shared (state.connections one) (handed one)
+  here : (one : Ordinal) (slots : Slots) → is_there (state.connections one).mark ≡ true → has_slot one slots ≡ false
+      → IsPartway state.shared (state.connections one) (handed one)
       → may_give (outgoing_of state.shared (state.connections one) (handed one)) ≡ true → OnePacket (Some one ∷ slots)
   here one slots there lacks way may =
       let connection : ConnectionState = state.connections one in
@@ -204,7 +216,8 @@ module _ (state : State) (handed : Handed) where
       let is : gives server ≡ true = ap gives kept_now ∙ may in
       let gave : GivesOne state.shared connection (handed one) = gives_one state.shared connection (handed one) (is_live connection.mark) refl way may in
       let own = sym (own-handed one) in
-      let found : first_slot_packet (server ∷ later) ≡ option_and_then slot_packet server = λ i. if is i then option_and_then slot_packet server else first_slot_packet later in
+      let found : first_slot_packet (server ∷ later) ≡ option_and_then slot_packet server =
+      λ i. if is i then option_and_then slot_packet server else first_slot_packet later in
       let first : with_first gives (option_map slot_without_packet) (server ∷ later) ≡ option_map slot_without_packet server ∷ later =
       λ i. if is i then option_map slot_without_packet server ∷ later else server ∷ with_first gives (option_map slot_without_packet) later in
       let same_left = left-same one slots lacks in
@@ -234,17 +247,20 @@ module _ (state : State) (handed : Handed) where
         | false ↦ λ differs. refl
       ] refl
 
-  past-one : (one : Ordinal) (slots : Slots) → is_there (state.connections one).mark ≡ true → has_slot one slots ≡ false → IsPartway state.shared (state.connections one) (handed one)
+  past-one : (one : Ordinal) (slots : Slots) → is_there (state.connections one).mark ≡ true → has_slot one slots ≡ false
+      → IsPartway state.shared (state.connections one) (handed one)
       → may_give (outgoing_of state.shared (state.connections one) (handed one)) ≡ false → Packeting slots → Packeting (Some one ∷ slots)
   past-one one slots there lacks way may (NoPacket none) =
       let connection : ConnectionState = state.connections one in
       let is : gives (slot_state_handed state handed (Some one)) ≡ false = ap gives (held_there state handed one there) ∙ may in
       let all : handed one ≡ connection.given = all-handed state.shared connection (handed one) (is_live connection.mark) refl way may in
       let empty : packets_left state.shared connection (handed one) ≡ [] =
-      ap (map (acl_octets connection.handle)) (none-left (packets_of (fragment_size_of state.shared.buffers) connection.pdus) (handed one) connection.given all) in
+      ap (map (acl_octets connection.handle)) (none-left (packets_of (fragment_size_of state.shared.buffers) connection.pdus) (handed one) connection.given all)
+      in
       NoPacket (record {
         any = λ i. is i || none.any i;
-        none = (λ i. if is i then option_and_then slot_packet (slot_state_handed state handed (Some one)) else first_slot_packet (map (slot_state_handed state handed) slots)) ∙ none.none;
+        none = (λ i. if is i then option_and_then slot_packet (slot_state_handed state handed (Some one))
+            else first_slot_packet (map (slot_state_handed state handed) slots)) ∙ none.none;
         left = λ i. empty i ++ none.left i;
         server = λ i. slot_state_if_there state.shared connection (all i) ∷ none.server i;
       })
@@ -255,7 +271,8 @@ module _ (state : State) (handed : Handed) where
       let is : gives server ≡ false = ap gives (held_there state handed one there) ∙ may in
       let all : handed one ≡ connection.given = all-handed state.shared connection (handed one) (is_live connection.mark) refl way may in
       let empty : packets_left state.shared connection (handed one) ≡ [] =
-      ap (map (acl_octets connection.handle)) (none-left (packets_of (fragment_size_of state.shared.buffers) connection.pdus) (handed one) connection.given all) in
+      ap (map (acl_octets connection.handle)) (none-left (packets_of (fragment_size_of state.shared.buffers) connection.pdus) (handed one) connection.given all)
+      in
       let same = sym (other-handed first.ordinal one (differs-where one first.ordinal slots lacks first.has)) in
       let empty_then = sym (sym (ap (packets_left state.shared connection) same) ∙ empty) in
       let before : flat_map (slot_left state handed) (Some one ∷ slots) ≡ first.octets ∷ flat_map (slot_left state (with_handed first.ordinal)) slots =

@@ -31,7 +31,8 @@ leaves_nothing octets is = rw (enough octets is) refl
 -- once a frame is heard nothing is left of it
 made_whole : (octets : Octets) → IsSome (assembled_of octets).frame → once_heard (assembled_of octets) ≡ no_assembly
 made_whole octets some =
-    let by : (enough : Bool) → is_enough octets ≡ enough → is_enough octets ≡ true = λ enough is. elim enough as (λ enough. is_enough octets ≡ enough → is_enough octets ≡ true) [
+    let by : (enough : Bool) → is_enough octets ≡ enough → is_enough octets ≡ true =
+    λ enough is. elim enough as (λ enough. is_enough octets ≡ enough → is_enough octets ≡ true) [
       | true ↦ λ is. is
       | false ↦ λ short. cc (short, some)
     ] is in

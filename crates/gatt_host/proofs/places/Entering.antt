@@ -10,16 +10,16 @@ use Rattle.att_table.specs.Table.{Contents}
 use Rattle.gatt_conn.specs.Transcript.{Dropped}
 use Rattle.gatt_host.proofs.owing.Nexts.{clash}
 use Rattle.gatt_host.specs.Owing.{slot_left, all_given, IsPartway, OwesWhatAnEventBrings, OwesTheFirstCommand}
-use Rattle.gatt_laws.proofs.Placed.{freed_lacks, placed_before_commands}
-use Rattle.gatt_laws.proofs.Queued.{change-queued, heard-within}
-use Rattle.gatt_laws.proofs.Settled.{none_next, settled_before_commands}
+use Rattle.gatt_laws.proofs.invariants.Placed.{freed_lacks, placed_before_commands}
+use Rattle.gatt_laws.proofs.invariants.Queued.{change-queued, heard-within}
+use Rattle.gatt_laws.proofs.invariants.Settled.{none_next, settled_before_commands}
 use Rattle.gatt_laws.specs.machine.Controller.{Slots}
 use Rattle.gatt_laws.specs.machine.Event.{Ordinal, Own, Event, Connected, Disconnected, Encrypted, Refreshed, Asks, OtherChannel, Of, Completed, Credit, Replaced}
 use Rattle.gatt_laws.specs.machine.Heard.{after_hearing}
 use Rattle.gatt_laws.specs.machine.ConnectionState.{ConnectionState, fresh_connection, is_live, is_there, key_of, connection_mtu, with_pdus, after_ending}
 use Rattle.gatt_laws.specs.laws.Possible.{Possible}
 use Rattle.gatt_laws.specs.laws.Queued.{IsWithinBounds, HasBoundedQueues}
-use Rattle.gatt_laws.specs.machine.SharedState.{SharedState, quota_of, fragment_size_of}
+use Rattle.gatt_laws.specs.machine.SharedState.{SharedState, share_of, fragment_size_of}
 use Rattle.gatt_laws.specs.laws.Settled.{has_slot, IsSettled}
 use Rattle.gatt_laws.specs.machine.Start.{before_first_command}
 use Rattle.gatt_laws.specs.machine.State.{State, Change, slots_after, with_packets_completed, after_packets_completed, connection_after_replacement, change_of, before_commands, commands_out, slot_out, step, out}
@@ -33,28 +33,36 @@ use Rattle.octet_io.specs.Number.{Octets}
 abbrev Same : ConnectionState → ConnectionState → Type 0
 Same old new = new.given ≡ old.given
 
-request-same : (shared : SharedState) (bond : Row) (owed : Bool) (connection : ConnectionState) (pdu : Octets) → Same connection (request_effect shared bond owed connection pdu).connection
+request-same : (shared : SharedState) (bond : Row) (owed : Bool) (connection : ConnectionState) (pdu : Octets)
+    → Same connection (request_effect shared bond owed connection pdu).connection
 request-same shared bond owed connection pdu =
     let asked = request_of pdu (connection_mtu shared connection) in
     elim (is_due asked && is_full shared connection) as
-    (λ (full : Bool). Same connection (if full then effect_on_connection shared bond owed (after_ending connection remote_user_terminated) else served shared bond owed connection pdu asked).connection) [ true ↦ refl | false ↦ refl ]
+    (λ (full : Bool). Same connection (if full then effect_on_connection shared bond owed (after_ending connection remote_user_terminated)
+    else served shared bond owed connection pdu asked).connection) [ true ↦ refl | false ↦ refl ]
 
-channel-same : (shared : SharedState) (connection : ConnectionState) (channel : ℕ) (answer : Option Octets) → Same connection (after_other_channel shared connection channel answer)
+channel-same : (shared : SharedState) (connection : ConnectionState) (channel : ℕ) (answer : Option Octets)
+    → Same connection (after_other_channel shared connection channel answer)
 channel-same shared connection channel None = refl
 channel-same shared connection channel (Some answer) =
-    elim (is_full shared connection) as (λ (full : Bool). Same connection (if full then after_ending connection remote_user_terminated else with_pdus connection ((channel, answer) ∷ []))) [ true ↦ refl | false ↦ refl ]
+    elim (is_full shared connection) as
+    (λ (full : Bool). Same connection (if full then after_ending connection remote_user_terminated else with_pdus connection ((channel, answer) ∷ [])))
+    [ true ↦ refl | false ↦ refl ]
 
-link-same : (connection : ConnectionState) (step : Step) (lost : Bool) → Same connection (if lost then after_ending (with_step connection step) authentication_failure else with_step connection step)
+link-same : (connection : ConnectionState) (step : Step) (lost : Bool)
+    → Same connection (if lost then after_ending (with_step connection step) authentication_failure else with_step connection step)
 link-same connection step true = refl
 link-same connection step false = refl
 
-live-same : (shared : SharedState) (bond : Row) (owed : Bool) (connection : ConnectionState) (own : Own) → Same connection (live_effect shared bond owed connection own).connection
+live-same : (shared : SharedState) (bond : Row) (owed : Bool) (connection : ConnectionState) (own : Own)
+    → Same connection (live_effect shared bond owed connection own).connection
 unfolding live_effect
 live-same shared bond owed connection (Asks pdu) = request-same shared bond owed connection pdu
 live-same shared bond owed connection (OtherChannel channel payload) = channel-same shared connection channel (channel_answer channel payload)
 live-same shared bond owed connection (Encrypted status enabled) =
     link-same connection (Encryption status enabled) (lost_encryption (key_of connection) (key_of (with_step connection (Encryption status enabled))))
-live-same shared bond owed connection (Refreshed status) = link-same connection (Refresh status) (lost_encryption (key_of connection) (key_of (with_step connection (Refresh status))))
+live-same shared bond owed connection (Refreshed status) =
+    link-same connection (Refresh status) (lost_encryption (key_of connection) (key_of (with_step connection (Refresh status))))
 live-same shared bond owed connection own = refl
 
 if-live : (shared : SharedState) (bond : Row) (owed : Bool) (connection : ConnectionState) (own : Own) (live : Bool)
@@ -63,25 +71,34 @@ if-live shared bond owed connection own true = live-same shared bond owed connec
 if-live shared bond owed connection own false = refl
 
 -- who comes was given nothing, and who goes has no slot
-own-same : (state : State) (at : Ordinal) (own : Own) → IsSettled state → Possible (λ table. Unit) state (Of at own) → has_slot at (slots_after own at state.slots) ≡ true
-    → Same (state.connections at) (effect_of state.shared (state.bonds (state.connections at).peer) (state.owed (state.connections at).peer) (state.connections at) own).connection
+own-same : (state : State) (at : Ordinal) (own : Own) → IsSettled state → Possible (λ table. Unit) state (Of at own)
+    → has_slot at (slots_after own at state.slots) ≡ true
+    → Same (state.connections at)
+    (effect_of state.shared (state.bonds (state.connections at).peer) (state.owed (state.connections at).peer) (state.connections at) own).connection
 own-same state at (Connected handle peer) settled may has =
     let lacks : has_slot at state.slots ≡ false =
     ap (λ (one : Ordinal). has_slot one state.slots) may.next ∙ none_next state.next state.next state.slots (omega arith) settled.slots in
     let none : 0 ≡ (state.connections at).given = sym (ap (λ (connection : ConnectionState). connection.given) (settled.absent at lacks)) in
-    elim (is_there (state.connections at).mark) as (λ (there : Bool). Same (state.connections at) (if there then state.connections at else fresh_connection handle peer)) [ true ↦ refl | false ↦ none ]
+    elim (is_there (state.connections at).mark) as
+    (λ (there : Bool). Same (state.connections at) (if there then state.connections at else fresh_connection handle peer)) [ true ↦ refl | false ↦ none ]
 own-same state at Disconnected settled may has = absurd (clash (sym (freed_lacks at state.slots) ∙ has))
 own-same state at own settled may has = if-live _ _ _ (state.connections at) own (is_live (state.connections at).mark)
 
-completed-same : (ordinal : Ordinal) (entries : List (Ordinal × ℕ)) (connection : ConnectionState) → Same connection (after_packets_completed ordinal entries connection)
+completed-same : (ordinal : Ordinal) (entries : List (Ordinal × ℕ)) (connection : ConnectionState)
+    → Same connection (after_packets_completed ordinal entries connection)
 completed-same ordinal [] connection = refl
 completed-same ordinal (entry ∷ entries) connection =
     completed-same ordinal entries (if entry.0 == ordinal then with_packets_completed connection entry.1 else connection)
-    ∙ elim (entry.0 == ordinal) as (λ (own : Bool). Same connection (if own then with_packets_completed connection entry.1 else connection)) [ true ↦ refl | false ↦ refl ]
+    ∙ elim (entry.0 == ordinal) as (λ (own : Bool). Same connection (if own then with_packets_completed connection entry.1 else connection))
+    [ true ↦ refl | false ↦ refl ]
 
 replaced-same : (old new : Contents) (connection : ConnectionState) → Same connection (connection_after_replacement old new connection)
 replaced-same old new connection =
-    elim (is_live connection.mark) as (λ (live : Bool). Same connection (record (if live then record connection { said = Dropped ∷ connection.said; pending = after_replacement connection.pending } else connection) { row = kept_row old.attributes new.attributes connection.row })) [
+    elim (is_live connection.mark) as
+    (λ (live : Bool).
+    Same connection
+    (record (if live then record connection { said = Dropped ∷ connection.said; pending = after_replacement connection.pending } else connection)
+    { row = kept_row old.attributes new.attributes connection.row })) [
       | true ↦ refl
       | false ↦ refl
     ]
@@ -91,9 +108,11 @@ pub change-same : (state : State) (event : Event) → Possible (λ table. Unit) 
 unfolding change_of
 change-same state (Of at own) possible settled ordinal has =
     let effect = effect_of state.shared (state.bonds (state.connections at).peer) (state.owed (state.connections at).peer) (state.connections at) own in
-    elim (ordinal == at) as (λ (same : Bool). (ordinal == at) ≡ same → Same (state.connections ordinal) (if same then effect.connection else state.connections ordinal)) [
+    elim (ordinal == at) as
+    (λ (same : Bool). (ordinal == at) ≡ same → Same (state.connections ordinal) (if same then effect.connection else state.connections ordinal)) [
       | true ↦ λ same.
-          own-same state at own settled possible (subst (λ (one : Ordinal). has_slot one (slots_after own at state.slots) ≡ true) (eqb-true ordinal at same) has)
+          own-same state at own settled possible
+          (subst (λ (one : Ordinal). has_slot one (slots_after own at state.slots) ≡ true) (eqb-true ordinal at same) has)
           ∙ sym (ap (λ (one : Ordinal). (state.connections one).given) (eqb-true ordinal at same))
       | false ↦ λ differs. refl
     ] refl
@@ -105,8 +124,11 @@ change-same state event possible settled ordinal has = refl
 
 -- at its end it gives what may be given
 given-partway : (shared : SharedState) (connection : ConnectionState) (handed : ℕ) (live : Bool) → is_live connection.mark ≡ live → connection.given ≡ handed
-    → IsWithinBounds (quota_of shared.slots shared.buffers) (fragment_size_of shared.buffers) connection
-    → IsPartway shared (if live then record connection { given = packets_allowed (quota_of shared.slots shared.buffers) (fragment_size_of shared.buffers) connection.pdus connection.done } else connection) handed
+    → IsWithinBounds (share_of shared.slots shared.buffers) (fragment_size_of shared.buffers) connection
+    → IsPartway shared
+    (if live
+    then record connection { given = packets_allowed (share_of shared.slots shared.buffers) (fragment_size_of shared.buffers) connection.pdus connection.done }
+    else connection) handed
 given-partway shared connection handed true is same within = record {
   serving = λ live. refl;
   most = λ live. omega (arith, within.given, within.within, same);
@@ -120,7 +142,8 @@ given-partway shared connection handed false is same within = record {
   others = λ other. sym same;
 }
 
-heard-same : (shared : SharedState) (bond : Row) (handles : List Handle) (connection : ConnectionState) → (after_hearing shared bond handles connection).given ≡ connection.given
+heard-same : (shared : SharedState) (bond : Row) (handles : List Handle) (connection : ConnectionState) → (after_hearing shared bond handles connection).given
+    ≡ connection.given
 unfolding after_hearing
 heard-same shared bond handles connection = refl
 
@@ -136,7 +159,7 @@ event-partway state event possible settled queued ordinal has =
     let within = change-queued state event possible (record { settled = settled; queued = queued }) ordinal in
     given-partway shared heard (state.connections ordinal).given (is_live heard.mark) refl
     (heard-same shared bond (change.to_notify ordinal) connection ∙ change-same state event possible settled ordinal has)
-    (heard-within (quota_of shared.slots shared.buffers) (fragment_size_of shared.buffers) shared refl refl bond (change.to_notify ordinal) connection within)
+    (heard-within (share_of shared.slots shared.buffers) (fragment_size_of shared.buffers) shared refl refl bond (change.to_notify ordinal) connection within)
 
 slots-out : (old new : State) (slots : Slots) → flat_map (slot_out old new) slots ≡ flat_map (slot_left new (all_given old)) slots
 slots-out old new [] = refl

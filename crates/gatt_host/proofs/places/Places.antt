@@ -5,7 +5,7 @@ use Rattle.std.specs.Option.{option_map, option_map_or}
 use Rattle.att_numbers.specs.Types.{Handle}
 use Rattle.att_table.specs.Table.{Contents}
 use Rattle.gatt_host.specs.declared.last_event.LastEvent.TheVariants as last
-use Rattle.gatt_host.specs.ServerState.{ServerState, ServesRequest, brought_by, after_connection_complete, after_no_change, server_slot_at, row_at, quota_in, fragment_size_in, with_last}
+use Rattle.gatt_host.specs.ServerState.{ServerState, ServesRequest, brought_by, after_connection_complete, after_no_change, server_slot_at, row_at, share_in, fragment_size_in, with_last}
 use Rattle.gatt_laws.specs.machine.Controller.{Controller}
 use Rattle.gatt_laws.specs.machine.Event.{Connected}
 use Rattle.gatt_laws.specs.machine.State.{advertising_after}
@@ -22,7 +22,8 @@ use Rattle.le_security.specs.Keys.{is_known}
 use Rattle.octet_io.specs.Number.{Octets}
 
 -- a PDU of the Attribute Protocol is served, and then all hear
-module _ (old : ServerState) (place : ℕ) (pdu : Octets) (table : Contents) (rows : Subscriptions) (written : List Handle) (handle : ℕ) (brought : Brought) (changed slots : List (Option SlotState)) (skipped : List Skipped)
+module _ (old : ServerState) (place : ℕ) (pdu : Octets) (table : Contents) (rows : Subscriptions) (written : List Handle) (handle : ℕ) (brought : Brought)
+    (changed slots : List (Option SlotState)) (skipped : List Skipped)
     (changes : changed ≡ slots_at place (λ slot_state. slot_after_request old.table old.time (row_at old slot_state) pdu slot_state) old.slots)
     (heard : slots ≡ all_heard table old.time rows (Some place) [] written changed)
     (skips : skipped ≡ all_skipped table old.time rows (Some place) [] written changed) where
@@ -31,13 +32,15 @@ module _ (old : ServerState) (place : ℕ) (pdu : Octets) (table : Contents) (ro
 
   abbrev ServesThen : Option SlotState → Type 0
   ServesThen found = IfSome found (λ slot_state. table ≡ table_after old.table old.time (row_at old slot_state) pdu slot_state)
-      → IfSome found (λ slot_state. ChangesBond (bond_served old.table old.time old.changer (row_at old slot_state) pdu slot_state) slot_state.peer old.rows rows)
+      → IfSome found
+      (λ slot_state. ChangesBond (bond_served old.table old.time old.changer (row_at old slot_state) pdu slot_state) slot_state.peer old.rows rows)
       → IfSome found (λ slot_state. written ≡ handles_written_by old.table old.time (row_at old slot_state) pdu slot_state)
       → IfSome found (λ slot_state. handle ≡ slot_state.handle)
       → IfSome found (λ slot_state. brought ≡ brought_by pdu slot_state)
       → IfSome found (λ slot_state. ServesRequest place pdu slot_state old (then_held old))
 
-  served-there : (found : Option (Option SlotState)) → slice_get old.slots place ≡ found → ServesThen (option_map_or (λ (slot : Option SlotState). slot) found None)
+  served-there : (found : Option (Option SlotState)) → slice_get old.slots place ≡ found
+      → ServesThen (option_map_or (λ (slot : Option SlotState). slot) found None)
   served-there None at table-is bond writes own brings = tt
   served-there (Some None) at table-is bond writes own brings = tt
   served-there (Some (Some slot_state)) at table-is bond writes own brings =
@@ -46,7 +49,8 @@ module _ (old : ServerState) (place : ℕ) (pdu : Octets) (table : Contents) (ro
       let same : changed ≡ slots_at place at-row old.slots =
       changes
       ∙ ap (λ (found : Option (Option SlotState)). option_map_or (λ (it : Option SlotState). set old.slots place (option_map by-row it)) found old.slots) at
-      ∙ sym (ap (λ (found : Option (Option SlotState)). option_map_or (λ (it : Option SlotState). set old.slots place (option_map at-row it)) found old.slots) at) in
+      ∙ sym (ap (λ (found : Option (Option SlotState)). option_map_or (λ (it : Option SlotState). set old.slots place (option_map at-row it)) found old.slots)
+      at) in
       record {
         server = λ i. record old {
           table = table-is i;
@@ -61,7 +65,8 @@ module _ (old : ServerState) (place : ℕ) (pdu : Octets) (table : Contents) (ro
 
   pub asked_then_heard : (self : ServerState) → old ≡ self
       → IfSome (server_slot_at old place) (λ slot_state. table ≡ table_after old.table old.time (row_at old slot_state) pdu slot_state)
-      → IfSome (server_slot_at old place) (λ slot_state. ChangesBond (bond_served old.table old.time old.changer (row_at old slot_state) pdu slot_state) slot_state.peer old.rows rows)
+      → IfSome (server_slot_at old place)
+      (λ slot_state. ChangesBond (bond_served old.table old.time old.changer (row_at old slot_state) pdu slot_state) slot_state.peer old.rows rows)
       → IfSome (server_slot_at old place) (λ slot_state. written ≡ handles_written_by old.table old.time (row_at old slot_state) pdu slot_state)
       → IfSome (server_slot_at old place) (λ slot_state. handle ≡ slot_state.handle)
       → IfSome (server_slot_at old place) (λ slot_state. brought ≡ brought_by pdu slot_state)
@@ -77,13 +82,15 @@ both_brought pdu brought None ends confirms = tt
 both_brought pdu brought (Some slot_state) ends confirms = λ i. record { confirmed = confirms i; ended = ends i }
 
 -- a connection that takes a slot
-pub come_then_heard : (old self : ServerState) → old ≡ self → (place handle : ℕ) (peer : Peer) (quota size : ℕ) (known : Bool) (controller : Controller)
-    (slots : List (Option SlotState)) → quota ≡ quota_in old → size ≡ fragment_size_in old → known ≡ is_known old.keys peer
-    → slots ≡ at_place place (λ slot. Some (new_slot_state handle peer known old.rx_mtu quota size)) old.slots → controller ≡ advertising_after (Connected handle peer) old.controller
-    → with_last (last.Connected handle peer) (after_no_change (record old { controller = controller; slots = slots })) ≡ after_connection_complete place handle peer self
-come_then_heard old self view place handle peer quota size known controller slots quota-is size-is known-is changes told =
+pub come_then_heard : (old self : ServerState) → old ≡ self → (place handle : ℕ) (peer : Peer) (share size : ℕ) (known : Bool) (controller : Controller)
+    (slots : List (Option SlotState)) → share ≡ share_in old → size ≡ fragment_size_in old → known ≡ is_known old.keys peer
+    → slots ≡ at_place place (λ slot. Some (new_slot_state handle peer known old.rx_mtu share size)) old.slots
+    → controller ≡ advertising_after (Connected handle peer) old.controller
+    → with_last (last.Connected handle peer) (after_no_change (record old { controller = controller; slots = slots }))
+    ≡ after_connection_complete place handle peer self
+come_then_heard old self view place handle peer share size known controller slots share-is size-is known-is changes told =
     (λ i. with_last (last.Connected handle peer) (after_no_change (record old {
       controller = told i;
-      slots = (changes ∙ (λ j. at_place place (λ slot. Some (new_slot_state handle peer (known-is j) old.rx_mtu (quota-is j) (size-is j))) old.slots)) i;
+      slots = (changes ∙ (λ j. at_place place (λ slot. Some (new_slot_state handle peer (known-is j) old.rx_mtu (share-is j) (size-is j))) old.slots)) i;
     })))
     ∙ ap (λ (server : ServerState). after_connection_complete place handle peer server) view

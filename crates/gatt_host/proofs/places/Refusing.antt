@@ -38,6 +38,7 @@ stops_where_refused controller status allowed opcode is other =
     (leads-to (opcode_awaited controller.init) controller.init opcode status (and_true_right controller.awaiting _ is) other)
 
 -- what stops initialisation stops the host
-pub stops_where_told : (allowed opcode : ℕ) (status : Option ℕ) (following : Result (Option Init) Fault) → stop_of (answered allowed opcode status following) ≡ following_stop following
+pub stops_where_told : (allowed opcode : ℕ) (status : Option ℕ) (following : Result (Option Init) Fault) → stop_of (answered allowed opcode status following)
+    ≡ following_stop following
 stops_where_told allowed opcode status (Ok following) = refl
 stops_where_told allowed opcode status (Err fault) = refl

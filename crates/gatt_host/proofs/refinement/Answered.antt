@@ -13,7 +13,7 @@ use Rattle.gatt_laws.specs.machine.Controller.{Controller, Slots, is_ready}
 use Rattle.gatt_laws.specs.machine.Event.{Credit}
 use Rattle.gatt_laws.specs.machine.Notice.{event_told}
 use Rattle.gatt_laws.specs.machine.State.{State, change_of, is_refusal, slots_when_ready}
-use Rattle.le_acl.specs.Quotas.{usable}
+use Rattle.le_acl.specs.Shares.{usable}
 use Rattle.le_hci.specs.declared.init.Init.{Init}
 use Rattle.le_hci.specs.declared.init.Init.TheVariants.{Ready}
 use Rattle.le_hci.specs.Init.{command_awaited}
@@ -23,12 +23,14 @@ use Rattle.le_hci.specs.InitTold.{told_in}
 same-init : (controller : Controller) (allowed opcode : ℕ) (status : Option ℕ) → (answered_by controller allowed opcode status None).init ≡ controller.init
 same-init controller allowed opcode status =
     elim (is_ready controller && is_refusal opcode status) as (λ (refused : Bool).
-    (if refused then record controller { credit = allowed; advertising = false; refused = true } else record controller { credit = allowed }).init ≡ controller.init) [
+    (if refused then record controller { credit = allowed; advertising = false; refused = true } else record controller { credit = allowed }).init
+    ≡ controller.init) [
       | true ↦ refl
       | false ↦ refl
     ]
 
-same-ready : (controller : Controller) (allowed opcode : ℕ) (status : Option ℕ) → is_ready (answered_by controller allowed opcode status None) ≡ is_ready controller
+same-ready : (controller : Controller) (allowed opcode : ℕ) (status : Option ℕ) → is_ready (answered_by controller allowed opcode status None)
+    ≡ is_ready controller
 same-ready controller allowed opcode status = ap (λ (init : Init). is_none (command_awaited init)) (same-init controller allowed opcode status)
 
 -- slots that are free
@@ -80,7 +82,8 @@ module _ (state : State) (server : ServerState) (allowed opcode : ℕ) (status :
 
   -- it was, and another command is awaited then
   module _ (early : is_ready state.controller ≡ false) where
-    awaiting-holds : (init : Init) → is_none (command_awaited init) ≡ false → opened (Some init) server.slots ≡ server.slots → slots_when_ready state.shared.slots init state.slots ≡ state.slots
+    awaiting-holds : (init : Init) → is_none (command_awaited init) ≡ false → opened (Some init) server.slots ≡ server.slots
+        → slots_when_ready state.shared.slots init state.slots ≡ state.slots
         → Holds (change_of state (Credit allowed opcode status (Some init))).state (all_given state) (answered (Some init))
     unfolding change_of
     awaiting-holds init awaits same same' =
@@ -102,7 +105,8 @@ module _ (state : State) (server : ServerState) (allowed opcode : ℕ) (status :
         }
 
     -- the controller is initialised
-    ready-holds : (told packets : ℕ) → Holds (change_of state (Credit allowed opcode status (Some (Ready told packets)))).state (all_given state) (answered (Some (Ready told packets)))
+    ready-holds : (told packets : ℕ) → Holds (change_of state (Credit allowed opcode status (Some (Ready told packets)))).state (all_given state)
+        (answered (Some (Ready told packets)))
     unfolding change_of
     ready-holds told packets =
         let new : State = (change_of state (Credit allowed opcode status (Some (Ready told packets)))).state in
@@ -133,7 +137,8 @@ module _ (state : State) (server : ServerState) (allowed opcode : ℕ) (status :
         → RefinesStep state (Credit allowed opcode status (Some init)) (server_after_command_complete allowed opcode status (Some init) server)
     unfolding change_of event_told
     next-leads init =
-        ends state (Credit allowed opcode status (Some init)) sound early (answered (Some init)) (next-holds init) None [] [] (λ place ordinal there found slot_state. refl) refl
+        ends state (Credit allowed opcode status (Some init)) sound early (answered (Some init)) (next-holds init) None [] []
+        (λ place ordinal there found slot_state. refl) refl
 
 pub answer_leads : (state : State) (server : ServerState) (allowed opcode : ℕ) (status : Option ℕ) (following : Option Init) → IsSound state
     → RefinesState state [] server → Possible (λ table. Unit) state (Credit allowed opcode status following)

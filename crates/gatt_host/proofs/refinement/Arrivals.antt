@@ -14,7 +14,7 @@ use Rattle.gatt_host.specs.EventRefinement.{HoldsFrames, FramesFollow}
 use Rattle.gatt_host.specs.Meaning.{Assemblies, once_heard, recombination, with_fragment}
 use Rattle.gatt_host.specs.Packet.{assembled_with}
 use Rattle.gatt_host.specs.StateRefinement.{IsSound, RefinesState, place_of_connection}
-use Rattle.gatt_laws.proofs.Meant.{serves_in_a_slot}
+use Rattle.gatt_laws.proofs.runs.Meant.{serves_in_a_slot}
 use Rattle.gatt_laws.specs.laws.Renaming.{RecombineAlike}
 use Rattle.gatt_laws.specs.machine.Context.{context_of, serving}
 use Rattle.gatt_laws.specs.machine.Event.{Ordinal}
@@ -27,13 +27,15 @@ use Rattle.le_acl.specs.Fragment.{Fragment, Beginning, Continuation, fragment_of
 use Rattle.le_acl.specs.Reassembler.{Assembly, no_assembly, assembly_after}
 
 -- one fragment more
-one-more : (fragment : Fragment) (fragments : List Fragment) → with_fragment (once_heard (assembly_after fragments)) fragment ≡ assembly_after (fragment ∷ fragments)
+one-more : (fragment : Fragment) (fragments : List Fragment) → with_fragment (once_heard (assembly_after fragments)) fragment
+    ≡ assembly_after (fragment ∷ fragments)
 one-more (Beginning octets) fragments = refl
 one-more (Continuation octets) fragments = refl
 
 module _ (state : State) (server : ServerState) (sound : IsSound state) (refines : RefinesState state [] server) (fragments : Fragments) (frames : Assemblies)
     (holds : HoldsFrames state fragments frames) where
-  pub recombine_alike : RecombineAlike Ordinal Place (place_of_connection state) (context_of state) (recombinations_of fragments) (λ place. recombination (get_or frames place no_assembly))
+  pub recombine_alike : RecombineAlike Ordinal Place (place_of_connection state) (context_of state) (recombinations_of fragments)
+      (λ place. recombination (get_or frames place no_assembly))
   recombine_alike handle ordinal serves fragment =
       ap (λ (assembly : Assembly). (with_fragment assembly fragment).frame)
       (holds (place_of_connection state ordinal) ordinal (place_there state server sound refines ordinal (serves_in_a_slot state handle ordinal serves).has))
@@ -69,15 +71,19 @@ module _ (state : State) (server : ServerState) (sound : IsSound state) (refines
     frames-follow : (found : Option Ordinal) (place : Option ℕ) (fragment : Option Fragment) → Finds state.slots found place
         → HoldsFrames state (with_arrival fragments (arrival_of found fragment)) (assembled_with place fragment frames)
     frames-follow None place fragment none =
-        subst (λ (place : Option ℕ). HoldsFrames state (with_arrival fragments (arrival_of None fragment)) (assembled_with place fragment frames)) (sym none) holds
+        subst (λ (place : Option ℕ). HoldsFrames state (with_arrival fragments (arrival_of None fragment)) (assembled_with place fragment frames))
+        (sym none) holds
     frames-follow (Some ordinal) place None found =
-        subst (λ (place : Option ℕ). HoldsFrames state (with_arrival fragments (arrival_of (Some ordinal) None)) (assembled_with place None frames)) (sym found.is)
+        subst (λ (place : Option ℕ). HoldsFrames state (with_arrival fragments (arrival_of (Some ordinal) None)) (assembled_with place None frames))
+        (sym found.is)
         (subst (HoldsFrames state fragments) (sym (set-get_or frames found.at no_assembly)) holds)
     frames-follow (Some ordinal) place (Some fragment) found =
-        subst (λ (place : Option ℕ). HoldsFrames state (with_arrival fragments (arrival_of (Some ordinal) (Some fragment))) (assembled_with place (Some fragment) frames)) (sym found.is)
+        subst (λ (place : Option ℕ). HoldsFrames state (with_arrival fragments (arrival_of (Some ordinal) (Some fragment)))
+        (assembled_with place (Some fragment) frames)) (sym found.is)
         (frame-set found.at ordinal fragment found.has)
 
 pub frames_follow : FramesFollow
 frames_follow state server fragments frames handle boundary broadcast octets sound refines shared holds =
-    frames-follow state server sound refines fragments frames holds shared (serving state handle) (place_serving server.slots handle) (fragment_of boundary broadcast octets)
+    frames-follow state server sound refines fragments frames holds shared (serving state handle) (place_serving server.slots handle)
+    (fragment_of boundary broadcast octets)
     (finds state server sound refines handle)

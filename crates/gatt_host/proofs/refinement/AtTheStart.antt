@@ -9,9 +9,9 @@ use Rattle.gatt_host.proofs.refinement.Connecting.{keyed_anew}
 use Rattle.gatt_host.specs.ServerState.{open_slots}
 use Rattle.gatt_host.specs.Owing.{IsOwing}
 use Rattle.gatt_host.specs.StateRefinement.{bonds_of, owed_of, HoldsBonds, StartIsRefined, IsAlwaysSound}
-use Rattle.gatt_laws.proofs.Placed.{is_always_placed}
-use Rattle.gatt_laws.proofs.Queued.{always_has_bounded_queues}
-use Rattle.gatt_laws.proofs.Settled.{is_always_settled}
+use Rattle.gatt_laws.proofs.invariants.Placed.{is_always_placed}
+use Rattle.gatt_laws.proofs.invariants.Queued.{always_has_bounded_queues}
+use Rattle.gatt_laws.proofs.invariants.Settled.{is_always_settled}
 use Rattle.gatt_laws.specs.machine.Controller.{Controller, command_of_init, count_before, is_ready, without_command}
 use Rattle.gatt_laws.specs.machine.ConnectionState.{no_connection}
 use Rattle.gatt_laws.specs.machine.SharedState.{Bonds, ServiceChangedPending}
@@ -27,7 +27,10 @@ use Rattle.le_security.specs.declared.entry.Entry.{Entry}
 
 -- bonds by the rows that have them
 known-by : (found : Option Bond) (known : Bool) → is_some found ≡ known
-    → found ≡ (if known then Some (record { row = unwrap_or (option_map (λ (bond : Bond). bond.row) found) []; owed = option_map_or (λ (bond : Bond). bond.owed) found false }) else None)
+    → found ≡
+    (if known
+    then Some (record { row = unwrap_or (option_map (λ (bond : Bond). bond.row) found) []; owed = option_map_or (λ (bond : Bond). bond.owed) found false })
+    else None)
 known-by None known is = ap (λ (has : Bool). if has then Some (record { row = []; owed = false }) else None) is
 known-by (Some bond) known is = ap (λ (has : Bool). if has then Some bond else None) is
 
@@ -55,7 +58,8 @@ some-known false bond = refl
 
 pub fitted_known : (keys : List Entry) (table : Contents) (old new : Subscriptions) → HasFittedBonds keys table old new
     → (peer : Peer) → is_some (bond_of new peer) ≡ is_known keys peer
-fitted_known keys table old new fitted peer = ap (λ (found : Option Bond). is_some found) (fitted peer) ∙ some-known (is_known keys peer) (fitted_bond table old peer)
+fitted_known keys table old new fitted peer =
+    ap (λ (found : Option Bond). is_some found) (fitted peer) ∙ some-known (is_known keys peer) (fitted_bond table old peer)
 
 sent-anew : (sent : Bool) → (if sent then without_command no_connection else no_connection).steps ≡ []
 sent-anew true = refl
@@ -76,7 +80,8 @@ stands_at_the_start start server is =
       time = is.time;
       buffers = refl;
       rows = subst (λ (bonds : Bonds). HoldsBonds start.keys server.rows bonds start.owed) (sym is.bonds)
-          (subst (λ (owed : ServiceChangedPending). HoldsBonds start.keys server.rows (bonds_of server.rows) owed) (sym is.owed) (bonds-held start.keys server.rows is.rows is.listed));
+          (subst (λ (owed : ServiceChangedPending). HoldsBonds start.keys server.rows (bonds_of server.rows) owed) (sym is.owed)
+          (bonds-held start.keys server.rows is.rows is.listed));
       keyed = λ ordinal.
           let sent : Bool = nat_lt (length (command_of_init old.controller) + count_before ordinal old.connections old.slots) old.controller.credit in
           keyed_anew start.keys (if sent then without_command no_connection else no_connection) (sent-anew sent);

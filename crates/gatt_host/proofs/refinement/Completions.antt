@@ -23,7 +23,8 @@ one-link : (connection : ConnectionState) (count : ℕ) (own : Bool) → SameLin
 one-link connection count true = (refl, refl)
 one-link connection count false = (refl, refl)
 
-completed-link : (ordinal : Ordinal) (entries : List (Ordinal × ℕ)) (connection : ConnectionState) → SameLink connection (after_packets_completed ordinal entries connection)
+completed-link : (ordinal : Ordinal) (entries : List (Ordinal × ℕ)) (connection : ConnectionState)
+    → SameLink connection (after_packets_completed ordinal entries connection)
 completed-link ordinal [] connection = (refl, refl)
 completed-link ordinal (entry ∷ entries) connection =
     let next : ConnectionState = if entry.0 == ordinal then with_packets_completed connection entry.1 else connection in
@@ -31,7 +32,8 @@ completed-link ordinal (entry ∷ entries) connection =
     let later : SameLink next (after_packets_completed ordinal entries next) = completed-link ordinal entries next in
     (later.0 ∙ first.0, later.1 ∙ first.1)
 
-module _ (state : State) (server : ServerState) (entries : List (Ordinal × ℕ)) (sound : IsSound state) (refines : RefinesState state [] server) (ready : is_ready state.controller ≡ true)
+module _ (state : State) (server : ServerState) (entries : List (Ordinal × ℕ)) (sound : IsSound state) (refines : RefinesState state [] server)
+    (ready : is_ready state.controller ≡ true)
     (have : HaveSlots state.slots entries) where
   is : Holds state (all_given state) server
   is = holds state server refines
@@ -40,18 +42,22 @@ module _ (state : State) (server : ServerState) (entries : List (Ordinal × ℕ)
   counted = map (renamed_entry (place_of_connection state)) entries
 
   slots-counted : (after : Option Ordinal → Option SlotState) → after None ≡ None
-      → ((ordinal : Ordinal) → after (Some ordinal) ≡ slot_state_handed (record state { connections = λ one. after_packets_completed one entries (state.connections one) }) (all_given state) (Some ordinal))
+      → ((ordinal : Ordinal)
+      → after (Some ordinal) ≡ slot_state_handed (record state { connections = λ one. after_packets_completed one entries (state.connections one) })
+      (all_given state) (Some ordinal))
       → after_completions counted server.slots ≡ map after state.slots
   slots-counted after none each =
       ap (λ slots. after_completions counted slots) (were_open state (all_given state) server is ready)
-      ∙ all_completed state (place_of_connection state) entries (slot_state_handed state (all_given state)) after sound.settled.slots (place_there state server sound refines) have
+      ∙ all_completed state (place_of_connection state) entries (slot_state_handed state (all_given state)) after sound.settled.slots
+      (place_there state server sound refines) have
       refl (λ ordinal. refl) none each
 
   completion-holds : Holds (change_of state (Completed entries)).state (all_given state) (record server { slots = after_completions counted server.slots })
   unfolding change_of
   completion-holds =
       let new : State = (change_of state (Completed entries)).state in
-      let counts : after_completions counted server.slots ≡ slot_states_handed new (all_given state) = slots-counted (slot_state_handed new (all_given state)) refl (λ ordinal. refl) in
+      let counts : after_completions counted server.slots ≡ slot_states_handed new (all_given state) =
+      slots-counted (slot_state_handed new (all_given state)) refl (λ ordinal. refl) in
       record {
         table = is.table;
         changer = is.changer;
@@ -61,11 +67,13 @@ module _ (state : State) (server : ServerState) (entries : List (Ordinal × ℕ)
         buffers = is.buffers;
         rows = is.rows;
         keyed = λ ordinal.
-            keyed_alike state.shared.keys (state.connections ordinal) (after_packets_completed ordinal entries (state.connections ordinal)) (completed-link ordinal entries (state.connections ordinal)) (is.keyed ordinal);
+            keyed_alike state.shared.keys (state.connections ordinal) (after_packets_completed ordinal entries (state.connections ordinal))
+            (completed-link ordinal entries (state.connections ordinal)) (is.keyed ordinal);
         controller = is.controller;
         free = λ early. absurd (clash (sym early ∙ ready));
         ready = λ now. ap (λ slots. length slots) counts ∙ each_length (slot_state_handed new (all_given state)) state.slots
-            ∙ sym (each_length (slot_state_handed state (all_given state)) state.slots) ∙ sym (ap (λ slots. length slots) (were_open state (all_given state) server is ready))
+            ∙ sym (each_length (slot_state_handed state (all_given state)) state.slots)
+            ∙ sym (ap (λ slots. length slots) (were_open state (all_given state) server is ready))
             ∙ is.ready ready;
         slots = ap (λ (open_now : Bool). if open_now then after_completions counted server.slots else []) (ap is_ready is.controller ∙ ready) ∙ counts;
       }

@@ -10,17 +10,17 @@ use Rattle.gatt_host.proofs.refinement.OneSlot.{none_raised_at, ready_where}
 use Rattle.gatt_host.proofs.refinement.Told.{gone_told}
 use Rattle.gatt_host.proofs.refinement.Effects.{at_own_peer, bonds_alike}
 use Rattle.gatt_host.specs.declared.last_event.LastEvent.TheVariants as last
-use Rattle.gatt_host.specs.ServerState.{ServerState, server_slot_at, disconnected_event, after_connection_complete, after_disconnection_complete, quota_in, fragment_size_in}
+use Rattle.gatt_host.specs.ServerState.{ServerState, server_slot_at, disconnected_event, after_connection_complete, after_disconnection_complete, share_in, fragment_size_in}
 use Rattle.gatt_host.specs.Owing.{all_given, slot_state_handed}
 use Rattle.gatt_host.specs.StateRefinement.{HasKeysOfItsPeer, slots_with_buffers, RefinesStep, RefinesState, IsSound}
-use Rattle.gatt_laws.proofs.Settled.{none_next}
+use Rattle.gatt_laws.proofs.invariants.Settled.{none_next}
 use Rattle.gatt_laws.specs.machine.Controller.{Controller, Slots, has_free, is_ready, with_freed, with_taken}
 use Rattle.gatt_laws.specs.machine.Event.{Ordinal, Of, Connected, Disconnected}
 use Rattle.gatt_laws.specs.machine.Notice as notice
 use Rattle.gatt_laws.specs.machine.Notice.{event_told}
 use Rattle.gatt_laws.specs.machine.ConnectionState as laws
 use Rattle.gatt_laws.specs.machine.ConnectionState.{ConnectionState, no_connection, is_there}
-use Rattle.gatt_laws.specs.machine.SharedState.{quota_of, fragment_size_of}
+use Rattle.gatt_laws.specs.machine.SharedState.{share_of, fragment_size_of}
 use Rattle.gatt_laws.specs.laws.Settled.{has_slot}
 use Rattle.gatt_laws.specs.machine.State.{State, change_of, advertising_after}
 use Rattle.host_connections.proofs.states.SlotStates.{kept_there}
@@ -47,7 +47,8 @@ set-length [] place x = refl
 set-length (y ∷ xs) zero x = refl
 set-length (y ∷ xs) (suc place) x = ap (λ (count : ℕ). suc count) (set-length xs place x)
 
-placed-length : {A : Type 0} (xs : List A) (place : ℕ) (change : A → A) (found : Option A) → length (option_map_or (λ x. set xs place (change x)) found xs) ≡ length xs
+placed-length : {A : Type 0} (xs : List A) (place : ℕ) (change : A → A) (found : Option A) → length (option_map_or (λ x. set xs place (change x)) found xs)
+    ≡ length xs
 placed-length xs place change None = refl
 placed-length xs place change (Some x) = set-length xs place (change x)
 
@@ -103,7 +104,8 @@ module _ (state : State) (server : ServerState) (place : ℕ) (ordinal : Ordinal
         ready = λ now. placed-length server.slots place (λ slot. None) (slice_get server.slots place) ∙ is.ready ready;
         slots = ap (λ (open_now : Bool). if open_now then at_place place (λ slot. None) server.slots else []) (ap is_ready is.controller ∙ ready)
             ∙ slots-without (slot_state_handed new (all_given state)) refl (λ other differs.
-            ap (λ (same : Bool). slot_state_if_there state.shared (if same then no_connection else state.connections other) (state.connections other).given) (sym differs));
+            ap (λ (same : Bool). slot_state_if_there state.shared (if same then no_connection else state.connections other) (state.connections other).given)
+            (sym differs));
       }
 
   pub going_leads : RefinesStep state (Of ordinal Disconnected) (after_disconnection_complete place server)
@@ -111,12 +113,13 @@ module _ (state : State) (server : ServerState) (place : ℕ) (ordinal : Ordinal
   going_leads =
       ends_with state (Of ordinal Disconnected) sound tt without_it going-holds None [] []
       (none_raised_at state.shared.table state.shared.time (with_freed ordinal state.slots) ordinal [] [] refl refl)
-      (option_map_or disconnected_event (server_slot_at server place) last.Quiet) (gone_told state server place ordinal sound refines there (after_disconnection_complete place server))
+      (option_map_or disconnected_event (server_slot_at server place) last.Quiet)
+      (gone_told state server place ordinal sound refines there (after_disconnection_complete place server))
 
 -- one comes
-quota-kept : (slots : ℕ) (buffers : Option Buffers) → quota_of (slots_with_buffers slots buffers) buffers ≡ quota_of slots buffers
-quota-kept slots None = refl
-quota-kept slots (Some buffers) =
+share-kept : (slots : ℕ) (buffers : Option Buffers) → share_of (slots_with_buffers slots buffers) buffers ≡ share_of slots buffers
+share-kept slots None = refl
+share-kept slots (Some buffers) =
     let same : min (min slots buffers.packets) buffers.packets ≡ min slots buffers.packets = omega arith in
     ap (λ (count : ℕ). buffers.packets / count) same
 
@@ -147,10 +150,11 @@ module _ (state : State) (server : ServerState) (place handle : ℕ) (peer : Pee
   nobody-yet = sound.settled.absent next lacks
 
   abbrev newcomer : SlotState
-  newcomer = new_slot_state handle peer (is_known server.keys peer) server.rx_mtu (quota_in server) (fragment_size_in server)
+  newcomer = new_slot_state handle peer (is_known server.keys peer) server.rx_mtu (share_in server) (fragment_size_in server)
 
   abbrev with_it : ServerState
-  with_it = record server { controller = advertising_after (Connected handle peer) server.controller; slots = at_place place (λ slot. Some newcomer) server.slots }
+  with_it =
+      record server { controller = advertising_after (Connected handle peer) server.controller; slots = at_place place (λ slot. Some newcomer) server.slots }
 
   abbrev coming_part : ConnectionState
   coming_part = if is_there (state.connections next).mark then state.connections next else laws.fresh_connection handle peer
@@ -161,13 +165,13 @@ module _ (state : State) (server : ServerState) (place handle : ℕ) (peer : Pee
   coming-kept : slot_state_if_there state.shared coming_part (state.connections next).given ≡ Some newcomer
   coming-kept =
       (λ i. slot_state_if_there state.shared (coming-is i) (nobody-yet i).given)
-      ∙ λ i. Some (new_slot_state handle peer (is_known (sym came-is.keys i) peer) (sym came-is.rx_mtu i) (quota-is i) (size-is i))
+      ∙ λ i. Some (new_slot_state handle peer (is_known (sym came-is.keys i) peer) (sym came-is.rx_mtu i) (share-is i) (size-is i))
     where
       buffers-is : told_in server.controller.init ≡ state.shared.buffers
       buffers-is = ap (λ (controller : Controller). told_in controller.init) came-is.controller ∙ sym came-is.buffers
 
-      quota-is : quota_of state.shared.slots state.shared.buffers ≡ quota_in server
-      quota-is = sym (quota-kept state.shared.slots state.shared.buffers) ∙ λ i. quota_of (sym (came-is.ready came-ready) i) (sym buffers-is i)
+      share-is : share_of state.shared.slots state.shared.buffers ≡ share_in server
+      share-is = sym (share-kept state.shared.slots state.shared.buffers) ∙ λ i. share_of (sym (came-is.ready came-ready) i) (sym buffers-is i)
 
       size-is : fragment_size_of state.shared.buffers ≡ fragment_size_in server
       size-is = ap fragment_size_of (sym buffers-is)
@@ -185,10 +189,12 @@ module _ (state : State) (server : ServerState) (place handle : ℕ) (peer : Pee
       let keep : Option Ordinal → Option SlotState = slot_state_handed state (all_given state) in
       let open_now : server.slots ≡ map keep state.slots = were_open state (all_given state) server came-is came-ready in
       let takes = takes_the_first keep after next refl none state.slots free
-      (λ other has. ap (λ (slot : Option SlotState). is_some slot) (kept_there state.shared (state.connections other) (state.connections other).given (sound.placed.there other has)))
+      (λ other has. ap (λ (slot : Option SlotState). is_some slot)
+      (kept_there state.shared (state.connections other) (state.connections other).given (sound.placed.there other has)))
       (λ other has. others other (others-differ other has)) in
       let at : takes.at ≡ place = some-is (sym takes.is ∙ ap place_free (sym open_now) ∙ found) in
-      let read : slice_get (map keep state.slots) takes.at ≡ Some (keep None) = slice_get-map keep state.slots takes.at ∙ ap (λ found. option_map keep found) takes.free in
+      let read : slice_get (map keep state.slots) takes.at ≡ Some (keep None) =
+      slice_get-map keep state.slots takes.at ∙ ap (λ found. option_map keep found) takes.free in
       ap (λ slots. at_place place (λ slot. Some newcomer) slots) open_now
       ∙ ap (λ (k : ℕ). at_place k (λ slot. Some newcomer) (map keep state.slots)) (sym at)
       ∙ at-read (map keep state.slots) takes.at (λ slot. Some newcomer) (keep None) read
@@ -217,11 +223,14 @@ module _ (state : State) (server : ServerState) (place handle : ℕ) (peer : Pee
         controller = ap (advertising_after (Connected handle peer)) came-is.controller;
         free = λ early. absurd (clash (sym early ∙ came-ready));
         ready = λ now. placed-length server.slots place (λ slot. Some newcomer) (slice_get server.slots place) ∙ came-is.ready came-ready;
-        slots = ap (λ (open_now : Bool). if open_now then at_place place (λ slot. Some newcomer) server.slots else []) (ap is_ready came-is.controller ∙ came-ready)
+        slots = ap (λ (open_now : Bool). if open_now then at_place place (λ slot. Some newcomer) server.slots else [])
+            (ap is_ready came-is.controller ∙ came-ready)
             ∙ slots-with (slot_state_handed new (all_given state)) refl
-            (ap (λ (same : Bool). slot_state_if_there state.shared (if same then coming_part else state.connections next) (state.connections next).given) (eq-eqb next next refl) ∙ coming-kept)
+            (ap (λ (same : Bool). slot_state_if_there state.shared (if same then coming_part else state.connections next) (state.connections next).given)
+            (eq-eqb next next refl) ∙ coming-kept)
             (λ other differs.
-            ap (λ (same : Bool). slot_state_if_there state.shared (if same then coming_part else state.connections other) (state.connections other).given) (sym differs));
+            ap (λ (same : Bool). slot_state_if_there state.shared (if same then coming_part else state.connections other) (state.connections other).given)
+            (sym differs));
       }
 
   pub coming_leads : RefinesStep state (Of next (Connected handle peer)) (after_connection_complete place handle peer server)

@@ -29,7 +29,8 @@ use Rattle.le_security.specs.Keys.{is_known}
 use Rattle.le_security.specs.declared.entry.Entry.{Entry}
 
 -- bonds that are the same peer by peer
-pub bonds_alike : (keys : List Entry) (rows : Subscriptions) (bonds bonds' : Bonds) (owed owed' : ServiceChangedPending) → ((peer : Peer) → bonds peer ≡ bonds' peer)
+pub bonds_alike : (keys : List Entry) (rows : Subscriptions) (bonds bonds' : Bonds) (owed owed' : ServiceChangedPending)
+    → ((peer : Peer) → bonds peer ≡ bonds' peer)
     → ((peer : Peer) → owed peer ≡ owed' peer) → HoldsBonds keys rows bonds owed → HoldsBonds keys rows bonds' owed'
 bonds_alike keys rows bonds bonds' owed owed' same same' holds = record {
   known = λ peer. holds.known peer ∙ λ i. if is_known keys peer then Some (record { row = same peer i; owed = same' peer i }) else None;
@@ -66,16 +67,22 @@ module _ (state : State) (server : ServerState) (is : Holds state (all_given sta
   abbrev becoming : Option SlotState → Option SlotState
   becoming slot = option_map change slot
 
-  others-stay : (other : Ordinal) → (other == ordinal) ≡ false → slot_state_handed state (all_given state) (Some other) ≡ slot_state_handed new (all_given state) (Some other)
-  others-stay other differs = ap (λ (same : Bool). slot_state_if_there state.shared (if same then effect.connection else state.connections other) (state.connections other).given) (sym differs)
+  others-stay : (other : Ordinal) → (other == ordinal) ≡ false → slot_state_handed state (all_given state) (Some other)
+      ≡ slot_state_handed new (all_given state) (Some other)
+  others-stay other differs =
+  ap (λ (same : Bool). slot_state_if_there state.shared (if same then effect.connection else state.connections other) (state.connections other).given)
+  (sym differs)
 
   itself : slot_state_if_there state.shared effect.connection connection.given ≡ slot_state_handed new (all_given state) (Some ordinal)
-  itself = ap (λ (same : Bool). slot_state_if_there state.shared (if same then effect.connection else connection) connection.given) (sym (eq-eqb ordinal ordinal refl))
+  itself =
+      ap (λ (same : Bool). slot_state_if_there state.shared (if same then effect.connection else connection) connection.given)
+      (sym (eq-eqb ordinal ordinal refl))
 
   slots-turned : slot_state_if_there state.shared effect.connection connection.given ≡ becoming (slot_state_if_there state.shared connection connection.given)
       → slots_at place change (slot_states_handed state (all_given state)) ≡ slot_states_handed new (all_given state)
   slots-turned same =
-      changed_one (slot_state_handed state (all_given state)) (slot_state_handed new (all_given state)) ordinal refl others-stay state.next state.slots place becoming settled.slots there
+      changed_one (slot_state_handed state (all_given state)) (slot_state_handed new (all_given state)) ordinal refl others-stay state.next state.slots place
+      becoming settled.slots there
       (sym same ∙ itself)
 
   ready-turned : is_ready server.controller ≡ true
@@ -84,7 +91,8 @@ module _ (state : State) (server : ServerState) (is : Holds state (all_given sta
   were-open : server.slots ≡ slot_states_handed state (all_given state)
   were-open = sym (ap (λ (ready : Bool). if ready then server.slots else []) ready-turned) ∙ is.slots
 
-  at-length : (xs : List (Option SlotState)) (found : Option (Option SlotState)) → length (option_map_or (λ slot. set xs place (becoming slot)) found xs) ≡ length xs
+  at-length : (xs : List (Option SlotState)) (found : Option (Option SlotState)) → length (option_map_or (λ slot. set xs place (becoming slot)) found xs)
+      ≡ length xs
   at-length xs None = refl
   at-length xs (Some slot) = length-set xs place (becoming slot)
     where
@@ -93,7 +101,8 @@ module _ (state : State) (server : ServerState) (is : Holds state (all_given sta
       length-set (x ∷ xs) zero slot = refl
       length-set (x ∷ xs) (suc place) slot = ap (λ (count : ℕ). suc count) (length-set xs place slot)
 
-  keyed-turned : HasKeysOfItsPeer state.shared.keys effect.connection → (other : Ordinal) → HasKeysOfItsPeer state.shared.keys (at_ordinal ordinal effect.connection state.connections other)
+  keyed-turned : HasKeysOfItsPeer state.shared.keys effect.connection → (other : Ordinal)
+      → HasKeysOfItsPeer state.shared.keys (at_ordinal ordinal effect.connection state.connections other)
   keyed-turned keyed other =
       elim (other == ordinal) as (λ (same : Bool). HasKeysOfItsPeer state.shared.keys (if same then effect.connection else state.connections other)) [
         | true ↦ keyed
@@ -121,7 +130,8 @@ module _ (state : State) (server : ServerState) (is : Holds state (all_given sta
   }
 
   -- where nothing is changed but the connection
-  pub holds_alone : effect.values ≡ state.shared.table.values → effect.bond ≡ state.bonds connection.peer → effect.owed ≡ state.owed connection.peer → HasKeysOfItsPeer state.shared.keys effect.connection
+  pub holds_alone : effect.values ≡ state.shared.table.values → effect.bond ≡ state.bonds connection.peer → effect.owed ≡ state.owed connection.peer
+      → HasKeysOfItsPeer state.shared.keys effect.connection
       → slot_state_if_there state.shared effect.connection connection.given ≡ option_map change (slot_state_if_there state.shared connection connection.given)
       → Holds new (all_given state) (record server { slots = slots_at place change server.slots })
   holds_alone values bond owed keyed same =
@@ -135,7 +145,8 @@ module _ (state : State) (server : ServerState) (is : Holds state (all_given sta
   pub kept_at_place : is_there connection.mark ≡ true → server_slot_at server place ≡ Some (slot_state_of state.shared connection connection.given)
   kept_at_place is_there =
       let read : slice_get (slot_states_handed state (all_given state)) place ≡ Some (slot_state_if_there state.shared connection connection.given) =
-      slice_get-map (slot_state_handed state (all_given state)) state.slots place ∙ ap (λ found. option_map (slot_state_handed state (all_given state)) found) there in
+      slice_get-map (slot_state_handed state (all_given state)) state.slots place ∙ ap (λ found. option_map (slot_state_handed state (all_given state)) found)
+      there in
       ap (λ (slots : List (Option SlotState)). option_map_or (λ (slot : Option SlotState). slot) (slice_get slots place) None) were-open
       ∙ ap (λ found. option_map_or (λ (slot : Option SlotState). slot) found None) read
       ∙ kept_there state.shared connection connection.given is_there

@@ -26,14 +26,16 @@ use Rattle.octet_io.specs.Number.{Octets}
 
 -- slots of which each is changed
 pub slots_each : (old new : State) (handed : Handed) (change : Option SlotState → Option SlotState) → change None ≡ None
-    → ((ordinal : Ordinal) → change (slot_state_if_there old.shared (old.connections ordinal) (handed ordinal)) ≡ slot_state_if_there new.shared (new.connections ordinal) (handed ordinal))
+    → ((ordinal : Ordinal) → change (slot_state_if_there old.shared (old.connections ordinal) (handed ordinal))
+    ≡ slot_state_if_there new.shared (new.connections ordinal) (handed ordinal))
     → (slots : Slots) → map change (map (slot_state_handed old handed) slots) ≡ map (slot_state_handed new handed) slots
 slots_each old new handed change none each [] = refl
 slots_each old new handed change none each (None ∷ slots) = λ i. none i ∷ slots_each old new handed change none each slots i
 slots_each old new handed change none each (Some ordinal ∷ slots) = λ i. each ordinal i ∷ slots_each old new handed change none each slots i
 
 pub slots_same : (old new : State) (handed : Handed)
-    → ((ordinal : Ordinal) → slot_state_if_there old.shared (old.connections ordinal) (handed ordinal) ≡ slot_state_if_there new.shared (new.connections ordinal) (handed ordinal))
+    → ((ordinal : Ordinal) → slot_state_if_there old.shared (old.connections ordinal) (handed ordinal)
+    ≡ slot_state_if_there new.shared (new.connections ordinal) (handed ordinal))
     → (slots : Slots) → map (slot_state_handed old handed) slots ≡ map (slot_state_handed new handed) slots
 slots_same old new handed each [] = refl
 slots_same old new handed each (None ∷ slots) = ap (λ later. None ∷ later) (slots_same old new handed each slots)
@@ -58,14 +60,16 @@ nothing-holds : (state : State) (server : ServerState) → RefinesState state []
 unfolding change_of
 nothing-holds state server refines = holds state server refines
 
-pub nothing_leads : (state : State) (server : ServerState) → IsSound state → RefinesState state [] server → RefinesStep state Nothing (host.after_no_change server)
+pub nothing_leads : (state : State) (server : ServerState) → IsSound state → RefinesState state [] server
+    → RefinesStep state Nothing (host.after_no_change server)
 unfolding change_of event_told
 nothing_leads state server sound refines =
     ends state Nothing sound tt server (nothing-holds state server refines) None [] [] (λ place ordinal there found slot_state. refl) refl
 
 -- time goes by
 timed : (old new : SharedState) (connection : ConnectionState) (now handed : ℕ) → (new ≡ record old { time = now })
-    → option_map (after_time now) (slot_state_if_there old connection handed) ≡ slot_state_if_there new (record connection { pending = after_tick connection.pending now }) handed
+    → option_map (after_time now) (slot_state_if_there old connection handed)
+    ≡ slot_state_if_there new (record connection { pending = after_tick connection.pending now }) handed
 timed old new connection now handed is =
     let later : ConnectionState = record connection { pending = after_tick connection.pending now } in
     (elim (is_there connection.mark) as (λ (there : Bool). option_map (after_time now) (if there then Some (slot_state_of old connection handed) else None)
@@ -75,7 +79,8 @@ timed old new connection now handed is =
 abbrev with_time : ℕ → ServerState → ServerState
 with_time now server = record server { time = now; slots = all_after_time now server.slots; late = late_handles now server.slots }
 
-tick-holds : (state : State) (server : ServerState) (now : ℕ) → RefinesState state [] server → Holds (change_of state (Tick now)).state (all_given state) (with_time now server)
+tick-holds : (state : State) (server : ServerState) (now : ℕ) → RefinesState state [] server
+    → Holds (change_of state (Tick now)).state (all_given state) (with_time now server)
 unfolding change_of
 tick-holds state server now refines =
     let is : Holds state (all_given state) server = holds state server refines in
@@ -94,14 +99,16 @@ tick-holds state server now refines =
       free = λ early. ap (λ slots. map change slots) (is.free early) ∙ free_each change refl state.shared.slots;
       ready = λ ready. each_length change server.slots ∙ is.ready ready;
       slots = open_each change (is_ready server.controller) server.slots ∙ ap (λ slots. map change slots) is.slots
-          ∙ slots_each state new (all_given state) change refl (λ ordinal. timed state.shared new.shared (state.connections ordinal) now (state.connections ordinal).given refl) state.slots;
+          ∙ slots_each state new (all_given state) change refl
+          (λ ordinal. timed state.shared new.shared (state.connections ordinal) now (state.connections ordinal).given refl) state.slots;
     }
 
 pub time_leads : (state : State) (server : ServerState) (now : ℕ) → IsSound state → RefinesState state [] server → state.shared.time ≤ now
     → RefinesStep state (Tick now) (host.server_after_tick now server)
 unfolding change_of
 time_leads state server now sound refines later =
-    ends_with state (Tick now) sound later (with_time now server) (tick-holds state server now refines) None [] [] (λ place ordinal there found slot_state. refl)
+    ends_with state (Tick now) sound later (with_time now server) (tick-holds state server now refines) None [] []
+    (λ place ordinal there found slot_state. refl)
     last.Ticked (tick_told state server now sound refines)
 
 -- a value is written

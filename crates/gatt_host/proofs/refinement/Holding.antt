@@ -14,7 +14,7 @@ use Rattle.gatt_host.specs.Owing.{Handed, all_given, slot_state_handed, slot_sta
 use Rattle.gatt_host.specs.declared.last_event.LastEvent.{LastEvent}
 use Rattle.gatt_host.specs.Notices.{notices_by, skip_told}
 use Rattle.gatt_host.specs.StateRefinement.{bond_in, HoldsBonds, HasKeysOfItsPeer, slots_with_buffers, RefinesState, IsSound, RefinesStep}
-use Rattle.gatt_laws.proofs.Queued.{change-queued}
+use Rattle.gatt_laws.proofs.invariants.Queued.{change-queued}
 use Rattle.gatt_laws.specs.machine.Controller.{Controller, Slots, is_ready, command_of_init, count_before, without_command}
 use Rattle.gatt_laws.specs.machine.Event.{Ordinal, Event}
 use Rattle.gatt_laws.specs.machine.Heard.{after_hearing, skipped_in_turn}
@@ -22,7 +22,7 @@ use Rattle.gatt_laws.specs.machine.Notice.{Notice, Skipped, event_told, noticed,
 use Rattle.gatt_laws.specs.machine.ConnectionState.{ConnectionState, is_live, is_there, key_of}
 use Rattle.gatt_laws.specs.laws.Possible.{Possible}
 use Rattle.gatt_laws.specs.laws.Queued.{IsWithinBounds}
-use Rattle.gatt_laws.specs.machine.SharedState.{SharedState, Bonds, ServiceChangedPending, quota_of, fragment_size_of}
+use Rattle.gatt_laws.specs.machine.SharedState.{SharedState, Bonds, ServiceChangedPending, share_of, fragment_size_of}
 use Rattle.gatt_laws.specs.laws.Settled.{has_slot, is_slot_of}
 use Rattle.gatt_laws.specs.machine.State.{State, Change, change_of, finished, connections_finished, before_commands, step, out}
 use Rattle.host_connections.proofs.states.Heard.{finished_kept}
@@ -65,7 +65,8 @@ no-octets : (final : State) (controller : Controller) (slots : List (Option Slot
 no-octets final controller slots None done = done
 no-octets final controller slots (Some octets) gives = cc gives.first
 
-pub all_done : (final : State) (controller : Controller) (slots : List (Option SlotState)) → IsOwing final [] controller slots → IsAllSent final [] controller slots
+pub all_done : (final : State) (controller : Controller) (slots : List (Option SlotState)) → IsOwing final [] controller slots
+    → IsAllSent final [] controller slots
 all_done final controller slots owing = no-octets final controller slots (next_out controller slots) (hands_out_what_is_owed final [] controller slots owing)
 
 pub holds : (state : State) (server : ServerState) → RefinesState state [] server → Holds state (all_given state) server
@@ -103,12 +104,14 @@ holds_with_written state handed server written is = record {
 }
 
 -- once the controller is initialised, the slots are those of the state
-pub were_open : (state : State) (handed : Handed) (server : ServerState) → Holds state handed server → is_ready state.controller ≡ true → server.slots ≡ slot_states_handed state handed
+pub were_open : (state : State) (handed : Handed) (server : ServerState) → Holds state handed server → is_ready state.controller ≡ true
+    → server.slots ≡ slot_states_handed state handed
 were_open state handed server is ready =
     sym (ap (λ (open_now : Bool). if open_now then server.slots else []) (ap is_ready is.controller ∙ ready)) ∙ is.slots
 
 -- what is told of the last event is not what a host stands by
-pub stands_with_last : (state : State) (owed : List Octets) (server : ServerState) (last : LastEvent) → RefinesState state owed server → RefinesState state owed (with_last last server)
+pub stands_with_last : (state : State) (owed : List Octets) (server : ServerState) (last : LastEvent) → RefinesState state owed server
+    → RefinesState state owed (with_last last server)
 stands_with_last state owed server last is = record {
   table = is.table;
   changer = is.changer;
@@ -123,7 +126,8 @@ stands_with_last state owed server last is = record {
   owing = is.owing;
 }
 
-pub stands_without_notices : (state : State) (owed : List Octets) (server : ServerState) → RefinesState state owed server → RefinesState state owed (without_notices server)
+pub stands_without_notices : (state : State) (owed : List Octets) (server : ServerState) → RefinesState state owed server
+    → RefinesState state owed (without_notices server)
 stands_without_notices state owed server is = record {
   table = is.table;
   changer = is.changer;
@@ -144,7 +148,8 @@ pub heard_free : (hear : ℕ → Option SlotState → Option SlotState) → ((pl
 heard_free hear none start zero = refl
 heard_free hear none start (suc count) = λ i. none start i ∷ heard_free hear none (start + 1) count i
 
-pub heard_length : (hear : ℕ → Option SlotState → Option SlotState) (start : ℕ) (slots : List (Option SlotState)) → length (heard_from start hear slots) ≡ length slots
+pub heard_length : (hear : ℕ → Option SlotState → Option SlotState) (start : ℕ) (slots : List (Option SlotState)) → length (heard_from start hear slots)
+    ≡ length slots
 heard_length hear start [] = refl
 heard_length hear start (slot ∷ slots) = ap (λ (count : ℕ). suc count) (heard_length hear (start + 1) slots)
 
@@ -167,7 +172,8 @@ told-both : (one other : List noted.Skipped) → map skip_told (one ++ other) �
 told-both [] other = refl
 told-both (skipped ∷ one) other = ap (λ (rest : List Notice). skip_told skipped ∷ rest) (told-both one other)
 
-pub skipped_each : (skips : ℕ → Option SlotState → List noted.Skipped) (old : Option Ordinal → Option SlotState) (told : Option Ordinal → List Notice) (start : ℕ) (slots : Slots)
+pub skipped_each : (skips : ℕ → Option SlotState → List noted.Skipped) (old : Option Ordinal → Option SlotState) (told : Option Ordinal → List Notice)
+    (start : ℕ) (slots : Slots)
     → ((place at : ℕ) (slot : Option Ordinal) → at ≡ start + place → slice_get slots place ≡ Some slot → map skip_told (skips at (old slot)) ≡ told slot)
     → map skip_told (skips_from start skips (map old slots)) ≡ flat_map told slots
 skipped_each skips old told start [] each = refl
@@ -187,14 +193,16 @@ has_slot_there ordinal (slot ∷ slots) (suc place) there = or_right (is_slot_of
 abbrev pub SameLink : ConnectionState → ConnectionState → Type 0
 SameLink old new = (new.steps ≡ old.steps) × (new.peer ≡ old.peer)
 
-heard-link : (shared : SharedState) (bond : Row) (handles : List Handle) (connection : ConnectionState) → SameLink connection (after_hearing shared bond handles connection)
+heard-link : (shared : SharedState) (bond : Row) (handles : List Handle) (connection : ConnectionState)
+    → SameLink connection (after_hearing shared bond handles connection)
 unfolding after_hearing
 heard-link shared bond handles connection = (refl, refl)
 
-finished-link : (shared : SharedState) (bonds : Bonds) (handles : List Handle) (connection : ConnectionState) → SameLink connection (finished shared bonds handles connection)
+finished-link : (shared : SharedState) (bonds : Bonds) (handles : List Handle) (connection : ConnectionState)
+    → SameLink connection (finished shared bonds handles connection)
 finished-link shared bonds handles connection =
     let heard : ConnectionState = after_hearing shared (bonds connection.peer) handles connection in
-    let given : ℕ = packets_allowed (quota_of shared.slots shared.buffers) (fragment_size_of shared.buffers) heard.pdus heard.done in
+    let given : ℕ = packets_allowed (share_of shared.slots shared.buffers) (fragment_size_of shared.buffers) heard.pdus heard.done in
     elim (is_live heard.mark) as (λ (live : Bool). SameLink connection (if live then record heard { given = given } else heard)) [
       | true ↦ heard-link shared (bonds connection.peer) handles connection
       | false ↦ heard-link shared (bonds connection.peer) handles connection
@@ -207,14 +215,16 @@ pub record Stays (old new : ConnectionState) : Type 0 where
   pub steps : new.steps ≡ old.steps
   pub row : new.row ≡ old.row
 
-heard-stays : (shared : SharedState) (bond : Row) (handles : List Handle) (connection : ConnectionState) → Stays connection (after_hearing shared bond handles connection)
+heard-stays : (shared : SharedState) (bond : Row) (handles : List Handle) (connection : ConnectionState)
+    → Stays connection (after_hearing shared bond handles connection)
 unfolding after_hearing
 heard-stays shared bond handles connection = record { mark = refl; peer = refl; steps = refl; row = refl }
 
-pub finished_stays : (shared : SharedState) (bonds : Bonds) (handles : List Handle) (connection : ConnectionState) → Stays connection (finished shared bonds handles connection)
+pub finished_stays : (shared : SharedState) (bonds : Bonds) (handles : List Handle) (connection : ConnectionState)
+    → Stays connection (finished shared bonds handles connection)
 finished_stays shared bonds handles connection =
     let heard : ConnectionState = after_hearing shared (bonds connection.peer) handles connection in
-    let given : ℕ = packets_allowed (quota_of shared.slots shared.buffers) (fragment_size_of shared.buffers) heard.pdus heard.done in
+    let given : ℕ = packets_allowed (share_of shared.slots shared.buffers) (fragment_size_of shared.buffers) heard.pdus heard.done in
     let stays = heard-stays shared (bonds connection.peer) handles connection in
     elim (is_live heard.mark) as (λ (live : Bool). Stays connection (if live then record heard { given = given } else heard)) [
       | true ↦ record { mark = stays.mark; peer = stays.peer; steps = stays.steps; row = stays.row }
@@ -223,10 +233,12 @@ finished_stays shared bonds handles connection =
 
 sent-link : (connection : ConnectionState) (sent : Bool) → SameLink connection (if sent then without_command connection else connection)
 sent-link connection false = (refl, refl)
-sent-link connection true = elim (is_some connection.reason) as (λ (has : Bool). SameLink connection (if has then record connection { reason = None } else record connection { reply = None })) [
-  | true ↦ (refl, refl)
-  | false ↦ (refl, refl)
-]
+sent-link connection true =
+    elim (is_some connection.reason) as
+    (λ (has : Bool). SameLink connection (if has then record connection { reason = None } else record connection { reply = None })) [
+      | true ↦ (refl, refl)
+      | false ↦ (refl, refl)
+    ]
 
 pub keyed_alike : (keys : List Entry) (old new : ConnectionState) → SameLink old new → HasKeysOfItsPeer keys old → HasKeysOfItsPeer keys new
 keyed_alike keys old new same keyed = record {
@@ -235,7 +247,8 @@ keyed_alike keys old new same keyed = record {
 }
 
 -- a link with a key is one of a peer that has a bond
-pub has_row : (keys : List Entry) (rows : Subscriptions) (bonds : Bonds) (owed : ServiceChangedPending) (connection : ConnectionState) → HoldsBonds keys rows bonds owed → HasKeysOfItsPeer keys connection
+pub has_row : (keys : List Entry) (rows : Subscriptions) (bonds : Bonds) (owed : ServiceChangedPending) (connection : ConnectionState)
+    → HoldsBonds keys rows bonds owed → HasKeysOfItsPeer keys connection
     → is_some (key_of connection) ≡ true → row_of rows connection.peer ≡ Some (bonds connection.peer)
 has_row keys rows bonds owed connection holds keyed is =
     ap (λ (found : Option Bond). option_map (λ (bond : Bond). bond.row) found)
@@ -246,8 +259,10 @@ heard-of-peer : (table : Contents) (now : ℕ) (rows : Subscriptions) (handles :
     → slot_heard table now rows handles (slot_state_if_there shared connection handed)
     ≡ option_map (slot_after_hearing table now (row_of rows connection.peer) handles) (slot_state_if_there shared connection handed)
 heard-of-peer table now rows handles shared connection handed =
-    elim (is_there connection.mark) as (λ (there : Bool). slot_heard table now rows handles (if there then Some (slot_state_of shared connection handed) else None)
-    ≡ option_map (slot_after_hearing table now (row_of rows connection.peer) handles) (if there then Some (slot_state_of shared connection handed) else None)) [ true ↦ refl | false ↦ refl ]
+    elim (is_there connection.mark) as
+    (λ (there : Bool). slot_heard table now rows handles (if there then Some (slot_state_of shared connection handed) else None)
+    ≡ option_map (slot_after_hearing table now (row_of rows connection.peer) handles) (if there then Some (slot_state_of shared connection handed) else None))
+    [ true ↦ refl | false ↦ refl ]
 
 -- what a slot keeps once it has heard of values, and which of them are skipped
 abbrev pub skipped_by : Contents → ℕ → Option Row → List Handle → SlotState → List Handle
@@ -259,13 +274,15 @@ hears_and_skips table now found handles slot_state = (slot_after_hearing table n
 
 -- the handles that a slot hears of are those that are notified to its connection
 abbrev pub HearsRaised : Contents → ℕ → Slots → (ℕ → List Handle) → (Ordinal → List Handle) → Type 0
-HearsRaised table now slots handles raised = (place : ℕ) (ordinal : Ordinal) → slice_get slots place ≡ Some (Some ordinal) → (found : Option Row) (slot_state : SlotState)
+HearsRaised table now slots handles raised = (place : ℕ) (ordinal : Ordinal) → slice_get slots place ≡ Some (Some ordinal)
+    → (found : Option Row) (slot_state : SlotState)
     → hears_and_skips table now found (handles place) slot_state ≡ hears_and_skips table now found (raised ordinal) slot_state
 
 module _ (state : State) (event : Event) (sound : IsSound state) (possible : Possible (λ table. Unit) state event) (server : ServerState)
     (is : Holds (change_of state event).state (all_given state) server)
     (own : Option ℕ) (here handles : List Handle)
-    (raises : HearsRaised (change_of state event).state.shared.table (change_of state event).state.shared.time (change_of state event).state.slots (handles_for own here handles) (change_of state event).to_notify) where
+    (raises : HearsRaised (change_of state event).state.shared.table (change_of state event).state.shared.time (change_of state event).state.slots
+    (handles_for own here handles) (change_of state event).to_notify) where
   abbrev change : Change
   change = change_of state event
 
@@ -283,12 +300,14 @@ module _ (state : State) (event : Event) (sound : IsSound state) (possible : Pos
       let given : ℕ = (state.connections ordinal).given in
       let found : Option Row = row_of server.rows connection.peer in
       let has = has_row changed.shared.keys server.rows changed.bonds changed.owed connection is.rows (is.keyed ordinal) in
-      let bounds : IsWithinBounds (quota_of changed.shared.slots changed.shared.buffers) (fragment_size_of changed.shared.buffers) connection =
+      let bounds : IsWithinBounds (share_of changed.shared.slots changed.shared.buffers) (fragment_size_of changed.shared.buffers) connection =
       change-queued state event possible (record { settled = sound.settled; queued = sound.queued }) ordinal in
       let ends : slot_state_if_there changed.shared (connections_finished change ordinal) given
-      ≡ option_map (slot_after_hearing changed.shared.table changed.shared.time found (change.to_notify ordinal)) (slot_state_if_there changed.shared connection given) =
+      ≡ option_map (slot_after_hearing changed.shared.table changed.shared.time found (change.to_notify ordinal))
+      (slot_state_if_there changed.shared connection given) =
       subst (λ (count : ℕ). slot_state_if_there changed.shared (connections_finished change ordinal) count
-      ≡ option_map (slot_after_hearing changed.shared.table changed.shared.time found (change.to_notify ordinal)) (slot_state_if_there changed.shared connection count))
+      ≡ option_map (slot_after_hearing changed.shared.table changed.shared.time found (change.to_notify ordinal))
+      (slot_state_if_there changed.shared connection count))
       (change-same state event possible sound.settled ordinal (has_slot_there ordinal changed.slots place there))
       (finished_kept changed.shared found changed.bonds (change.to_notify ordinal) connection bounds has) in
       (λ i. slot_heard (is.table i) (is.time i) server.rows (handles_for own here handles place) (slot_state_if_there changed.shared connection given))
@@ -302,21 +321,25 @@ module _ (state : State) (event : Event) (sound : IsSound state) (possible : Pos
   heard-slot place (Some ordinal) there = heard-one place ordinal there
 
   open-heard : open_slots (server_after_event own here handles server) ≡ heard_from 0 hear (open_slots server)
-  open-heard = elim (is_ready server.controller) as (λ (ready : Bool). (if ready then heard_from 0 hear server.slots else []) ≡ heard_from 0 hear (if ready then server.slots else [])) [
-    | true ↦ refl
-    | false ↦ refl
-  ]
+  open-heard =
+      elim (is_ready server.controller) as (λ (ready : Bool). (if ready then heard_from 0 hear server.slots else [])
+      ≡ heard_from 0 hear (if ready then server.slots else [])) [
+        | true ↦ refl
+        | false ↦ refl
+      ]
 
   slots-then : open_slots (server_after_event own here handles server) ≡ slot_states_handed (before_commands state event) (all_given state)
   slots-then =
       open-heard ∙ ap (heard_from 0 hear) is.slots
       ∙ heard_each hear (slot_state_handed changed (all_given state)) (slot_state_handed (before_commands state event) (all_given state)) 0 changed.slots
-      (λ place at slot at_is there. heard-slot at slot (subst (λ (k : ℕ). slice_get changed.slots k ≡ Some slot) (let same : place ≡ at = omega (arith, at_is) in same) there))
+      (λ place at slot at_is there.
+      heard-slot at slot (subst (λ (k : ℕ). slice_get changed.slots k ≡ Some slot) (let same : place ≡ at = omega (arith, at_is) in same) there))
 
   owing-then : IsOwing (step state event) (out state event) server.controller (open_slots (server_after_event own here handles server))
   owing-then =
       subst (λ (slots : List (Option SlotState)). IsOwing (step state event) (out state event) server.controller slots) (sym slots-then)
-      (subst (λ (controller : Controller). IsOwing (step state event) (out state event) controller (slot_states_handed (before_commands state event) (all_given state))) (sym is.controller)
+      (subst (λ (controller : Controller). IsOwing (step state event) (out state event) controller
+      (slot_states_handed (before_commands state event) (all_given state))) (sym is.controller)
       (owes_what_an_event_brings state event possible sound.settled sound.queued sound.placed))
 
   keyed-then : (ordinal : Ordinal) → HasKeysOfItsPeer changed.shared.keys ((step state event).connections ordinal)
@@ -324,7 +347,8 @@ module _ (state : State) (event : Event) (sound : IsSound state) (possible : Pos
   keyed-then ordinal =
       let connection : ConnectionState = changed.connections ordinal in
       let new : ConnectionState = connections_finished change ordinal in
-      let sent : Bool = nat_lt (length (command_of_init changed.controller) + count_before ordinal (connections_finished change) changed.slots) changed.controller.credit in
+      let sent : Bool =
+      nat_lt (length (command_of_init changed.controller) + count_before ordinal (connections_finished change) changed.slots) changed.controller.credit in
       keyed_alike changed.shared.keys new (if sent then without_command new else new) (sent-link new sent)
       (keyed_alike changed.shared.keys connection new (finished-link changed.shared changed.bonds (change.to_notify ordinal) connection) (is.keyed ordinal))
 
@@ -352,15 +376,18 @@ module _ (state : State) (event : Event) (sound : IsSound state) (possible : Pos
   skips place slot = slot_skips server.table server.time server.rows (handles_for own here handles place) slot
 
   skipped-one : (place : ℕ) (ordinal : Ordinal) → slice_get changed.slots place ≡ Some (Some ordinal)
-      → map skip_told (skips place (slot_state_if_there changed.shared (changed.connections ordinal) (state.connections ordinal).given)) ≡ slot_skips_told change (Some ordinal)
+      → map skip_told (skips place (slot_state_if_there changed.shared (changed.connections ordinal) (state.connections ordinal).given))
+      ≡ slot_skips_told change (Some ordinal)
   skipped-one place ordinal there =
       let connection : ConnectionState = changed.connections ordinal in
       let found : Option Row = row_of server.rows connection.peer in
       let has = has_row changed.shared.keys server.rows changed.bonds changed.owed connection is.rows (is.keyed ordinal) in
       let of : ℕ → List noted.Skipped =
-      λ count. slot_skips changed.shared.table changed.shared.time server.rows (change.to_notify ordinal) (slot_state_if_there changed.shared connection count) in
+      λ count. slot_skips changed.shared.table changed.shared.time server.rows (change.to_notify ordinal) (slot_state_if_there changed.shared connection count)
+      in
       ap (map skip_told)
-      ((λ i. slot_skips (is.table i) (is.time i) server.rows (handles_for own here handles place) (slot_state_if_there changed.shared connection (state.connections ordinal).given))
+      ((λ i. slot_skips (is.table i) (is.time i) server.rows (handles_for own here handles place)
+      (slot_state_if_there changed.shared connection (state.connections ordinal).given))
       ∙ skips-raised place ordinal there
       ∙ ap of (sym (change-same state event possible sound.settled ordinal (has_slot_there ordinal changed.slots place there)))
       ∙ skips_kept changed.shared server.rows (changed.bonds connection.peer) (change.to_notify ordinal) connection has)
@@ -376,7 +403,8 @@ module _ (state : State) (event : Event) (sound : IsSound state) (possible : Pos
           let of : List Handle → Bool → List noted.Skipped =
           λ handles is. slot_skips changed.shared.table changed.shared.time server.rows handles (if is then Some slot_state else None) in
           elim (is_there connection.mark) as (λ (is : Bool). of (handles_for own here handles place) is ≡ of (change.to_notify ordinal) is) [
-            | true ↦ λ i. if slot_state.live then map (skip_of slot_state.handle) ((raises place ordinal there (row_of server.rows connection.peer) slot_state i).1) else []
+            | true ↦ λ i. if slot_state.live
+                then map (skip_of slot_state.handle) ((raises place ordinal there (row_of server.rows connection.peer) slot_state i).1) else []
             | false ↦ refl
           ]
 
@@ -394,7 +422,8 @@ module _ (state : State) (event : Event) (sound : IsSound state) (possible : Pos
   skips-then =
       by-ready (is_ready server.controller) refl
       ∙ skipped_each skips (slot_state_handed changed (all_given state)) (slot_skips_told change) 0 changed.slots
-      (λ place at slot at_is there. skipped-slot at slot (subst (λ (k : ℕ). slice_get changed.slots k ≡ Some slot) (let same : place ≡ at = omega (arith, at_is) in same) there))
+      (λ place at slot at_is there.
+      skipped-slot at slot (subst (λ (k : ℕ). slice_get changed.slots k ≡ Some slot) (let same : place ≡ at = omega (arith, at_is) in same) there))
     where
       by-ready : (ready : Bool) → is_ready server.controller ≡ ready
           → map skip_told (skips_from 0 skips server.slots) ≡ map skip_told (skips_from 0 skips (slot_states_handed changed (all_given state)))

@@ -37,19 +37,24 @@ key-if : (keys : List Entry) (peer : Peer) (asked : Option KeyFacts) (encrypted 
 key-if keys peer asked true known is = known is
 key-if keys peer asked false known is = cc is
 
-encryption-keyed : (keys : List Entry) (connection : ConnectionState) (status enabled : ℕ) → HasKeysOfItsPeer keys connection → HasKeysOfItsPeer keys (with_step connection (Encryption status enabled))
+encryption-keyed : (keys : List Entry) (connection : ConnectionState) (status enabled : ℕ) → HasKeysOfItsPeer keys connection
+    → HasKeysOfItsPeer keys (with_step connection (Encryption status enabled))
 encryption-keyed keys connection status enabled keyed =
     record { asked = keyed.asked; key = key-if keys connection.peer (last_asked connection.steps) ((status == 0) && not (enabled == 0)) keyed.asked }
 
-refresh-keyed : (keys : List Entry) (connection : ConnectionState) (status : ℕ) → HasKeysOfItsPeer keys connection → HasKeysOfItsPeer keys (with_step connection (Refresh status))
-refresh-keyed keys connection status keyed = record { asked = keyed.asked; key = key-if keys connection.peer (last_asked connection.steps) (status == 0) keyed.asked }
+refresh-keyed : (keys : List Entry) (connection : ConnectionState) (status : ℕ) → HasKeysOfItsPeer keys connection
+    → HasKeysOfItsPeer keys (with_step connection (Refresh status))
+refresh-keyed keys connection status keyed =
+    record { asked = keyed.asked; key = key-if keys connection.peer (last_asked connection.steps) (status == 0) keyed.asked }
 
-or-ended : (keys : List Entry) (new : ConnectionState) (lost : Bool) → HasKeysOfItsPeer keys new → HasKeysOfItsPeer keys (if lost then after_ending new authentication_failure else new)
+or-ended : (keys : List Entry) (new : ConnectionState) (lost : Bool) → HasKeysOfItsPeer keys new
+    → HasKeysOfItsPeer keys (if lost then after_ending new authentication_failure else new)
 or-ended keys new true keyed = keyed_alike keys new (after_ending new authentication_failure) (refl, refl) keyed
 or-ended keys new false keyed = keyed
 
 -- whom a gained key makes hear is owed by its peer's bond
-same-owed : (keys : List Entry) (rows : Subscriptions) (bonds : Bonds) (owed : ServiceChangedPending) (peer : Peer) → HoldsBonds keys rows bonds owed → is_known keys peer ≡ true
+same-owed : (keys : List Entry) (rows : Subscriptions) (bonds : Bonds) (owed : ServiceChangedPending) (peer : Peer) → HoldsBonds keys rows bonds owed
+    → is_known keys peer ≡ true
     → owes rows peer ≡ owed peer
 same-owed keys rows bonds owed peer holds known =
     ap (λ (found : Option Bond). unwrap_or (option_map (λ (bond : Bond). bond.owed) found) (has_peer rows.unfitted.owed peer))
@@ -59,7 +64,8 @@ and-same : (test one other : Bool) → (test ≡ true → one ≡ other) → (te
 and-same true one other same = same refl
 and-same false one other same = refl
 
-module _ (state : State) (server : ServerState) (place : ℕ) (ordinal : Ordinal) (sound : IsSound state) (refines : RefinesState state [] server) (serving : IsServing state place ordinal) where
+module _ (state : State) (server : ServerState) (place : ℕ) (ordinal : Ordinal) (sound : IsSound state) (refines : RefinesState state [] server)
+    (serving : IsServing state place ordinal) where
   abbrev connection : ConnectionState
   connection = state.connections ordinal
 
@@ -72,10 +78,15 @@ module _ (state : State) (server : ServerState) (place : ℕ) (ordinal : Ordinal
   abbrev live : Own → Effect
   live own = live_effect state.shared (state.bonds connection.peer) (state.owed connection.peer) connection own
 
-  effect-is : (own : Own) → (if is_live connection.mark then live own else effect_on_connection state.shared (state.bonds connection.peer) (state.owed connection.peer) connection) ≡ live own
+  effect-is : (own : Own)
+      → (if is_live connection.mark then live own else effect_on_connection state.shared (state.bonds connection.peer) (state.owed connection.peer) connection)
+      ≡ live own
   effect-is own = live_turned state.shared (state.bonds connection.peer) (state.owed connection.peer) connection serving.live own
 
-  keyed-by : (own : Own) → HasKeysOfItsPeer state.shared.keys (live own).connection → HasKeysOfItsPeer state.shared.keys (if is_live connection.mark then live own else effect_on_connection state.shared (state.bonds connection.peer) (state.owed connection.peer) connection).connection
+  keyed-by : (own : Own) → HasKeysOfItsPeer state.shared.keys (live own).connection
+      → HasKeysOfItsPeer state.shared.keys
+      (if is_live connection.mark then live own else effect_on_connection state.shared (state.bonds connection.peer) (state.owed connection.peer)
+      connection).connection
   keyed-by own keyed = subst (λ (effect : Effect). HasKeysOfItsPeer state.shared.keys effect.connection) (sym (effect-is own)) keyed
 
   is-keyed : HasKeysOfItsPeer state.shared.keys connection
@@ -88,7 +99,8 @@ module _ (state : State) (server : ServerState) (place : ℕ) (ordinal : Ordinal
   abbrev gained : Step → Bool
   gained step = gained_encryption slot_state.link.key (after_step slot_state.link step).key
 
-  gained-known : (step : Step) → HasKeysOfItsPeer state.shared.keys (with_step connection step) → gained step ≡ true → is_known state.shared.keys connection.peer ≡ true
+  gained-known : (step : Step) → HasKeysOfItsPeer state.shared.keys (with_step connection step) → gained step ≡ true
+      → is_known state.shared.keys connection.peer ≡ true
   gained-known step keyed is =
       keyed.key (sym (ap (λ (key : Option KeyFacts). is_some key) (key_of_steps (step ∷ connection.steps)))
       ∙ and_true_right (not (is_some slot_state.link.key)) (is_some (after_step slot_state.link step).key) is)
@@ -105,13 +117,16 @@ module _ (state : State) (server : ServerState) (place : ℕ) (ordinal : Ordinal
       same-owed state.shared.keys server.rows state.bonds state.owed connection.peer is.rows (gained-known step keyed gains)))
 
   link-raised : (own : Own) (step : Step) → HasKeysOfItsPeer state.shared.keys (with_step connection step)
-      → (effect own).to_notify_here ≡ (if gained step && state.owed connection.peer then option_to_list state.shared.changer else []) → (effect own).to_notify ≡ []
+      → (effect own).to_notify_here ≡ (if gained step && state.owed connection.peer then option_to_list state.shared.changer else []) → (effect own).to_notify
+      ≡ []
       → HearsRaised (record state.shared.table { values = (effect own).values }) state.shared.time state.slots (handles_for (Some place) (told_here step) [])
       (at_ordinal ordinal (effect own).to_notify_here (all_to_notify (effect own).to_notify))
   link-raised own step keyed here none =
       raised_at (record state.shared.table { values = (effect own).values }) state.shared.time state.next state.slots place ordinal (told_here step) []
       (effect own).to_notify_here (effect own).to_notify sound.settled.slots serving.there (told-here step keyed ∙ sym here)
-      (λ found slot_state. ap (λ (handles : List Handle). hears_and_skips (record state.shared.table { values = (effect own).values }) state.shared.time found handles slot_state) (sym none))
+      (λ found slot_state.
+      ap (λ (handles : List Handle). hears_and_skips (record state.shared.table { values = (effect own).values }) state.shared.time found handles slot_state)
+      (sym none))
 
   -- its encryption is changed
   encryption-holds : (status enabled : ℕ) → Holds (change_of state (Of ordinal (Encrypted status enabled))).state (all_given state)
@@ -121,7 +136,8 @@ module _ (state : State) (server : ServerState) (place : ℕ) (ordinal : Ordinal
       let own : Own = Encrypted status enabled in
       let step : Step = Encryption status enabled in
       holds_alone state server (holds state server refines) sound.settled place ordinal serving.there (effect own) (after_link_step step)
-      (ap (λ (effect : Effect). effect.values) (effect-is own)) (ap (λ (effect : Effect). effect.bond) (effect-is own)) (ap (λ (effect : Effect). effect.owed) (effect-is own))
+      (ap (λ (effect : Effect). effect.values) (effect-is own)) (ap (λ (effect : Effect). effect.bond) (effect-is own))
+      (ap (λ (effect : Effect). effect.owed) (effect-is own))
       (keyed-by own (or-ended state.shared.keys (with_step connection step) (lost_encryption (key_of connection) (key_of (with_step connection step)))
       (encryption-keyed state.shared.keys connection status enabled is-keyed)))
       (encrypted_kept state.shared (state.bonds connection.peer) (state.owed connection.peer) connection serving.live status enabled)
@@ -137,7 +153,8 @@ module _ (state : State) (server : ServerState) (place : ℕ) (ordinal : Ordinal
       (link-raised own step (encryption-keyed state.shared.keys connection status enabled is-keyed)
       (encrypted_raised state.shared (state.bonds connection.peer) (state.owed connection.peer) connection serving.live status enabled)
       (ap (λ (effect : Effect). effect.to_notify) (effect-is own)))
-      (option_map_or (link_event step) (server_slot_at server place) last.Quiet) (encrypted_told state server place ordinal sound refines serving status enabled (after_link place step server))
+      (option_map_or (link_event step) (server_slot_at server place) last.Quiet)
+      (encrypted_told state server place ordinal sound refines serving status enabled (after_link place step server))
 
   -- its key is refreshed
   refresh-holds : (status : ℕ) → Holds (change_of state (Of ordinal (Refreshed status))).state (all_given state)
@@ -147,7 +164,8 @@ module _ (state : State) (server : ServerState) (place : ℕ) (ordinal : Ordinal
       let own : Own = Refreshed status in
       let step : Step = Refresh status in
       holds_alone state server (holds state server refines) sound.settled place ordinal serving.there (effect own) (after_link_step step)
-      (ap (λ (effect : Effect). effect.values) (effect-is own)) (ap (λ (effect : Effect). effect.bond) (effect-is own)) (ap (λ (effect : Effect). effect.owed) (effect-is own))
+      (ap (λ (effect : Effect). effect.values) (effect-is own)) (ap (λ (effect : Effect). effect.bond) (effect-is own))
+      (ap (λ (effect : Effect). effect.owed) (effect-is own))
       (keyed-by own (or-ended state.shared.keys (with_step connection step) (lost_encryption (key_of connection) (key_of (with_step connection step)))
       (refresh-keyed state.shared.keys connection status is-keyed)))
       (refreshed_kept state.shared (state.bonds connection.peer) (state.owed connection.peer) connection serving.live status)
@@ -162,4 +180,5 @@ module _ (state : State) (server : ServerState) (place : ℕ) (ordinal : Ordinal
       (link-raised own step (refresh-keyed state.shared.keys connection status is-keyed)
       (refreshed_raised state.shared (state.bonds connection.peer) (state.owed connection.peer) connection serving.live status)
       (ap (λ (effect : Effect). effect.to_notify) (effect-is own)))
-      (option_map_or (link_event step) (server_slot_at server place) last.Quiet) (refreshed_told state server place ordinal sound refines serving status (after_link place step server))
+      (option_map_or (link_event step) (server_slot_at server place) last.Quiet)
+      (refreshed_told state server place ordinal sound refines serving status (after_link place step server))

@@ -14,7 +14,7 @@ use Rattle.gatt_host.specs.ServerState.{ServerState}
 use Rattle.gatt_host.specs.EventRefinement.{KnowsTheSame}
 use Rattle.gatt_host.specs.Owing.{all_given, slot_state_handed, slot_states_handed}
 use Rattle.gatt_host.specs.StateRefinement.{IsSound, RefinesState, place_among, place_of_connection}
-use Rattle.gatt_laws.proofs.Settled.{none_next}
+use Rattle.gatt_laws.proofs.invariants.Settled.{none_next}
 use Rattle.gatt_laws.specs.laws.Settled.{has_slot}
 use Rattle.gatt_laws.specs.machine.Context.{holding, ordinal_where, serving}
 use Rattle.gatt_laws.specs.machine.Controller.{Slots, has_free, is_ready, with_taken}

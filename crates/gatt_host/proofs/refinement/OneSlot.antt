@@ -26,7 +26,8 @@ ready-slots state settled place ordinal false is there =
     none-some : {A : Type 0} {x : A} → None ≡ Some x → ⊥
     none-some e = cc e
 
-pub ready_where : (state : State) (settled : IsSettled state) (place : ℕ) (ordinal : Ordinal) → slice_get state.slots place ≡ Some (Some ordinal) → is_ready state.controller ≡ true
+pub ready_where : (state : State) (settled : IsSettled state) (place : ℕ) (ordinal : Ordinal) → slice_get state.slots place ≡ Some (Some ordinal)
+    → is_ready state.controller ≡ true
 ready_where state settled place ordinal there = ready-slots state settled place ordinal (is_ready state.controller) refl there
 
 pub apart : (one other : Ordinal) (slots : Slots) → has_slot one slots ≡ false → has_slot other slots ≡ true → (one == other) ≡ false
@@ -36,7 +37,8 @@ apart one other slots lacks has =
       | false ↦ λ differs. refl
     ] refl
 
-first-later : (next : Ordinal) (slot : Option Ordinal) (slots : Slots) (place : ℕ) (ordinal : Ordinal) → HaveOneSlotEach next (slot ∷ slots) → slot ≡ Some ordinal
+first-later : (next : Ordinal) (slot : Option Ordinal) (slots : Slots) (place : ℕ) (ordinal : Ordinal) → HaveOneSlotEach next (slot ∷ slots)
+    → slot ≡ Some ordinal
     → slice_get slots place ≡ Some (Some ordinal) → ⊥
 first-later next None slots place ordinal each is there = cc is
 first-later next (Some first) slots place ordinal each is there =
@@ -49,7 +51,8 @@ same_place next (slot ∷ slots) zero zero ordinal each there too = refl
 same_place next (slot ∷ slots) zero (suc other) ordinal each there too = absurd (first-later next slot slots other ordinal each (some-is there) too)
 same_place next (slot ∷ slots) (suc one) zero ordinal each there too = absurd (first-later next slot slots one ordinal each (some-is too) there)
 same_place next (None ∷ slots) (suc one) (suc other) ordinal each there too = ap (λ (k : ℕ). suc k) (same_place next slots one other ordinal each there too)
-same_place next (Some first ∷ slots) (suc one) (suc other) ordinal each there too = ap (λ (k : ℕ). suc k) (same_place next slots one other ordinal each.2 there too)
+same_place next (Some first ∷ slots) (suc one) (suc other) ordinal each there too =
+    ap (λ (k : ℕ). suc k) (same_place next slots one other ordinal each.2 there too)
 
 -- what is set at its place is so of it alone
 module _ (old new : Option Ordinal → Option SlotState) (ordinal : Ordinal) (none : old None ≡ new None)
@@ -62,7 +65,8 @@ module _ (old new : Option Ordinal → Option SlotState) (ordinal : Ordinal) (no
       let later : map old slots ≡ map new slots = map_lacking slots (or_false_right (other == ordinal) (has_slot ordinal slots) lacks) in
       λ i. first i ∷ later i
 
-  lacks-later : (next : Ordinal) (slot : Option Ordinal) (slots : Slots) → HaveOneSlotEach next (slot ∷ slots) → slot ≡ Some ordinal → has_slot ordinal slots ≡ false
+  lacks-later : (next : Ordinal) (slot : Option Ordinal) (slots : Slots) → HaveOneSlotEach next (slot ∷ slots) → slot ≡ Some ordinal → has_slot ordinal slots
+      ≡ false
   lacks-later next None slots each is = cc is
   lacks-later next (Some first) slots each is = ap (λ (at : Ordinal). has_slot at slots) (sym (some-is is)) ∙ each.1
 
@@ -79,7 +83,8 @@ module _ (old new : Option Ordinal → Option SlotState) (ordinal : Ordinal) (no
       let later : set (map old slots) place (new (Some ordinal)) ≡ map new slots = set-one next slots place each.2 there in
       λ i. same i ∷ later i
 
-  pub changed_one : (next : Ordinal) (slots : Slots) (place : ℕ) (change : Option SlotState → Option SlotState) → HaveOneSlotEach next slots → slice_get slots place ≡ Some (Some ordinal)
+  pub changed_one : (next : Ordinal) (slots : Slots) (place : ℕ) (change : Option SlotState → Option SlotState) → HaveOneSlotEach next slots
+      → slice_get slots place ≡ Some (Some ordinal)
       → change (old (Some ordinal)) ≡ new (Some ordinal) → at_place place change (map old slots) ≡ map new slots
   changed_one next slots place change each there is =
       let read : slice_get (map old slots) place ≡ Some (old (Some ordinal)) = slice_get-map old slots place ∙ ap (λ found. option_map old found) there in
@@ -95,14 +100,16 @@ pub raised_at : (table : Contents) (now : ℕ) (next : Ordinal) (slots : Slots) 
 raised_at table now next slots place ordinal here handles raised_here raised each there is alike =
     λ at other at_there found slot_state.
     elim (other == ordinal) as (λ (same : Bool). (other == ordinal) ≡ same
-    → hears_and_skips table now found (if place == at then here else handles) slot_state ≡ hears_and_skips table now found (if same then raised_here else raised) slot_state) [
+    → hears_and_skips table now found (if place == at then here else handles) slot_state
+    ≡ hears_and_skips table now found (if same then raised_here else raised) slot_state) [
       | true ↦ λ same.
           let places : place ≡ at =
           same_place next slots place at ordinal each there (at_there ∙ ap (λ (one : Ordinal). Some (Some one)) (eqb-true other ordinal same)) in
           ap (λ (own : Bool). hears_and_skips table now found (if own then here else handles) slot_state) (eq-eqb place at places)
           ∙ ap (λ (those : List Handle). hears_and_skips table now found those slot_state) is
       | false ↦ λ differs.
-          ap (λ (own : Bool). hears_and_skips table now found (if own then here else handles) slot_state) (elsewhere at other at_there differs) ∙ alike found slot_state
+          ap (λ (own : Bool). hears_and_skips table now found (if own then here else handles) slot_state) (elsewhere at other at_there differs)
+          ∙ alike found slot_state
     ] refl
   where
     elsewhere : (at : ℕ) (other : Ordinal) → slice_get slots at ≡ Some (Some other) → (other == ordinal) ≡ false → (place == at) ≡ false
@@ -118,7 +125,8 @@ pub none_raised_at : (table : Contents) (now : ℕ) (slots : Slots) (ordinal : O
     → HearsRaised table now slots (handles_for None [] []) (at_ordinal ordinal raised_here (all_to_notify raised))
 none_raised_at table now slots ordinal raised_here raised none none' =
     λ at other at_there found slot_state.
-    elim (other == ordinal) as (λ (same : Bool). hears_and_skips table now found [] slot_state ≡ hears_and_skips table now found (if same then raised_here else raised) slot_state) [
+    elim (other == ordinal) as
+    (λ (same : Bool). hears_and_skips table now found [] slot_state ≡ hears_and_skips table now found (if same then raised_here else raised) slot_state) [
       | true ↦ ap (λ (those : List Handle). hears_and_skips table now found those slot_state) (sym none)
       | false ↦ ap (λ (those : List Handle). hears_and_skips table now found those slot_state) (sym none')
     ]

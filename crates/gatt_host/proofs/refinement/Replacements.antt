@@ -36,7 +36,8 @@ use Rattle.le_security.specs.declared.entry.Entry.{Entry}
 abbrev rows_replaced : Contents → Contents → Subscriptions → Subscriptions
 rows_replaced old new rows = record rows { bonds = map (with_changes_owed (changer_of new)) (map (kept_bond old.attributes new.attributes) rows.bonds) }
 
-mapped-twice : (known : Bool) (f g : Bond → Bond) (bond : Bond) → option_map g (option_map f (if known then Some bond else None)) ≡ (if known then Some (g (f bond)) else None)
+mapped-twice : (known : Bool) (f g : Bond → Bond) (bond : Bond) → option_map g (option_map f (if known then Some bond else None))
+    ≡ (if known then Some (g (f bond)) else None)
 mapped-twice true f g bond = refl
 mapped-twice false f g bond = refl
 
@@ -44,7 +45,8 @@ wants-none : (changer : Option Handle) → wants_changes changer [] ≡ false
 wants-none None = refl
 wants-none (Some handle) = refl
 
-bonds-replaced : (keys : List Entry) (rows : Subscriptions) (bonds : Bonds) (owed : ServiceChangedPending) (old new : Contents) → HoldsBonds keys rows bonds owed
+bonds-replaced : (keys : List Entry) (rows : Subscriptions) (bonds : Bonds) (owed : ServiceChangedPending) (old new : Contents)
+    → HoldsBonds keys rows bonds owed
     → HoldsBonds keys (rows_replaced old new rows) (bonds_replaced old new bonds) (owed_by (changer_of new) (bonds_replaced old new bonds))
 bonds-replaced keys rows bonds owed old new holds =
     let keep : Bond → Bond = kept_bond old.attributes new.attributes in
@@ -72,7 +74,9 @@ replaced-link : (old new : Contents) (connection : ConnectionState) → SameLink
 replaced-link old new connection =
     let row : Row = kept_row old.attributes new.attributes connection.row in
     elim (is_live connection.mark) as (λ (live : Bool). SameLink connection
-    (record (if live then record connection { said = Dropped ∷ connection.said; pending = after_replacement connection.pending } else connection) { row = row })) [
+    (record (if live then record connection { said = Dropped ∷ connection.said; pending = after_replacement connection.pending } else connection) {
+      row = row;
+    })) [
       | true ↦ (refl, refl)
       | false ↦ (refl, refl)
     ]
@@ -106,7 +110,8 @@ module _ (state : State) (server : ServerState) (table : Contents) (sound : IsSo
         rows = subst (λ (old : Contents). HoldsBonds state.shared.keys (rows_replaced old table server.rows) new.bonds new.owed) (sym is.table)
             (bonds-replaced state.shared.keys server.rows state.bonds state.owed state.shared.table table is.rows);
         keyed = λ ordinal.
-            keyed_alike state.shared.keys (state.connections ordinal) (new.connections ordinal) (replaced-link state.shared.table table (state.connections ordinal)) (is.keyed ordinal);
+            keyed_alike state.shared.keys (state.connections ordinal) (new.connections ordinal)
+            (replaced-link state.shared.table table (state.connections ordinal)) (is.keyed ordinal);
         controller = is.controller;
         free = λ early. ap (λ slots. map (becoming server.table) slots) (is.free early) ∙ free_each (becoming server.table) refl state.shared.slots;
         ready = λ ready. each_length (becoming server.table) server.slots ∙ is.ready ready;
@@ -119,4 +124,5 @@ module _ (state : State) (server : ServerState) (table : Contents) (sound : IsSo
   pub replacement_leads : RefinesStep state (Replaced table) (after_replacing table server)
   unfolding change_of event_told
   replacement_leads =
-      ends state (Replaced table) sound tt with_table replacement-holds None [] (option_to_list (changer_of table)) (λ place ordinal there found slot_state. refl) refl
+      ends state (Replaced table) sound tt with_table replacement-holds None [] (option_to_list (changer_of table))
+      (λ place ordinal there found slot_state. refl) refl

@@ -55,11 +55,13 @@ differs-too one other differs =
       | false ↦ λ is. refl
     ] refl
 
-mapped-known : (known : Bool) (change : Bond → Bond) (bond : Bond) → option_map change (if known then Some bond else None) ≡ (if known then Some (change bond) else None)
+mapped-known : (known : Bool) (change : Bond → Bond) (bond : Bond) → option_map change (if known then Some bond else None)
+    ≡ (if known then Some (change bond) else None)
 mapped-known true change bond = refl
 mapped-known false change bond = refl
 
-pub bonds_changed : (keys : List Entry) (change : Bond → Bond) (peer : Peer) (old new : Subscriptions) (bonds : Bonds) (owed : ServiceChangedPending) (row : Row) (owes : Bool)
+pub bonds_changed : (keys : List Entry) (change : Bond → Bond) (peer : Peer) (old new : Subscriptions) (bonds : Bonds) (owed : ServiceChangedPending)
+    (row : Row) (owes : Bool)
     → HoldsBonds keys old bonds owed → ChangesBond change peer old new
     → change (bond_in bonds owed peer) ≡ record { row = row; owed = owes }
     → (is_known keys peer ≡ false → row ≡ bonds peer) → (is_known keys peer ≡ false → owes ≡ owed peer)
@@ -67,9 +69,11 @@ pub bonds_changed : (keys : List Entry) (change : Bond → Bond) (peer : Peer) (
 bonds_changed keys change peer old new bonds owed row owes holds changes is row-stays owed-stays = record {
   known = λ other.
       elim (same_peer other peer) as (λ (same : Bool). same_peer other peer ≡ same
-      → bond_of new other ≡ (if is_known keys other then Some (record { row = if same then row else bonds other; owed = if same then owes else owed other }) else None)) [
+      → bond_of new other ≡ (if is_known keys other then Some (record { row = if same then row else bonds other; owed = if same then owes else owed other })
+      else None)) [
         | true ↦ λ same.
-            subst (λ (one : Peer). bond_of new one ≡ (if is_known keys one then Some (record { row = row; owed = owes }) else None)) (sym (equal_peers other peer same))
+            subst (λ (one : Peer). bond_of new one ≡ (if is_known keys one then Some (record { row = row; owed = owes }) else None))
+            (sym (equal_peers other peer same))
             (changes.bond ∙ ap (λ found. option_map change found) (holds.known peer) ∙ mapped-known (is_known keys peer) change (bond_in bonds owed peer)
             ∙ ap (λ (bond : Bond). if is_known keys peer then Some bond else None) is)
         | false ↦ λ differs. changes.others other (differs-too other peer differs) ∙ holds.known other
@@ -96,11 +100,13 @@ bonds_changed keys change peer old new bonds owed row owes holds changes is row-
 }
 
 -- what a request leaves of the bond of a peer that has no key
-row-without-key : (full confirmed : Bool) (new : Row) (bond : Bond) → (if full then bond else with_owed_after confirmed (bond_after false new bond)).row ≡ bond.row
+row-without-key : (full confirmed : Bool) (new : Row) (bond : Bond) → (if full then bond else with_owed_after confirmed (bond_after false new bond)).row
+    ≡ bond.row
 row-without-key true confirmed new bond = refl
 row-without-key false confirmed new bond = refl
 
-owed-without-key : (full confirmed : Bool) (new : Row) (bond : Bond) → bond.owed ≡ false → (if full then bond else with_owed_after confirmed (bond_after false new bond)).owed ≡ bond.owed
+owed-without-key : (full confirmed : Bool) (new : Row) (bond : Bond) → bond.owed ≡ false
+    → (if full then bond else with_owed_after confirmed (bond_after false new bond)).owed ≡ bond.owed
 owed-without-key true confirmed new bond none = refl
 owed-without-key false confirmed new bond none = ap (λ (owed : Bool). owed && not confirmed) none ∙ sym none
 
@@ -116,7 +122,8 @@ unless-full : (full : Bool) (handles : List Handle) → (if full then [] else ha
 unless-full true handles = refl
 unless-full false handles = refl
 
-module _ (state : State) (server new : ServerState) (place : ℕ) (ordinal : Ordinal) (pdu : Octets) (sound : IsSound state) (refines : RefinesState state [] server) (serving : IsServing state place ordinal) where
+module _ (state : State) (server new : ServerState) (place : ℕ) (ordinal : Ordinal) (pdu : Octets) (sound : IsSound state)
+    (refines : RefinesState state [] server) (serving : IsServing state place ordinal) where
   abbrev connection : ConnectionState
   connection = state.connections ordinal
 
@@ -155,7 +162,8 @@ module _ (state : State) (server new : ServerState) (place : ℕ) (ordinal : Ord
         | false ↦ (refl, refl)
       ]
 
-  request-keyed : HasKeysOfItsPeer state.shared.keys (if is_live connection.mark then live else effect_on_connection state.shared (state.bonds peer) (state.owed peer) connection).connection
+  request-keyed : HasKeysOfItsPeer state.shared.keys
+      (if is_live connection.mark then live else effect_on_connection state.shared (state.bonds peer) (state.owed peer) connection).connection
   request-keyed =
       subst (λ (effect : Effect). HasKeysOfItsPeer state.shared.keys effect.connection) (sym effect-is)
       (keyed_alike state.shared.keys connection live.connection request-link (is.keyed ordinal))
@@ -164,7 +172,9 @@ module _ (state : State) (server new : ServerState) (place : ℕ) (ordinal : Ord
   abbrev table : Contents
   table = table_after server.table server.time found pdu slot_state
 
-  with-values : (one : Contents) (now : ℕ) → table_after one now found pdu slot_state ≡ record one { values = (table_after one now found pdu slot_state).values }
+  with-values : (one : Contents) (now : ℕ) → table_after one now found pdu slot_state ≡ record one {
+    values = (table_after one now found pdu slot_state).values;
+  }
   with-values one now =
       elim (overflows pdu slot_state) as (λ (full : Bool). (if full then one else record one { values = (stored_of one now found pdu slot_state).values })
       ≡ record one { values = (if full then one else record one { values = (stored_of one now found pdu slot_state).values }).values }) [
@@ -204,20 +214,24 @@ module _ (state : State) (server new : ServerState) (place : ℕ) (ordinal : Ord
   abbrev changed_by : Bool → Bond
   changed_by has_key =
       if overflows pdu slot_state then bonded
-      else with_owed_after (confirms_changes server.changer pdu slot_state) (bond_after has_key (stored_of server.table server.time found pdu slot_state).row bonded)
+      else with_owed_after (confirms_changes server.changer pdu slot_state)
+      (bond_after has_key (stored_of server.table server.time found pdu slot_state).row bonded)
 
   row-stays : is_known state.shared.keys peer ≡ false → effect.bond ≡ state.bonds peer
   row-stays unknown =
       sym (ap (λ (bond : Bond). bond.row) change-is) ∙ ap (λ (has_key : Bool). (changed_by has_key).row) (no-key unknown)
-      ∙ row-without-key (overflows pdu slot_state) (confirms_changes server.changer pdu slot_state) (stored_of server.table server.time found pdu slot_state).row bonded
+      ∙ row-without-key (overflows pdu slot_state) (confirms_changes server.changer pdu slot_state)
+      (stored_of server.table server.time found pdu slot_state).row bonded
 
   owed-stays : is_known state.shared.keys peer ≡ false → effect.owed ≡ state.owed peer
   owed-stays unknown =
       sym (ap (λ (bond : Bond). bond.owed) change-is) ∙ ap (λ (has_key : Bool). (changed_by has_key).owed) (no-key unknown)
-      ∙ owed-without-key (overflows pdu slot_state) (confirms_changes server.changer pdu slot_state) (stored_of server.table server.time found pdu slot_state).row bonded (is.rows.owing peer unknown)
+      ∙ owed-without-key (overflows pdu slot_state) (confirms_changes server.changer pdu slot_state)
+      (stored_of server.table server.time found pdu slot_state).row bonded (is.rows.owing peer unknown)
 
   -- what its slot keeps
-  slot-is : slot_state_if_there state.shared effect.connection connection.given ≡ option_map (slot_after_request server.table server.time found pdu) (slot_state_if_there state.shared connection connection.given)
+  slot-is : slot_state_if_there state.shared effect.connection connection.given ≡ option_map (slot_after_request server.table server.time found pdu)
+      (slot_state_if_there state.shared connection connection.given)
   slot-is =
       served_kept state.shared found (state.bonds peer) (state.owed peer) connection pdu serving.live (sound.queued ordinal) has
       ∙ λ i. option_map (slot_after_request (sym is.table i) (sym is.time i) found pdu) (slot_state_if_there state.shared connection connection.given)
@@ -230,12 +244,14 @@ module _ (state : State) (server new : ServerState) (place : ℕ) (ordinal : Ord
     written = handles_written_by server.table server.time found pdu slot_state;
   }
 
-  request-holds : (rows : Subscriptions) → ChangesBond change peer server.rows rows → Holds (change_of state (Of ordinal (Asks pdu))).state (all_given state) (serving_it rows)
+  request-holds : (rows : Subscriptions) → ChangesBond change peer server.rows rows → Holds (change_of state (Of ordinal (Asks pdu))).state (all_given state)
+      (serving_it rows)
   unfolding change_of
   request-holds rows changes =
       holds_with_written (turned state ordinal effect) (all_given state) _ (handles_written_by server.table server.time found pdu slot_state)
       (holds_turned state server is sound.settled place ordinal serving.there effect (slot_after_request server.table server.time found pdu) table rows table-is
-      (bonds_changed state.shared.keys change peer server.rows rows state.bonds state.owed effect.bond effect.owed is.rows changes change-is row-stays owed-stays)
+      (bonds_changed state.shared.keys change peer server.rows rows state.bonds state.owed effect.bond effect.owed is.rows changes change-is row-stays
+      owed-stays)
       request-keyed slot-is)
 
   -- there is no room for an answer that is due
@@ -249,7 +265,8 @@ module _ (state : State) (server new : ServerState) (place : ℕ) (ordinal : Ord
   handles = handles_written_by server.table server.time found pdu slot_state
 
   raised-alike : (now : ℕ) (row : Option Row) (hearer : SlotState)
-      → hears_and_skips (record state.shared.table { values = effect.values }) now row handles hearer ≡ hears_and_skips (record state.shared.table { values = effect.values }) now row effect.to_notify hearer
+      → hears_and_skips (record state.shared.table { values = effect.values }) now row handles hearer
+      ≡ hears_and_skips (record state.shared.table { values = effect.values }) now row effect.to_notify hearer
   raised-alike now row hearer =
       let after : Contents = record state.shared.table { values = effect.values } in
       let those : List Handle = handles_written_by state.shared.table state.shared.time found pdu slot_state in
@@ -261,7 +278,8 @@ module _ (state : State) (server new : ServerState) (place : ℕ) (ordinal : Ord
   request-raised : HearsRaised (record state.shared.table { values = effect.values }) state.shared.time state.slots (handles_for (Some place) [] handles)
       (at_ordinal ordinal effect.to_notify_here (all_to_notify effect.to_notify))
   request-raised =
-      raised_at (record state.shared.table { values = effect.values }) state.shared.time state.next state.slots place ordinal [] handles effect.to_notify_here effect.to_notify
+      raised_at (record state.shared.table { values = effect.values }) state.shared.time state.next state.slots place ordinal [] handles effect.to_notify_here
+      effect.to_notify
       sound.settled.slots serving.there
       (sym (served_raised_here state.shared found (state.bonds peer) (state.owed peer) connection pdu serving.live (sound.queued ordinal) has))
       (raised-alike state.shared.time)
@@ -273,7 +291,8 @@ module _ (state : State) (server new : ServerState) (place : ℕ) (ordinal : Ord
       let those : List Handle = handles_by state.shared.table (row_in_force (state.bonds peer) connection) (bearer_of state.shared connection) asked in
       (λ i. handles_written_by (is.table i) (is.time i) found pdu slot_state)
       ∙ (λ i. if overflows pdu slot_state then []
-      else handles_by state.shared.table (row_kept state.shared connection connection.given found (state.bonds peer) has i) (connection_kept state.shared connection connection.given i) asked)
+      else handles_by state.shared.table (row_kept state.shared connection connection.given found (state.bonds peer) has i)
+      (connection_kept state.shared connection connection.given i) asked)
       ∙ unless-full (overflows pdu slot_state) those
       ∙ ap (λ (full : Bool). if not full then those else []) (sym same-full)
       ∙ ap (λ (live : Bool). if live && not (is_due asked && is_full state.shared connection) then those else []) (sym serving.live)
@@ -285,7 +304,8 @@ module _ (state : State) (server new : ServerState) (place : ℕ) (ordinal : Ord
       ap (λ (effect : Effect). is_there effect.connection.mark) effect-is
       ∙ elim (is_due (request_of pdu (connection_mtu state.shared connection)) && is_full state.shared connection) as (λ (full : Bool). is_there
       (if full then effect_on_connection state.shared (state.bonds peer) (state.owed peer) (after_ending connection remote_user_terminated)
-      else served state.shared (state.bonds peer) (state.owed peer) connection pdu (request_of pdu (connection_mtu state.shared connection))).connection.mark ≡ true) [
+      else served state.shared (state.bonds peer) (state.owed peer) connection pdu (request_of pdu (connection_mtu state.shared connection))).connection.mark
+      ≡ true) [
         | true ↦ refl
         | false ↦ live_there connection.mark serving.live
       ]
@@ -304,18 +324,23 @@ module _ (state : State) (server new : ServerState) (place : ℕ) (ordinal : Ord
     bonds_then = at_peer peer effect.bond state.bonds
 
     abbrev connection_then : ConnectionState
-    connection_then = finished shared_then bonds_then (at_ordinal ordinal effect.to_notify_here (all_to_notify effect.to_notify) ordinal) (at_ordinal ordinal effect.connection state.connections ordinal)
+    connection_then =
+        finished shared_then bonds_then (at_ordinal ordinal effect.to_notify_here (all_to_notify effect.to_notify) ordinal)
+        (at_ordinal ordinal effect.connection state.connections ordinal)
 
     connection-is : Stays effect.connection connection_then
     connection-is =
-        subst (λ (connection : ConnectionState). Stays connection connection_then) (ap (λ (same : Bool). if same then effect.connection else connection) (eq-eqb ordinal ordinal refl))
-        (finished_stays shared_then bonds_then (at_ordinal ordinal effect.to_notify_here (all_to_notify effect.to_notify) ordinal) (at_ordinal ordinal effect.connection state.connections ordinal))
+        subst (λ (connection : ConnectionState). Stays connection connection_then)
+        (ap (λ (same : Bool). if same then effect.connection else connection) (eq-eqb ordinal ordinal refl))
+        (finished_stays shared_then bonds_then (at_ordinal ordinal effect.to_notify_here (all_to_notify effect.to_notify) ordinal)
+        (at_ordinal ordinal effect.connection state.connections ordinal))
 
     -- what its slot keeps then
     slots-then : served_held.slots ≡ slot_states_handed (before_commands state (Of ordinal (Asks pdu))) (all_given state)
     unfolding change_of
     slots-then =
-        sym (ap (λ (open_now : Bool). if open_now then served_held.slots else []) (ap is_ready is.controller ∙ ready_where state sound.settled place ordinal serving.there))
+        sym (ap (λ (open_now : Bool). if open_now then served_held.slots else [])
+        (ap is_ready is.controller ∙ ready_where state sound.settled place ordinal serving.there))
         ∙ slots_heard state (Of ordinal (Asks pdu)) sound tt (serving_it rows) (request-holds rows changes) (Some place) [] handles request-raised
 
     kept-then : server_slot_at served_held place ≡ Some (slot_state_of shared_then connection_then connection.given)
@@ -325,11 +350,14 @@ module _ (state : State) (server new : ServerState) (place : ℕ) (ordinal : Ord
         ap (λ (slots : List (Option SlotState)). option_map_or (λ (slot : Option SlotState). slot) (slice_get slots place) None) slots-then
         ∙ ap (λ found. option_map_or (λ (slot : Option SlotState). slot) found None)
         (slice_get-map keep state.slots place ∙ ap (λ found. option_map keep found) serving.there)
-        ∙ ap (λ (there : Bool). if there then Some (slot_state_of shared_then connection_then connection.given) else None) (ap is_there connection-is.mark ∙ stays-there)
+        ∙ ap (λ (there : Bool). if there then Some (slot_state_of shared_then connection_then connection.given) else None)
+        (ap is_there connection-is.mark ∙ stays-there)
 
     -- the row in force then
     bonds-held : HoldsBonds state.shared.keys rows bonds_then (at_peer peer effect.owed state.owed)
-    bonds-held = bonds_changed state.shared.keys change peer server.rows rows state.bonds state.owed effect.bond effect.owed is.rows changes change-is row-stays owed-stays
+    bonds-held =
+        bonds_changed state.shared.keys change peer server.rows rows state.bonds state.owed effect.bond effect.owed is.rows changes change-is row-stays
+        owed-stays
 
     has-then : is_some (key_of connection_then) ≡ true → row_of rows connection_then.peer ≡ Some (bonds_then connection_then.peer)
     has-then = has_row state.shared.keys rows bonds_then (at_peer peer effect.owed state.owed) connection_then bonds-held
@@ -341,7 +369,8 @@ module _ (state : State) (server new : ServerState) (place : ℕ) (ordinal : Ord
 
     row-then : row_at_place served_held place ≡ row_in_force effect.bond effect.connection
     row-then =
-        ap (λ (slot : Option SlotState). option_map_or (λ (slot_state : SlotState). slot_row_in_force (row_at served_held slot_state) slot_state) slot []) kept-then
+        ap (λ (slot : Option SlotState). option_map_or (λ (slot_state : SlotState). slot_row_in_force (row_at served_held slot_state) slot_state) slot [])
+        kept-then
         ∙ row_kept shared_then connection_then connection.given (row_of rows connection_then.peer) (bonds_then connection_then.peer) has-then
         ∙ λ i. if is_some (key_after (connection-is.steps i)) then bond-then i else connection-is.row i
 
@@ -349,7 +378,8 @@ module _ (state : State) (server new : ServerState) (place : ℕ) (ordinal : Ord
     confirmed-told : map (Confirmed connection.handle) (option_to_list (confirmed_of pdu slot_state))
         ≡ (if is_confirmation pdu then confirmation_told connection.handle connection.pending.unconfirmed else [])
     confirmed-told =
-        elim (is_confirmation pdu) as (λ (is : Bool). map (Confirmed connection.handle) (option_to_list (if is then confirmed_handle connection.pending else None))
+        elim (is_confirmation pdu) as
+        (λ (is : Bool). map (Confirmed connection.handle) (option_to_list (if is then confirmed_handle connection.pending else None))
         ≡ (if is then confirmation_told connection.handle connection.pending.unconfirmed else [])) [
           | true ↦ confirmed-by connection.handle connection.pending.unconfirmed
           | false ↦ refl
@@ -360,8 +390,10 @@ module _ (state : State) (server new : ServerState) (place : ℕ) (ordinal : Ord
     ended-told =
         let asked : Question = request_of pdu (connection_mtu state.shared connection) in
         ap (λ (full : Bool). if full then Ending connection.handle remote_user_terminated ∷ [] else []) (sym same-full)
-        ∙ elim (is_due asked && is_full state.shared connection) as (λ (full : Bool). (if full then Ending connection.handle remote_user_terminated ∷ [] else [])
-        ≡ end_told connection.handle (if full then effect_on_connection state.shared (state.bonds peer) (state.owed peer) (after_ending connection remote_user_terminated)
+        ∙ elim (is_due asked && is_full state.shared connection) as
+        (λ (full : Bool). (if full then Ending connection.handle remote_user_terminated ∷ [] else [])
+        ≡ end_told connection.handle
+        (if full then effect_on_connection state.shared (state.bonds peer) (state.owed peer) (after_ending connection remote_user_terminated)
         else served state.shared (state.bonds peer) (state.owed peer) connection pdu asked).connection) [
           | true ↦ refl
           | false ↦ sym (ap (λ (live : Bool). if live then [] else map (Ending connection.handle) (option_to_list connection.reason)) serving.live)
@@ -372,7 +404,8 @@ module _ (state : State) (server new : ServerState) (place : ℕ) (ordinal : Ord
     unfolding event_told
     request-told =
         (λ i. (map (write_told (table-is i).attributes (row-then i) connection.handle) (handles-written i) ++ confirmed-told i) ++ ended-told i)
-        ∙ sym (ap (λ (live : Bool). if live then live_told state.shared (state.bonds peer) connection (Asks pdu) effect ++ end_told connection.handle effect.connection else []) serving.live)
+        ∙ sym (ap (λ (live : Bool). if live then live_told state.shared (state.bonds peer) connection (Asks pdu) effect
+        ++ end_told connection.handle effect.connection else []) serving.live)
 
     request-leads : RefinesStep state (Of ordinal (Asks pdu)) served_held
     unfolding change_of
@@ -386,11 +419,14 @@ module _ (state : State) (server new : ServerState) (place : ℕ) (ordinal : Ord
       (request-leads new.rows serves.bond)
 
   kept-found : (kept' : SlotState) → server_slot_at server place ≡ Some kept' → kept' ≡ slot_state
-  kept-found kept' at = sym (some-is (sym (kept_here state server is sound.settled place ordinal serving.there effect (λ slot_state. slot_state) serving.live) ∙ at))
+  kept-found kept' at =
+      sym (some-is (sym (kept_here state server is sound.settled place ordinal serving.there effect (λ slot_state. slot_state) serving.live) ∙ at))
 
 pub request_leads : (state : State) (server new : ServerState) (place : ℕ) (ordinal : Ordinal) (pdu : Octets) (slot_state : SlotState) → IsSound state
-    → RefinesState state [] server → IsServing state place ordinal → server_slot_at server place ≡ Some slot_state → ServesRequest place pdu slot_state server new
+    → RefinesState state [] server → IsServing state place ordinal → server_slot_at server place ≡ Some slot_state
+    → ServesRequest place pdu slot_state server new
     → RefinesStep state (Of ordinal (Asks pdu)) new
 request_leads state server new place ordinal pdu slot_state sound refines serving at serves =
     served-leads state server new place ordinal pdu sound refines serving
-    (subst (λ (slot_state : SlotState). ServesRequest place pdu slot_state server new) (kept-found state server new place ordinal pdu sound refines serving slot_state at) serves)
+    (subst (λ (slot_state : SlotState). ServesRequest place pdu slot_state server new)
+    (kept-found state server new place ordinal pdu sound refines serving slot_state at) serves)

@@ -34,7 +34,8 @@ use Rattle.octet_io.specs.Number.{Octets}
 serves-on : (handle : ℕ) (connection : ConnectionState) → is_live connection.mark ≡ true → end_told handle connection ≡ []
 serves-on handle connection live = ap (λ (is : Bool). if is then [] else map (Ending handle) (option_to_list connection.reason)) live
 
-module _ (state : State) (server : ServerState) (place : ℕ) (ordinal : Ordinal) (sound : IsSound state) (refines : RefinesState state [] server) (serving : IsServing state place ordinal) where
+module _ (state : State) (server : ServerState) (place : ℕ) (ordinal : Ordinal) (sound : IsSound state) (refines : RefinesState state [] server)
+    (serving : IsServing state place ordinal) where
   abbrev connection : ConnectionState
   connection = state.connections ordinal
 
@@ -47,7 +48,9 @@ module _ (state : State) (server : ServerState) (place : ℕ) (ordinal : Ordinal
   abbrev live : Own → Effect
   live own = live_effect state.shared (state.bonds connection.peer) (state.owed connection.peer) connection own
 
-  effect-is : (own : Own) → (if is_live connection.mark then live own else effect_on_connection state.shared (state.bonds connection.peer) (state.owed connection.peer) connection) ≡ live own
+  effect-is : (own : Own)
+      → (if is_live connection.mark then live own else effect_on_connection state.shared (state.bonds connection.peer) (state.owed connection.peer) connection)
+      ≡ live own
   effect-is own = live_turned state.shared (state.bonds connection.peer) (state.owed connection.peer) connection serving.live own
 
   -- what its slot keeps
@@ -70,7 +73,8 @@ module _ (state : State) (server : ServerState) (place : ℕ) (ordinal : Ordinal
   unfolding event_told live_effect
   authorized_told until =
       let own : Own = Authorized until in
-      sym (if-live (end_told connection.handle (effect own).connection) ∙ end-is (effect own) (live own) (effect-is own) ∙ serves-on connection.handle (live own).connection serving.live)
+      sym (if-live (end_told connection.handle (effect own).connection) ∙ end-is (effect own) (live own) (effect-is own)
+      ∙ serves-on connection.handle (live own).connection serving.live)
 
   pub disconnected_told : (any : ServerState)
       → notices_by any (option_map_or end_event (server_slot_at server place) last.Quiet) ≡ event_told state (Of ordinal Ended)
@@ -83,7 +87,8 @@ module _ (state : State) (server : ServerState) (place : ℕ) (ordinal : Ordinal
   unfolding event_told live_effect
   key_asked_told random_number diversifier =
       let own : Own = KeyAsked random_number diversifier in
-      sym (if-live (end_told connection.handle (effect own).connection) ∙ end-is (effect own) (live own) (effect-is own) ∙ serves-on connection.handle (live own).connection serving.live)
+      sym (if-live (end_told connection.handle (effect own).connection) ∙ end-is (effect own) (live own) (effect-is own)
+      ∙ serves-on connection.handle (live own).connection serving.live)
 
   -- a payload of another channel
   abbrev full_event : Bool → LastEvent
@@ -103,7 +108,8 @@ module _ (state : State) (server : ServerState) (place : ℕ) (ordinal : Ordinal
       ]
 
   pub other_channel_told : (channel : ℕ) (payload : Octets) (any : ServerState)
-      → notices_by any (option_map_or (other_channel_event channel payload) (server_slot_at server place) last.Quiet) ≡ event_told state (Of ordinal (OtherChannel channel payload))
+      → notices_by any (option_map_or (other_channel_event channel payload) (server_slot_at server place) last.Quiet)
+      ≡ event_told state (Of ordinal (OtherChannel channel payload))
   unfolding event_told live_effect
   other_channel_told channel payload any =
       let own : Own = OtherChannel channel payload in
@@ -146,7 +152,8 @@ module _ (state : State) (server : ServerState) (place : ℕ) (ordinal : Ordinal
       let own : Own = Encrypted status enabled in
       link-told (Encryption status enabled) any
       ∙ sym (if-live (link_told connection.handle (key_of connection) (key_of (effect own).connection) ++ end_told connection.handle (effect own).connection)
-      ∙ ap (λ (effect : Effect). link_told connection.handle (key_of connection) (key_of effect.connection) ++ end_told connection.handle effect.connection) (effect-is own))
+      ∙ ap (λ (effect : Effect). link_told connection.handle (key_of connection) (key_of effect.connection) ++ end_told connection.handle effect.connection)
+      (effect-is own))
 
   pub refreshed_told : (status : ℕ) (any : ServerState)
       → notices_by any (option_map_or (link_event (Refresh status)) (server_slot_at server place) last.Quiet) ≡ event_told state (Of ordinal (Refreshed status))
@@ -155,7 +162,8 @@ module _ (state : State) (server : ServerState) (place : ℕ) (ordinal : Ordinal
       let own : Own = Refreshed status in
       link-told (Refresh status) any
       ∙ sym (if-live (link_told connection.handle (key_of connection) (key_of (effect own).connection) ++ end_told connection.handle (effect own).connection)
-      ∙ ap (λ (effect : Effect). link_told connection.handle (key_of connection) (key_of effect.connection) ++ end_told connection.handle effect.connection) (effect-is own))
+      ∙ ap (λ (effect : Effect). link_told connection.handle (key_of connection) (key_of effect.connection) ++ end_told connection.handle effect.connection)
+      (effect-is own))
 
 -- a connection is gone
 pub gone_told : (state : State) (server : ServerState) (place : ℕ) (ordinal : Ordinal) → IsSound state → RefinesState state [] server
@@ -175,7 +183,8 @@ slot-late : (state : State) (now : ℕ) (ordinal : Ordinal) → is_there (state.
     → map TimedOut (option_map_or (late_handle now) (slot_state_handed state (all_given state) (Some ordinal)) []) ≡ late_told now (state.connections ordinal)
 slot-late state now ordinal has =
     let connection : ConnectionState = state.connections ordinal in
-    ap (λ (is : Bool). map TimedOut (option_map_or (late_handle now) (if is then Some (slot_state_of state.shared connection connection.given) else None) [])) has
+    ap (λ (is : Bool). map TimedOut (option_map_or (late_handle now) (if is then Some (slot_state_of state.shared connection connection.given) else None) []))
+    has
     ∙ elim (times_out connection.pending now) as (λ (late : Bool). map TimedOut (if late then connection.handle ∷ [] else [])
     ≡ (if late then TimedOut connection.handle ∷ [] else [])) [ true ↦ refl | false ↦ refl ]
 
@@ -205,7 +214,8 @@ unfolding event_told
 tick_told state server now sound refines =
     let is : Holds state (all_given state) server = holds state server refines in
     let wanted : Slots → List Notice = λ slots. flat_map (slot_told state now) slots in
-    elim (is_ready state.controller) as (λ (ready : Bool). is_ready state.controller ≡ ready → map TimedOut (late_handles now server.slots) ≡ wanted state.slots) [
+    elim (is_ready state.controller) as (λ (ready : Bool). is_ready state.controller ≡ ready → map TimedOut (late_handles now server.slots)
+    ≡ wanted state.slots) [
       | true ↦ λ ready.
           ap (λ slots. map TimedOut (late_handles now slots)) (were_open state (all_given state) server is ready)
           ∙ slots-late state now state.slots sound.placed.there

@@ -16,21 +16,25 @@ use Rattle.att_reads.specs.Answer.{value_answer}
 
 -- a value that needs authorization is read before the moment, and not at it
 until_a_moment : sent_to post 2 4 phone
-    (authorize 1000 ++ stream (asks_on (0x0A ∷ 0x03 ∷ 0x00 ∷ [])) ++ tick 999 ++ stream (asks_on (0x0A ∷ 0x03 ∷ 0x00 ∷ [])) ++ tick 1000 ++ stream (asks_on (0x0A ∷ 0x03 ∷ 0x00 ∷ [])) ++ authorize 1000 ++ stream (asks_on (0x0A ∷ 0x03 ∷ 0x00 ∷ [])))
-    ≡ enable ∷ told (0x0B ∷ 0x00 ∷ []) ∷ told (0x0B ∷ 0x00 ∷ []) ∷ told (0x01 ∷ 0x0A ∷ 0x03 ∷ 0x00 ∷ 0x08 ∷ []) ∷ told (0x01 ∷ 0x0A ∷ 0x03 ∷ 0x00 ∷ 0x08 ∷ []) ∷ []
+    (authorize 1000 ++ stream (asks_on (0x0A ∷ 0x03 ∷ 0x00 ∷ [])) ++ tick 999 ++ stream (asks_on (0x0A ∷ 0x03 ∷ 0x00 ∷ [])) ++ tick 1000
+    ++ stream (asks_on (0x0A ∷ 0x03 ∷ 0x00 ∷ [])) ++ authorize 1000 ++ stream (asks_on (0x0A ∷ 0x03 ∷ 0x00 ∷ [])))
+    ≡ enable ∷ told (0x0B ∷ 0x00 ∷ []) ∷ told (0x0B ∷ 0x00 ∷ []) ∷ told (0x01 ∷ 0x0A ∷ 0x03 ∷ 0x00 ∷ 0x08 ∷ []) ∷ told (0x01 ∷ 0x0A ∷ 0x03 ∷ 0x00 ∷ 0x08 ∷ [])
+    ∷ []
 unfolding run after_item packet_event step change_of live_effect after_hearing commands_due out frame_at form_of pieces after_entries value_answer
 until_a_moment = refl
 
 -- and heard of before it; what waits then is not told any more
 heard_until : sent_to post 2 4 phone
-    (authorize 1000 ++ stream (asks_on (0x12 ∷ 0x04 ∷ 0x00 ∷ 0x02 ∷ 0x00 ∷ [])) ++ update 3 (0x01 ∷ []) ++ stream (completed 1) ++ update 3 (0x02 ∷ []) ++ tick 1000 ++ stream (asks (0x1E ∷ [])) ++ authorize 2000 ++ update 3 (0x03 ∷ []))
+    (authorize 1000 ++ stream (asks_on (0x12 ∷ 0x04 ∷ 0x00 ∷ 0x02 ∷ 0x00 ∷ [])) ++ update 3 (0x01 ∷ []) ++ stream (completed 1) ++ update 3 (0x02 ∷ [])
+    ++ tick 1000 ++ stream (asks (0x1E ∷ [])) ++ authorize 2000 ++ update 3 (0x03 ∷ []))
     ≡ enable ∷ told (0x13 ∷ []) ∷ told (0x1D ∷ 0x03 ∷ 0x00 ∷ 0x01 ∷ []) ∷ told (0x1D ∷ 0x03 ∷ 0x00 ∷ 0x03 ∷ []) ∷ []
 unfolding run after_item packet_event step change_of live_effect after_hearing commands_due out frame_at form_of pieces after_entries value_answer
 heard_until = refl
 
 -- a withdrawn authorization ends what is heard, and a new one begins it
 withdrawn : sent_to post 2 4 phone
-    (authorize 18446744073709551615 ++ stream (asks_on (0x12 ∷ 0x04 ∷ 0x00 ∷ 0x01 ∷ 0x00 ∷ [])) ++ update 3 (0x01 ∷ []) ++ stream (completed 1) ++ authorize 0 ++ update 3 (0x02 ∷ []) ++ authorize 18446744073709551615 ++ update 3 (0x03 ∷ []))
+    (authorize 18446744073709551615 ++ stream (asks_on (0x12 ∷ 0x04 ∷ 0x00 ∷ 0x01 ∷ 0x00 ∷ [])) ++ update 3 (0x01 ∷ []) ++ stream (completed 1) ++ authorize 0
+    ++ update 3 (0x02 ∷ []) ++ authorize 18446744073709551615 ++ update 3 (0x03 ∷ []))
     ≡ enable ∷ told (0x13 ∷ []) ∷ told (0x1B ∷ 0x03 ∷ 0x00 ∷ 0x01 ∷ []) ∷ told (0x1B ∷ 0x03 ∷ 0x00 ∷ 0x03 ∷ []) ∷ []
 unfolding run after_item packet_event step change_of live_effect after_hearing commands_due out frame_at form_of pieces after_entries value_answer
 withdrawn = refl

@@ -16,15 +16,25 @@ use Rattle.att_reads.specs.Answer.{value_answer}
 
 -- a connection is told; what it prepared is dropped, and so is its configuration of a value that is of another type now
 replaced : sent_to porch 2 4 phone
-    (stream (asks_on (0x12 ∷ 0x04 ∷ 0x00 ∷ 0x02 ∷ 0x00 ∷ [])) ++ stream (asks_on (0x12 ∷ 0x08 ∷ 0x00 ∷ 0x01 ∷ 0x00 ∷ [])) ++ update 7 (0x01 ∷ []) ++ stream (completed 1) ++ stream (asks_on (0x16 ∷ 0x0A ∷ 0x00 ∷ 0x00 ∷ 0x00 ∷ 0x61 ∷ [])) ++ (ATable new_porch ∷ []) ++ stream (completed 1) ++ stream (asks (0x1E ∷ [])) ++ stream (asks_on (0x18 ∷ 0x01 ∷ [])) ++ stream (asks_on (0x0A ∷ 0x0A ∷ 0x00 ∷ [])) ++ update 7 (0x02 ∷ []) ++ stream (asks_on (0x0A ∷ 0x08 ∷ 0x00 ∷ [])) ++ stream (asks_on (0x0A ∷ 0x04 ∷ 0x00 ∷ [])))
-    ≡ enable ∷ told (0x13 ∷ []) ∷ told (0x13 ∷ []) ∷ told (0x1B ∷ 0x07 ∷ 0x00 ∷ 0x01 ∷ []) ∷ told (0x17 ∷ 0x0A ∷ 0x00 ∷ 0x00 ∷ 0x00 ∷ 0x61 ∷ []) ∷ told (0x1D ∷ 0x03 ∷ 0x00 ∷ 0x01 ∷ 0x00 ∷ 0xFF ∷ 0xFF ∷ []) ∷ told (0x19 ∷ []) ∷ told (0x0B ∷ []) ∷ told (0x0B ∷ 0x00 ∷ 0x00 ∷ []) ∷ told (0x0B ∷ 0x02 ∷ 0x00 ∷ []) ∷ []
+    (stream (asks_on (0x12 ∷ 0x04 ∷ 0x00 ∷ 0x02 ∷ 0x00 ∷ [])) ++ stream (asks_on (0x12 ∷ 0x08 ∷ 0x00 ∷ 0x01 ∷ 0x00 ∷ [])) ++ update 7 (0x01 ∷ [])
+    ++ stream (completed 1) ++ stream (asks_on (0x16 ∷ 0x0A ∷ 0x00 ∷ 0x00 ∷ 0x00 ∷ 0x61 ∷ [])) ++ (ATable new_porch ∷ []) ++ stream (completed 1)
+    ++ stream (asks (0x1E ∷ [])) ++ stream (asks_on (0x18 ∷ 0x01 ∷ [])) ++ stream (asks_on (0x0A ∷ 0x0A ∷ 0x00 ∷ [])) ++ update 7 (0x02 ∷ [])
+    ++ stream (asks_on (0x0A ∷ 0x08 ∷ 0x00 ∷ [])) ++ stream (asks_on (0x0A ∷ 0x04 ∷ 0x00 ∷ [])))
+    ≡ enable ∷ told (0x13 ∷ []) ∷ told (0x13 ∷ []) ∷ told (0x1B ∷ 0x07 ∷ 0x00 ∷ 0x01 ∷ []) ∷ told (0x17 ∷ 0x0A ∷ 0x00 ∷ 0x00 ∷ 0x00 ∷ 0x61 ∷ [])
+    ∷ told (0x1D ∷ 0x03 ∷ 0x00 ∷ 0x01 ∷ 0x00 ∷ 0xFF ∷ 0xFF ∷ []) ∷ told (0x19 ∷ []) ∷ told (0x0B ∷ []) ∷ told (0x0B ∷ 0x00 ∷ 0x00 ∷ [])
+    ∷ told (0x0B ∷ 0x02 ∷ 0x00 ∷ []) ∷ []
 unfolding run after_item packet_event step change_of live_effect after_hearing commands_due out frame_at form_of pieces after_entries value_answer
 replaced = refl
 
 -- a bonded peer that was away is told once its link is encrypted, at each return until it confirms
 owed : sent_to porch 2 4 tablet
-    (stream (command_complete 0x200A) ++ stream (encrypted_with 0x01) ++ stream (asks_on (0x12 ∷ 0x04 ∷ 0x00 ∷ 0x02 ∷ 0x00 ∷ [])) ++ stream disconnected ++ (ATable new_porch ∷ []) ++ stream (connected tablet) ++ stream (command_complete 0x200A) ++ stream (encrypted_with 0x01) ++ stream (completed 1) ++ stream disconnected ++ stream (connected tablet) ++ stream (command_complete 0x200A) ++ stream (encrypted_with 0x01) ++ stream (completed 1) ++ stream (asks (0x1E ∷ [])) ++ stream disconnected ++ stream (connected tablet) ++ stream (command_complete 0x200A) ++ stream (encrypted_with 0x01))
-    ≡ enable ∷ (0x01 ∷ 0x1A ∷ 0x20 ∷ 0x12 ∷ 0x40 ∷ 0x00 ∷ tablet_key) ∷ told (0x13 ∷ []) ∷ enable ∷ (0x01 ∷ 0x1A ∷ 0x20 ∷ 0x12 ∷ 0x40 ∷ 0x00 ∷ tablet_key) ∷ told (0x1D ∷ 0x03 ∷ 0x00 ∷ 0x01 ∷ 0x00 ∷ 0xFF ∷ 0xFF ∷ []) ∷ enable ∷ (0x01 ∷ 0x1A ∷ 0x20 ∷ 0x12 ∷ 0x40 ∷ 0x00 ∷ tablet_key) ∷ told (0x1D ∷ 0x03 ∷ 0x00 ∷ 0x01 ∷ 0x00 ∷ 0xFF ∷ 0xFF ∷ []) ∷ enable ∷ (0x01 ∷ 0x1A ∷ 0x20 ∷ 0x12 ∷ 0x40 ∷ 0x00 ∷ tablet_key) ∷ []
+    (stream (command_complete 0x200A) ++ stream (encrypted_with 0x01) ++ stream (asks_on (0x12 ∷ 0x04 ∷ 0x00 ∷ 0x02 ∷ 0x00 ∷ [])) ++ stream disconnected
+    ++ (ATable new_porch ∷ []) ++ stream (connected tablet) ++ stream (command_complete 0x200A) ++ stream (encrypted_with 0x01) ++ stream (completed 1)
+    ++ stream disconnected ++ stream (connected tablet) ++ stream (command_complete 0x200A) ++ stream (encrypted_with 0x01) ++ stream (completed 1)
+    ++ stream (asks (0x1E ∷ [])) ++ stream disconnected ++ stream (connected tablet) ++ stream (command_complete 0x200A) ++ stream (encrypted_with 0x01))
+    ≡ enable ∷ (0x01 ∷ 0x1A ∷ 0x20 ∷ 0x12 ∷ 0x40 ∷ 0x00 ∷ tablet_key) ∷ told (0x13 ∷ []) ∷ enable ∷ (0x01 ∷ 0x1A ∷ 0x20 ∷ 0x12 ∷ 0x40 ∷ 0x00 ∷ tablet_key)
+    ∷ told (0x1D ∷ 0x03 ∷ 0x00 ∷ 0x01 ∷ 0x00 ∷ 0xFF ∷ 0xFF ∷ []) ∷ enable ∷ (0x01 ∷ 0x1A ∷ 0x20 ∷ 0x12 ∷ 0x40 ∷ 0x00 ∷ tablet_key)
+    ∷ told (0x1D ∷ 0x03 ∷ 0x00 ∷ 0x01 ∷ 0x00 ∷ 0xFF ∷ 0xFF ∷ []) ∷ enable ∷ (0x01 ∷ 0x1A ∷ 0x20 ∷ 0x12 ∷ 0x40 ∷ 0x00 ∷ tablet_key) ∷ []
 unfolding run after_item packet_event step change_of live_effect after_hearing commands_due out frame_at form_of pieces after_entries value_answer
 owed = refl
 

@@ -7,7 +7,7 @@ use Rattle.att_attributes.specs.Attributes.{type_at}
 use Rattle.att_attributes.specs.Group.{is_service_type}
 use Rattle.att_table.specs.Table.{Contents}
 use Rattle.att_writes.proofs.Lengths.{stored_both}
-use Rattle.gatt_laws.proofs.NothingCrosses.{HasHandles, crosses_nowhere}
+use Rattle.gatt_laws.proofs.isolation.NothingCrosses.{HasHandles, crosses_nowhere}
 use Rattle.gatt_laws.proofs.examples.Runs.{host, initialised, connected, asks, frame}
 use Rattle.gatt_laws.proofs.examples.Tables.{table_of, declaration, value_of, configuration, guard, authorized, no_need, phone, tablet}
 use Rattle.gatt_laws.specs.laws.Alike.{is_of}
@@ -107,7 +107,8 @@ or-not true other is none = cc none
 spared-one : (peer : Peer) (state : State) (event : Option Event) → is_spared peer state event ≡ true → SparedIf peer state event
 unfolding is_spared
 spared-one peer state None is = tt
-spared-one peer state (Some (Of ordinal own)) is = or-not (is_of peer (state.connections ordinal)) (finds_no_room state.shared (state.connections ordinal) own) is
+spared-one peer state (Some (Of ordinal own)) is =
+    or-not (is_of peer (state.connections ordinal)) (finds_no_room state.shared (state.connections ordinal) own) is
 spared-one peer state (Some (Completed entries)) is = tt
 spared-one peer state (Some (Credit allowed opcode status following)) is = tt
 spared-one peer state (Some (Update handle value)) is = tt
@@ -161,8 +162,10 @@ agree octet =
       starts = record {
         table = record {
           attributes = refl;
-          values = stored_both (λ handle. hidden handle && not (is_service_type (type_at (safe 0).attributes handle))) values values 3 (0x00 ∷ 0x00 ∷ []) (octet ∷ 0x00 ∷ []) (omega arith)
-              (record { count = refl; lengths = λ handle used. refl; shown = λ handle used shown. refl }) refl (λ shown. absurd (hidden-there hidden secret shown));
+          values = stored_both (λ handle. hidden handle && not (is_service_type (type_at (safe 0).attributes handle))) values values 3 (0x00 ∷ 0x00 ∷ [])
+              (octet ∷ 0x00 ∷ []) (omega arith)
+              (record { count = refl; lengths = λ handle used. refl; shown = λ handle used shown. refl }) refl
+              (λ shown. absurd (hidden-there hidden secret shown));
         };
         rest = refl;
       };
@@ -170,7 +173,8 @@ agree octet =
     }
 
 spared : (octet : ℕ) → are_spared phone (run_at_start (host (safe octet) 2)) played ≡ true
-unfolding are_spared is_spared after_item packet_event step change_of live_effect after_hearing commands_due out frame_at form_of pieces after_entries value_answer
+unfolding are_spared is_spared after_item packet_event step change_of live_effect after_hearing commands_due out frame_at form_of pieces after_entries
+    value_answer
 spared octet = refl
 
 -- and the phone is given the same
@@ -234,7 +238,8 @@ unfolding after_item packet_event step change_of live_effect after_hearing comma
 table-stands = refl
 
 new-spared : (octet : ℕ) → are_spared phone at_fence (replaced_by octet) ≡ true
-unfolding are_spared is_spared after_item packet_event step change_of live_effect after_hearing commands_due out frame_at form_of pieces after_entries value_answer
+unfolding are_spared is_spared after_item packet_event step change_of live_effect after_hearing commands_due out frame_at form_of pieces after_entries
+    value_answer
 new-spared octet = refl
 
 -- the same items before others
@@ -269,12 +274,15 @@ new-tables-agree octet =
       is = refl;
       agree = record {
         attributes = refl;
-        values = stored_both (λ handle. hidden handle && not (is_service_type (type_at (fence 1).attributes handle))) values values 7 (0x01 ∷ 0x00 ∷ []) (octet ∷ 0x00 ∷ []) (omega arith)
-            (record { count = refl; lengths = λ handle used. refl; shown = λ handle used shown. refl }) refl (λ shown. absurd (hidden-then hidden new_secret shown));
+        values = stored_both (λ handle. hidden handle && not (is_service_type (type_at (fence 1).attributes handle))) values values 7 (0x01 ∷ 0x00 ∷ [])
+            (octet ∷ 0x00 ∷ []) (omega arith)
+            (record { count = refl; lengths = λ handle used. refl; shown = λ handle used shown. refl }) refl
+            (λ shown. absurd (hidden-then hidden new_secret shown));
       };
     }
 
-items-agree : (octet : ℕ) (replaced : Bool) → replaced ≡ true → ItemsAgree (hidden_while phone after_replacement behind) replaced (ATable (fence 1)) (ATable (fence octet))
+items-agree : (octet : ℕ) (replaced : Bool) → replaced ≡ true → ItemsAgree (hidden_while phone after_replacement behind) replaced (ATable (fence 1))
+    (ATable (fence octet))
 items-agree octet true is = new-tables-agree octet
 items-agree octet false is = cc is
 

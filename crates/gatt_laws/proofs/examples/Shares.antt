@@ -15,17 +15,24 @@ use Rattle.att_pdu.specs.Form.{form_of}
 use Rattle.att_writes.specs.Applied.{after_entries}
 use Rattle.att_reads.specs.Answer.{value_answer}
 
--- two slots and four packets: a quota of two. Three notifications, the third after a packet is completed; more completions than packets count for those
+-- two slots and four packets: a share of two. Three notifications, the third after a packet is completed; more completions than packets count for those
 two_of_three : sent_to door 2 4 phone
-    (stream (asks_on (0x12 ∷ 0x07 ∷ 0x00 ∷ 0x01 ∷ 0x00 ∷ [])) ++ update 6 (0x01 ∷ []) ++ update 6 (0x02 ∷ []) ++ update 6 (0x03 ∷ []) ++ stream (completed 1) ++ stream (completed 9) ++ update 6 (0x04 ∷ []) ++ update 6 (0x05 ∷ []) ++ update 6 (0x06 ∷ []))
-    ≡ enable ∷ told (0x13 ∷ []) ∷ told (0x1B ∷ 0x06 ∷ 0x00 ∷ 0x01 ∷ []) ∷ told (0x1B ∷ 0x06 ∷ 0x00 ∷ 0x02 ∷ []) ∷ told (0x1B ∷ 0x06 ∷ 0x00 ∷ 0x03 ∷ []) ∷ told (0x1B ∷ 0x06 ∷ 0x00 ∷ 0x04 ∷ []) ∷ told (0x1B ∷ 0x06 ∷ 0x00 ∷ 0x05 ∷ []) ∷ []
+    (stream (asks_on (0x12 ∷ 0x07 ∷ 0x00 ∷ 0x01 ∷ 0x00 ∷ [])) ++ update 6 (0x01 ∷ []) ++ update 6 (0x02 ∷ []) ++ update 6 (0x03 ∷ []) ++ stream (completed 1)
+    ++ stream (completed 9) ++ update 6 (0x04 ∷ []) ++ update 6 (0x05 ∷ []) ++ update 6 (0x06 ∷ []))
+    ≡ enable ∷ told (0x13 ∷ []) ∷ told (0x1B ∷ 0x06 ∷ 0x00 ∷ 0x01 ∷ []) ∷ told (0x1B ∷ 0x06 ∷ 0x00 ∷ 0x02 ∷ []) ∷ told (0x1B ∷ 0x06 ∷ 0x00 ∷ 0x03 ∷ [])
+    ∷ told (0x1B ∷ 0x06 ∷ 0x00 ∷ 0x04 ∷ []) ∷ told (0x1B ∷ 0x06 ∷ 0x00 ∷ 0x05 ∷ []) ∷ []
 unfolding run after_item packet_event step change_of live_effect after_hearing commands_due out frame_at form_of pieces after_entries value_answer
 two_of_three = refl
 
 -- with none completed two go out and eight are queued, and the eleventh is skipped
 eight_queued : sent_to door 2 4 phone
-    (stream (asks_on (0x12 ∷ 0x07 ∷ 0x00 ∷ 0x01 ∷ 0x00 ∷ [])) ++ update 6 (0x01 ∷ []) ++ update 6 (0x02 ∷ []) ++ update 6 (0x03 ∷ []) ++ update 6 (0x04 ∷ []) ++ update 6 (0x05 ∷ []) ++ update 6 (0x06 ∷ []) ++ update 6 (0x07 ∷ []) ++ update 6 (0x08 ∷ []) ++ update 6 (0x09 ∷ []) ++ update 6 (0x0A ∷ []) ++ update 6 (0x0B ∷ []) ++ stream (completed 2) ++ stream (completed 2) ++ stream (completed 2) ++ stream (completed 2) ++ stream (completed 2))
-    ≡ enable ∷ told (0x13 ∷ []) ∷ told (0x1B ∷ 0x06 ∷ 0x00 ∷ 0x01 ∷ []) ∷ told (0x1B ∷ 0x06 ∷ 0x00 ∷ 0x02 ∷ []) ∷ told (0x1B ∷ 0x06 ∷ 0x00 ∷ 0x03 ∷ []) ∷ told (0x1B ∷ 0x06 ∷ 0x00 ∷ 0x04 ∷ []) ∷ told (0x1B ∷ 0x06 ∷ 0x00 ∷ 0x05 ∷ []) ∷ told (0x1B ∷ 0x06 ∷ 0x00 ∷ 0x06 ∷ []) ∷ told (0x1B ∷ 0x06 ∷ 0x00 ∷ 0x07 ∷ []) ∷ told (0x1B ∷ 0x06 ∷ 0x00 ∷ 0x08 ∷ []) ∷ told (0x1B ∷ 0x06 ∷ 0x00 ∷ 0x09 ∷ []) ∷ told (0x1B ∷ 0x06 ∷ 0x00 ∷ 0x0A ∷ []) ∷ []
+    (stream (asks_on (0x12 ∷ 0x07 ∷ 0x00 ∷ 0x01 ∷ 0x00 ∷ [])) ++ update 6 (0x01 ∷ []) ++ update 6 (0x02 ∷ []) ++ update 6 (0x03 ∷ []) ++ update 6 (0x04 ∷ [])
+    ++ update 6 (0x05 ∷ []) ++ update 6 (0x06 ∷ []) ++ update 6 (0x07 ∷ []) ++ update 6 (0x08 ∷ []) ++ update 6 (0x09 ∷ []) ++ update 6 (0x0A ∷ [])
+    ++ update 6 (0x0B ∷ []) ++ stream (completed 2) ++ stream (completed 2) ++ stream (completed 2) ++ stream (completed 2) ++ stream (completed 2))
+    ≡ enable ∷ told (0x13 ∷ []) ∷ told (0x1B ∷ 0x06 ∷ 0x00 ∷ 0x01 ∷ []) ∷ told (0x1B ∷ 0x06 ∷ 0x00 ∷ 0x02 ∷ []) ∷ told (0x1B ∷ 0x06 ∷ 0x00 ∷ 0x03 ∷ [])
+    ∷ told (0x1B ∷ 0x06 ∷ 0x00 ∷ 0x04 ∷ []) ∷ told (0x1B ∷ 0x06 ∷ 0x00 ∷ 0x05 ∷ []) ∷ told (0x1B ∷ 0x06 ∷ 0x00 ∷ 0x06 ∷ [])
+    ∷ told (0x1B ∷ 0x06 ∷ 0x00 ∷ 0x07 ∷ []) ∷ told (0x1B ∷ 0x06 ∷ 0x00 ∷ 0x08 ∷ []) ∷ told (0x1B ∷ 0x06 ∷ 0x00 ∷ 0x09 ∷ [])
+    ∷ told (0x1B ∷ 0x06 ∷ 0x00 ∷ 0x0A ∷ []) ∷ []
 unfolding run after_item packet_event step change_of live_effect after_hearing commands_due out frame_at form_of pieces after_entries value_answer
 eight_queued = refl
 

@@ -4,7 +4,7 @@ use Rattle.std.specs.Prelude.{◌≡◌, ℕ, refl, false, List, [], ◌∷◌, 
 use Rattle.att_pdu.specs.Form.{form_of}
 use Rattle.att_reads.specs.Answer.{value_answer}
 use Rattle.att_writes.specs.Applied.{after_entries}
-use Rattle.gatt_laws.proofs.SameRun.{same_view_same_packets}
+use Rattle.gatt_laws.proofs.isolation.SameRun.{same_view_same_packets}
 use Rattle.gatt_laws.proofs.examples.Runs.{host, stream, initialised, command_complete, frame, told, update}
 use Rattle.gatt_laws.proofs.examples.Tables.{door, phone, tablet}
 use Rattle.gatt_laws.specs.machine.Controller.{commands_due}
@@ -66,28 +66,61 @@ seen_by_the_phone = record {
 }
 
 first_view : view 0 (host door 2) phone_first ≡ seen_by_the_phone
-unfolding run events_of shown after_item packet_event step change_of live_effect after_hearing commands_due frame_at form_of pieces after_entries value_answer subscribes reads writes phone_first tablet_first seen_by_the_phone
+unfolding run events_of shown after_item packet_event step change_of live_effect after_hearing commands_due frame_at form_of pieces after_entries value_answer
+    subscribes reads writes phone_first tablet_first seen_by_the_phone
 first_view = refl
 
 second_view : view 1 (host door 2) tablet_first ≡ seen_by_the_phone
-unfolding run events_of shown after_item packet_event step change_of live_effect after_hearing commands_due frame_at form_of pieces after_entries value_answer subscribes reads writes phone_first tablet_first seen_by_the_phone
+unfolding run events_of shown after_item packet_event step change_of live_effect after_hearing commands_due frame_at form_of pieces after_entries value_answer
+    subscribes reads writes phone_first tablet_first seen_by_the_phone
 second_view = refl
 
 -- nothing waits for it
 first_released : IsAlwaysIndicated 0 (host door 2) phone_first
-unfolding run events_of after_item packet_event step change_of live_effect after_hearing commands_due frame_at form_of pieces after_entries value_answer subscribes reads writes phone_first tablet_first
-first_released =
-    (λ free. refl, (λ free. refl, (λ free. refl, (λ free. refl, (λ free. refl, (λ free. refl, (λ free. refl, (λ free. refl, (λ free. refl, (λ free. refl, (λ free. refl, (λ free. refl, (λ free. refl, (λ free. refl, tt))))))))))))))
+unfolding run events_of after_item packet_event step change_of live_effect after_hearing commands_due frame_at form_of pieces after_entries value_answer
+    subscribes reads writes phone_first tablet_first
+first_released = (
+  λ free. refl,
+  (
+    λ free. refl,
+    (
+      λ free. refl,
+      (
+        λ free. refl,
+        (
+          λ free. refl,
+          (λ free. refl, (λ free. refl, (λ free. refl, (λ free. refl, (λ free. refl, (λ free. refl, (λ free. refl, (λ free. refl, (λ free. refl, tt))))))))),
+        ),
+      ),
+    ),
+  ),
+)
 
 second_released : IsAlwaysIndicated 1 (host door 2) tablet_first
-unfolding run events_of after_item packet_event step change_of live_effect after_hearing commands_due frame_at form_of pieces after_entries value_answer subscribes reads writes phone_first tablet_first
-second_released =
-    (λ free. refl, (λ free. refl, (λ free. refl, (λ free. refl, (λ free. refl, (λ free. refl, (λ free. refl, (λ free. refl, (λ free. refl, (λ free. refl, (λ free. refl, (λ free. refl, (λ free. refl, (λ free. refl, tt))))))))))))))
+unfolding run events_of after_item packet_event step change_of live_effect after_hearing commands_due frame_at form_of pieces after_entries value_answer
+    subscribes reads writes phone_first tablet_first
+second_released = (
+  λ free. refl,
+  (
+    λ free. refl,
+    (
+      λ free. refl,
+      (
+        λ free. refl,
+        (
+          λ free. refl,
+          (λ free. refl, (λ free. refl, (λ free. refl, (λ free. refl, (λ free. refl, (λ free. refl, (λ free. refl, (λ free. refl, (λ free. refl, tt))))))))),
+        ),
+      ),
+    ),
+  ),
+)
 
 -- so it is served alike, and this is what it is given
 served_alike : AreServedAlike (host door 2) 0 1 phone_first tablet_first
 served_alike = same_view_same_packets (host door 2) 0 1 phone_first tablet_first (first_view ∙ sym second_view) first_released second_released
 
 is_given : packets_to 1 (host door 2) tablet_first ≡ told (0x13 ∷ []) ∷ told (0x1B ∷ 0x06 ∷ 0x00 ∷ 0x01 ∷ []) ∷ []
-unfolding run events_of after_item packet_event step change_of live_effect after_hearing commands_due frame_at form_of pieces after_entries value_answer subscribes reads writes phone_first tablet_first
+unfolding run events_of after_item packet_event step change_of live_effect after_hearing commands_due frame_at form_of pieces after_entries value_answer
+    subscribes reads writes phone_first tablet_first
 is_given = refl

@@ -3,7 +3,7 @@ use Rattle.std.specs.Prelude.{◌≡◌, Bool, true, false, List}
 use Rattle.att_numbers.specs.Types.{Handle, Row}
 use Rattle.gatt_laws.specs.machine.Event.{Ordinal, Own, Event, Connected, Disconnected}
 use Rattle.gatt_laws.specs.machine.ConnectionState.{ConnectionState, is_live}
-use Rattle.gatt_laws.specs.machine.SharedState.{SharedState, Bonds, quota_of, fragment_size_of}
+use Rattle.gatt_laws.specs.machine.SharedState.{SharedState, Bonds, share_of, fragment_size_of}
 use Rattle.gatt_laws.specs.machine.State.{State, finished, step}
 use Rattle.gatt_laws.specs.machine.Effect.{effect_on_connection, effect_of}
 use Rattle.le_acl.specs.History.{packets_allowed}
@@ -30,7 +30,7 @@ OnlyTheLiveAct =
 abbrev pub IsAllGiven : SharedState → ConnectionState → Type 0
 IsAllGiven shared connection =
     is_live connection.mark ≡ true
-    → connection.given ≡ packets_allowed (quota_of shared.slots shared.buffers)
+    → connection.given ≡ packets_allowed (share_of shared.slots shared.buffers)
     (fragment_size_of shared.buffers) connection.pdus connection.done
 
 abbrev pub GivesAllThatItMay : Type 0

@@ -7,7 +7,7 @@ use Rattle.att_policy.specs.declared.standing.Standing.{Standing}
 use Rattle.att_writes.specs.Entry.{Entry}
 use Rattle.gatt_conn.specs.Connection.{Bearer}
 use Rattle.gatt_conn.specs.Transcript.{Said, Dropped, first_exchange, mtu_in, prepared_in}
-use Rattle.gatt_laws.specs.machine.SharedState.{SharedState, quota_of, fragment_size_of}
+use Rattle.gatt_laws.specs.machine.SharedState.{SharedState, share_of, fragment_size_of}
 use Rattle.gatt_subs.specs.Indications.{Indications, no_indications, after_end}
 use Rattle.le_acl.specs.History.{packets_allowed}
 use Rattle.le_acl.specs.Packets.{Pdu, fragments_of, rest}
@@ -125,12 +125,12 @@ most_pdus = MAX_PDUS
 abbrev pub with_pdus : ConnectionState → List Pdu → ConnectionState
 with_pdus connection pdus = record connection { pdus = connection.pdus ++ pdus }
 
--- The connection after all packets are given that may be: a quota beyond those that completed.
+-- The connection after all packets are given that may be: a share beyond those that completed.
 abbrev pub after_giving : SharedState → ConnectionState → ConnectionState
 after_giving shared connection =
     if is_live connection.mark
     then record connection {
-      given = packets_allowed (quota_of shared.slots shared.buffers)
+      given = packets_allowed (share_of shared.slots shared.buffers)
           (fragment_size_of shared.buffers) connection.pdus connection.done;
     }
     else connection

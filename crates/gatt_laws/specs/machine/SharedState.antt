@@ -2,7 +2,7 @@
 use Rattle.std.specs.Prelude.{ℕ, Bool, List, Option, Some, None}
 use Rattle.att_numbers.specs.Types.{Handle, Mtu, Row}
 use Rattle.att_table.specs.Table.{Contents}
-use Rattle.le_acl.specs.Quotas.{quota, acl_len}
+use Rattle.le_acl.specs.Shares.{share, acl_len}
 use Rattle.le_hci.specs.declared.buffers.Buffers.{Buffers}
 use Rattle.le_hci.specs.declared.peer.Peer.{Peer}
 use Rattle.le_security.specs.declared.entry.Entry.{Entry}
@@ -20,9 +20,9 @@ pub record SharedState : Type 0 where
 
 -- The packets of one connection that the controller may have at once, and the octets of data in
 -- each.
-abbrev pub quota_of : ℕ → Option Buffers → ℕ
-quota_of slots None = 0
-quota_of slots (Some buffers) = quota slots buffers.packets
+abbrev pub share_of : ℕ → Option Buffers → ℕ
+share_of slots None = 0
+share_of slots (Some buffers) = share slots buffers.packets
 
 abbrev pub fragment_size_of : Option Buffers → ℕ
 fragment_size_of None = 0

@@ -17,7 +17,7 @@ use Rattle.gatt_subs.specs.Fit.{wants_changes}
 use Rattle.gatt_subs.specs.Indications.{after_tick, after_replacement}
 use Rattle.le_acl.specs.Outgoing.{acl_octets}
 use Rattle.le_acl.specs.Packets.{packets_of}
-use Rattle.le_acl.specs.Quotas.{usable}
+use Rattle.le_acl.specs.Shares.{usable}
 use Rattle.le_hci.specs.Command.{Commanded, LeSetAdvertiseEnable, opcode_of, packet_of}
 use Rattle.le_hci.specs.InitTold.{told_in}
 use Rattle.le_hci.specs.declared.init.Init.{Init}

@@ -30,7 +30,7 @@ use Rattle.gatt_laws.specs.machine.Controller.{command_of_init, commands_due, co
 use Rattle.gatt_laws.specs.machine.Event.{Ordinal, Own, Asks, Of}
 use Rattle.gatt_laws.specs.machine.Heard.{after_hearing}
 use Rattle.gatt_laws.specs.machine.ConnectionState.{ConnectionState, fresh_connection, is_live, no_connection}
-use Rattle.gatt_laws.specs.machine.SharedState.{SharedState, Bonds, fragment_size_of, quota_of}
+use Rattle.gatt_laws.specs.machine.SharedState.{SharedState, Bonds, fragment_size_of, share_of}
 use Rattle.gatt_laws.specs.machine.Start.{state_at}
 use Rattle.gatt_laws.specs.machine.State.{State, Change, at_ordinal, connections_finished, finished, with_commands_sent}
 use Rattle.gatt_laws.specs.machine.Effect.{live_effect}
@@ -51,7 +51,8 @@ but_the_first (first ∷ rest) = first ∷ map permitted rest
 
 lists_what_is_refused : Answering
 lists_what_is_refused table row conn (Ok (ReadByTypeRequest first last type)) =
-    let values = but_the_first (map (candidate_of ListedValues table row conn.standing conn.mtu) (handles_of_type table.attributes (uuid_number type) first last)) in
+    let values =
+    but_the_first (map (candidate_of ListedValues table row conn.standing conn.mtu) (handles_of_type table.attributes (uuid_number type) first last)) in
     Some (unless_refused READ_BY_TYPE_REQUEST
     (range_refusal first last ∷ not_found first values ∷ first_refusal values ∷ [])
     (ReadByTypeResponse (size_of_first values) (elements_within conn.mtu values)))
@@ -123,7 +124,7 @@ hides-finished : (shared : SharedState) (bonds : Bonds) (handles : List Handle) 
 unfolding after_hearing
 hides-finished shared bonds handles connection hides =
     let heard = after_hearing shared (bonds connection.peer) handles connection in
-    let given = packets_allowed (quota_of shared.slots shared.buffers) (fragment_size_of shared.buffers) heard.pdus heard.done in
+    let given = packets_allowed (share_of shared.slots shared.buffers) (fragment_size_of shared.buffers) heard.pdus heard.done in
     hides-if shared bonds (is_live heard.mark) (record heard { given = given }) heard hides hides
 
 hides-sent : (shared : SharedState) (bonds : Bonds) (connection : ConnectionState) → HidesFrom phone secret shared bonds connection
@@ -250,4 +251,5 @@ equality_packets_differ is = cc is
 
 equality_breaks_gives_the_same : GivesTheSameBy (answering compares_what_is_refused) → ⊥
 equality_breaks_gives_the_same gives =
-    equality_packets_differ (gives phone secret (phone_at door) (phone_at other_door) (Of 0 compares) (Of 0 compares) doors_alike equality_agrees 0 (λ there. refl))
+    equality_packets_differ
+    (gives phone secret (phone_at door) (phone_at other_door) (Of 0 compares) (Of 0 compares) doors_alike equality_agrees 0 (λ there. refl))

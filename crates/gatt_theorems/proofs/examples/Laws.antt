@@ -10,7 +10,7 @@ use Rattle.gatt_laws.specs.laws.View.{ShownEvent, shown}
 use Rattle.gatt_laws.specs.machine.ConnectionState.{ConnectionState, is_live, is_there, no_connection}
 use Rattle.gatt_laws.specs.machine.Event.{Ordinal, Own, Event, Of}
 use Rattle.gatt_laws.specs.machine.Heard.{after_hearing}
-use Rattle.gatt_laws.specs.machine.SharedState.{quota_of, fragment_size_of}
+use Rattle.gatt_laws.specs.machine.SharedState.{share_of, fragment_size_of}
 use Rattle.gatt_laws.specs.machine.State.{State, Change, before_commands, change_of, slot_out, step, with_commands_sent}
 use Rattle.le_acl.specs.History.{packets_allowed}
 use Rattle.le_hci.specs.declared.buffers.Buffers.{Buffers}
@@ -102,14 +102,14 @@ leaves_prepared : LeavesOthersPreparedBy before_commands ≡ LeavesOthersPrepare
 unfolding step
 leaves_prepared = refl
 
--- How many packets a connection that serves may have been given, in a state. The machine of the promise gives by a quota of its own.
+-- How many packets a connection that serves may have been given, in a state. The machine of the promise gives by a share of its own.
 abbrev pub Share : Type 0
 Share = State → Ordinal → ℕ
 
-abbrev pub by_quota : Share
-by_quota state ordinal =
+abbrev pub by_share : Share
+by_share state ordinal =
     let connection = state.connections ordinal in
-    packets_allowed (quota_of state.shared.slots state.shared.buffers) (fragment_size_of state.shared.buffers) connection.pdus connection.done
+    packets_allowed (share_of state.shared.slots state.shared.buffers) (fragment_size_of state.shared.buffers) connection.pdus connection.done
 
 -- a machine that gives by a share at the end of each event
 abbrev pub after_all_hearing : Change → State
@@ -127,8 +127,8 @@ giving share state event =
     let heard = after_all_hearing (change_of state event) in
     record heard { connections = λ ordinal. with_given (heard.connections ordinal) (share heard ordinal) }
 
-gives_by_quota : giving by_quota ≡ before_commands
-gives_by_quota = refl
+gives_by_share : giving by_share ≡ before_commands
+gives_by_share = refl
 
 -- Connections that see the same are given the same: `IsKnown`, `DoesTheSame` and `DoesTheSameToWhoSeesTheSame` of SameView.antt.
 pub record IsKnownBy (share : Share) (buffers : Option Buffers) (peer : Peer) (ordinal : Ordinal) (state : State) : Type 0 where
@@ -152,23 +152,23 @@ DoesTheSameToWhoSeesTheSameBy share =
     → shown peer one state event ≡ Some item → shown peer other another further ≡ Some item
     → DoesTheSameBy share buffers peer one other state another event further
 
-known_by_quota : (buffers : Option Buffers) (peer : Peer) (ordinal : Ordinal) (state : State) →
-    IsKnown buffers peer ordinal state → IsKnownBy by_quota buffers peer ordinal state
-known_by_quota buffers peer ordinal state known =
+known_by_share : (buffers : Option Buffers) (peer : Peer) (ordinal : Ordinal) (state : State) →
+    IsKnown buffers peer ordinal state → IsKnownBy by_share buffers peer ordinal state
+known_by_share buffers peer ordinal state known =
     record { peers = known.peers; told = known.told; absent = known.absent; released = known.released; given = known.given }
 
 known_again : (buffers : Option Buffers) (peer : Peer) (ordinal : Ordinal) (state : State) →
-    IsKnownBy by_quota buffers peer ordinal state → IsKnown buffers peer ordinal state
+    IsKnownBy by_share buffers peer ordinal state → IsKnown buffers peer ordinal state
 known_again buffers peer ordinal state known =
     record { peers = known.peers; told = known.told; absent = known.absent; released = known.released; given = known.given }
 
-sees_the_same : SaysTheSame (DoesTheSameToWhoSeesTheSameBy by_quota) DoesTheSameToWhoSeesTheSame
+sees_the_same : SaysTheSame (DoesTheSameToWhoSeesTheSameBy by_share) DoesTheSameToWhoSeesTheSame
 unfolding step
 sees_the_same = record {
   implies = λ does buffers peer one other state another event further item old new its_old its_new same sees too.
       let done = does buffers peer one other state another event further item
-      (known_by_quota buffers peer one state old) (known_by_quota buffers peer one (step state event) new)
-      (known_by_quota buffers peer other another its_old) (known_by_quota buffers peer other (step another further) its_new) same sees too in
+      (known_by_share buffers peer one state old) (known_by_share buffers peer one (step state event) new)
+      (known_by_share buffers peer other another its_old) (known_by_share buffers peer other (step another further) its_new) same sees too in
       record { seen = done.seen; packets = done.packets };
   is_implied = λ does buffers peer one other state another event further item old new its_old its_new same sees too.
       let done = does buffers peer one other state another event further item

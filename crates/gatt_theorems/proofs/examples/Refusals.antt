@@ -102,14 +102,19 @@ reads : Event
 reads = Of 0 (Asks (0x0A ∷ 0x03 ∷ 0x00 ∷ []))
 
 abbrev twice : State → State
-twice state = record state { connections = λ ordinal. let connection = state.connections ordinal in record connection { pdus = connection.pdus ++ connection.pdus } }
+twice state = record state {
+  connections = λ ordinal. let connection = state.connections ordinal in
+      record connection { pdus = connection.pdus ++ connection.pdus };
+}
 
 none-picked : (picks : List Bool) → picked picks [] ≡ []
 none-picked [] = refl
 none-picked (pick ∷ picks) = refl
 
 none-indicated : (state : State) (ordinal : Ordinal) (told : List Response) (indicated : Option Handle)
-    → told ≡ [] ++ option_to_list (option_map (λ handle. indication_of state.shared.table.values handle (connection_mtu state.shared (state.connections ordinal))) indicated)
+    → told ≡ []
+    ++ option_to_list
+    (option_map (λ handle. indication_of state.shared.table.values handle (connection_mtu state.shared (state.connections ordinal))) indicated)
     → IfSome indicated (λ handle. (is_waiting [] handle || is_waiting [] handle) ≡ true) → told ≡ []
 none-indicated state ordinal told None is due = is
 none-indicated state ordinal told (Some handle) is due = cc due
@@ -120,7 +125,8 @@ none-told state ordinal told only =
     none-indicated state ordinal told only.indicated
     (only.is ∙ ap (λ (handles : List Handle).
     map (λ handle. notification_of state.shared.table.values handle (connection_mtu state.shared (state.connections ordinal))) handles
-    ++ option_to_list (option_map (λ handle. indication_of state.shared.table.values handle (connection_mtu state.shared (state.connections ordinal))) only.indicated))
+    ++ option_to_list
+    (option_map (λ handle. indication_of state.shared.table.values handle (connection_mtu state.shared (state.connections ordinal))) only.indicated))
     (none-picked only.picks))
     only.due
 

@@ -54,7 +54,8 @@ buffers = record { length = 27; packets = 2 }
 abbrev holding : List Pdu → State
 holding pdus = record two {
   shared = record two.shared { buffers = Some buffers };
-  connections = λ ordinal. record (fresh_connection ordinal phone) { pdus = if ordinal == 1 then pdus else []; given = if ordinal == 1 then length pdus else 0 };
+  connections =
+      λ ordinal. record (fresh_connection ordinal phone) { pdus = if ordinal == 1 then pdus else []; given = if ordinal == 1 then length pdus else 0 };
 }
 
 abbrev write_response : Pdu

@@ -9,7 +9,7 @@ use Rattle.gatt_conn.specs.Transcript.{first_exchange}
 use Rattle.gatt_laws.specs.machine.Event.{Own, KeyAsked, Encrypted, Refreshed, OtherChannel, Authorized, Ended}
 use Rattle.gatt_laws.specs.machine.ConnectionState.{ConnectionState, is_live, is_there, key_of, with_pdus, after_ending, backlog_of}
 use Rattle.gatt_laws.specs.laws.Queued.{IsWithinBounds}
-use Rattle.gatt_laws.specs.machine.SharedState.{SharedState, quota_of, fragment_size_of}
+use Rattle.gatt_laws.specs.machine.SharedState.{SharedState, share_of, fragment_size_of}
 use Rattle.gatt_laws.specs.machine.Effect.{Effect, effect_of, effect_on_connection, live_effect, is_full, with_step, after_other_channel, channel_answer, lost_encryption, gained_encryption, authentication_failure, remote_user_terminated}
 use Rattle.host_connections.proofs.states.Heard.{queued_after}
 use Rattle.host_connections.proofs.states.SlotStates.{backlog_kept, becomes, live_there, outgoing_live}
@@ -36,11 +36,12 @@ cut-again true outgoing = refl
 cut-again false outgoing = refl
 
 -- a connection that is ended
-pub ended_kept : (shared : SharedState) (connection : ConnectionState) (reason handed : ℕ) → slot_state_of shared (after_ending connection reason) handed ≡ slot_after_ending reason (slot_state_of shared connection handed)
+pub ended_kept : (shared : SharedState) (connection : ConnectionState) (reason handed : ℕ) → slot_state_of shared (after_ending connection reason) handed
+    ≡ slot_after_ending reason (slot_state_of shared connection handed)
 ended_kept shared connection reason handed =
     let slot_state : SlotState = slot_state_of shared connection handed in
     let same = dropped_same (first_exchange connection.said) in
-    let outgoing : Outgoing = outgoing_after (quota_of shared.slots shared.buffers) (fragment_size_of shared.buffers) connection.pdus handed connection.done in
+    let outgoing : Outgoing = outgoing_after (share_of shared.slots shared.buffers) (fragment_size_of shared.buffers) connection.pdus handed connection.done in
     λ i. record (slot_after_ending reason slot_state) {
       mtu = mtu_by shared.rx_mtu (same i);
       exchanged = is_some (same i);
@@ -61,12 +62,15 @@ module _ (shared : SharedState) (bond : Row) (owed : Bool) (connection : Connect
   there : is_there connection.mark ≡ true
   there = live_there connection.mark is
 
-  pub live_turned : (own : Own) → (if is_live connection.mark then live_effect shared bond owed connection own else effect_on_connection shared bond owed connection) ≡ live_effect shared bond owed connection own
+  pub live_turned : (own : Own)
+      → (if is_live connection.mark then live_effect shared bond owed connection own else effect_on_connection shared bond owed connection)
+      ≡ live_effect shared bond owed connection own
   live_turned own = ap (λ (live : Bool). if live then live_effect shared bond owed connection own else effect_on_connection shared bond owed connection) is
 
   turned : (own : Own) (change : SlotState → SlotState) → is_there (live_effect shared bond owed connection own).connection.mark ≡ true
       → slot_state_of shared (live_effect shared bond owed connection own).connection connection.given ≡ change slot_state
-      → slot_state_if_there shared (if is_live connection.mark then live_effect shared bond owed connection own else effect_on_connection shared bond owed connection).connection connection.given
+      → slot_state_if_there shared (if is_live connection.mark then live_effect shared bond owed connection own
+      else effect_on_connection shared bond owed connection).connection connection.given
       ≡ option_map change (slot_state_if_there shared connection connection.given)
   turned own change stays same =
       ap (λ (effect : Effect). slot_state_if_there shared effect.connection connection.given) (live_turned own)
@@ -74,7 +78,8 @@ module _ (shared : SharedState) (bond : Row) (owed : Bool) (connection : Connect
 
   -- authorized, and its key asked for
   pub authorized_kept : (until : ℕ)
-      → slot_state_if_there shared (effect_of shared bond owed connection (Authorized until)).connection connection.given ≡ option_map (after_authorizing until) (slot_state_if_there shared connection connection.given)
+      → slot_state_if_there shared (effect_of shared bond owed connection (Authorized until)).connection connection.given
+      ≡ option_map (after_authorizing until) (slot_state_if_there shared connection connection.given)
   unfolding live_effect
   authorized_kept until = turned (Authorized until) (after_authorizing until) there refl
 
@@ -86,25 +91,32 @@ module _ (shared : SharedState) (bond : Row) (owed : Bool) (connection : Connect
 
   pub key_asked_kept : (random_number : Octets) (diversifier : ℕ)
       → slot_state_if_there shared (effect_of shared bond owed connection (KeyAsked random_number diversifier)).connection connection.given
-      ≡ option_map (after_key_asked (key_asked_for shared.keys connection.peer random_number diversifier)) (slot_state_if_there shared connection connection.given)
+      ≡ option_map (after_key_asked (key_asked_for shared.keys connection.peer random_number diversifier))
+      (slot_state_if_there shared connection connection.given)
   unfolding live_effect
   key_asked_kept random_number diversifier =
       turned (KeyAsked random_number diversifier) (after_key_asked (key_asked_for shared.keys connection.peer random_number diversifier)) there refl
 
   -- a step of its link
-  link-lost : (step : Step) → lost_encryption (key_of connection) (key_of (with_step connection step)) ≡ lost_encryption slot_state.link.key (after_step slot_state.link step).key
+  link-lost : (step : Step) → lost_encryption (key_of connection) (key_of (with_step connection step))
+      ≡ lost_encryption slot_state.link.key (after_step slot_state.link step).key
   link-lost step = λ i. lost_encryption (sym (key_of_steps connection.steps) i) (sym (key_of_steps (step ∷ connection.steps)) i)
 
-  link-there : (step : Step) (lost : Bool) → is_there (if lost then after_ending (with_step connection step) authentication_failure else with_step connection step).mark ≡ true
+  link-there : (step : Step) (lost : Bool)
+      → is_there (if lost then after_ending (with_step connection step) authentication_failure else with_step connection step).mark ≡ true
   link-there step true = refl
   link-there step false = there
 
-  link-kept : (step : Step) (lost : Bool) → slot_state_of shared (if lost then after_ending (with_step connection step) authentication_failure else with_step connection step) connection.given
-      ≡ (if lost then slot_after_ending authentication_failure (slot_state_of shared (with_step connection step) connection.given) else slot_state_of shared (with_step connection step) connection.given)
+  link-kept : (step : Step) (lost : Bool)
+      → slot_state_of shared (if lost then after_ending (with_step connection step) authentication_failure else with_step connection step) connection.given
+      ≡ (if lost then slot_after_ending authentication_failure (slot_state_of shared (with_step connection step) connection.given)
+      else slot_state_of shared (with_step connection step) connection.given)
   link-kept step true = ended_kept shared (with_step connection step) authentication_failure connection.given
   link-kept step false = refl
 
-  link-stepped : (step : Step) → slot_state_of shared (if lost_encryption (key_of connection) (key_of (with_step connection step)) then after_ending (with_step connection step) authentication_failure
+  link-stepped : (step : Step)
+      → slot_state_of shared (if lost_encryption (key_of connection) (key_of (with_step connection step))
+      then after_ending (with_step connection step) authentication_failure
       else with_step connection step) connection.given ≡ after_link_step step slot_state
   link-stepped step =
       let new : SlotState = slot_state_of shared (with_step connection step) connection.given in
@@ -117,7 +129,8 @@ module _ (shared : SharedState) (bond : Row) (owed : Bool) (connection : Connect
   unfolding live_effect
   encrypted_kept status enabled =
       let step : Step = Encryption status enabled in
-      turned (Encrypted status enabled) (after_link_step step) (link-there step (lost_encryption (key_of connection) (key_of (with_step connection step)))) (link-stepped step)
+      turned (Encrypted status enabled) (after_link_step step) (link-there step (lost_encryption (key_of connection) (key_of (with_step connection step))))
+      (link-stepped step)
 
   pub refreshed_kept : (status : ℕ)
       → slot_state_if_there shared (effect_of shared bond owed connection (Refreshed status)).connection connection.given
@@ -125,19 +138,24 @@ module _ (shared : SharedState) (bond : Row) (owed : Bool) (connection : Connect
   unfolding live_effect
   refreshed_kept status =
       let step : Step = Refresh status in
-      turned (Refreshed status) (after_link_step step) (link-there step (lost_encryption (key_of connection) (key_of (with_step connection step)))) (link-stepped step)
+      turned (Refreshed status) (after_link_step step) (link-there step (lost_encryption (key_of connection) (key_of (with_step connection step))))
+      (link-stepped step)
 
   -- it hears of a table that was replaced once it gains its encryption
-  link-raised : (step : Step) → (if gained_encryption (key_of connection) (key_of (with_step connection step)) && owed then option_to_list shared.changer else [])
+  link-raised : (step : Step) → (if gained_encryption (key_of connection) (key_of (with_step connection step)) && owed then option_to_list shared.changer
+      else [])
       ≡ (if gained_encryption slot_state.link.key (after_step slot_state.link step).key && owed then option_to_list shared.changer else [])
   link-raised step =
-      λ i. if gained_encryption (sym (key_of_steps connection.steps) i) (sym (key_of_steps (step ∷ connection.steps)) i) && owed then option_to_list shared.changer else []
+      λ i. if gained_encryption (sym (key_of_steps connection.steps) i) (sym (key_of_steps (step ∷ connection.steps)) i) && owed
+      then option_to_list shared.changer else []
 
   pub encrypted_raised : (status enabled : ℕ)
       → (effect_of shared bond owed connection (Encrypted status enabled)).to_notify_here
-      ≡ (if gained_encryption slot_state.link.key (after_step slot_state.link (Encryption status enabled)).key && owed then option_to_list shared.changer else [])
+      ≡ (if gained_encryption slot_state.link.key (after_step slot_state.link (Encryption status enabled)).key && owed then option_to_list shared.changer
+      else [])
   unfolding live_effect
-  encrypted_raised status enabled = ap (λ (effect : Effect). effect.to_notify_here) (live_turned (Encrypted status enabled)) ∙ link-raised (Encryption status enabled)
+  encrypted_raised status enabled =
+      ap (λ (effect : Effect). effect.to_notify_here) (live_turned (Encrypted status enabled)) ∙ link-raised (Encryption status enabled)
 
   pub refreshed_raised : (status : ℕ)
       → (effect_of shared bond owed connection (Refreshed status)).to_notify_here
@@ -146,10 +164,11 @@ module _ (shared : SharedState) (bond : Row) (owed : Bool) (connection : Connect
   refreshed_raised status = ap (λ (effect : Effect). effect.to_notify_here) (live_turned (Refreshed status)) ∙ link-raised (Refresh status)
 
   -- PDUs are queued for it, and there is room for them or not
-  module _ (bounds : IsWithinBounds (quota_of shared.slots shared.buffers) (fragment_size_of shared.buffers) connection) where
+  module _ (bounds : IsWithinBounds (share_of shared.slots shared.buffers) (fragment_size_of shared.buffers) connection) where
     pub queued_kept : (pdus : List Pdu) → outgoing_of shared (with_pdus connection pdus) connection.given ≡ with_pdus_queued slot_state.outgoing pdus
     queued_kept pdus =
-        outgoing_live shared (with_pdus connection pdus) connection.given is ∙ queued_after (quota_of shared.slots shared.buffers) (fragment_size_of shared.buffers) connection pdus bounds
+        outgoing_live shared (with_pdus connection pdus) connection.given is ∙ queued_after (share_of shared.slots shared.buffers)
+        (fragment_size_of shared.buffers) connection pdus bounds
         ∙ ap (λ (outgoing : Outgoing). with_pdus_queued outgoing pdus) (sym (outgoing_live shared connection connection.given is))
 
     pub full_kept : is_full shared connection ≡ (slot_backlog slot_state == 16)
@@ -159,16 +178,20 @@ module _ (shared : SharedState) (bond : Row) (owed : Bool) (connection : Connect
     other_channel-there : (channel : ℕ) (answer : Option Octets) → is_there (after_other_channel shared connection channel answer).mark ≡ true
     other_channel-there channel None = there
     other_channel-there channel (Some answer) =
-        elim (is_full shared connection) as (λ (full : Bool). is_there (if full then after_ending connection remote_user_terminated else with_pdus connection ((channel, answer) ∷ [])).mark ≡ true) [
+        elim (is_full shared connection) as
+        (λ (full : Bool). is_there (if full then after_ending connection remote_user_terminated else with_pdus connection ((channel, answer) ∷ [])).mark ≡ true) [
           | true ↦ refl
           | false ↦ there
         ]
 
-    other_channel-kept : (channel : ℕ) (answer : Option Octets) → slot_state_of shared (after_other_channel shared connection channel answer) connection.given ≡ with_channel_answer channel answer slot_state
+    other_channel-kept : (channel : ℕ) (answer : Option Octets) → slot_state_of shared (after_other_channel shared connection channel answer) connection.given
+        ≡ with_channel_answer channel answer slot_state
     other_channel-kept channel None = refl
     other_channel-kept channel (Some answer) =
         let queued : SlotState = record slot_state { outgoing = with_pdus_queued slot_state.outgoing ((channel, answer) ∷ []) } in
-        (elim (is_full shared connection) as (λ (full : Bool). slot_state_of shared (if full then after_ending connection remote_user_terminated else with_pdus connection ((channel, answer) ∷ [])) connection.given
+        (elim (is_full shared connection) as
+        (λ (full : Bool). slot_state_of shared (if full then after_ending connection remote_user_terminated else with_pdus connection ((channel, answer) ∷ []))
+        connection.given
         ≡ (if full then slot_after_ending remote_user_terminated slot_state else queued)) [
           | true ↦ ended_kept shared connection remote_user_terminated connection.given
           | false ↦ ap (λ (outgoing : Outgoing). record slot_state { outgoing = outgoing }) (queued_kept ((channel, answer) ∷ []))
@@ -180,4 +203,5 @@ module _ (shared : SharedState) (bond : Row) (owed : Bool) (connection : Connect
         ≡ option_map (slot_after_other_channel channel payload) (slot_state_if_there shared connection connection.given)
     unfolding live_effect
     other_channel_kept channel payload =
-        turned (OtherChannel channel payload) (slot_after_other_channel channel payload) (other_channel-there channel (channel_answer channel payload)) (other_channel-kept channel (channel_answer channel payload))
+        turned (OtherChannel channel payload) (slot_after_other_channel channel payload) (other_channel-there channel (channel_answer channel payload))
+        (other_channel-kept channel (channel_answer channel payload))

@@ -7,7 +7,7 @@ use Rattle.att_table.specs.ConfigRow.{kept_row}
 use Rattle.att_table.specs.Table.{Contents}
 use Rattle.gatt_conn.specs.Transcript.{Dropped, first_exchange}
 use Rattle.gatt_laws.specs.machine.ConnectionState.{ConnectionState, is_live, is_there}
-use Rattle.gatt_laws.specs.machine.SharedState.{SharedState, quota_of, fragment_size_of}
+use Rattle.gatt_laws.specs.machine.SharedState.{SharedState, share_of, fragment_size_of}
 use Rattle.gatt_laws.specs.machine.State.{with_packets_completed, connection_after_replacement}
 use Rattle.host_connections.proofs.states.Effects.{dropped_same, mtu_by}
 use Rattle.host_connections.specs.SlotState.{SlotState, slot_state_of, slot_state_if_there}
@@ -36,12 +36,16 @@ completed-outgoing live outgoing given done count is =
     ])
 
 pub completed_kept : (shared : SharedState) (connection : ConnectionState) (count : ℕ)
-    → slot_state_if_there shared (with_packets_completed connection count) connection.given ≡ option_map (slot_after_packets_completed count) (slot_state_if_there shared connection connection.given)
+    → slot_state_if_there shared (with_packets_completed connection count) connection.given ≡ option_map (slot_after_packets_completed count)
+    (slot_state_if_there shared connection connection.given)
 completed_kept shared connection count =
     let slot_state : SlotState = slot_state_of shared connection connection.given in
-    let outgoing : Outgoing = outgoing_after (quota_of shared.slots shared.buffers) (fragment_size_of shared.buffers) connection.pdus connection.given connection.done in
-    mapped (is_there connection.mark) slot_state (slot_state_of shared (with_packets_completed connection count) connection.given) (slot_after_packets_completed count)
-    (ap (λ (new : Outgoing). record slot_state { outgoing = new }) (completed-outgoing (is_live connection.mark) outgoing connection.given connection.done count refl))
+    let outgoing : Outgoing =
+    outgoing_after (share_of shared.slots shared.buffers) (fragment_size_of shared.buffers) connection.pdus connection.given connection.done in
+    mapped (is_there connection.mark) slot_state (slot_state_of shared (with_packets_completed connection count) connection.given)
+    (slot_after_packets_completed count)
+    (ap (λ (new : Outgoing). record slot_state { outgoing = new })
+    (completed-outgoing (is_live connection.mark) outgoing connection.given connection.done count refl))
 
 -- the table is replaced, and no other thing that a slot keeps of a room
 abbrev dropped_if : Bool → ConnectionState → ConnectionState
@@ -49,7 +53,8 @@ dropped_if live connection = if live then record connection { said = Dropped ∷
 
 replaced-of : (shared : SharedState) (connection : ConnectionState) (row : Row) (handed : ℕ) (live : Bool) → is_live connection.mark ≡ live
     → slot_state_of shared (record (dropped_if live connection) { row = row }) handed
-    ≡ (if live then record (slot_state_of shared connection handed) { row = row; queue = []; pending = after_replacement connection.pending } else record (slot_state_of shared connection handed) { row = row })
+    ≡ (if live then record (slot_state_of shared connection handed) { row = row; queue = []; pending = after_replacement connection.pending }
+    else record (slot_state_of shared connection handed) { row = row })
 replaced-of shared connection row handed true is =
     let same = dropped_same (first_exchange connection.said) in
     λ i. record (slot_state_of shared connection handed) {
@@ -66,7 +71,8 @@ dropped-there true connection = refl
 dropped-there false connection = refl
 
 pub replaced_kept : (shared : SharedState) (connection : ConnectionState) (old new : Contents) (handed : ℕ)
-    → slot_state_if_there shared (connection_after_replacement old new connection) handed ≡ option_map (after_table old.attributes new.attributes) (slot_state_if_there shared connection handed)
+    → slot_state_if_there shared (connection_after_replacement old new connection) handed ≡ option_map (after_table old.attributes new.attributes)
+    (slot_state_if_there shared connection handed)
 replaced_kept shared connection old new handed =
     let row : Row = kept_row old.attributes new.attributes connection.row in
     let then-kept : SlotState = slot_state_of shared (connection_after_replacement old new connection) handed in

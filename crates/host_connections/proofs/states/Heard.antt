@@ -10,11 +10,11 @@ use Rattle.att_attributes.specs.declared.attr.Attr.{Attr}
 use Rattle.att_attributes.specs.Attributes.{attribute_at, is_value, is_value_at}
 use Rattle.att_table.specs.Table.{Contents}
 use Rattle.att_policy.specs.Policy.{may_hear_of}
-use Rattle.gatt_laws.proofs.Silence.{only_serves_the_live}
+use Rattle.gatt_laws.proofs.runs.Silence.{only_serves_the_live}
 use Rattle.gatt_laws.specs.machine.Heard.{Heard, att_pdu, heard_in_turn, heard_when_notifying, hearer_after, after_responses, hearer_of, after_hearing}
 use Rattle.gatt_laws.specs.machine.ConnectionState.{ConnectionState, Mark, Absent, Live, Ending, is_live, is_there, key_of, connection_mtu, with_pdus, after_giving}
 use Rattle.gatt_laws.specs.laws.Queued.{IsWithinBounds}
-use Rattle.gatt_laws.specs.machine.SharedState.{SharedState, Bonds, quota_of, fragment_size_of}
+use Rattle.gatt_laws.specs.machine.SharedState.{SharedState, Bonds, share_of, fragment_size_of}
 use Rattle.gatt_laws.specs.machine.State.{finished}
 use Rattle.gatt_laws.specs.machine.Effect.{values_among}
 use Rattle.host_connections.proofs.states.SlotStates.{backlog_kept, becomes, outgoing_live, row_kept, standing_kept}
@@ -30,7 +30,8 @@ use Rattle.le_acl.specs.Outgoing.{Outgoing, outgoing_after, with_pdu}
 use Rattle.le_acl.specs.Packets.{Pdu, fragments_of}
 
 -- PDUs one behind the other
-pub queued-both : (outgoing : Outgoing) (first more : List Pdu) → with_pdus_queued (with_pdus_queued outgoing first) more ≡ with_pdus_queued outgoing (first ++ more)
+pub queued-both : (outgoing : Outgoing) (first more : List Pdu) → with_pdus_queued (with_pdus_queued outgoing first) more
+    ≡ with_pdus_queued outgoing (first ++ more)
 queued-both outgoing [] more = refl
 queued-both outgoing (pdu ∷ first) more = queued-both (with_pdu outgoing pdu) first more
 
@@ -49,16 +50,19 @@ stands-more share size outgoing pdus given done (pdu ∷ more) at =
 
 -- where as many packets were given as may be
 pub queued_after : (share size : ℕ) (connection : ConnectionState) (more : List Pdu) → IsWithinBounds share size connection
-    → outgoing_after share size (connection.pdus ++ more) connection.given connection.done ≡ with_pdus_queued (outgoing_after share size connection.pdus connection.given connection.done) more
+    → outgoing_after share size (connection.pdus ++ more) connection.given connection.done
+    ≡ with_pdus_queued (outgoing_after share size connection.pdus connection.given connection.done) more
 queued_after share size connection more bounds =
-    sym ((stands-more share size (outgoing_after share size connection.pdus connection.given connection.done) connection.pdus connection.given connection.done more (record {
+    sym ((stands-more share size (outgoing_after share size connection.pdus connection.given connection.done) connection.pdus connection.given connection.done
+    more (record {
       stands = refl;
       most = omega (arith, bounds.given, bounds.within);
       done_before = bounds.done;
     })).stands)
 
 -- what is heard is queued
-heard-both : (told : Delivery) (first others : Heard) → delivery_with_heard (delivery_with_heard told first) others ≡ delivery_with_heard told (after_responses first.responses others)
+heard-both : (told : Delivery) (first others : Heard) → delivery_with_heard (delivery_with_heard told first) others
+    ≡ delivery_with_heard told (after_responses first.responses others)
 heard-both told first others = λ i. record {
   pending = others.pending;
   outgoing = (queued-both told.outgoing (map att_pdu first.responses) (map att_pdu others.responses)
@@ -81,8 +85,10 @@ heard-told table ear now (handle ∷ handles) told =
     ∙ heard-both told first (heard_in_turn table.attributes table.values (hearer_after hearer first) now handles)
 
 -- who serves hears by the same
-pub same_hearer : (shared : SharedState) (found : Option Row) (bond : Row) (connection : ConnectionState) → (is_some (key_of connection) ≡ true → found ≡ Some bond) → is_live connection.mark ≡ true
-    → slot_hearer (hearer_facts_of shared.time found (slot_state_of shared connection connection.given)) (delivery_of (slot_state_of shared connection connection.given)) ≡ hearer_of shared bond connection
+pub same_hearer : (shared : SharedState) (found : Option Row) (bond : Row) (connection : ConnectionState)
+    → (is_some (key_of connection) ≡ true → found ≡ Some bond) → is_live connection.mark ≡ true
+    → slot_hearer (hearer_facts_of shared.time found (slot_state_of shared connection connection.given))
+    (delivery_of (slot_state_of shared connection connection.given)) ≡ hearer_of shared bond connection
 same_hearer shared found bond connection has is = λ i. record {
   live = sym is i;
   standing = standing_kept shared connection connection.given i;
@@ -92,7 +98,8 @@ same_hearer shared found bond connection has is = λ i. record {
   pending = connection.pending;
 }
 
-module _ (shared : SharedState) (found : Option Row) (bonds : Bonds) (handles : List Handle) (connection : ConnectionState) (bounds : IsWithinBounds (quota_of shared.slots shared.buffers) (fragment_size_of shared.buffers) connection)
+module _ (shared : SharedState) (found : Option Row) (bonds : Bonds) (handles : List Handle) (connection : ConnectionState)
+    (bounds : IsWithinBounds (share_of shared.slots shared.buffers) (fragment_size_of shared.buffers) connection)
     (has : is_some (key_of connection) ≡ true → found ≡ Some (bonds connection.peer)) where
   abbrev slot_state : SlotState
   slot_state = slot_state_of shared connection connection.given
@@ -106,48 +113,65 @@ module _ (shared : SharedState) (found : Option Row) (bonds : Bonds) (handles : 
   abbrev then-queued : ConnectionState
   then-queued = record (with_pdus connection (map att_pdu heard.responses)) { pending = heard.pending }
 
-  kept-heard : is_live connection.mark ≡ true → slot_state_of shared then-queued connection.given ≡ with_delivery slot_state (delivery_with_heard (delivery_of slot_state) heard)
+  kept-heard : is_live connection.mark ≡ true → slot_state_of shared then-queued connection.given
+      ≡ with_delivery slot_state (delivery_with_heard (delivery_of slot_state) heard)
   kept-heard is =
       let more : List Pdu = map att_pdu heard.responses in
       ap (λ (outgoing : Outgoing). with_delivery slot_state (record { pending = heard.pending; outgoing = outgoing }))
       (outgoing_live shared then-queued connection.given is
-      ∙ queued_after (quota_of shared.slots shared.buffers) (fragment_size_of shared.buffers) connection more bounds
+      ∙ queued_after (share_of shared.slots shared.buffers) (fragment_size_of shared.buffers) connection more bounds
       ∙ ap (λ (outgoing : Outgoing). with_pdus_queued outgoing more) (sym (outgoing_live shared connection connection.given is)))
 
-  live-heard : is_live connection.mark ≡ true → slot_state_of shared then-queued connection.given ≡ slot_after_hearing shared.table shared.time found handles slot_state
+  live-heard : is_live connection.mark ≡ true → slot_state_of shared then-queued connection.given
+      ≡ slot_after_hearing shared.table shared.time found handles slot_state
   live-heard is =
       kept-heard is
-      ∙ ap (λ (hearer : Hearer). with_delivery slot_state (delivery_with_heard (delivery_of slot_state) (heard_in_turn shared.table.attributes shared.table.values hearer shared.time handles))) (sym (same_hearer shared found bond connection has is))
-      ∙ ap (λ (told : Delivery). with_delivery slot_state told) (sym (heard-told shared.table (hearer_facts_of shared.time found slot_state) shared.time handles (delivery_of slot_state)))
-      ∙ sym (ap (λ (live : Bool). if live then with_delivery slot_state (delivery_in_turn shared.table (hearer_facts_of shared.time found slot_state) shared.time handles (delivery_of slot_state)) else slot_state) is)
+      ∙ ap (λ (hearer : Hearer).
+      with_delivery slot_state
+      (delivery_with_heard (delivery_of slot_state) (heard_in_turn shared.table.attributes shared.table.values hearer shared.time handles)))
+      (sym (same_hearer shared found bond connection has is))
+      ∙ ap (λ (told : Delivery). with_delivery slot_state told)
+      (sym (heard-told shared.table (hearer_facts_of shared.time found slot_state) shared.time handles (delivery_of slot_state)))
+      ∙ sym (ap
+      (λ (live : Bool). if live
+      then with_delivery slot_state (delivery_in_turn shared.table (hearer_facts_of shared.time found slot_state) shared.time handles (delivery_of slot_state))
+      else slot_state) is)
 
   -- packets that are given then are not handed out yet
-  given-kept : (live : Bool) (new : ConnectionState) (count : ℕ) → slot_state_of shared (if live then record new { given = count } else new) connection.given ≡ slot_state_of shared new connection.given
+  given-kept : (live : Bool) (new : ConnectionState) (count : ℕ) → slot_state_of shared (if live then record new { given = count } else new) connection.given
+      ≡ slot_state_of shared new connection.given
   given-kept true new count = refl
   given-kept false new count = refl
 
-  given-there : (live : Bool) (new : ConnectionState) (count : ℕ) → is_there new.mark ≡ true → is_there (if live then record new { given = count } else new).mark ≡ true
+  given-there : (live : Bool) (new : ConnectionState) (count : ℕ) → is_there new.mark ≡ true
+      → is_there (if live then record new { given = count } else new).mark ≡ true
   given-there true new count is = is
   given-there false new count is = is
 
   by-mark : (mark : Mark) → connection.mark ≡ mark
-      → slot_state_if_there shared (finished shared bonds handles connection) connection.given ≡ option_map (slot_after_hearing shared.table shared.time found handles) (slot_state_if_there shared connection connection.given)
+      → slot_state_if_there shared (finished shared bonds handles connection) connection.given
+      ≡ option_map (slot_after_hearing shared.table shared.time found handles) (slot_state_if_there shared connection connection.given)
   unfolding after_hearing
   by-mark Absent is =
       let none : slot_state_if_there shared connection connection.given ≡ None = ap (λ (mark : Mark). if is_there mark then Some slot_state else None) is in
-      ap (λ (new : ConnectionState). slot_state_if_there shared new connection.given) (only_serves_the_live shared bonds handles connection (ap is_live is)) ∙ none
+      ap (λ (new : ConnectionState). slot_state_if_there shared new connection.given) (only_serves_the_live shared bonds handles connection (ap is_live is))
+      ∙ none
       ∙ ap (λ (slot : Option SlotState). option_map (slot_after_hearing shared.table shared.time found handles) slot) (sym none)
   by-mark Live is =
       let live : is_live connection.mark ≡ true = ap is_live is in
       let there : is_there connection.mark ≡ true = ap is_there is in
-      let given : ℕ = packets_allowed (quota_of shared.slots shared.buffers) (fragment_size_of shared.buffers) then-queued.pdus connection.done in
-      becomes shared connection (after_giving shared then-queued) connection.given (slot_after_hearing shared.table shared.time found handles) there (given-there (is_live connection.mark) then-queued given there)
+      let given : ℕ = packets_allowed (share_of shared.slots shared.buffers) (fragment_size_of shared.buffers) then-queued.pdus connection.done in
+      becomes shared connection (after_giving shared then-queued) connection.given (slot_after_hearing shared.table shared.time found handles) there
+      (given-there (is_live connection.mark) then-queued given there)
       (given-kept (is_live connection.mark) then-queued given ∙ live-heard live)
   by-mark Ending is =
       let there : is_there connection.mark ≡ true = ap is_there is in
       ap (λ (new : ConnectionState). slot_state_if_there shared new connection.given) (only_serves_the_live shared bonds handles connection (ap is_live is))
       ∙ becomes shared connection connection connection.given (slot_after_hearing shared.table shared.time found handles) there there
-      (sym (ap (λ (live : Bool). if live then with_delivery slot_state (delivery_in_turn shared.table (hearer_facts_of shared.time found slot_state) shared.time handles (delivery_of slot_state)) else slot_state) (ap is_live is)))
+      (sym (ap
+      (λ (live : Bool). if live
+      then with_delivery slot_state (delivery_in_turn shared.table (hearer_facts_of shared.time found slot_state) shared.time handles (delivery_of slot_state))
+      else slot_state) (ap is_live is)))
 
   -- at the end of an event
   pub finished_kept : slot_state_if_there shared (finished shared bonds handles connection) connection.given
@@ -160,7 +184,8 @@ pub unheard_attr : (found : Option Attr) (bits : ℕ) (standing : Standing) → 
 unheard_attr None bits standing is = refl
 unheard_attr (Some attr) bits standing is = ap (λ (value : Bool). value && may_hear_of attr.guard bits standing) is
 
-unheard : (table : Contents) (ear : HearerFacts) (handle : Handle) (told : Delivery) → is_value_at table.attributes handle ≡ false → delivery_when_notifying table ear handle told ≡ told
+unheard : (table : Contents) (ear : HearerFacts) (handle : Handle) (told : Delivery) → is_value_at table.attributes handle ≡ false
+    → delivery_when_notifying table ear handle told ≡ told
 unheard table ear handle told is =
     let may : may_hear_at table.attributes ear.row ear.standing handle ≡ false =
     unheard_attr (attribute_at table.attributes handle) (bits_for ear.row handle) ear.standing is in
@@ -181,10 +206,12 @@ among table ear now (handle ∷ handles) told =
     → delivery_in_turn table ear now (if value then handle ∷ values_among table.attributes handles else values_among table.attributes handles) told
     ≡ delivery_in_turn table ear now handles (delivery_when_notifying table ear handle told)) [
       | true ↦ λ is. among table ear now handles (delivery_when_notifying table ear handle told)
-      | false ↦ λ is. among table ear now handles told ∙ ap (λ (by : Delivery). delivery_in_turn table ear now handles by) (sym (unheard table ear handle told is))
+      | false ↦ λ is. among table ear now handles told ∙ ap (λ (by : Delivery). delivery_in_turn table ear now handles by)
+          (sym (unheard table ear handle told is))
     ] refl
 
 pub hears_of_values : (table : Contents) (now : ℕ) (found : Option Row) (handles : List Handle) (slot_state : SlotState)
     → slot_after_hearing table now found (values_among table.attributes handles) slot_state ≡ slot_after_hearing table now found handles slot_state
 hears_of_values table now found handles slot_state =
-    ap (λ (told : Delivery). if slot_state.live then with_delivery slot_state told else slot_state) (among table (hearer_facts_of now found slot_state) now handles (delivery_of slot_state))
+    ap (λ (told : Delivery). if slot_state.live then with_delivery slot_state told else slot_state)
+    (among table (hearer_facts_of now found slot_state) now handles (delivery_of slot_state))

@@ -14,17 +14,20 @@ use Rattle.host_connections.specs.Slots.{SlotStates, place_free}
 use Rattle.octet_io.proofs.Choices.{or_false_left, or_false_right}
 
 -- the first place at which a test passes
-next-place : (most place : ℕ) → (if nat_lt (1 + place) (suc most) then Some (1 + place) else None) ≡ option_map suc (if nat_lt place most then Some place else None)
+next-place : (most place : ℕ) → (if nat_lt (1 + place) (suc most) then Some (1 + place) else None)
+    ≡ option_map suc (if nat_lt place most then Some place else None)
 next-place most place = elim (cases_lt place most) [
   | inl before ↦
-      rw (lt-ltb place most before) (rw (lt-ltb (1 + place) (suc most) (omega arith)) (let next : 1 + place ≡ suc place = omega arith in ap (λ (at : ℕ). Some at) next))
+      rw (lt-ltb place most before) (rw (lt-ltb (1 + place) (suc most) (omega arith)) (let next : 1 + place ≡ suc place = omega arith in
+      ap (λ (at : ℕ). Some at) next))
   | inr past ↦ rw (le-ltb place most past) (rw (le-ltb (1 + place) (suc most) (omega arith)) refl)
 ]
 
 pub position_step : {A : Type 0} (test : A → Bool) (x : A) (xs : List A)
     → position test (x ∷ xs) ≡ (if test x then Some 0 else option_map suc (position test xs))
 position_step test x xs = elim (test x) as (λ (passes : Bool).
-    (if nat_lt (if not passes then 1 + position_or_len test xs else 0) (suc (length xs)) then Some (if not passes then 1 + position_or_len test xs else 0) else None)
+    (if nat_lt (if not passes then 1 + position_or_len test xs else 0) (suc (length xs)) then Some (if not passes then 1 + position_or_len test xs else 0)
+    else None)
     ≡ (if passes then Some 0 else option_map suc (position test xs))) [
       | true ↦ rw (lt-ltb 0 (suc (length xs)) (omega arith)) refl
       | false ↦ next-place (length xs) (position_or_len test xs)
@@ -40,7 +43,8 @@ abbrev pub Finds : Slots → Option Ordinal → Option ℕ → Type 0
 Finds slots None place = place ≡ None
 Finds slots (Some ordinal) place = IsFoundAt slots ordinal place
 
-finds-later : (slot : Option Ordinal) (slots : Slots) (found : Option Ordinal) (place : Option ℕ) → Finds slots found place → Finds (slot ∷ slots) found (option_map suc place)
+finds-later : (slot : Option Ordinal) (slots : Slots) (found : Option Ordinal) (place : Option ℕ) → Finds slots found place
+    → Finds (slot ∷ slots) found (option_map suc place)
 finds-later slot slots None place none = ap (λ (at : Option ℕ). option_map suc at) none
 finds-later slot slots (Some ordinal) place found =
     record { at = suc found.at; is = ap (λ (at : Option ℕ). option_map suc at) found.is; has = found.has }
@@ -83,7 +87,8 @@ module _ (keep : Option Ordinal → Option SlotState) where
     finds_same (Some ordinal ∷ slots) same =
         subst (λ (place : Option ℕ). Finds (Some ordinal ∷ slots) (if test ordinal then Some ordinal else ordinal_where test slots) place)
         (sym (position_step kept_test (keep (Some ordinal)) (map keep slots)
-        ∙ ap (λ (passes : Bool). if passes then Some 0 else option_map suc (position kept_test (map keep slots))) (same ordinal (own-slot ordinal (has_slot ordinal slots)))))
+        ∙ ap (λ (passes : Bool). if passes then Some 0 else option_map suc (position kept_test (map keep slots)))
+        (same ordinal (own-slot ordinal (has_slot ordinal slots)))))
         (finds-first slots (Some ordinal) (test ordinal) ordinal refl
         (finds_same slots (λ other has. same other (or_right (ordinal == other) (has_slot other slots) has))))
 
@@ -135,7 +140,8 @@ module _ (keep : Option Ordinal → Option SlotState) where
         let own : first ≡ ordinal = cc has in
         let lacks : has_slot ordinal slots ≡ false = ap (λ (one : Ordinal). has_slot one slots) (sym own) ∙ each.1 in
         (λ i. after (if sym (eq-eqb first ordinal own) i then None else Some first) ∷ all_same slots (λ other has_other.
-        same other (or_right (first == other) (has_slot other slots) has_other) (ne_eqb other ordinal (λ is. cc (sym (ap (λ (one : Ordinal). has_slot one slots) is) ∙ has_other, lacks)))) i)
+        same other (or_right (first == other) (has_slot other slots) has_other)
+        (ne_eqb other ordinal (λ is. cc (sym (ap (λ (one : Ordinal). has_slot one slots) is) ∙ has_other, lacks)))) i)
         ∙ ap (λ (others : Slots). after (if first == ordinal then None else Some first) ∷ map after others) (sym (freed-same ordinal slots lacks))
     one_freed next (None ∷ slots) (suc at) ordinal each has same =
         λ i. none i ∷ one_freed next slots at ordinal each has (λ other has_other. same other has_other) i
@@ -147,7 +153,8 @@ module _ (keep : Option Ordinal → Option SlotState) where
 
 module _ (keep after : Option Ordinal → Option SlotState) where
   -- what stands in a slot changes
-  pub changed_at : (change : Option SlotState → Option SlotState) (next : Ordinal) (slots : Slots) (at : ℕ) (ordinal : Ordinal) → keep None ≡ after None → HaveOneSlotEach next slots
+  pub changed_at : (change : Option SlotState → Option SlotState) (next : Ordinal) (slots : Slots) (at : ℕ) (ordinal : Ordinal) → keep None ≡ after None
+      → HaveOneSlotEach next slots
       → slice_get slots at ≡ Some (Some ordinal) → change (keep (Some ordinal)) ≡ after (Some ordinal)
       → ((other : Ordinal) → has_slot other slots ≡ true → (other == ordinal) ≡ false → keep (Some other) ≡ after (Some other))
       → option_map_or (λ slot. set (map keep slots) at (change slot)) (slice_get (map keep slots) at) (map keep slots) ≡ map after slots
@@ -187,7 +194,8 @@ module _ (keep after : Option Ordinal → Option SlotState) where
       at = 0;
       is = free-first slots;
       free = refl;
-      taken = ap (λ (others : SlotStates). after (Some ordinal) ∷ others) (all_same keep after (free ∙ sym free_after) slots (λ other other_has. same other other_has));
+      taken = ap (λ (others : SlotStates). after (Some ordinal) ∷ others)
+          (all_same keep after (free ∙ sym free_after) slots (λ other other_has. same other other_has));
     }
     takes_the_first (Some first ∷ slots) has there same =
         let later = takes_the_first slots has
@@ -206,4 +214,5 @@ module _ (keep after : Option Ordinal → Option SlotState) where
     none_free (None ∷ slots) has there = cc has
     none_free (Some first ∷ slots) has there =
         free-later first slots (there first (own-slot first (has_slot first slots)))
-        ∙ ap (λ (place : Option ℕ). option_map suc place) (none_free slots has (λ other other_has. there other (or_right (first == other) (has_slot other slots) other_has)))
+        ∙ ap (λ (place : Option ℕ). option_map suc place)
+        (none_free slots has (λ other other_has. there other (or_right (first == other) (has_slot other slots) other_has)))

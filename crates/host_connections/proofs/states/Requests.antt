@@ -18,7 +18,7 @@ use Rattle.gatt_laws.specs.machine.Event.{Asks}
 use Rattle.gatt_laws.specs.machine.Heard.{att_pdu}
 use Rattle.gatt_laws.specs.machine.ConnectionState.{ConnectionState, is_live, is_there, key_of, row_in_force, connection_mtu, bearer_of, after_ending}
 use Rattle.gatt_laws.specs.laws.Queued.{IsWithinBounds}
-use Rattle.gatt_laws.specs.machine.SharedState.{SharedState, quota_of, fragment_size_of}
+use Rattle.gatt_laws.specs.machine.SharedState.{SharedState, share_of, fragment_size_of}
 use Rattle.gatt_laws.specs.machine.Effect.{Effect, effect_of, effect_on_connection, live_effect, is_full, served, values_among, owed_after, bond_row_after, remote_user_terminated}
 use Rattle.host_connections.proofs.states.SlotStates.{becomes, connection_kept, link_key, live_there, row_kept}
 use Rattle.host_connections.proofs.states.Effects.{ended_kept, full_kept, live_turned, queued_kept}
@@ -68,8 +68,10 @@ bond-owed : (has_key : Bool) (bond : Bond) (new : Row) → bond.owed ≡ (bond_a
 bond-owed true bond new = refl
 bond-owed false bond new = refl
 
-module _ (shared : SharedState) (found : Option Row) (bond : Row) (owed : Bool) (connection : ConnectionState) (pdu : Octets) (live : is_live connection.mark ≡ true)
-    (bounds : IsWithinBounds (quota_of shared.slots shared.buffers) (fragment_size_of shared.buffers) connection) (has : is_some (key_of connection) ≡ true → found ≡ Some bond) where
+module _ (shared : SharedState) (found : Option Row) (bond : Row) (owed : Bool) (connection : ConnectionState) (pdu : Octets)
+    (live : is_live connection.mark ≡ true)
+    (bounds : IsWithinBounds (share_of shared.slots shared.buffers) (fragment_size_of shared.buffers) connection)
+    (has : is_some (key_of connection) ≡ true → found ≡ Some bond) where
   abbrev slot_state : SlotState
   slot_state = slot_state_of shared connection connection.given
 
@@ -98,7 +100,8 @@ module _ (shared : SharedState) (found : Option Row) (bond : Row) (owed : Bool) 
   same-full = ap (λ (full : Bool). is_due asked && full) (full_kept shared bond owed connection live bounds)
 
   -- what it said tells the connection that is left
-  said-then : Follows (conn_after shared.table.attributes conn asked) (Answered asked (answer_to shared.table (row_in_force bond connection) conn asked) ∷ connection.said)
+  said-then : Follows (conn_after shared.table.attributes conn asked)
+      (Answered asked (answer_to shared.table (row_in_force bond connection) conn asked) ∷ connection.said)
   said-then = asked_next shared.table (row_in_force bond connection) conn asked connection.said (record { mtu = refl; exchanged = refl; queue = refl })
 
   abbrev left : SlotState
@@ -138,9 +141,11 @@ module _ (shared : SharedState) (found : Option Row) (bond : Row) (owed : Bool) 
         pending = pending_after pdu connection.pending;
         outgoing = outgoing-left i;
       })
-      ∙ ap (λ (by : Bearer). record (with_conn (conn_after shared.table.attributes by asked) slot_state) { row = left.row; pending = left.pending; outgoing = left.outgoing }) (sym same-conn)
+      ∙ ap (λ (by : Bearer). record (with_conn (conn_after shared.table.attributes by asked) slot_state)
+      { row = left.row; pending = left.pending; outgoing = left.outgoing }) (sym same-conn)
 
-  kept-asked : (full : Bool) → slot_state_of shared (if full then effect_on_connection shared bond owed (after_ending connection remote_user_terminated) else then-served).connection connection.given
+  kept-asked : (full : Bool) → slot_state_of shared (if full then effect_on_connection shared bond owed (after_ending connection remote_user_terminated)
+      else then-served).connection connection.given
       ≡ (if full then slot_after_ending remote_user_terminated slot_state else left)
   kept-asked true = ended_kept shared connection remote_user_terminated connection.given
   kept-asked false = kept-left
@@ -148,11 +153,13 @@ module _ (shared : SharedState) (found : Option Row) (bond : Row) (owed : Bool) 
   there : is_there connection.mark ≡ true
   there = live_there connection.mark live
 
-  there-asked : (full : Bool) → is_there (if full then effect_on_connection shared bond owed (after_ending connection remote_user_terminated) else then-served).connection.mark ≡ true
+  there-asked : (full : Bool)
+      → is_there (if full then effect_on_connection shared bond owed (after_ending connection remote_user_terminated) else then-served).connection.mark ≡ true
   there-asked true = refl
   there-asked false = there
 
-  asks-turn : effect_of shared bond owed connection (Asks pdu) ≡ (if overflows pdu slot_state then effect_on_connection shared bond owed (after_ending connection remote_user_terminated) else then-served)
+  asks-turn : effect_of shared bond owed connection (Asks pdu)
+      ≡ (if overflows pdu slot_state then effect_on_connection shared bond owed (after_ending connection remote_user_terminated) else then-served)
   unfolding live_effect
   asks-turn =
       live_turned shared bond owed connection live (Asks pdu)
@@ -162,25 +169,30 @@ module _ (shared : SharedState) (found : Option Row) (bond : Row) (owed : Bool) 
   pub served_kept : slot_state_if_there shared (effect_of shared bond owed connection (Asks pdu)).connection connection.given
       ≡ option_map (slot_after_request shared.table shared.time found pdu) (slot_state_if_there shared connection connection.given)
   served_kept =
-      let new : Effect = if overflows pdu slot_state then effect_on_connection shared bond owed (after_ending connection remote_user_terminated) else then-served in
+      let new : Effect = if overflows pdu slot_state then effect_on_connection shared bond owed (after_ending connection remote_user_terminated)
+      else then-served in
       ap (λ (effect : Effect). slot_state_if_there shared effect.connection connection.given) asks-turn
-      ∙ becomes shared connection new.connection connection.given (slot_after_request shared.table shared.time found pdu) there (there-asked (overflows pdu slot_state)) (kept-asked (overflows pdu slot_state))
+      ∙ becomes shared connection new.connection connection.given (slot_after_request shared.table shared.time found pdu) there
+      (there-asked (overflows pdu slot_state)) (kept-asked (overflows pdu slot_state))
 
   -- the values of the table, and those of them that are notified
   pub served_values : (effect_of shared bond owed connection (Asks pdu)).values ≡ (table_after shared.table shared.time found pdu slot_state).values
   served_values =
       ap (λ (effect : Effect). effect.values) asks-turn
-      ∙ (elim (overflows pdu slot_state) as (λ (full : Bool). (if full then effect_on_connection shared bond owed (after_ending connection remote_user_terminated) else then-served).values
+      ∙ (elim (overflows pdu slot_state) as
+      (λ (full : Bool). (if full then effect_on_connection shared bond owed (after_ending connection remote_user_terminated) else then-served).values
       ≡ (if full then shared.table else record shared.table { values = (stored_of shared.table shared.time found pdu slot_state).values }).values) [
         | true ↦ refl
         | false ↦ ap (λ (by : Stored). by.values) (sym same-stored)
       ])
 
-  pub served_raised : (effect_of shared bond owed connection (Asks pdu)).to_notify ≡ values_among shared.table.attributes (handles_written_by shared.table shared.time found pdu slot_state)
+  pub served_raised : (effect_of shared bond owed connection (Asks pdu)).to_notify
+      ≡ values_among shared.table.attributes (handles_written_by shared.table shared.time found pdu slot_state)
   served_raised =
       let handles : List Handle = handles_by shared.table (slot_row_in_force found slot_state) (slot_bearer shared.time slot_state) asked in
       ap (λ (effect : Effect). effect.to_notify) asks-turn
-      ∙ (elim (overflows pdu slot_state) as (λ (full : Bool). (if full then effect_on_connection shared bond owed (after_ending connection remote_user_terminated) else then-served).to_notify
+      ∙ (elim (overflows pdu slot_state) as
+      (λ (full : Bool). (if full then effect_on_connection shared bond owed (after_ending connection remote_user_terminated) else then-served).to_notify
       ≡ values_among shared.table.attributes (if full then [] else handles)) [
         | true ↦ refl
         | false ↦ λ i. values_among shared.table.attributes (handles_by shared.table (sym same-row i) (sym same-conn i) asked)
@@ -189,14 +201,18 @@ module _ (shared : SharedState) (found : Option Row) (bond : Row) (owed : Bool) 
   pub served_raised_here : (effect_of shared bond owed connection (Asks pdu)).to_notify_here ≡ []
   served_raised_here =
       ap (λ (effect : Effect). effect.to_notify_here) asks-turn
-      ∙ (elim (overflows pdu slot_state) as (λ (full : Bool). (if full then effect_on_connection shared bond owed (after_ending connection remote_user_terminated) else then-served).to_notify_here ≡ []) [ true ↦ refl | false ↦ refl ])
+      ∙ (elim (overflows pdu slot_state) as
+      (λ (full : Bool). (if full then effect_on_connection shared bond owed (after_ending connection remote_user_terminated) else then-served).to_notify_here
+      ≡ []) [ true ↦ refl | false ↦ refl ])
 
   -- and the bond of its peer
   abbrev bonded : Bond
   bonded = record { row = bond; owed = owed }
 
   abbrev bond-left : Bond
-  bond-left = with_owed_after (confirms_changes shared.changer pdu slot_state) (bond_after (is_some slot_state.link.key) (stored_of shared.table shared.time found pdu slot_state).row bonded)
+  bond-left =
+      with_owed_after (confirms_changes shared.changer pdu slot_state)
+      (bond_after (is_some slot_state.link.key) (stored_of shared.table shared.time found pdu slot_state).row bonded)
 
   bond-row-left : bond_row_after connection bond stored.row ≡ bond-left.row
   bond-row-left =
@@ -211,14 +227,18 @@ module _ (shared : SharedState) (found : Option Row) (bond : Row) (owed : Bool) 
       ∙ ap (λ (was : Bool). was && not (confirms_changes shared.changer pdu slot_state))
       (bond-owed (is_some slot_state.link.key) bonded (stored_of shared.table shared.time found pdu slot_state).row)
 
-  pub served_bond : (effect_of shared bond owed connection (Asks pdu)).bond ≡ (bond_served shared.table shared.time shared.changer found pdu slot_state bonded).row
+  pub served_bond : (effect_of shared bond owed connection (Asks pdu)).bond
+      ≡ (bond_served shared.table shared.time shared.changer found pdu slot_state bonded).row
   served_bond =
       ap (λ (effect : Effect). effect.bond) asks-turn
-      ∙ (elim (overflows pdu slot_state) as (λ (full : Bool). (if full then effect_on_connection shared bond owed (after_ending connection remote_user_terminated) else then-served).bond
+      ∙ (elim (overflows pdu slot_state) as
+      (λ (full : Bool). (if full then effect_on_connection shared bond owed (after_ending connection remote_user_terminated) else then-served).bond
       ≡ (if full then bonded else bond-left).row) [ true ↦ refl | false ↦ bond-row-left ])
 
-  pub served_owed : (effect_of shared bond owed connection (Asks pdu)).owed ≡ (bond_served shared.table shared.time shared.changer found pdu slot_state bonded).owed
+  pub served_owed : (effect_of shared bond owed connection (Asks pdu)).owed
+      ≡ (bond_served shared.table shared.time shared.changer found pdu slot_state bonded).owed
   served_owed =
       ap (λ (effect : Effect). effect.owed) asks-turn
-      ∙ (elim (overflows pdu slot_state) as (λ (full : Bool). (if full then effect_on_connection shared bond owed (after_ending connection remote_user_terminated) else then-served).owed
+      ∙ (elim (overflows pdu slot_state) as
+      (λ (full : Bool). (if full then effect_on_connection shared bond owed (after_ending connection remote_user_terminated) else then-served).owed
       ≡ (if full then bonded else bond-left).owed) [ true ↦ refl | false ↦ owed-left ])

@@ -104,7 +104,8 @@ skipped_of_values table now found handles slot_state =
     let ear : HearerFacts = hearer_facts_of now found slot_state in
     let backlog : ℕ = length slot_state.outgoing.queue in
     let wants : Handle → Bool = wants_notification table.attributes slot_state.pending ear.row ear.standing in
-    let by : (those : List Handle) → skipped_in_turn table.attributes table.values (slot_hearer ear (delivery_of slot_state)) those ≡ skips_by wants backlog those =
+    let by : (those : List Handle) → skipped_in_turn table.attributes table.values (slot_hearer ear (delivery_of slot_state)) those
+    ≡ skips_by wants backlog those =
     λ those. skipped_by table.attributes table.values ear.row ear.standing ear.mtu backlog slot_state.pending those in
     by (values_among table.attributes handles) ∙ among table.attributes wants (λ handle is.
     ap (λ (heard : Bool). heard && not (wants_indications ear.row handle))

@@ -5,7 +5,7 @@ use Rattle.std.specs.Option.{option_map}
 use Rattle.att_numbers.specs.Types.{Row}
 use Rattle.att_policy.specs.declared.standing.KeyFacts.{KeyFacts}
 use Rattle.gatt_laws.specs.machine.ConnectionState.{ConnectionState, Mark, Absent, Live, Ending, is_live, is_there, key_of, connection_mtu, prepared_of, row_in_force, standing_of, bearer_of, backlog_of}
-use Rattle.gatt_laws.specs.machine.SharedState.{SharedState, quota_of, fragment_size_of}
+use Rattle.gatt_laws.specs.machine.SharedState.{SharedState, share_of, fragment_size_of}
 use Rattle.gatt_conn.specs.Transcript.{first_exchange}
 use Rattle.host_connections.specs.Hearing.{slot_row_in_force}
 use Rattle.host_connections.specs.SlotState.{SlotState, slot_state_of, slot_state_if_there, outgoing_of, slot_standing, slot_bearer, slot_backlog}
@@ -31,7 +31,13 @@ module _ (shared : SharedState) (connection : ConnectionState) (handed : ℕ) wh
 
   -- what the policy sees of it, and the server
   pub standing_kept : slot_standing shared.time (slot_state_of shared connection handed) ≡ standing_of shared connection
-  standing_kept = ap (λ (key : Option KeyFacts). record { key = key; key_known = (slot_state_of shared connection handed).key_known; until = connection.until; now = shared.time }) link_key
+  standing_kept =
+      ap (λ (key : Option KeyFacts). record {
+        key = key;
+        key_known = (slot_state_of shared connection handed).key_known;
+        until = connection.until;
+        now = shared.time;
+      }) link_key
 
   pub connection_kept : slot_bearer shared.time (slot_state_of shared connection handed) ≡ bearer_of shared connection
   connection_kept = λ i. record {
@@ -45,13 +51,16 @@ module _ (shared : SharedState) (connection : ConnectionState) (handed : ℕ) wh
   pub row_kept : (found : Option Row) (bond : Row) → (is_some (key_of connection) ≡ true → found ≡ Some bond)
       → slot_row_in_force found (slot_state_of shared connection handed) ≡ row_in_force bond connection
   row_kept found bond has =
-      ap (λ (key : Option KeyFacts). if is_some key then unwrap_or found connection.row else connection.row) link_key ∙ forced (key_of connection) found bond connection.row has
+      ap (λ (key : Option KeyFacts). if is_some key then unwrap_or found connection.row else connection.row) link_key
+      ∙ forced (key_of connection) found bond connection.row has
 
   -- what goes out on it while it serves
   pub outgoing_live : is_live connection.mark ≡ true
-      → outgoing_of shared connection handed ≡ outgoing_after (quota_of shared.slots shared.buffers) (fragment_size_of shared.buffers) connection.pdus handed connection.done
+      → outgoing_of shared connection handed ≡ outgoing_after (share_of shared.slots shared.buffers) (fragment_size_of shared.buffers) connection.pdus handed
+      connection.done
   outgoing_live is =
-      let outgoing : Outgoing = outgoing_after (quota_of shared.slots shared.buffers) (fragment_size_of shared.buffers) connection.pdus handed connection.done in
+      let outgoing : Outgoing = outgoing_after (share_of shared.slots shared.buffers) (fragment_size_of shared.buffers) connection.pdus handed connection.done
+      in
       ap (λ (live : Bool). if live then outgoing else without_pdus outgoing) is
 
   -- a slot keeps what is there
@@ -59,12 +68,15 @@ module _ (shared : SharedState) (connection : ConnectionState) (handed : ℕ) wh
   kept_there is = ap (λ (there : Bool). if there then Some (slot_state_of shared connection handed) else None) is
 
 -- how many PDUs wait
-pub backlog_kept : (shared : SharedState) (connection : ConnectionState) → is_live connection.mark ≡ true → slot_backlog (slot_state_of shared connection connection.given) ≡ backlog_of shared connection
+pub backlog_kept : (shared : SharedState) (connection : ConnectionState) → is_live connection.mark ≡ true
+    → slot_backlog (slot_state_of shared connection connection.given) ≡ backlog_of shared connection
 backlog_kept shared connection is = ap (λ (outgoing : Outgoing). length outgoing.queue) (outgoing_live shared connection connection.given is)
 
 -- what becomes of who serves, by what its slot keeps
-pub becomes : (shared : SharedState) (old new : ConnectionState) (handed : ℕ) (change : SlotState → SlotState) → is_there old.mark ≡ true → is_there new.mark ≡ true
+pub becomes : (shared : SharedState) (old new : ConnectionState) (handed : ℕ) (change : SlotState → SlotState) → is_there old.mark ≡ true
+    → is_there new.mark ≡ true
     → slot_state_of shared new handed ≡ change (slot_state_of shared old handed)
     → slot_state_if_there shared new handed ≡ option_map change (slot_state_if_there shared old handed)
 becomes shared old new handed change was is same =
-    kept_there shared new handed is ∙ ap (λ (slot_state : SlotState). Some slot_state) same ∙ ap (λ (slot : Option SlotState). option_map change slot) (sym (kept_there shared old handed was))
+    kept_there shared new handed is ∙ ap (λ (slot_state : SlotState). Some slot_state) same ∙ ap (λ (slot : Option SlotState). option_map change slot)
+    (sym (kept_there shared old handed was))

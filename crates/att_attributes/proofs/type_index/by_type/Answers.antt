@@ -6,7 +6,8 @@ use Rattle.att_attributes.proofs.type_index.by_type.Goals as goal
 pub place_of-first-requires : goal.place_of-first-requires
 place_of-first-requires c =
     let within : c.loop-place.place ≤ length c.args.attributes.now = grind (arith, common_steps) in
-    index_so_far c.args.attributes.now c.deref.result.now c.loop-place.index.items c.loop-place.place c.requires within c.deref.ensures.value c.loop-place.invariant
+    index_so_far c.args.attributes.now c.deref.result.now c.loop-place.index.items c.loop-place.place c.requires within c.deref.ensures.value
+    c.loop-place.invariant
 
 pub loop-place-preserved : goal.loop-place-preserved
 loop-place-preserved c =

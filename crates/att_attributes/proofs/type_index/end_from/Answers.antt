@@ -17,7 +17,9 @@ type_of-kind-requires-clause-last c = (above_at _ _ _ _ 0 c.requires.index.withi
 pub loop-end-init : goal.loop-end-init
 loop-end-init c =
     let within : c.from.result < length c.args.index.now = omega (arith, c.from.ensures, c.requires.inside) in
-    let has = run_has (type_at c.args.attributes.now) c.args.index.now c.from.result c.type_of-kind.result c.requires.index.ordered within (sym c.type_of-kind.ensures) in
+    let has =
+    run_has (type_at c.args.attributes.now) c.args.index.now c.from.result c.type_of-kind.result c.requires.index.ordered within
+    (sym c.type_of-kind.ensures) in
     omega (arith, c.from.ensures, has.1)
 
 pub type_of-requires-clause-first : goal.type_of-requires-clause-first

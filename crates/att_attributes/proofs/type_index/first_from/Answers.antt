@@ -14,7 +14,8 @@ loop-low-preserved-then-from-handle g c =
     let middle = (low + high) / 2 in
     let within = half_within low high _ c.loop-low-test.true (omega (arith, c.loop-low.invariant.0.inside, c.requires.inside)) in
     let before : test (get_or handles middle 0) ≡ true = test_true _ c.from.result _ c.from.ensures c.if-from-handle.true in
-    let below : middle < place_from handles c.args.handle = place_below test handles middle 0 (closed_ascending c.args.handle handles c.requires.ascending) within before in (
+    let below : middle < place_from handles c.args.handle =
+    place_below test handles middle 0 (closed_ascending c.args.handle handles c.requires.ascending) within before in (
       narrow_low _ _ low high _ middle c.loop-low.invariant.0 (omega (arith, below, c.loop-low-test.true, c.loop-low.invariant.0.inside)),
       λ turns enough. paid_low low high middle _ _ _ _ (c.loop-low.invariant.1 turns enough) refl c.loop-low-test.true c.tick.ensures.counts,
     )

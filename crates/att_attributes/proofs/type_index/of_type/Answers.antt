@@ -32,7 +32,9 @@ loop-low-smaller-then-own_upper-upper g c =
     let own = kind (get_or index middle 0) in
     let run = get_or c.args.runs.now middle (record { begin = 0; end = 0 }) in
     let within : middle < length index = half_within low high _ c.loop-low-test.true c.loop-low.invariant.0.inside in
-    let stands = beside attributes index c.args.runs.now middle (record { begin = 0; end = 0 }) run.begin run.end c.requires.numbered c.requires.index c.requires.runs within refl refl in
+    let stands =
+    beside attributes index c.args.runs.now middle (record { begin = 0; end = 0 }) run.begin run.end c.requires.numbered c.requires.index c.requires.runs
+    within refl refl in
     omega (arith, c.from-low.ensures, stands.behind, c.loop-low-test.true)
 
 pub loop-low-preserved-then-own_upper-upper : goal.loop-low-preserved-then-own_upper-upper
@@ -46,10 +48,15 @@ loop-low-preserved-then-own_upper-upper g c =
     let own = kind (get_or index middle 0) in
     let run = get_or c.args.runs.now middle (record { begin = 0; end = 0 }) in
     let within : middle < length index = half_within low high _ c.loop-low-test.true c.loop-low.invariant.0.inside in
-    let stands = beside attributes index c.args.runs.now middle (record { begin = 0; end = 0 }) run.begin run.end c.requires.numbered c.requires.index c.requires.runs within refl refl in
-    let told : own < c.args.kind = upper_less c.type_of.result own c.args.kind c.halves-own_upper.result.0 c.halves-upper.result.0 c.type_of.ensures c.halves-own_upper.ensures.upper c.halves-upper.ensures.upper c.if-own_upper-upper.true in
+    let stands =
+    beside attributes index c.args.runs.now middle (record { begin = 0; end = 0 }) run.begin run.end c.requires.numbered c.requires.index c.requires.runs
+    within refl refl in
+    let told : own < c.args.kind =
+    upper_less c.type_of.result own c.args.kind c.halves-own_upper.result.0 c.halves-upper.result.0 c.type_of.ensures c.halves-own_upper.ensures.upper
+    c.halves-upper.ensures.upper c.if-own_upper-upper.true in
     let below = place_less kind index (own + 1) c.args.kind (omega (arith, told)) in
-    past_run _ _ low high _ _ _ _ middle c.from-low.result c.loop-low.invariant c.loop-low-test.true refl (omega (arith, c.from-low.ensures, stands.ends, below))
+    past_run _ _ low high _ _ _ _ middle c.from-low.result c.loop-low.invariant c.loop-low-test.true refl
+    (omega (arith, c.from-low.ensures, stands.ends, below))
     (omega (arith, c.from-low.ensures, stands.behind)) c.tick.ensures.counts
 
 pub loop-low-smaller-then-own_upper-upper-2 : goal.loop-low-smaller-then-own_upper-upper-2
@@ -63,7 +70,9 @@ loop-low-smaller-then-own_upper-upper-2 g c =
     let own = kind (get_or index middle 0) in
     let run = get_or c.args.runs.now middle (record { begin = 0; end = 0 }) in
     let within : middle < length index = half_within low high _ c.loop-low-test.true c.loop-low.invariant.0.inside in
-    let stands = beside attributes index c.args.runs.now middle (record { begin = 0; end = 0 }) run.begin run.end c.requires.numbered c.requires.index c.requires.runs within refl refl in
+    let stands =
+    beside attributes index c.args.runs.now middle (record { begin = 0; end = 0 }) run.begin run.end c.requires.numbered c.requires.index c.requires.runs
+    within refl refl in
     omega (arith, c.from-high.ensures, stands.ahead, c.loop-low-test.true)
 
 pub loop-low-preserved-then-own_upper-upper-2 : goal.loop-low-preserved-then-own_upper-upper-2
@@ -77,10 +86,15 @@ loop-low-preserved-then-own_upper-upper-2 g c =
     let own = kind (get_or index middle 0) in
     let run = get_or c.args.runs.now middle (record { begin = 0; end = 0 }) in
     let within : middle < length index = half_within low high _ c.loop-low-test.true c.loop-low.invariant.0.inside in
-    let stands = beside attributes index c.args.runs.now middle (record { begin = 0; end = 0 }) run.begin run.end c.requires.numbered c.requires.index c.requires.runs within refl refl in
-    let told : c.args.kind < own = upper_more c.type_of.result own c.args.kind c.halves-own_upper.result.0 c.halves-upper.result.0 c.type_of.ensures c.halves-own_upper.ensures.upper c.halves-upper.ensures.upper c.if-own_upper-upper-2.true in
+    let stands =
+    beside attributes index c.args.runs.now middle (record { begin = 0; end = 0 }) run.begin run.end c.requires.numbered c.requires.index c.requires.runs
+    within refl refl in
+    let told : c.args.kind < own =
+    upper_more c.type_of.result own c.args.kind c.halves-own_upper.result.0 c.halves-upper.result.0 c.type_of.ensures c.halves-own_upper.ensures.upper
+    c.halves-upper.ensures.upper c.if-own_upper-upper-2.true in
     let above = place_less kind index (c.args.kind + 1) own (omega (arith, told)) in
-    before_run _ _ low high _ _ _ _ middle c.from-high.result c.loop-low.invariant c.loop-low-test.true refl (omega (arith, c.from-high.ensures, stands.begins, above))
+    before_run _ _ low high _ _ _ _ middle c.from-high.result c.loop-low.invariant c.loop-low-test.true refl
+    (omega (arith, c.from-high.ensures, stands.begins, above))
     (omega (arith, c.from-high.ensures, stands.ahead)) c.tick.ensures.counts
 
 pub loop-low-smaller-then-own_lower-lower : goal.loop-low-smaller-then-own_lower-lower
@@ -94,7 +108,9 @@ loop-low-smaller-then-own_lower-lower g c =
     let own = kind (get_or index middle 0) in
     let run = get_or c.args.runs.now middle (record { begin = 0; end = 0 }) in
     let within : middle < length index = half_within low high _ c.loop-low-test.true c.loop-low.invariant.0.inside in
-    let stands = beside attributes index c.args.runs.now middle (record { begin = 0; end = 0 }) run.begin run.end c.requires.numbered c.requires.index c.requires.runs within refl refl in
+    let stands =
+    beside attributes index c.args.runs.now middle (record { begin = 0; end = 0 }) run.begin run.end c.requires.numbered c.requires.index c.requires.runs
+    within refl refl in
     omega (arith, c.from-low-then-own_lower-lower.ensures, stands.behind, c.loop-low-test.true)
 
 pub loop-low-preserved-then-own_lower-lower : goal.loop-low-preserved-then-own_lower-lower
@@ -108,13 +124,17 @@ loop-low-preserved-then-own_lower-lower g c =
     let own = kind (get_or index middle 0) in
     let run = get_or c.args.runs.now middle (record { begin = 0; end = 0 }) in
     let within : middle < length index = half_within low high _ c.loop-low-test.true c.loop-low.invariant.0.inside in
-    let stands = beside attributes index c.args.runs.now middle (record { begin = 0; end = 0 }) run.begin run.end c.requires.numbered c.requires.index c.requires.runs within refl refl in
-    let halves = same_upper c.type_of.result own c.args.kind c.halves-own_upper.result.0 c.halves-upper.result.0 c.halves-own_upper.result.1 c.halves-upper.result.1
+    let stands =
+    beside attributes index c.args.runs.now middle (record { begin = 0; end = 0 }) run.begin run.end c.requires.numbered c.requires.index c.requires.runs
+    within refl refl in
+    let halves =
+    same_upper c.type_of.result own c.args.kind c.halves-own_upper.result.0 c.halves-upper.result.0 c.halves-own_upper.result.1 c.halves-upper.result.1
     c.type_of.ensures c.halves-own_upper.ensures.upper c.halves-upper.ensures.upper c.if-own_upper-upper.false c.if-own_upper-upper-2.false
     c.halves-own_upper.ensures.lower c.halves-upper.ensures.lower in
     let told : own < c.args.kind = lower_less own c.args.kind c.halves-own_upper.result.1 c.halves-upper.result.1 halves c.if-own_lower-lower.true in
     let below = place_less kind index (own + 1) c.args.kind (omega (arith, told)) in
-    past_run _ _ low high _ _ _ _ middle c.from-low-then-own_lower-lower.result c.loop-low.invariant c.loop-low-test.true refl (omega (arith, c.from-low-then-own_lower-lower.ensures, stands.ends, below))
+    past_run _ _ low high _ _ _ _ middle c.from-low-then-own_lower-lower.result c.loop-low.invariant c.loop-low-test.true refl
+    (omega (arith, c.from-low-then-own_lower-lower.ensures, stands.ends, below))
     (omega (arith, c.from-low-then-own_lower-lower.ensures, stands.behind)) c.tick.ensures.counts
 
 pub loop-low-smaller : goal.loop-low-smaller
@@ -128,7 +148,9 @@ loop-low-smaller g c =
     let own = kind (get_or index middle 0) in
     let run = get_or c.args.runs.now middle (record { begin = 0; end = 0 }) in
     let within : middle < length index = half_within low high _ c.loop-low-test.true c.loop-low.invariant.0.inside in
-    let stands = beside attributes index c.args.runs.now middle (record { begin = 0; end = 0 }) run.begin run.end c.requires.numbered c.requires.index c.requires.runs within refl refl in
+    let stands =
+    beside attributes index c.args.runs.now middle (record { begin = 0; end = 0 }) run.begin run.end c.requires.numbered c.requires.index c.requires.runs
+    within refl refl in
     omega (arith, c.from-high-then-own_lower-lower-2.ensures, stands.ahead, c.loop-low-test.true)
 
 pub loop-low-preserved : goal.loop-low-preserved
@@ -142,13 +164,17 @@ loop-low-preserved g c =
     let own = kind (get_or index middle 0) in
     let run = get_or c.args.runs.now middle (record { begin = 0; end = 0 }) in
     let within : middle < length index = half_within low high _ c.loop-low-test.true c.loop-low.invariant.0.inside in
-    let stands = beside attributes index c.args.runs.now middle (record { begin = 0; end = 0 }) run.begin run.end c.requires.numbered c.requires.index c.requires.runs within refl refl in
-    let halves = same_upper c.type_of.result own c.args.kind c.halves-own_upper.result.0 c.halves-upper.result.0 c.halves-own_upper.result.1 c.halves-upper.result.1
+    let stands =
+    beside attributes index c.args.runs.now middle (record { begin = 0; end = 0 }) run.begin run.end c.requires.numbered c.requires.index c.requires.runs
+    within refl refl in
+    let halves =
+    same_upper c.type_of.result own c.args.kind c.halves-own_upper.result.0 c.halves-upper.result.0 c.halves-own_upper.result.1 c.halves-upper.result.1
     c.type_of.ensures c.halves-own_upper.ensures.upper c.halves-upper.ensures.upper c.if-own_upper-upper.false c.if-own_upper-upper-2.false
     c.halves-own_upper.ensures.lower c.halves-upper.ensures.lower in
     let told : c.args.kind < own = lower_more own c.args.kind c.halves-own_upper.result.1 c.halves-upper.result.1 halves c.if-own_lower-lower-2.true in
     let above = place_less kind index (c.args.kind + 1) own (omega (arith, told)) in
-    before_run _ _ low high _ _ _ _ middle c.from-high-then-own_lower-lower-2.result c.loop-low.invariant c.loop-low-test.true refl (omega (arith, c.from-high-then-own_lower-lower-2.ensures, stands.begins, above))
+    before_run _ _ low high _ _ _ _ middle c.from-high-then-own_lower-lower-2.result c.loop-low.invariant c.loop-low-test.true refl
+    (omega (arith, c.from-high-then-own_lower-lower-2.ensures, stands.begins, above))
     (omega (arith, c.from-high-then-own_lower-lower-2.ensures, stands.ahead)) c.tick.ensures.counts
 
 pub in_run-requires-clause-begin : goal.in_run-requires-clause-begin
@@ -162,7 +188,9 @@ in_run-requires-clause-begin g c =
     let own = kind (get_or index middle 0) in
     let run = get_or c.args.runs.now middle (record { begin = 0; end = 0 }) in
     let within : middle < length index = half_within low high _ c.loop-low-test.true c.loop-low.invariant.0.inside in
-    let stands = beside attributes index c.args.runs.now middle (record { begin = 0; end = 0 }) run.begin run.end c.requires.numbered c.requires.index c.requires.runs within refl refl in
+    let stands =
+    beside attributes index c.args.runs.now middle (record { begin = 0; end = 0 }) run.begin run.end c.requires.numbered c.requires.index c.requires.runs
+    within refl refl in
     omega (arith, stands.ahead, stands.behind)
 
 pub in_range-requires-clause-some : goal.in_range-requires-clause-some
@@ -176,7 +204,9 @@ in_range-requires-clause-some g c =
     let own = kind (get_or index middle 0) in
     let run = get_or c.args.runs.now middle (record { begin = 0; end = 0 }) in
     let within : middle < length index = half_within low high _ c.loop-low-test.true c.loop-low.invariant.0.inside in
-    let stands = beside attributes index c.args.runs.now middle (record { begin = 0; end = 0 }) run.begin run.end c.requires.numbered c.requires.index c.requires.runs within refl refl in
+    let stands =
+    beside attributes index c.args.runs.now middle (record { begin = 0; end = 0 }) run.begin run.end c.requires.numbered c.requires.index c.requires.runs
+    within refl refl in
     omega (arith, ap length c.in_run.ensures, run_long kind index own middle run.begin run.end stands, stands.ahead, stands.behind)
 
 pub in_range-requires-clause-ascending : goal.in_range-requires-clause-ascending
@@ -190,11 +220,15 @@ in_range-requires-clause-ascending g c =
     let own = kind (get_or index middle 0) in
     let run = get_or c.args.runs.now middle (record { begin = 0; end = 0 }) in
     let within : middle < length index = half_within low high _ c.loop-low-test.true c.loop-low.invariant.0.inside in
-    let stands = beside attributes index c.args.runs.now middle (record { begin = 0; end = 0 }) run.begin run.end c.requires.numbered c.requires.index c.requires.runs within refl refl in
-    let halves = same_upper c.type_of.result own c.args.kind c.halves-own_upper.result.0 c.halves-upper.result.0 c.halves-own_upper.result.1 c.halves-upper.result.1
+    let stands =
+    beside attributes index c.args.runs.now middle (record { begin = 0; end = 0 }) run.begin run.end c.requires.numbered c.requires.index c.requires.runs
+    within refl refl in
+    let halves =
+    same_upper c.type_of.result own c.args.kind c.halves-own_upper.result.0 c.halves-upper.result.0 c.halves-own_upper.result.1 c.halves-upper.result.1
     c.type_of.ensures c.halves-own_upper.ensures.upper c.halves-upper.ensures.upper c.if-own_upper-upper.false c.if-own_upper-upper-2.false
     c.halves-own_upper.ensures.lower c.halves-upper.ensures.lower in
-    let same : own ≡ c.args.kind = lower_same own c.args.kind c.halves-own_upper.result.1 c.halves-upper.result.1 halves c.if-own_lower-lower.false c.if-own_lower-lower-2.false in
+    let same : own ≡ c.args.kind =
+    lower_same own c.args.kind c.halves-own_upper.result.1 c.halves-upper.result.1 halves c.if-own_lower-lower.false c.if-own_lower-lower-2.false in
     subst IsAscending (sym (c.in_run.ensures ∙ run_taken kind index own c.args.kind middle run.begin run.end stands same))
     (run_ascending kind index c.args.kind (index_given _ _ c.requires.numbered c.requires.index).ordered)
 
@@ -209,11 +243,15 @@ returns-else-own_lower-lower-2-clause-handles g c =
     let own = kind (get_or index middle 0) in
     let run = get_or c.args.runs.now middle (record { begin = 0; end = 0 }) in
     let within : middle < length index = half_within low high _ c.loop-low-test.true c.loop-low.invariant.0.inside in
-    let stands = beside attributes index c.args.runs.now middle (record { begin = 0; end = 0 }) run.begin run.end c.requires.numbered c.requires.index c.requires.runs within refl refl in
-    let halves = same_upper c.type_of.result own c.args.kind c.halves-own_upper.result.0 c.halves-upper.result.0 c.halves-own_upper.result.1 c.halves-upper.result.1
+    let stands =
+    beside attributes index c.args.runs.now middle (record { begin = 0; end = 0 }) run.begin run.end c.requires.numbered c.requires.index c.requires.runs
+    within refl refl in
+    let halves =
+    same_upper c.type_of.result own c.args.kind c.halves-own_upper.result.0 c.halves-upper.result.0 c.halves-own_upper.result.1 c.halves-upper.result.1
     c.type_of.ensures c.halves-own_upper.ensures.upper c.halves-upper.ensures.upper c.if-own_upper-upper.false c.if-own_upper-upper-2.false
     c.halves-own_upper.ensures.lower c.halves-upper.ensures.lower in
-    let same : own ≡ c.args.kind = lower_same own c.args.kind c.halves-own_upper.result.1 c.halves-upper.result.1 halves c.if-own_lower-lower.false c.if-own_lower-lower-2.false in
+    let same : own ≡ c.args.kind =
+    lower_same own c.args.kind c.halves-own_upper.result.1 c.halves-upper.result.1 halves c.if-own_lower-lower.false c.if-own_lower-lower-2.false in
     c.in_range.ensures.handles
     ∙ ap (handles_within c.args.first c.args.last) (c.in_run.ensures ∙ run_taken kind index own c.args.kind middle run.begin run.end stands same)
     ∙ found attributes index c.args.kind c.args.first c.args.last c.requires.numbered c.requires.index
@@ -229,14 +267,19 @@ returns-else-own_lower-lower-2-clause-steps g c =
     let own = kind (get_or index middle 0) in
     let run = get_or c.args.runs.now middle (record { begin = 0; end = 0 }) in
     let within : middle < length index = half_within low high _ c.loop-low-test.true c.loop-low.invariant.0.inside in
-    let stands = beside attributes index c.args.runs.now middle (record { begin = 0; end = 0 }) run.begin run.end c.requires.numbered c.requires.index c.requires.runs within refl refl in
-    let halves = same_upper c.type_of.result own c.args.kind c.halves-own_upper.result.0 c.halves-upper.result.0 c.halves-own_upper.result.1 c.halves-upper.result.1
+    let stands =
+    beside attributes index c.args.runs.now middle (record { begin = 0; end = 0 }) run.begin run.end c.requires.numbered c.requires.index c.requires.runs
+    within refl refl in
+    let halves =
+    same_upper c.type_of.result own c.args.kind c.halves-own_upper.result.0 c.halves-upper.result.0 c.halves-own_upper.result.1 c.halves-upper.result.1
     c.type_of.ensures c.halves-own_upper.ensures.upper c.halves-upper.ensures.upper c.if-own_upper-upper.false c.if-own_upper-upper-2.false
     c.halves-own_upper.ensures.lower c.halves-upper.ensures.lower in
-    let same : own ≡ c.args.kind = lower_same own c.args.kind c.halves-own_upper.result.1 c.halves-upper.result.1 halves c.if-own_lower-lower.false c.if-own_lower-lower-2.false in
+    let same : own ≡ c.args.kind =
+    lower_same own c.args.kind c.halves-own_upper.result.1 c.halves-upper.result.1 halves c.if-own_lower-lower.false c.if-own_lower-lower-2.false in
     let long = run_long kind index own middle run.begin run.end stands in
     let fits = run_fits kind index own c.args.kind middle run.begin run.end low high _ stands same c.loop-low.invariant.0 in
-    paid_in_run (high - low) (length c.in_run.result.now) _ _ _ _ c.loop-low.invariant.1 (omega (arith, c.loop-low-test.true)) (omega (arith, ap length c.in_run.ensures, long, fits))
+    paid_in_run (high - low) (length c.in_run.result.now) _ _ _ _ c.loop-low.invariant.1 (omega (arith, c.loop-low-test.true))
+    (omega (arith, ap length c.in_run.ensures, long, fits))
     c.tick.ensures.counts c.in_range.ensures.steps
 
 pub returns-clause-handles : goal.returns-clause-handles

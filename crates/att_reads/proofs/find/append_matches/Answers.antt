@@ -37,7 +37,8 @@ loop-handle-preserved c =
                 ∙ ap (λ hs. c.loop-handle.found || list_any test hs) (sym at)
                 ∙ c.loop-handle.invariant.any;
             groups =
-                groups_next table mtu (contents c.loop-handle.out) (contents w.append_group.new.out) handle (filter test left) fits (w.if-not-append_group.ensures.appended)
+                groups_next table mtu (contents c.loop-handle.out) (contents w.append_group.new.out) handle (filter test left) fits
+                (w.if-not-append_group.ensures.appended)
                 ∙ ap (with_groups table mtu (contents c.loop-handle.out)) (sym (filter_taken test handle left is))
                 ∙ ap (λ hs. with_groups table mtu (contents c.loop-handle.out) (filter test hs)) (sym at)
                 ∙ c.loop-handle.invariant.groups;

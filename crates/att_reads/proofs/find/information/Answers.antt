@@ -10,11 +10,13 @@ returns-then-is_of_16_bits-clause-answer c =
     let attributes = c.args.attributes.now in
     let first = c.in-Some.first.now in
     c.list.ensures.listed
-    ∙ types_sent (mtu_of c.args.out.now) c.args.start 4 SHORT_TYPES first attributes (sym c.first.ensures.value ∙ ap option_copied c.in-Some.is) (short_size first (sym c.is_of_16_bits.ensures ∙ c.if-is_of_16_bits.true)) refl
+    ∙ types_sent (mtu_of c.args.out.now) c.args.start 4 SHORT_TYPES first attributes (sym c.first.ensures.value ∙ ap option_copied c.in-Some.is)
+    (short_size first (sym c.is_of_16_bits.ensures ∙ c.if-is_of_16_bits.true)) refl
 
 pub returns-else-is_of_16_bits-clause-answer : goal.returns-else-is_of_16_bits-clause-answer
 returns-else-is_of_16_bits-clause-answer c =
     let attributes = c.args.attributes.now in
     let first = c.in-Some.first.now in
     c.list-else-is_of_16_bits.ensures.listed
-    ∙ types_sent (mtu_of c.args.out.now) c.args.start 18 LONG_TYPES first attributes (sym c.first.ensures.value ∙ ap option_copied c.in-Some.is) (long_size first (sym c.is_of_16_bits.ensures ∙ c.if-is_of_16_bits.false)) refl
+    ∙ types_sent (mtu_of c.args.out.now) c.args.start 18 LONG_TYPES first attributes (sym c.first.ensures.value ∙ ap option_copied c.in-Some.is)
+    (long_size first (sym c.is_of_16_bits.ensures ∙ c.if-is_of_16_bits.false)) refl

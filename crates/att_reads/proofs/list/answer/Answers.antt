@@ -28,17 +28,20 @@ returns-in-Ok-clause-answer c =
     let size : c.from.result + length c.front-front.result.now ≡ head_of listing + length c.front-front.result.now =
     ap (λ n. n + length c.front-front.result.now) (c.from.ensures ∙ c.head.ensures) in
     let begun = take (2 + (c.from.result + length c.front-front.result.now)) (contents c.begin.new.out) in
-    let first_is : begun ≡ (listing_request listing + 1) ∷ (head_of listing + length c.front-front.result.now) ∷ element_octets (element_of listing table first c.front-front.result.now) =
+    let first_is : begun ≡ (listing_request listing + 1) ∷ (head_of listing + length c.front-front.result.now)
+    ∷ element_octets (element_of listing table first c.front-front.result.now) =
     ap (λ n. take (2 + n) (contents c.begin.new.out)) size ∙ c.begin.ensures.begun in
     let held : length begun ≡ 2 + (c.from.result + length c.front-front.result.now) =
     let all = length-take (2 + (c.from.result + length c.front-front.result.now)) (contents c.begin.new.out) in
     omega (arith, all, c.begin.ensures.size, c.resize.ensures.size) in
     let count : c.fitting-more.result ≡ min (length rest) ((mtu - length begun) / (c.from.result + length c.front-front.result.now)) =
     c.fitting-more.ensures.count
-    ∙ ap (λ n. min (length rest) ((n - (2 + (c.from.result + length c.front-front.result.now))) / (c.from.result + length c.front-front.result.now))) c.mtu-in-Ok.ensures.mtu
+    ∙ ap (λ n. min (length rest) ((n - (2 + (c.from.result + length c.front-front.result.now))) / (c.from.result + length c.front-front.result.now)))
+    c.mtu-in-Ok.ensures.mtu
     ∙ ap (λ n. min (length rest) ((mtu - n) / (c.from.result + length c.front-front.result.now))) (sym held) in
     c.put_all.ensures.listed
-    ∙ ap (λ n. with_listed n (c.from.result + length c.front-front.result.now) begun (map (candidate_of listing table row standing n) (take c.fitting-more.result rest)))
+    ∙ ap (λ n. with_listed n (c.from.result + length c.front-front.result.now) begun
+    (map (candidate_of listing table row standing n) (take c.fitting-more.result rest)))
     (c.begin.ensures.same_buffer.mtu ∙ c.resize.ensures.same_buffer.mtu)
     ∙ listed_fitting (candidate_of listing table row standing mtu) mtu (c.from.result + length c.front-front.result.now) c.fitting-more.result begun rest count
     ∙ ap (λ n. with_listed mtu n begun (map (candidate_of listing table row standing mtu) rest)) size
@@ -49,14 +52,16 @@ returns-in-Ok-clause-answer c =
 pub overflow_sub-mtu : goal.overflow_sub-mtu
 overflow_sub-mtu c =
     let fits =
-    front_fits c.args.listing c.mtu.result c.cut-cut.result c.from.result c.in-Ok.value.now c.front-front.result.now c.mtu.ensures.least c.cut-cut.ensures c.front-front.ensures
+    front_fits c.args.listing c.mtu.result c.cut-cut.result c.from.result c.in-Ok.value.now c.front-front.result.now c.mtu.ensures.least c.cut-cut.ensures
+    c.front-front.ensures
     (c.from.ensures ∙ c.head.ensures) in
     omega (arith, fits, c.mtu.ensures.mtu, c.mtu-in-Ok.ensures.mtu)
 
 pub resize-requires : goal.resize-requires
 resize-requires c =
     let fits =
-    front_fits c.args.listing c.mtu.result c.cut-cut.result c.from.result c.in-Ok.value.now c.front-front.result.now c.mtu.ensures.least c.cut-cut.ensures c.front-front.ensures
+    front_fits c.args.listing c.mtu.result c.cut-cut.result c.from.result c.in-Ok.value.now c.front-front.result.now c.mtu.ensures.least c.cut-cut.ensures
+    c.front-front.ensures
     (c.from.ensures ∙ c.head.ensures) in
     omega (arith, fits, c.fitting-more.ensures.fits, c.mtu.ensures.mtu, c.mtu-in-Ok.ensures.mtu)
 
@@ -75,14 +80,16 @@ put_all-requires-clause-room c =
 pub overflow_cast-size : goal.overflow_cast-size
 overflow_cast-size c =
     let fits =
-    front_fits c.args.listing c.mtu.result c.cut-cut.result c.from.result c.in-Ok.value.now c.front-front.result.now c.mtu.ensures.least c.cut-cut.ensures c.front-front.ensures
+    front_fits c.args.listing c.mtu.result c.cut-cut.result c.from.result c.in-Ok.value.now c.front-front.result.now c.mtu.ensures.least c.cut-cut.ensures
+    c.front-front.ensures
     (c.from.ensures ∙ c.head.ensures) in
     omega (arith, fits, c.mtu.ensures.most)
 
 pub overflow_cast-size-in-Ok : goal.overflow_cast-size-in-Ok
 overflow_cast-size-in-Ok c =
     let fits =
-    front_fits c.args.listing c.mtu.result c.cut-cut.result c.from.result c.in-Ok.value.now c.front-front.result.now c.mtu.ensures.least c.cut-cut.ensures c.front-front.ensures
+    front_fits c.args.listing c.mtu.result c.cut-cut.result c.from.result c.in-Ok.value.now c.front-front.result.now c.mtu.ensures.least c.cut-cut.ensures
+    c.front-front.ensures
     (c.from.ensures ∙ c.head.ensures) in
     omega (arith, fits, c.mtu.ensures.most)
 
@@ -106,7 +113,8 @@ returns-in-Err-clause-answer c =
     c.error-in-Err.ensures.error
     ∙ ap (λ request. sent (ErrorResponse request first c.in-Err.code)) c.request-in-Err.ensures
     ∙ first_refused c.args.listing reader.table.now reader.row.now reader.standing.now mtu c.args.start first rest c.in-Err.code c.in-Err.ensures.refused
-    ∙ ap (λ hs. sent (list_answer c.args.listing reader.table.now reader.row.now reader.standing.now mtu c.args.start hs)) (sym (first_and_rest handles 0 c.in-len1-up.len_at_least))
+    ∙ ap (λ hs. sent (list_answer c.args.listing reader.table.now reader.row.now reader.standing.now mtu c.args.start hs))
+    (sym (first_and_rest handles 0 c.in-len1-up.len_at_least))
 
 pub overflow_mul-size : goal.overflow_mul-size
 overflow_mul-size c = omega (arith, c.fitting-more.ensures.fits, c.mtu-in-Ok.ensures.most)
@@ -114,6 +122,7 @@ overflow_mul-size c = omega (arith, c.fitting-more.ensures.fits, c.mtu-in-Ok.ens
 pub overflow_add-size-in-Ok-3 : goal.overflow_add-size-in-Ok-3
 overflow_add-size-in-Ok-3 c =
     let fits =
-    front_fits c.args.listing c.mtu.result c.cut-cut.result c.from.result c.in-Ok.value.now c.front-front.result.now c.mtu.ensures.least c.cut-cut.ensures c.front-front.ensures
+    front_fits c.args.listing c.mtu.result c.cut-cut.result c.from.result c.in-Ok.value.now c.front-front.result.now c.mtu.ensures.least c.cut-cut.ensures
+    c.front-front.ensures
     (c.from.ensures ∙ c.head.ensures) in
     omega (arith, fits, c.fitting-more.ensures.fits, c.mtu.ensures.mtu, c.mtu-in-Ok.ensures.mtu, c.mtu-in-Ok.ensures.most)

@@ -18,7 +18,8 @@ returns-then-not-put_next-clause-listed c =
     let handle = get_or c.args.handles.now c.loop-handle.handle-index 0 in
     let at = drop_next c.args.handles.now c.loop-handle.handle-index 0 c.loop-handle-test.true in
     let none : HasNoNext mtu c.args.size (candidate mtu handle) octets (take place (contents c.put_next.new.out)) =
-    subst (λ of. HasNoNext of c.args.size (candidate of handle) octets (take place (contents c.put_next.new.out))) c.loop-handle.invariant.same.mtu c.if-not-put_next.ensures.kept in
+    subst (λ of. HasNoNext of c.args.size (candidate of handle) octets (take place (contents c.put_next.new.out))) c.loop-handle.invariant.same.mtu
+    c.if-not-put_next.ensures.kept in
     c.truncate.ensures.ended
     ∙ listed_stop mtu c.args.size octets _ (candidate mtu handle) _ none c.requires.size
     ∙ ap (λ left. with_listed mtu c.args.size octets (map (candidate mtu) left)) (sym at)
@@ -26,7 +27,9 @@ returns-then-not-put_next-clause-listed c =
 
 pub put_next-requires-clause-room : goal.put_next-requires-clause-room
 put_next-requires-clause-room c =
-    let room = room_next c.args.handles.now c.loop-handle.handle-index c.loop-handle.place c.args.size (length (contents c.loop-handle.out)) c.loop-handle-test.true c.loop-handle.invariant.room in
+    let room =
+    room_next c.args.handles.now c.loop-handle.handle-index c.loop-handle.place c.args.size (length (contents c.loop-handle.out)) c.loop-handle-test.true
+    c.loop-handle.invariant.room in
     omega (arith, room)
 
 pub loop-handle-preserved : goal.loop-handle-preserved
@@ -39,14 +42,18 @@ loop-handle-preserved c =
     let handle = get_or c.args.handles.now c.loop-handle.handle-index 0 in
     let at = drop_next c.args.handles.now c.loop-handle.handle-index 0 c.loop-handle-test.true in
     let next : HasNext mtu c.args.size (candidate mtu handle) octets (take (place + c.args.size) (contents c.put_next.new.out)) =
-    subst (λ of. HasNext of c.args.size (candidate of handle) octets (take (place + c.args.size) (contents c.put_next.new.out))) c.loop-handle.invariant.same.mtu c.if-not-put_next.ensures.put in
+    subst (λ of. HasNext of c.args.size (candidate of handle) octets (take (place + c.args.size) (contents c.put_next.new.out)))
+    c.loop-handle.invariant.same.mtu c.if-not-put_next.ensures.put in
     record {
       same = record {
         place = c.put_next.ensures.same_buffer.place ∙ c.loop-handle.invariant.same.place;
         end = c.put_next.ensures.same_buffer.end ∙ c.loop-handle.invariant.same.end;
         mtu = c.put_next.ensures.same_buffer.mtu ∙ c.loop-handle.invariant.same.mtu;
       };
-      room = subst (λ held. place + c.args.size + c.args.size * length (drop (c.loop-handle.handle-index + 1) c.args.handles.now) ≡ held) (sym c.put_next.ensures.held) (room_next c.args.handles.now c.loop-handle.handle-index place c.args.size (length (contents c.loop-handle.out)) c.loop-handle-test.true c.loop-handle.invariant.room);
+      room = subst (λ held. place + c.args.size + c.args.size * length (drop (c.loop-handle.handle-index + 1) c.args.handles.now) ≡ held)
+          (sym c.put_next.ensures.held)
+          (room_next c.args.handles.now c.loop-handle.handle-index place c.args.size (length (contents c.loop-handle.out)) c.loop-handle-test.true
+          c.loop-handle.invariant.room);
       listed =
           listed_next mtu c.args.size octets _ (candidate mtu handle) _ c.requires.size next
           ∙ ap (λ left. with_listed mtu c.args.size octets (map (candidate mtu) left)) (sym at)

@@ -15,4 +15,5 @@ returns-else-mask-eq0 c =
     let lanes = chunk c.args.at 32 c.args.handles.now in
     let long = length-chunk c.args.at 32 c.args.handles.now c.requires in
     let mask = bitmask_splat w16 (λ own other. own == other) lanes 32 c.args.handle long (omega arith) in
-    ap (lib.Count.count_trailing_zeros 64) mask ∙ trailing_mask_l (λ own. own == c.args.handle) 64 lanes (omega (arith, long)) (omega (arith, mask, c.if-mask-eq0.false))
+    ap (lib.Count.count_trailing_zeros 64) mask ∙ trailing_mask_l (λ own. own == c.args.handle) 64 lanes (omega (arith, long))
+    (omega (arith, mask, c.if-mask-eq0.false))

@@ -13,7 +13,8 @@ returns-then-before-lt-LANES-clause-found c =
 pub loop-turn-preserved : goal.loop-turn-preserved
 loop-turn-preserved c =
     let before = c.lanes_before-before in
-    let past = none_in_lanes (λ own. own == c.args.handle) c.args.handles.now (c.loop-turn.turn * 32) 32 before.result c.loop-turn.invariant before.ensures (omega (arith, c.if-before-lt-LANES.false)) in
+    let past = none_in_lanes (λ own. own == c.args.handle) c.args.handles.now (c.loop-turn.turn * 32) 32 before.result c.loop-turn.invariant before.ensures
+    (omega (arith, c.if-before-lt-LANES.false)) in
     omega (arith, past)
 
 pub returns-clause-missing : goal.returns-clause-missing

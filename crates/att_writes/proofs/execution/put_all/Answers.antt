@@ -25,7 +25,8 @@ put-requires-clause-fits c =
     let part = c.split_at.ensures.front ∙ ap (λ n. take n octets) c.from.ensures in
     let entry = c.entry.ensures ∙ ap (λ of. record { handle = place.handle; offset = place.offset; part = of }) part in
     let fits = subst (λ (left : List Entry). EntriesFit attributes by left) (entries_left places i octets c.loop-place-test.true) c.loop-place.invariant.fits in
-    subst (λ (of : List Attr). EntryFits of by (entry_of c.entry.result)) (sym c.loop-place.invariant.attributes) (subst (λ (of : Entry). EntryFits attributes by of) (sym entry) fits.0)
+    subst (λ (of : List Attr). EntryFits of by (entry_of c.entry.result)) (sym c.loop-place.invariant.attributes)
+    (subst (λ (of : Entry). EntryFits attributes by of) (sym entry) fits.0)
 
 pub loop-place-preserved : goal.loop-place-preserved
 loop-place-preserved c =

@@ -13,7 +13,8 @@ put-requires-clause-fits c =
 pub returns-in-Some-clause-outcome : goal.returns-in-Some-clause-outcome
 returns-in-Some-clause-outcome c =
     ap (write_outcome c.args.opcode)
-    (sym (refused_at_first c.args.access c.args.table.now.attributes c.args.standing.now (stored_in c.args.table.now c.args.row.now) (entry_of c.args.entry) c.in-Some.code
+    (sym (refused_at_first c.args.access c.args.table.now.attributes c.args.standing.now (stored_in c.args.table.now c.args.row.now)
+    (entry_of c.args.entry) c.in-Some.code
     (sym c.fault_of.ensures.fault ∙ c.in-Some.is)))
 
 pub returns-in-Some-clause-left : goal.returns-in-Some-clause-left

@@ -12,22 +12,28 @@ use Rattle.gatt_laws.specs.machine.Input.{ACall}
 pub returns-clause-feeds : goal.returns-clause-feeds
 returns-clause-feeds g c =
     let going : c.app-answer.new.self.fault ≡ None = c.app-answer.ensures.fault ∙ c.requires.none in
-    call_feeds (ACall (call_of c.args.call)) c.args.host.now c.app-answer.new.self c.feed.new.host (g.W.Sink.contents c.args.out.now) (g.W.Sink.contents c.feed.new.out)
+    call_feeds (ACall (call_of c.args.call)) c.args.host.now c.app-answer.new.self c.feed.new.host (g.W.Sink.contents c.args.out.now)
+    (g.W.Sink.contents c.feed.new.out)
     c.feed.new.host.fault (c.app-answer.ensures.takes c.requires.none) (c.feed.ensures.processes going).feeds
 
 pub returns-clause-heard : goal.returns-clause-heard
 returns-clause-heard g c =
     let going : c.app-answer.new.self.fault ≡ None = c.app-answer.ensures.fault ∙ c.requires.none in
     listens_then (ACall (call_of c.args.call) ∷ []) [] [] c.args.host.now c.app-answer.new.self c.feed.new.host
-    (g.L.Listener.heard c.args.listener.now) (g.L.Listener.heard c.deliver_notices.new.listener) (g.L.Listener.heard c.deliver_notices.new.listener) c.feed.new.host.fault
+    (g.L.Listener.heard c.args.listener.now) (g.L.Listener.heard c.deliver_notices.new.listener) (g.L.Listener.heard c.deliver_notices.new.listener)
+    c.feed.new.host.fault
     (c.app-answer.ensures.takes c.requires.none)
-    (hears_received (ACall (call_of c.args.call) ∷ []) c.args.host.now c.app-answer.new.self (g.L.Listener.heard c.args.listener.now) (g.L.Listener.heard c.deliver_notices.new.listener)
-    (call_received (ACall (call_of c.args.call)) [] c.args.host.now c.app-answer.new.self c.requires.none going (c.app-answer.ensures.takes c.requires.none) c.app-answer.ensures.told)
+    (hears_received (ACall (call_of c.args.call) ∷ []) c.args.host.now c.app-answer.new.self (g.L.Listener.heard c.args.listener.now)
+    (g.L.Listener.heard c.deliver_notices.new.listener)
+    (call_received (ACall (call_of c.args.call)) [] c.args.host.now c.app-answer.new.self c.requires.none going (c.app-answer.ensures.takes c.requires.none)
+    c.app-answer.ensures.told)
     c.deliver_notices.ensures.hears)
-    (nothing_heard c.app-answer.new.self c.feed.new.host (g.W.Sink.contents c.args.out.now) (g.W.Sink.contents c.feed.new.out) (g.L.Listener.heard c.deliver_notices.new.listener)
+    (nothing_heard c.app-answer.new.self c.feed.new.host (g.W.Sink.contents c.args.out.now) (g.W.Sink.contents c.feed.new.out)
+    (g.L.Listener.heard c.deliver_notices.new.listener)
     c.feed.new.host.fault (c.feed.ensures.processes going).feeds)
 
 pub returns-clause-answer : goal.returns-clause-answer
 returns-clause-answer g c = λ start input sent is.
-    subst (λ (refusal : Option Refused). Records (Answered refusal ∷ []) (g.H.Happenings.history c.args.happenings.now) (g.H.Happenings.history c.answered.new.self))
+    subst (λ (refusal : Option Refused). Records (Answered refusal ∷ []) (g.H.Happenings.history c.args.happenings.now)
+    (g.H.Happenings.history c.answered.new.self))
     (c.app-answer.ensures.refused start input sent is c.requires.none) c.answered.ensures.history

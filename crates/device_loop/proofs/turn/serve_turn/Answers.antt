@@ -30,9 +30,12 @@ returns-clause-turn g c =
         sends = record {
           waiting = waits.0;
           waits = waits.1;
-          sends = subst (λ (octets : Octets). Sends c.send-sending.result octets (g.O.Happenings.history c.save-saving.new.self) (g.O.Happenings.history c.send-sending.new.self))
+          sends = subst
+              (λ (octets : Octets). Sends c.send-sending.result octets (g.O.Happenings.history c.save-saving.new.self)
+              (g.O.Happenings.history c.send-sending.new.self))
               waits.2 c.send-sending.ensures.history;
-          left = c.drop_sent.ensures.left c.waiting.result.now c.waiting.ensures ∙ ap (λ (octets : Octets). Some (waits_after c.send-sending.result octets)) waits.2;
+          left = c.drop_sent.ensures.left c.waiting.result.now c.waiting.ensures ∙ ap (λ (octets : Octets). Some (waits_after c.send-sending.result octets))
+              waits.2;
         };
       };
     }

@@ -24,9 +24,12 @@ loop-size-preserved c =
       | then-not-is_data_for w ↦
           let moved : c.if-not-is_data_for.octets ≡ copy_within xs at (at + size) left = w.octets-is ∙ w.copy_within.ensures.after in
           record {
-            so_far = subst (λ (count : ℕ). take count c.if-not-is_data_for.octets ++ without_data_for connections (drop (at + size) c.if-not-is_data_for.octets) ≡ without_data_for connections c.args.octets.now)
+            so_far =
+                subst (λ (count : ℕ). take count c.if-not-is_data_for.octets ++ without_data_for connections (drop (at + size) c.if-not-is_data_for.octets)
+                ≡ without_data_for connections c.args.octets.now)
                 (sym w.left-is)
-                (moves connections xs _ left at inv.so_far inv.behind inv.within size c.if-not-is_data_for.octets first (sym is ∙ w.if-not-is_data_for.true) moved);
+                (moves connections xs _ left at inv.so_far inv.behind inv.within size c.if-not-is_data_for.octets first (sym is ∙ w.if-not-is_data_for.true)
+                moved);
             behind = omega (arith, w.left-is, inv.behind);
             within = omega (arith, packet.fits, length-drop at xs, c.if-not-is_data_for.auto.octets, inv.within);
             length = c.if-not-is_data_for.auto.octets ∙ inv.length;

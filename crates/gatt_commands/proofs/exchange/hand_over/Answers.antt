@@ -9,7 +9,8 @@ use Rattle.gatt_commands.proofs.exchange.hand_over.Goals as goal
 pub returns-in_err-give_controller-clause-hands : goal.returns-in_err-give_controller-clause-hands
 returns-in_err-give_controller-clause-hands c =
     let failed = err_from_is_err_and c.from_residual.result c.from_residual.ensures.1 in
-    hands_refused c.as_slice.result.now (pair_of c.args.host.now c.args.sim.now c.args.notes.now) (pair_of c.next_out.new.self c.give_controller.new.sim c.args.notes.now) c.in_err-give_controller.field-0.0
+    hands_refused c.as_slice.result.now (pair_of c.args.host.now c.args.sim.now c.args.notes.now)
+    (pair_of c.next_out.new.self c.give_controller.new.sim c.args.notes.now) c.in_err-give_controller.field-0.0
     c.from_residual.result (failed.1 ∙ ap (λ (fault : ShellFault). Err fault) failed.2)
     (gives_next c.args.host.now c.next_out.new.self c.next_out.new.out.items c.as_slice.result.now c.as_slice.ensures.value
     c.if-next_out.ensures.some c.if-next_out.ensures.refines c.if-next_out.ensures.no_fault)

@@ -7,7 +7,8 @@ use Rattle.gatt_commands.proofs.exchange.hear.Goals as goal
 
 pub returns-in-Ok-clause-hears : goal.returns-in-Ok-clause-hears
 returns-in-Ok-clause-hears c =
-    hears_marked c.args.octets.now c.in-Ok.fed.used c.new-deframer.result c.feed.new.self (packet_of_ref c.packet.result) c.take.result c.args.host.now c.take.new.host
+    hears_marked c.args.octets.now c.in-Ok.fed.used c.new-deframer.result c.feed.new.self (packet_of_ref c.packet.result) c.take.result c.args.host.now
+    c.take.new.host
     c.new-deframer.ensures.at_start c.packet.ensures c.in-Ok.ensures.divided c.take.ensures.outcome c.take.ensures.takes c.take.ensures.stopped
 
 pub returns-in-Ok-clause-noted : goal.returns-in-Ok-clause-noted

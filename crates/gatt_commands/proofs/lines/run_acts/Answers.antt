@@ -10,7 +10,8 @@ loop-act-preserved g c = record {
   drained = c.in_ok-left.ensures.drained refl;
   run =
       run_more (shown_of c.args.notices (lines_left c.args.lines)) (shown_of c.args.notices (lines_left c.loop-act.left))
-      c.args.names.now c.args.acts.now c.loop-act.act-index c.act-item.result c.loop-act-test.true c.act-item.is (stage_of c.args.host.now c.args.sim.now c.args.next.now)
+      c.args.names.now c.args.acts.now c.loop-act.act-index c.act-item.result c.loop-act-test.true c.act-item.is
+      (stage_of c.args.host.now c.args.sim.now c.args.next.now)
       (stage_of c.loop-act.host c.loop-act.sim c.loop-act.next) _ _ c.loop-act.invariant.run
       (lines_left c.in_ok-left.left) c.in_ok-left.ensures.left
       (stage_of c.run_next.new.host c.run_next.new.sim c.run_next.new.next) _ c.in_ok-left.ensures.runs;
@@ -19,7 +20,8 @@ loop-act-preserved g c = record {
 pub returns-in_err-left-clause-ends : goal.returns-in_err-left-clause-ends
 returns-in_err-left-clause-ends g c =
     run_ends (shown_of c.args.notices (lines_left c.args.lines)) (shown_of c.args.notices (lines_left c.loop-act.left))
-    c.args.names.now c.args.acts.now c.loop-act.act-index c.act-item.result c.loop-act-test.true c.act-item.is (stage_of c.args.host.now c.args.sim.now c.args.next.now)
+    c.args.names.now c.args.acts.now c.loop-act.act-index c.act-item.result c.loop-act-test.true c.act-item.is
+    (stage_of c.args.host.now c.args.sim.now c.args.next.now)
     (stage_of c.loop-act.host c.loop-act.sim c.loop-act.next) _ _ c.loop-act.invariant.run c.from_residual.result c.in_err-left.field-0.0
     (stage_of c.run_next.new.host c.run_next.new.sim c.run_next.new.next) _ c.from_residual.ensures.1 c.in_err-left.ensures.ends
 

@@ -9,6 +9,7 @@ use Rattle.gatt_commands.proofs.lines.run_acts.Given as goal
 abbrev pub invariant-loop-act : goal.invariant-loop-act
 invariant-loop-act g l = record {
   drained : all_out l.host ≡ true;
-  run : HasRun (shown_of l.fn.notices (lines_left l.fn.lines)) (shown_of l.fn.notices (lines_left l.left)) l.fn.names l.fn.acts (drop l.act-index l.fn.acts) (stage_of l.fn.host l.fn.sim l.fn.next) (stage_of l.host l.sim l.next)
+  run : HasRun (shown_of l.fn.notices (lines_left l.fn.lines)) (shown_of l.fn.notices (lines_left l.left)) l.fn.names l.fn.acts (drop l.act-index l.fn.acts)
+      (stage_of l.fn.host l.fn.sim l.fn.next) (stage_of l.host l.sim l.next)
       (g.W.Write.contents l.fn.writer) (g.W.Write.contents l.writer);
 }

@@ -12,7 +12,8 @@ pub returns-in_err-exchange-clause-ends : goal.returns-in_err-exchange-clause-en
 returns-in_err-exchange-clause-ends g c =
     ends_exchanging c.args.notices c.args.names.now c.args.act.now c.do_act-refused.result c.do_act-refused.new.notes
     (stage_of c.args.host.now c.args.sim.now c.args.next.now)
-    (stage_of c.do_act-refused.new.host c.do_act-refused.new.sim c.do_act-refused.new.next) (stage_of c.exchange.new.host c.exchange.new.sim c.do_act-refused.new.next) _ _
+    (stage_of c.do_act-refused.new.host c.do_act-refused.new.sim c.do_act-refused.new.next)
+    (stage_of c.exchange.new.host c.exchange.new.sim c.do_act-refused.new.next) _ _
     (record { begun = c.new-notes.result; fresh = c.new-notes.ensures.begun; does = c.do_act-refused.ensures.does; noted = c.do_act-refused.ensures.noted })
     c.from_residual.result c.in_err-exchange.field-0.0 c.from_residual.ensures.1 c.in_err-exchange.ensures.faults
     (record {
@@ -32,7 +33,8 @@ returns-then-notes-clause-ends g c =
     in
     ends_noting c.args.notices c.args.names.now c.args.act.now c.do_act-refused.result c.do_act-refused.new.notes
     (stage_of c.args.host.now c.args.sim.now c.args.next.now)
-    (stage_of c.do_act-refused.new.host c.do_act-refused.new.sim c.do_act-refused.new.next) (stage_of c.exchange.new.host c.exchange.new.sim c.do_act-refused.new.next) _ _
+    (stage_of c.do_act-refused.new.host c.do_act-refused.new.sim c.do_act-refused.new.next)
+    (stage_of c.exchange.new.host c.exchange.new.sim c.do_act-refused.new.next) _ _
     (record { begun = c.new-notes.result; fresh = c.new-notes.ensures.begun; does = c.do_act-refused.ensures.does; noted = c.do_act-refused.ensures.noted })
     (record {
       shown = shown;
@@ -47,7 +49,8 @@ pub returns-clause-runs : goal.returns-clause-runs
 returns-clause-runs g c =
     runs_line c.args.notices c.args.names.now c.args.act.now c.do_act-refused.result c.do_act-refused.new.notes
     (stage_of c.args.host.now c.args.sim.now c.args.next.now)
-    (stage_of c.do_act-refused.new.host c.do_act-refused.new.sim c.do_act-refused.new.next) (stage_of c.exchange.new.host c.print_line.new.sim c.do_act-refused.new.next) _ _
+    (stage_of c.do_act-refused.new.host c.do_act-refused.new.sim c.do_act-refused.new.next)
+    (stage_of c.exchange.new.host c.print_line.new.sim c.do_act-refused.new.next) _ _
     (record { begun = c.new-notes.result; fresh = c.new-notes.ensures.begun; does = c.do_act-refused.ensures.does; noted = c.do_act-refused.ensures.noted })
     c.print_line.result c.exchange.new.sim c.exchange.new.notes c.in_ok-exchange.ensures.exchanges c.if-notes.false refl
     c.print_line.ensures.ok c.print_line.ensures.told
@@ -56,6 +59,7 @@ pub returns-clause-ends : goal.returns-clause-ends
 returns-clause-ends g c =
     ends_printing c.args.notices c.args.names.now c.args.act.now c.do_act-refused.result c.do_act-refused.new.notes
     (stage_of c.args.host.now c.args.sim.now c.args.next.now)
-    (stage_of c.do_act-refused.new.host c.do_act-refused.new.sim c.do_act-refused.new.next) (stage_of c.exchange.new.host c.print_line.new.sim c.do_act-refused.new.next) _ _
+    (stage_of c.do_act-refused.new.host c.do_act-refused.new.sim c.do_act-refused.new.next)
+    (stage_of c.exchange.new.host c.print_line.new.sim c.do_act-refused.new.next) _ _
     (record { begun = c.new-notes.result; fresh = c.new-notes.ensures.begun; does = c.do_act-refused.ensures.does; noted = c.do_act-refused.ensures.noted })
     c.print_line.result c.exchange.new.sim c.exchange.new.notes c.in_ok-exchange.ensures.exchanges refl c.print_line.ensures.faults c.print_line.ensures.front

@@ -14,7 +14,8 @@ returns-in_err-print_name-clause-front g c =
     let name = c.args.name.now in
     frame_line_front c.from_residual.result name c.args.octets.now frame (g.W.Write.contents c.args.writer.now) (g.W.Write.contents c.print_name.new.writer)
     (sym c.in-Ok.ensures.exact)
-    (three_parts c.from_residual.result (name ++ sign_of frame.cid) payload line_feed (g.W.Write.contents c.args.writer.now) (g.W.Write.contents c.print_name.new.writer)
+    (three_parts c.from_residual.result (name ++ sign_of frame.cid) payload line_feed (g.W.Write.contents c.args.writer.now)
+    (g.W.Write.contents c.print_name.new.writer)
     (first_of c.from_residual.result (name ++ c.sign_of.result.now) (name ++ sign_of frame.cid) (payload ++ line_feed) _ _
     (ap (λ (sign : Octets). name ++ sign) c.sign_of.ensures) c.in_err-print_name.ensures.front))
 
@@ -23,8 +24,10 @@ returns-clause-front g c =
     let frame = frame_contents c.in-Ok.frame in
     let payload = encode_lower frame.payload in
     let name = c.args.name.now in
-    frame_line_front c.print_hex_line.result name c.args.octets.now frame (g.W.Write.contents c.args.writer.now) (g.W.Write.contents c.print_hex_line.new.writer)
+    frame_line_front c.print_hex_line.result name c.args.octets.now frame (g.W.Write.contents c.args.writer.now)
+    (g.W.Write.contents c.print_hex_line.new.writer)
     (sym c.in-Ok.ensures.exact)
-    (three_parts c.print_hex_line.result (name ++ sign_of frame.cid) payload line_feed (g.W.Write.contents c.args.writer.now) (g.W.Write.contents c.print_hex_line.new.writer)
+    (three_parts c.print_hex_line.result (name ++ sign_of frame.cid) payload line_feed (g.W.Write.contents c.args.writer.now)
+    (g.W.Write.contents c.print_hex_line.new.writer)
     (then_of c.print_hex_line.result (name ++ c.sign_of.result.now) (name ++ sign_of frame.cid) (payload ++ line_feed) _ _ _
     (ap (λ (sign : Octets). name ++ sign) c.sign_of.ensures) c.in_ok-print_name.ensures.ok c.print_hex_line.ensures.front))

@@ -4,7 +4,8 @@ use Rattle.gatt_commands.proofs.outcome.print_name.Goals as goal
 
 pub returns-in_err-print-clause-front : goal.returns-in_err-print-clause-front
 returns-in_err-print-clause-front g c =
-    first_of c.from_residual.result c.as_bytes.result.now c.args.name.now c.args.behind.now _ _ (c.as_bytes.ensures.value ∙ c.as_str.ensures) c.in_err-print.ensures.front
+    first_of c.from_residual.result c.as_bytes.result.now c.args.name.now c.args.behind.now _ _ (c.as_bytes.ensures.value ∙ c.as_str.ensures)
+    c.in_err-print.ensures.front
 
 pub returns-clause-front : goal.returns-clause-front
 returns-clause-front g c =

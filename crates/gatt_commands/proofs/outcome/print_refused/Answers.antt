@@ -10,9 +10,11 @@ use Rattle.gatt_commands.proofs.outcome.print_refused.Goals as goal
 
 pub returns-in_err-print-in-Call-clause-front : goal.returns-in_err-print-in-Call-clause-front
 returns-in_err-print-in-Call-clause-front g c =
-    refused_call_front c.from_residual.result c.args.names.now c.args.refused c.in-Call.number (g.W.Write.contents c.args.writer.now) (g.W.Write.contents c.print.new.writer)
+    refused_call_front c.from_residual.result c.args.names.now c.args.refused c.in-Call.number (g.W.Write.contents c.args.writer.now)
+    (g.W.Write.contents c.print.new.writer)
     c.in-Call.is
-    (three_parts c.from_residual.result (codes "fault ") (decimal c.in-Call.number) line_feed (g.W.Write.contents c.args.writer.now) (g.W.Write.contents c.print.new.writer)
+    (three_parts c.from_residual.result (codes "fault ") (decimal c.in-Call.number) line_feed (g.W.Write.contents c.args.writer.now)
+    (g.W.Write.contents c.print.new.writer)
     (first_of c.from_residual.result (codes "fault ") (codes "fault ") (decimal c.in-Call.number ++ line_feed) _ _ refl c.in_err-print-in-Call.ensures.front))
 
 pub returns-in_ok-print-in-Call-clause-front : goal.returns-in_ok-print-in-Call-clause-front

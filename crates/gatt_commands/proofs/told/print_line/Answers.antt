@@ -14,5 +14,6 @@ pub returns-clause-front : goal.returns-clause-front
 returns-clause-front g c =
     front_rest c.print.result (outcome_text c.args.names.now c.args.refused c.args.sim.now.phones) c.args.notes.now.text.items _ _ _
     c.in_ok-print_outcome.ensures.ok
-    (subst (λ (octets : List ℕ). OnErr c.print.result (WritesFront octets (g.W.Write.contents c.print_outcome.new.writer) (g.W.Write.contents c.print.new.writer)))
+    (subst (λ (octets : List ℕ).
+    OnErr c.print.result (WritesFront octets (g.W.Write.contents c.print_outcome.new.writer) (g.W.Write.contents c.print.new.writer)))
     c.as_slice.ensures.value c.print.ensures.front)

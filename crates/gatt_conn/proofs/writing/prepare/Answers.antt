@@ -12,7 +12,9 @@ use Rattle.octet_io.specs.Number.{two_octets}
 
 pub returns-in-Denied-clause-served : goal.returns-in-Denied-clause-served
 returns-in-Denied-clause-served c =
-    let same = denied (entry_at c.args.handle c.args.offset c.args.part.now) _ c.in-Denied.opcode c.in-Denied.handle c.in-Denied.code (sym c.in-Denied.is ∙ c.prepare.ensures.outcome) in
+    let same =
+    denied (entry_at c.args.handle c.args.offset c.args.part.now) _ c.in-Denied.opcode c.in-Denied.handle c.in-Denied.code
+    (sym c.in-Denied.is ∙ c.prepare.ensures.outcome) in
     let refused = c.refuse.ensures.served in
     record {
       served = record {
@@ -26,8 +28,11 @@ returns-in-Denied-clause-served c =
 pub returns-in-Written-clause-served : goal.returns-in-Written-clause-served
 returns-in-Written-clause-served c =
     let entry : Entry = entry_at c.args.handle c.args.offset c.args.part.now in
-    let same = accepted entry (prepare_fault c.args.table.now.attributes c.args.conn.now.standing c.args.conn.now.queue entry) c.prepare.result c.in-Written.is c.prepare.ensures.outcome in
-    let repeated : contents c.replace.new.self ≡ PREPARE_WRITE_RESPONSE ∷ two_octets c.args.handle ++ two_octets c.args.offset ++ c.args.part.now = grind (arith, common_steps) in
+    let same =
+    accepted entry (prepare_fault c.args.table.now.attributes c.args.conn.now.standing c.args.conn.now.queue entry) c.prepare.result c.in-Written.is
+    c.prepare.ensures.outcome in
+    let repeated : contents c.replace.new.self ≡ PREPARE_WRITE_RESPONSE ∷ two_octets c.args.handle ++ two_octets c.args.offset ++ c.args.part.now =
+    grind (arith, common_steps) in
     record {
       served = record {
         content = repeated ∙ ap (λ (answer : Response). sent_if_any (Some answer)) (sym same);

@@ -18,16 +18,21 @@ use Rattle.gatt_laws.specs.machine.Notice.{Received}
 pub returns-in_err-feed-clause-feeds : goal.returns-in_err-feed-clause-feeds
 returns-in_err-feed-clause-feeds g c = λ none.
     let new : HostModel = c.feed.new.host in
-    past_fault [] (ACall (call_of c.args.call) ∷ []) c.args.host.now new (g.W.Sink.contents c.args.out.now) (g.W.Sink.contents c.feed.new.out) c.in_err-feed.field-0.0
-    (fault_answered new.fault c.in_err-feed.field-0.0 c.in_err-feed.ensures.outcome) (c.in_err-feed.ensures.processes none).feeding (c.feed.ensures.processes none).feeds
+    past_fault [] (ACall (call_of c.args.call) ∷ []) c.args.host.now new (g.W.Sink.contents c.args.out.now) (g.W.Sink.contents c.feed.new.out)
+    c.in_err-feed.field-0.0
+    (fault_answered new.fault c.in_err-feed.field-0.0 c.in_err-feed.ensures.outcome) (c.in_err-feed.ensures.processes none).feeding
+    (c.feed.ensures.processes none).feeds
 
 pub returns-in_err-feed-clause-heard : goal.returns-in_err-feed-clause-heard
 returns-in_err-feed-clause-heard g c = λ none.
     let new : HostModel = c.feed.new.host in
     let known : Option (List Received) = g.L.Listener.heard c.args.listener.now in
-    past_heard [] (ACall (call_of c.args.call) ∷ []) c.args.host.now new (g.W.Sink.contents c.args.out.now) (g.W.Sink.contents c.feed.new.out) known known c.in_err-feed.field-0.0
-    (fault_answered new.fault c.in_err-feed.field-0.0 c.in_err-feed.ensures.outcome) (c.in_err-feed.ensures.processes none).feeding (c.feed.ensures.processes none).feeds
-    (nothing_heard c.args.host.now new (g.W.Sink.contents c.args.out.now) (g.W.Sink.contents c.feed.new.out) known new.fault (c.feed.ensures.processes none).feeds)
+    past_heard [] (ACall (call_of c.args.call) ∷ []) c.args.host.now new (g.W.Sink.contents c.args.out.now) (g.W.Sink.contents c.feed.new.out) known known
+    c.in_err-feed.field-0.0
+    (fault_answered new.fault c.in_err-feed.field-0.0 c.in_err-feed.ensures.outcome) (c.in_err-feed.ensures.processes none).feeding
+    (c.feed.ensures.processes none).feeds
+    (nothing_heard c.args.host.now new (g.W.Sink.contents c.args.out.now) (g.W.Sink.contents c.feed.new.out) known new.fault
+    (c.feed.ensures.processes none).feeds)
 
 pub returns-in_err-feed-clause-answers : goal.returns-in_err-feed-clause-answers
 returns-in_err-feed-clause-answers g c = λ none.
@@ -37,28 +42,33 @@ returns-in_err-feed-clause-answers g c = λ none.
 
 pub returns-in_err-do_call-clause-feeds : goal.returns-in_err-do_call-clause-feeds
 returns-in_err-do_call-clause-feeds g c = λ none.
-    call_behind (call_of c.args.call) c.args.host.now c.feed.new.host c.do_call.new.host (g.W.Sink.contents c.args.out.now) (g.W.Sink.contents c.feed.new.out) (g.W.Sink.contents c.do_call.new.out)
+    call_behind (call_of c.args.call) c.args.host.now c.feed.new.host c.do_call.new.host (g.W.Sink.contents c.args.out.now) (g.W.Sink.contents c.feed.new.out)
+    (g.W.Sink.contents c.do_call.new.out)
     (none_answered c.feed.new.host.fault c.in_ok-feed.ensures.outcome) (c.feed.ensures.processes none).feeds c.do_call.new.host.fault c.do_call.ensures.feeds
 
 pub returns-in_err-do_call-clause-heard : goal.returns-in_err-do_call-clause-heard
 returns-in_err-do_call-clause-heard g c = λ none.
-    call_listens (call_of c.args.call) c.args.host.now c.feed.new.host c.do_call.new.host (g.W.Sink.contents c.args.out.now) (g.W.Sink.contents c.feed.new.out) (g.W.Sink.contents c.do_call.new.out)
+    call_listens (call_of c.args.call) c.args.host.now c.feed.new.host c.do_call.new.host (g.W.Sink.contents c.args.out.now) (g.W.Sink.contents c.feed.new.out)
+    (g.W.Sink.contents c.do_call.new.out)
     (none_answered c.feed.new.host.fault c.in_ok-feed.ensures.outcome) (c.feed.ensures.processes none).feeds c.do_call.new.host.fault
     (g.L.Listener.heard c.args.listener.now) (g.L.Listener.heard c.do_call.new.listener) c.do_call.ensures.heard
 
 pub returns-in_err-do_call-clause-answers : goal.returns-in_err-do_call-clause-answers
 returns-in_err-do_call-clause-answers g c = λ none.
-    stopped_answers (call_of c.args.call) c.args.host.now c.do_call.new.host.fault c.in_err-do_call.field-0.0 c.in_err-do_call.ensures.fault c.from_residual-in_err-do_call.result
+    stopped_answers (call_of c.args.call) c.args.host.now c.do_call.new.host.fault c.in_err-do_call.field-0.0 c.in_err-do_call.ensures.fault
+    c.from_residual-in_err-do_call.result
     (error_told c.from_residual-in_err-do_call.result (told.Host c.in_err-do_call.field-0.0) c.from_residual-in_err-do_call.ensures.1 (λ found is. is))
 
 pub returns-clause-feeds : goal.returns-clause-feeds
 returns-clause-feeds g c = λ none.
-    call_behind (call_of c.args.call) c.args.host.now c.feed.new.host c.do_call.new.host (g.W.Sink.contents c.args.out.now) (g.W.Sink.contents c.feed.new.out) (g.W.Sink.contents c.do_call.new.out)
+    call_behind (call_of c.args.call) c.args.host.now c.feed.new.host c.do_call.new.host (g.W.Sink.contents c.args.out.now) (g.W.Sink.contents c.feed.new.out)
+    (g.W.Sink.contents c.do_call.new.out)
     (none_answered c.feed.new.host.fault c.in_ok-feed.ensures.outcome) (c.feed.ensures.processes none).feeds c.do_call.new.host.fault c.do_call.ensures.feeds
 
 pub returns-clause-heard : goal.returns-clause-heard
 returns-clause-heard g c = λ none.
-    call_listens (call_of c.args.call) c.args.host.now c.feed.new.host c.do_call.new.host (g.W.Sink.contents c.args.out.now) (g.W.Sink.contents c.feed.new.out) (g.W.Sink.contents c.do_call.new.out)
+    call_listens (call_of c.args.call) c.args.host.now c.feed.new.host c.do_call.new.host (g.W.Sink.contents c.args.out.now) (g.W.Sink.contents c.feed.new.out)
+    (g.W.Sink.contents c.do_call.new.out)
     (none_answered c.feed.new.host.fault c.in_ok-feed.ensures.outcome) (c.feed.ensures.processes none).feeds c.do_call.new.host.fault
     (g.L.Listener.heard c.args.listener.now) (g.L.Listener.heard c.do_call.new.listener) c.do_call.ensures.heard
 
@@ -68,8 +78,10 @@ returns-clause-answers g c = λ none. record {
   told = answer_as c.in_ok-do_call.field-0 c.map_err.result c.map_err.ensures.cases (λ refused found is. is)
       ∙ ap (λ (found : Option HostFault). answer_told found c.in_ok-do_call.field-0) (sym c.in_ok-do_call.ensures.fault);
   refused = λ still.
-      call_refused (call_of c.args.call) c.args.host.now c.feed.new.host c.do_call.new.host (g.W.Sink.contents c.args.out.now) (g.W.Sink.contents c.feed.new.out) (g.W.Sink.contents c.do_call.new.out)
-      (none_answered c.feed.new.host.fault c.in_ok-feed.ensures.outcome) (c.feed.ensures.processes none).feeds c.in_ok-do_call.field-0 c.in_ok-do_call.ensures.refused;
+      call_refused (call_of c.args.call) c.args.host.now c.feed.new.host c.do_call.new.host (g.W.Sink.contents c.args.out.now)
+      (g.W.Sink.contents c.feed.new.out) (g.W.Sink.contents c.do_call.new.out)
+      (none_answered c.feed.new.host.fault c.in_ok-feed.ensures.outcome) (c.feed.ensures.processes none).feeds c.in_ok-do_call.field-0
+      c.in_ok-do_call.ensures.refused;
 }
 
 pub returns-in_err-feed-clause-policy : goal.returns-in_err-feed-clause-policy
@@ -91,19 +103,25 @@ pub returns-clause-apart : goal.returns-clause-apart
 returns-clause-apart g c = keeps_connections_apart
 
 pub returns-in_err-do_call-clause-stopped : goal.returns-in_err-do_call-clause-stopped
-returns-in_err-do_call-clause-stopped g c = past_going c.args.host.now c.feed.new.host (none_answered c.feed.new.host.fault c.in_ok-feed.ensures.outcome) c.feed.ensures.stopped
+returns-in_err-do_call-clause-stopped g c =
+    past_going c.args.host.now c.feed.new.host (none_answered c.feed.new.host.fault c.in_ok-feed.ensures.outcome) c.feed.ensures.stopped
 
 pub returns-in_err-do_call-clause-sink_stopped : goal.returns-in_err-do_call-clause-sink_stopped
-returns-in_err-do_call-clause-sink_stopped g c = past_going c.args.host.now c.feed.new.host (none_answered c.feed.new.host.fault c.in_ok-feed.ensures.outcome) c.feed.ensures.stopped
+returns-in_err-do_call-clause-sink_stopped g c =
+    past_going c.args.host.now c.feed.new.host (none_answered c.feed.new.host.fault c.in_ok-feed.ensures.outcome) c.feed.ensures.stopped
 
 pub returns-in_err-do_call-clause-listener_stopped : goal.returns-in_err-do_call-clause-listener_stopped
-returns-in_err-do_call-clause-listener_stopped g c = past_going c.args.host.now c.feed.new.host (none_answered c.feed.new.host.fault c.in_ok-feed.ensures.outcome) c.feed.ensures.stopped
+returns-in_err-do_call-clause-listener_stopped g c =
+    past_going c.args.host.now c.feed.new.host (none_answered c.feed.new.host.fault c.in_ok-feed.ensures.outcome) c.feed.ensures.stopped
 
 pub returns-clause-stopped : goal.returns-clause-stopped
-returns-clause-stopped g c = past_going c.args.host.now c.feed.new.host (none_answered c.feed.new.host.fault c.in_ok-feed.ensures.outcome) c.feed.ensures.stopped
+returns-clause-stopped g c =
+    past_going c.args.host.now c.feed.new.host (none_answered c.feed.new.host.fault c.in_ok-feed.ensures.outcome) c.feed.ensures.stopped
 
 pub returns-clause-sink_stopped : goal.returns-clause-sink_stopped
-returns-clause-sink_stopped g c = past_going c.args.host.now c.feed.new.host (none_answered c.feed.new.host.fault c.in_ok-feed.ensures.outcome) c.feed.ensures.stopped
+returns-clause-sink_stopped g c =
+    past_going c.args.host.now c.feed.new.host (none_answered c.feed.new.host.fault c.in_ok-feed.ensures.outcome) c.feed.ensures.stopped
 
 pub returns-clause-listener_stopped : goal.returns-clause-listener_stopped
-returns-clause-listener_stopped g c = past_going c.args.host.now c.feed.new.host (none_answered c.feed.new.host.fault c.in_ok-feed.ensures.outcome) c.feed.ensures.stopped
+returns-clause-listener_stopped g c =
+    past_going c.args.host.now c.feed.new.host (none_answered c.feed.new.host.fault c.in_ok-feed.ensures.outcome) c.feed.ensures.stopped

@@ -12,13 +12,15 @@ use Rattle.gatt_host.proofs.calling.do_call.Goals as goal
 pub returns-in_err-write_out-clause-feeds : goal.returns-in_err-write_out-clause-feeds
 returns-in_err-write_out-clause-feeds g c =
     let new : HostModel = c.write_out.new.host in
-    call_feeds (ACall (call_of c.args.call)) c.args.host.now c.app-answer.new.self new (g.W.Sink.contents c.args.out.now) (g.W.Sink.contents c.write_out.new.out) new.fault
+    call_feeds (ACall (call_of c.args.call)) c.args.host.now c.app-answer.new.self new (g.W.Sink.contents c.args.out.now)
+    (g.W.Sink.contents c.write_out.new.out) new.fault
     (c.app-answer.ensures.takes c.requires.none) c.write_out.ensures.feeds
 
 pub returns-clause-feeds : goal.returns-clause-feeds
 returns-clause-feeds g c =
     let new : HostModel = c.write_out.new.host in
-    call_feeds (ACall (call_of c.args.call)) c.args.host.now c.app-answer.new.self new (g.W.Sink.contents c.args.out.now) (g.W.Sink.contents c.write_out.new.out) new.fault
+    call_feeds (ACall (call_of c.args.call)) c.args.host.now c.app-answer.new.self new (g.W.Sink.contents c.args.out.now)
+    (g.W.Sink.contents c.write_out.new.out) new.fault
     (c.app-answer.ensures.takes c.requires.none) c.write_out.ensures.feeds
 
 pub returns-clause-refused : goal.returns-clause-refused
@@ -27,11 +29,14 @@ returns-clause-refused g c = λ start input sent is. c.app-answer.ensures.refuse
 pub returns-in_err-write_out-clause-heard : goal.returns-in_err-write_out-clause-heard
 returns-in_err-write_out-clause-heard g c =
     let new : HostModel = c.write_out.new.host in
-    breaks_heard (ACall (call_of c.args.call) ∷ []) [] [] c.args.host.now c.app-answer.new.self new (g.W.Sink.contents c.args.out.now) (g.W.Sink.contents c.write_out.new.out)
+    breaks_heard (ACall (call_of c.args.call) ∷ []) [] [] c.args.host.now c.app-answer.new.self new (g.W.Sink.contents c.args.out.now)
+    (g.W.Sink.contents c.write_out.new.out)
     (g.L.Listener.heard c.args.listener.now) (g.L.Listener.heard c.deliver_notices.new.listener) new.fault
-    (fault_answered new.fault c.in_err-write_out.field-0.0 c.in_err-write_out.ensures.fault ∙ ap (λ (why : HostFault). Some why) c.in_err-write_out.ensures.write)
+    (fault_answered new.fault c.in_err-write_out.field-0.0 c.in_err-write_out.ensures.fault
+    ∙ ap (λ (why : HostFault). Some why) c.in_err-write_out.ensures.write)
     (c.app-answer.ensures.takes c.requires.none)
-    (hears_received (ACall (call_of c.args.call) ∷ []) c.args.host.now c.app-answer.new.self (g.L.Listener.heard c.args.listener.now) (g.L.Listener.heard c.deliver_notices.new.listener)
+    (hears_received (ACall (call_of c.args.call) ∷ []) c.args.host.now c.app-answer.new.self (g.L.Listener.heard c.args.listener.now)
+    (g.L.Listener.heard c.deliver_notices.new.listener)
     (call_received (ACall (call_of c.args.call)) [] c.args.host.now c.app-answer.new.self c.requires.none (c.app-answer.ensures.fault ∙ c.requires.none)
     (c.app-answer.ensures.takes c.requires.none) c.app-answer.ensures.told) c.deliver_notices.ensures.hears)
     c.write_out.ensures.feeds
@@ -39,8 +44,10 @@ returns-in_err-write_out-clause-heard g c =
 pub returns-clause-heard : goal.returns-clause-heard
 returns-clause-heard g c =
     let new : HostModel = c.write_out.new.host in
-    listens_going (ACall (call_of c.args.call) ∷ []) c.args.host.now new (g.L.Listener.heard c.args.listener.now) (g.L.Listener.heard c.deliver_notices.new.listener) new.fault
+    listens_going (ACall (call_of c.args.call) ∷ []) c.args.host.now new (g.L.Listener.heard c.args.listener.now)
+    (g.L.Listener.heard c.deliver_notices.new.listener) new.fault
     (none_answered new.fault c.in_ok-write_out.ensures.fault)
-    (hears_received (ACall (call_of c.args.call) ∷ []) c.args.host.now c.app-answer.new.self (g.L.Listener.heard c.args.listener.now) (g.L.Listener.heard c.deliver_notices.new.listener)
+    (hears_received (ACall (call_of c.args.call) ∷ []) c.args.host.now c.app-answer.new.self (g.L.Listener.heard c.args.listener.now)
+    (g.L.Listener.heard c.deliver_notices.new.listener)
     (call_received (ACall (call_of c.args.call)) [] c.args.host.now c.app-answer.new.self c.requires.none (c.app-answer.ensures.fault ∙ c.requires.none)
     (c.app-answer.ensures.takes c.requires.none) c.app-answer.ensures.told) c.deliver_notices.ensures.hears)

@@ -19,8 +19,10 @@ pub returns-in_err-write_out-clause-processes : goal.returns-in_err-write_out-cl
 returns-in_err-write_out-clause-processes g c = record {
   feeds = (
       let new : HostModel = c.write_out.new.host in
-      past_fault [] (items_of c.args.inputs.now) c.args.host.now new (g.W.Sink.contents c.args.out.now) (g.W.Sink.contents c.write_out.new.out) c.in_err-write_out.field-0.0
-      (fault_answered new.fault c.in_err-write_out.field-0.0 c.in_err-write_out.ensures.fault) (ap is_of_feeding c.in_err-write_out.ensures.write) c.write_out.ensures.feeds);
+      past_fault [] (items_of c.args.inputs.now) c.args.host.now new (g.W.Sink.contents c.args.out.now) (g.W.Sink.contents c.write_out.new.out)
+      c.in_err-write_out.field-0.0
+      (fault_answered new.fault c.in_err-write_out.field-0.0 c.in_err-write_out.ensures.fault) (ap is_of_feeding c.in_err-write_out.ensures.write)
+      c.write_out.ensures.feeds);
   out = search rules;
   due = search rules;
   feeding = search rules;
@@ -30,7 +32,8 @@ returns-in_err-write_out-clause-processes g c = record {
 pub returns-in_err-take_input-clause-processes : goal.returns-in_err-take_input-clause-processes
 returns-in_err-take_input-clause-processes g c = record {
   feeds = (
-      driven_stops c.args.inputs.now c.loop-input.input-index _ c.loop-input-test.true c.loop-input.refused c.args.host.now c.loop-input.host c.take_input.new.host
+      driven_stops c.args.inputs.now c.loop-input.input-index _ c.loop-input-test.true c.loop-input.refused c.args.host.now c.loop-input.host
+      c.take_input.new.host
       (g.W.Sink.contents c.args.out.now) (g.W.Sink.contents c.loop-input.out) (g.W.Sink.contents c.take_input.new.out) c.loop-input.invariant.driven
       c.in_err-take_input.field-0.0 c.in_err-take_input.ensures.fault c.in_err-take_input.ensures.feeding c.take_input.ensures.feeds);
   out = search rules;
@@ -72,15 +75,20 @@ loop-input-preserved g c =
     let so_far : Option (List Received) = g.L.Listener.heard c.loop-input.listener in
     let then_heard : Option (List Received) = g.L.Listener.heard c.take_input.new.listener in
     record {
-      driven = subst (λ (count : ℕ). HasDriven count c.args.inputs.now (drop (c.loop-input.input-index + 1) c.args.inputs.now) c.args.host.now new before after) (sym counted)
-          (driven_more c.args.inputs.now c.loop-input.input-index _ c.loop-input-test.true count c.args.host.now mid new before between after c.loop-input.invariant.driven
+      driven = subst (λ (count : ℕ). HasDriven count c.args.inputs.now (drop (c.loop-input.input-index + 1) c.args.inputs.now) c.args.host.now new before after)
+          (sym counted)
+          (driven_more c.args.inputs.now c.loop-input.input-index _ c.loop-input-test.true count c.args.host.now mid new before between after
+          c.loop-input.invariant.driven
           (if refused then 1 else 0) (going_takes _ mid new between after new.fault none c.take_input.ensures.feeds) c.in_ok-take_input.ensures.refused);
       few = few;
       none = none;
       drained = c.in_ok-take_input.ensures.out (refl {a = true});
       failures = counts_none _ _ _ c.loop-input.invariant.failures (counts_where_going new.fault _ _ none c.take_input.ensures.failures);
-      heard = subst (λ (count : ℕ). HasDrivenTo count c.args.inputs.now (drop (c.loop-input.input-index + 1) c.args.inputs.now) c.args.host.now new before after first then_heard) (sym counted)
-          (driven_to_more c.args.inputs.now c.loop-input.input-index _ c.loop-input-test.true count c.args.host.now mid new before between after first so_far then_heard c.loop-input.invariant.heard
+      heard = subst
+          (λ (count : ℕ). HasDrivenTo count c.args.inputs.now (drop (c.loop-input.input-index + 1) c.args.inputs.now) c.args.host.now new before after first
+          then_heard) (sym counted)
+          (driven_to_more c.args.inputs.now c.loop-input.input-index _ c.loop-input-test.true count c.args.host.now mid new before between after first so_far
+          then_heard c.loop-input.invariant.heard
           (if refused then 1 else 0) (going_takes _ mid new between after new.fault none c.take_input.ensures.feeds) c.in_ok-take_input.ensures.refused
           (going_hears _ mid new so_far then_heard new.fault none c.take_input.ensures.heard));
     }
@@ -88,28 +96,34 @@ loop-input-preserved g c =
 pub returns-clause-refused : goal.returns-clause-refused
 returns-clause-refused g c =
     driven_counts c.loop-input.refused c.args.inputs.now (drop c.loop-input.input-index c.args.inputs.now) c.args.host.now c.loop-input.host
-    (g.W.Sink.contents c.args.out.now) (g.W.Sink.contents c.loop-input.out) (drop_all c.loop-input.input-index c.args.inputs.now c.loop-input-test.false) c.loop-input.invariant.driven
+    (g.W.Sink.contents c.args.out.now) (g.W.Sink.contents c.loop-input.out) (drop_all c.loop-input.input-index c.args.inputs.now c.loop-input-test.false)
+    c.loop-input.invariant.driven
 
 pub returns-in_err-write_out-clause-heard : goal.returns-in_err-write_out-clause-heard
 returns-in_err-write_out-clause-heard g c =
     let new : HostModel = c.write_out.new.host in
     let known : Option (List Received) = g.L.Listener.heard c.args.listener.now in
-    past_heard [] (items_of c.args.inputs.now) c.args.host.now new (g.W.Sink.contents c.args.out.now) (g.W.Sink.contents c.write_out.new.out) known known c.in_err-write_out.field-0.0
-    (fault_answered new.fault c.in_err-write_out.field-0.0 c.in_err-write_out.ensures.fault) (ap is_of_feeding c.in_err-write_out.ensures.write) c.write_out.ensures.feeds
+    past_heard [] (items_of c.args.inputs.now) c.args.host.now new (g.W.Sink.contents c.args.out.now) (g.W.Sink.contents c.write_out.new.out) known known
+    c.in_err-write_out.field-0.0
+    (fault_answered new.fault c.in_err-write_out.field-0.0 c.in_err-write_out.ensures.fault) (ap is_of_feeding c.in_err-write_out.ensures.write)
+    c.write_out.ensures.feeds
     (nothing_heard c.args.host.now new (g.W.Sink.contents c.args.out.now) (g.W.Sink.contents c.write_out.new.out) known new.fault c.write_out.ensures.feeds)
 
 pub returns-in_err-take_input-clause-heard : goal.returns-in_err-take_input-clause-heard
 returns-in_err-take_input-clause-heard g c =
-    driven_to_stops c.args.inputs.now c.loop-input.input-index _ c.loop-input-test.true c.loop-input.refused c.args.host.now c.loop-input.host c.take_input.new.host
+    driven_to_stops c.args.inputs.now c.loop-input.input-index _ c.loop-input-test.true c.loop-input.refused c.args.host.now c.loop-input.host
+    c.take_input.new.host
     (g.W.Sink.contents c.args.out.now) (g.W.Sink.contents c.loop-input.out) (g.W.Sink.contents c.take_input.new.out)
-    (g.L.Listener.heard c.args.listener.now) (g.L.Listener.heard c.loop-input.listener) (g.L.Listener.heard c.take_input.new.listener) c.loop-input.invariant.heard
+    (g.L.Listener.heard c.args.listener.now) (g.L.Listener.heard c.loop-input.listener) (g.L.Listener.heard c.take_input.new.listener)
+    c.loop-input.invariant.heard
     c.in_err-take_input.field-0.0 c.in_err-take_input.ensures.fault c.in_err-take_input.ensures.feeding c.take_input.ensures.feeds c.take_input.ensures.heard
 
 pub returns-clause-heard : goal.returns-clause-heard
 returns-clause-heard g c =
     driven_to_all c.loop-input.refused c.args.inputs.now (drop c.loop-input.input-index c.args.inputs.now) c.args.host.now c.loop-input.host
     (g.W.Sink.contents c.args.out.now) (g.W.Sink.contents c.loop-input.out) (g.L.Listener.heard c.args.listener.now) (g.L.Listener.heard c.loop-input.listener)
-    c.loop-input.host.fault (drop_all c.loop-input.input-index c.args.inputs.now c.loop-input-test.false) c.loop-input.invariant.none c.loop-input.invariant.heard
+    c.loop-input.host.fault (drop_all c.loop-input.input-index c.args.inputs.now c.loop-input-test.false) c.loop-input.invariant.none
+    c.loop-input.invariant.heard
 
 pub loop-input-init : goal.loop-input-init
 loop-input-init g c =

@@ -12,5 +12,6 @@ invariant-loop-input g l = record {
   none : l.host.fault ≡ None;
   drained : all_out l.host ≡ true;
   failures : CountsNone (g.W.Sink.failures l.fn.out) (g.W.Sink.failures l.out);
-  heard : HasDrivenTo l.refused l.inputs (drop l.input-index l.inputs) l.fn.host l.host (g.W.Sink.contents l.fn.out) (g.W.Sink.contents l.out) (g.L.Listener.heard l.fn.listener) (g.L.Listener.heard l.listener);
+  heard : HasDrivenTo l.refused l.inputs (drop l.input-index l.inputs) l.fn.host l.host (g.W.Sink.contents l.fn.out) (g.W.Sink.contents l.out)
+      (g.L.Listener.heard l.fn.listener) (g.L.Listener.heard l.listener);
 }

@@ -16,8 +16,10 @@ use Rattle.gatt_host.proofs.feeding.feed_all.Goals as goal
 pub returns-in_err-write_out-clause-processes : goal.returns-in_err-write_out-clause-processes
 returns-in_err-write_out-clause-processes g c = record {
   feeds = (
-      broken_before [] (octet_items c.args.octets.now) c.args.host.now c.write_out.new.host (g.W.Sink.contents c.args.out.now) (g.W.Sink.contents c.write_out.new.out)
-      c.write_out.new.host.fault (fault_answered c.write_out.new.host.fault c.in_err-write_out.field-0.0 c.in_err-write_out.ensures.fault ∙ ap (λ (why : HostFault). Some why) c.in_err-write_out.ensures.write)
+      broken_before [] (octet_items c.args.octets.now) c.args.host.now c.write_out.new.host (g.W.Sink.contents c.args.out.now)
+      (g.W.Sink.contents c.write_out.new.out)
+      c.write_out.new.host.fault (fault_answered c.write_out.new.host.fault c.in_err-write_out.field-0.0 c.in_err-write_out.ensures.fault
+      ∙ ap (λ (why : HostFault). Some why) c.in_err-write_out.ensures.write)
       c.write_out.ensures.feeds);
   out = search rules;
   due = search rules;
@@ -28,10 +30,12 @@ returns-in_err-write_out-clause-processes g c = record {
 pub returns-in-Err-clause-processes : goal.returns-in-Err-clause-processes
 returns-in-Err-clause-processes g c = record {
   feeds = (
-      taken_stops c.args.octets.now c.loop-rest.rest.now c.args.host.now c.loop-rest.host c.take.new.host (g.W.Sink.contents c.args.out.now) (g.W.Sink.contents c.loop-rest.out)
+      taken_stops c.args.octets.now c.loop-rest.rest.now c.args.host.now c.loop-rest.host c.take.new.host (g.W.Sink.contents c.args.out.now)
+      (g.W.Sink.contents c.loop-rest.out)
       c.take.new.host.fault c.in-Err.field-0 c.loop-rest.invariant.takes c.in-Err.ensures.refines c.in-Err.ensures.fault c.in-Err.ensures.not_own);
   out = search rules;
-  due = (due_where_held c.loop-rest.host c.take.new.host c.take.new.host.fault c.loop-rest.invariant.none c.loop-rest.invariant.drained c.in-Err.ensures.unchanged);
+  due = (due_where_held c.loop-rest.host c.take.new.host c.take.new.host.fault c.loop-rest.invariant.none c.loop-rest.invariant.drained
+      c.in-Err.ensures.unchanged);
   feeding = search rules;
   failures = search rules;
 }
@@ -49,7 +53,8 @@ returns-in_err-write_out-2-clause-processes g c = record {
       let after : Option Octets = g.W.Sink.contents c.write_out-in-loop-rest.new.out in
       taken_breaks c.args.octets.now (drop used rest) old mid new before between after new.fault
       (taken_silently c.args.octets.now rest used old c.loop-rest.host mid before between c.loop-rest.invariant.takes c.in-Ok.ensures.refines)
-      (fault_answered new.fault c.in_err-write_out-2.field-0.0 c.in_err-write_out-2.ensures.fault ∙ ap (λ (why : HostFault). Some why) c.in_err-write_out-2.ensures.write)
+      (fault_answered new.fault c.in_err-write_out-2.field-0.0 c.in_err-write_out-2.ensures.fault
+      ∙ ap (λ (why : HostFault). Some why) c.in_err-write_out-2.ensures.write)
       c.write_out-in-loop-rest.ensures.feeds);
   out = search rules;
   due = search rules;
@@ -86,24 +91,32 @@ loop-rest-preserved g c =
       none = none;
       drained = c.in_ok-write_out-2.ensures.out (refl {a = true});
       failures = counts_none _ _ _ c.loop-rest.invariant.failures (counts_where_going new.fault _ _ none c.write_out-in-loop-rest.ensures.failures);
-      heard = subst (λ (left : Octets). HasHeard c.args.octets.now left old new before after (g.L.Listener.heard c.args.listener.now) (g.L.Listener.heard c.deliver_notices.new.listener)) (sym c.split_at.ensures.back)
-          (heard_then c.args.octets.now rest used old at mid new before between after (g.L.Listener.heard c.args.listener.now) (g.L.Listener.heard c.loop-rest.listener)
-          (g.L.Listener.heard c.deliver_notices.new.listener) c.loop-rest.invariant.heard c.loop-rest.invariant.none c.in-Ok.ensures.refines c.in-Ok.ensures.told c.in-Ok.ensures.up_to c.deliver_notices.ensures.hears
+      heard = subst
+          (λ (left : Octets). HasHeard c.args.octets.now left old new before after (g.L.Listener.heard c.args.listener.now)
+          (g.L.Listener.heard c.deliver_notices.new.listener)) (sym c.split_at.ensures.back)
+          (heard_then c.args.octets.now rest used old at mid new before between after (g.L.Listener.heard c.args.listener.now)
+          (g.L.Listener.heard c.loop-rest.listener)
+          (g.L.Listener.heard c.deliver_notices.new.listener) c.loop-rest.invariant.heard c.loop-rest.invariant.none c.in-Ok.ensures.refines
+          c.in-Ok.ensures.told c.in-Ok.ensures.up_to c.deliver_notices.ensures.hears
           (going_takes [] mid new between after new.fault none c.write_out-in-loop-rest.ensures.feeds));
     }
 
 pub returns-in_err-write_out-clause-heard : goal.returns-in_err-write_out-clause-heard
 returns-in_err-write_out-clause-heard g c =
     let known : Option (List Received) = g.L.Listener.heard c.args.listener.now in
-    breaks_heard [] (octet_items c.args.octets.now) [] c.args.host.now c.args.host.now c.write_out.new.host (g.W.Sink.contents c.args.out.now) (g.W.Sink.contents c.write_out.new.out)
+    breaks_heard [] (octet_items c.args.octets.now) [] c.args.host.now c.args.host.now c.write_out.new.host (g.W.Sink.contents c.args.out.now)
+    (g.W.Sink.contents c.write_out.new.out)
     known known c.write_out.new.host.fault
-    (fault_answered c.write_out.new.host.fault c.in_err-write_out.field-0.0 c.in_err-write_out.ensures.fault ∙ ap (λ (why : HostFault). Some why) c.in_err-write_out.ensures.write)
+    (fault_answered c.write_out.new.host.fault c.in_err-write_out.field-0.0 c.in_err-write_out.ensures.fault
+    ∙ ap (λ (why : HostFault). Some why) c.in_err-write_out.ensures.write)
     (leads_nowhere c.args.host.now c.args.host.now refl) (hears_nothing c.args.host.now known) c.write_out.ensures.feeds
 
 pub returns-in-Err-clause-heard : goal.returns-in-Err-clause-heard
 returns-in-Err-clause-heard g c =
-    heard_stops c.args.octets.now c.loop-rest.rest.now c.args.host.now c.loop-rest.host c.take.new.host (g.W.Sink.contents c.args.out.now) (g.W.Sink.contents c.loop-rest.out)
-    (g.L.Listener.heard c.args.listener.now) (g.L.Listener.heard c.loop-rest.listener) c.take.new.host.fault c.in-Err.field-0 c.loop-rest.invariant.heard c.loop-rest.invariant.none
+    heard_stops c.args.octets.now c.loop-rest.rest.now c.args.host.now c.loop-rest.host c.take.new.host (g.W.Sink.contents c.args.out.now)
+    (g.W.Sink.contents c.loop-rest.out)
+    (g.L.Listener.heard c.args.listener.now) (g.L.Listener.heard c.loop-rest.listener) c.take.new.host.fault c.in-Err.field-0 c.loop-rest.invariant.heard
+    c.loop-rest.invariant.none
     c.in-Err.ensures.told c.in-Err.ensures.fault c.in-Err.ensures.fault c.in-Err.ensures.not_own
 
 pub returns-in_err-write_out-2-clause-heard : goal.returns-in_err-write_out-2-clause-heard
@@ -113,7 +126,8 @@ returns-in_err-write_out-2-clause-heard g c =
     (g.W.Sink.contents c.args.out.now) (g.W.Sink.contents c.loop-rest.out) (g.W.Sink.contents c.write_out-in-loop-rest.new.out)
     (g.L.Listener.heard c.args.listener.now) (g.L.Listener.heard c.loop-rest.listener) (g.L.Listener.heard c.deliver_notices.new.listener)
     c.loop-rest.invariant.heard c.loop-rest.invariant.none c.in-Ok.ensures.refines c.in-Ok.ensures.told c.in-Ok.ensures.up_to c.deliver_notices.ensures.hears
-    new.fault (fault_answered new.fault c.in_err-write_out-2.field-0.0 c.in_err-write_out-2.ensures.fault ∙ ap (λ (why : HostFault). Some why) c.in_err-write_out-2.ensures.write)
+    new.fault (fault_answered new.fault c.in_err-write_out-2.field-0.0 c.in_err-write_out-2.ensures.fault
+    ∙ ap (λ (why : HostFault). Some why) c.in_err-write_out-2.ensures.write)
     c.write_out-in-loop-rest.ensures.feeds
 
 pub loop-rest-init : goal.loop-rest-init

@@ -11,7 +11,8 @@ invariant-loop-rest g l = record {
   none : l.host.fault ≡ None;
   drained : all_out l.host ≡ true;
   failures : CountsNone (g.W.Sink.failures l.fn.out) (g.W.Sink.failures l.out);
-  heard : HasHeard l.fn.octets l.rest l.fn.host l.host (g.W.Sink.contents l.fn.out) (g.W.Sink.contents l.out) (g.L.Listener.heard l.fn.listener) (g.L.Listener.heard l.listener);
+  heard : HasHeard l.fn.octets l.rest l.fn.host l.host (g.W.Sink.contents l.fn.out) (g.W.Sink.contents l.out) (g.L.Listener.heard l.fn.listener)
+      (g.L.Listener.heard l.listener);
 }
 
 abbrev pub decreases-loop-rest : goal.decreases-loop-rest

@@ -17,16 +17,16 @@ use Rattle.gatt_host.proofs.feeding.write_in_order.Goals as goal
 pub loop-packet-init : goal.loop-packet-init
 loop-packet-init g c = record {
   takes = λ frames stream.
-      takes_silently [] (going c.args.state.now frames stream) (going c.args.state.now frames stream) (g.W.Sink.contents c.args.out.now)
-      (leads_nowhere (going c.args.state.now frames stream) (going c.args.state.now frames stream) refl);
+      takes_silently [] (going c.args.server.now frames stream) (going c.args.server.now frames stream) (g.W.Sink.contents c.args.out.now)
+      (leads_nowhere (going c.args.server.now frames stream) (going c.args.server.now frames stream) refl);
   server = c.requires;
   failures = counts_same (g.W.Sink.failures c.args.out.now);
 }
 
 pub returns-then-is_err-clause-feeds : goal.returns-then-is_err-clause-feeds
 returns-then-is_err-clause-feeds g c = λ frames stream.
-    let old : ServerState = c.args.state.now in
-    let at : ServerState = c.loop-packet.state in
+    let old : ServerState = c.args.server.now in
+    let at : ServerState = c.loop-packet.server in
     let mid : ServerState = c.next_out.new.self in
     let octets : Octets = c.next_out.new.out in
     let before : Option Octets = g.W.Sink.contents c.args.out.now in
@@ -34,27 +34,28 @@ returns-then-is_err-clause-feeds g c = λ frames stream.
     let after : Option Octets = g.W.Sink.contents c.write_all.new.sink in
     let front : WritesFront octets between after =
     subst (λ (octets : Octets). WritesFront octets between after) c.as_slice.ensures.value
-    (on_err_at c.write_all.result (WritesFront c.as_slice.result.now between after) (sym c.is_err.ensures.value ∙ c.if-is_err.true) c.write_all.ensures.front) in
+    (on_err_at c.write_all.result (WritesFront c.as_slice.result.now between after) (sym c.is_err.ensures.value ∙ c.if-is_err.true) c.write_all.ensures.front)
+    in
     breaks_off_at (going old frames stream) (going at frames stream) (going mid frames stream) octets before between after
     (c.loop-packet.invariant.takes frames stream)
     (leads_going at mid octets (OnTrue_at c.loop-packet-test.true c.next_out.ensures.octets) c.next_out.ensures.after frames stream) refl front
 
 pub loop-packet-smaller : goal.loop-packet-smaller
 loop-packet-smaller g c =
-    let at : ServerState = c.loop-packet.state in
+    let at : ServerState = c.loop-packet.server in
     subst (λ (server : ServerState). most_out server < most_out at) (sym c.next_out.ensures.after)
     (fewer_out at c.next_out.new.out (OnTrue_at c.loop-packet-test.true c.next_out.ensures.octets))
 
 pub loop-packet-preserved : goal.loop-packet-preserved
 loop-packet-preserved g c =
-    let at : ServerState = c.loop-packet.state in
+    let at : ServerState = c.loop-packet.server in
     let mid : ServerState = c.next_out.new.self in
     let octets : Octets = c.next_out.new.out in
     let between : Option Octets = g.W.Sink.contents c.loop-packet.out in
     let after : Option Octets = g.W.Sink.contents c.write_all.new.sink in
     record {
       takes = λ frames stream.
-          takes_packet_more (going c.args.state.now frames stream) (going at frames stream) (going mid frames stream) octets (g.W.Sink.contents c.args.out.now)
+          takes_packet_more (going c.args.server.now frames stream) (going at frames stream) (going mid frames stream) octets (g.W.Sink.contents c.args.out.now)
           between after (c.loop-packet.invariant.takes frames stream)
           (leads_going at mid octets (OnTrue_at c.loop-packet-test.true c.next_out.ensures.octets) c.next_out.ensures.after frames stream)
           (subst (λ (octets : Octets). Appends between after octets) c.as_slice.ensures.value
@@ -66,5 +67,6 @@ loop-packet-preserved g c =
 
 pub returns-clause-out : goal.returns-clause-out
 returns-clause-out g c = λ ok.
-    subst (λ (server : ServerState). is_drained server.controller (open_slots server) ≡ true) (sym (OnFalse_at c.loop-packet-test.false c.next_out.ensures.unchanged))
-    (drained_then c.loop-packet.state c.loop-packet.invariant.server (sym c.next_out.ensures.some ∙ c.loop-packet-test.false))
+    subst (λ (server : ServerState). is_drained server.controller (open_slots server) ≡ true)
+    (sym (OnFalse_at c.loop-packet-test.false c.next_out.ensures.unchanged))
+    (drained_then c.loop-packet.server c.loop-packet.invariant.server (sym c.next_out.ensures.some ∙ c.loop-packet-test.false))

@@ -10,10 +10,10 @@ use Rattle.octet_io.specs.Stream.{CountsNone}
 abbrev pub invariant-loop-packet : goal.invariant-loop-packet
 invariant-loop-packet g l = record {
   takes : (frames : Frames) (stream : Deframing)
-      → TakesAll [] (going l.fn.state frames stream) (going l.state frames stream) (g.W.Sink.contents l.fn.out) (g.W.Sink.contents l.out);
-  server : IsStateOfOne l.state;
+      → TakesAll [] (going l.fn.server frames stream) (going l.server frames stream) (g.W.Sink.contents l.fn.out) (g.W.Sink.contents l.out);
+  server : IsStateOfOne l.server;
   failures : CountsNone (g.W.Sink.failures l.fn.out) (g.W.Sink.failures l.out);
 }
 
 abbrev pub decreases-loop-packet : goal.decreases-loop-packet
-decreases-loop-packet g l = most_out l.state
+decreases-loop-packet g l = most_out l.server

@@ -10,7 +10,7 @@ use Rattle.gatt_host.proofs.feeding.write_out.Goals as goal
 pub invariant_of-host : goal.invariant_of-host
 invariant_of-host g c =
     let old : HostModel = the_view c.host.inside in
-    let new : HostModel = record old { server = c.write_owed-written.new.state; fault = c.err-host-inside.result } in
+    let new : HostModel = record old { server = c.write_owed-written.new.server; fault = c.err-host-inside.result } in
     let before : Option Octets = g.W.Sink.contents c.args.out.now in
     let after : Option Octets = g.W.Sink.contents c.write_owed-written.new.out in
     let none : old.fault ≡ None = subst (λ (host : HostModel). host.fault ≡ None) (sym c.host.view_is) c.requires in
@@ -20,7 +20,7 @@ invariant_of-host g c =
 pub returns-then-is_err-clause-feeds : goal.returns-then-is_err-clause-feeds
 returns-then-is_err-clause-feeds g c =
     let old : HostModel = the_view c.host.inside in
-    let new : HostModel = record old { server = c.write_owed-written.new.state; fault = c.err-host-inside.result } in
+    let new : HostModel = record old { server = c.write_owed-written.new.server; fault = c.err-host-inside.result } in
     let before : Option Octets = g.W.Sink.contents c.args.out.now in
     let after : Option Octets = g.W.Sink.contents c.write_owed-written.new.out in
     let none : old.fault ≡ None = subst (λ (host : HostModel). host.fault ≡ None) (sym c.host.view_is) c.requires in
@@ -30,7 +30,7 @@ returns-then-is_err-clause-feeds g c =
 pub invariant_of-host-else-is_err : goal.invariant_of-host-else-is_err
 invariant_of-host-else-is_err g c =
     let old : HostModel = the_view c.host.inside in
-    let new : HostModel = record old { server = c.write_owed-written.new.state } in
+    let new : HostModel = record old { server = c.write_owed-written.new.server } in
     let before : Option Octets = g.W.Sink.contents c.args.out.now in
     let after : Option Octets = g.W.Sink.contents c.write_owed-written.new.out in
     let none : old.fault ≡ None = subst (λ (host : HostModel). host.fault ≡ None) (sym c.host.view_is) c.requires in
@@ -41,7 +41,7 @@ invariant_of-host-else-is_err g c =
 pub returns-else-is_err-clause-feeds : goal.returns-else-is_err-clause-feeds
 returns-else-is_err-clause-feeds g c =
     let old : HostModel = the_view c.host.inside in
-    let new : HostModel = record old { server = c.write_owed-written.new.state } in
+    let new : HostModel = record old { server = c.write_owed-written.new.server } in
     let before : Option Octets = g.W.Sink.contents c.args.out.now in
     let after : Option Octets = g.W.Sink.contents c.write_owed-written.new.out in
     let none : old.fault ≡ None = subst (λ (host : HostModel). host.fault ≡ None) (sym c.host.view_is) c.requires in

@@ -94,7 +94,8 @@ no_room c =
     let init : init_command controller ≡ None = is_none_where (init_command controller) (sym c.init_command_out.ensures.some ∙ c.if-init_command_out.false) in
     let slot : first_slot_command slots ≡ None = none_with (first_slot_command slots) (sym c.in_default.is ∙ c.slot_command_out.ensures.opcode) in
     let free : has_free_slot slots ≡ false =
-    ap (λ (slots : List (Option SlotState)). has_free_slot slots) (sym (OnFalse_at (ap is_some c.in_default.is) c.slot_command_out.ensures.unchanged)) ∙ sym c.has_room.ensures.room ∙ c.if-not-has_room.true in
+    ap (λ (slots : List (Option SlotState)). has_free_slot slots) (sym (OnFalse_at (ap is_some c.in_default.is) c.slot_command_out.ensures.unchanged))
+    ∙ sym c.has_room.ensures.room ∙ c.if-not-has_room.true in
     takes_enabling controller slots false takes init slot (ap (λ (free : Bool). free && not controller.advertising && not controller.refused) free)
 
 pub returns-then-not-has_room-clause-some : goal.returns-then-not-has_room-clause-some
@@ -114,7 +115,8 @@ enabling c =
     let init : init_command controller ≡ None = is_none_where (init_command controller) (sym c.init_command_out.ensures.some ∙ c.if-init_command_out.false) in
     let slot : first_slot_command slots ≡ None = none_with (first_slot_command slots) (sym c.in_default.is ∙ c.slot_command_out.ensures.opcode) in
     let free : has_free_slot slots ≡ true =
-    ap (λ (slots : List (Option SlotState)). has_free_slot slots) (sym (OnFalse_at (ap is_some c.in_default.is) c.slot_command_out.ensures.unchanged)) ∙ sym c.has_room.ensures.room ∙ c.if-not-has_room.false in
+    ap (λ (slots : List (Option SlotState)). has_free_slot slots) (sym (OnFalse_at (ap is_some c.in_default.is) c.slot_command_out.ensures.unchanged))
+    ∙ sym c.has_room.ensures.room ∙ c.if-not-has_room.false in
     let same : the_view c.controller.inside ≡ controller = c.controller.view_is ∙ OnFalse_at c.if-init_command_out.false c.init_command_out.ensures.unchanged in
     let advertising : controller.advertising ≡ false = sym (λ i. (same i).advertising) ∙ c.if-controller.false in
     let refused : controller.refused ≡ false = sym (λ i. (same i).refused) ∙ c.if-controller-2.false in

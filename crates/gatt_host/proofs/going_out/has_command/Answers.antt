@@ -23,4 +23,6 @@ returns c =
     let none : first_slot_command slots ≡ None =
     is_none_where (first_slot_command slots) (sym (any_command slots) ∙ sym c.has_command.ensures ∙ c.if-has_command.false) in
     sym (enabling_some c.is_to_advertise.result)
-    ∙ sym (ap is_some (takes_enabling controller slots c.is_to_advertise.result takes init none (sym (c.is_to_advertise.ensures ∙ ap (λ free. free && not controller.advertising && not controller.refused) c.has_free.ensures))))
+    ∙ sym (ap is_some
+    (takes_enabling controller slots c.is_to_advertise.result takes init none
+    (sym (c.is_to_advertise.ensures ∙ ap (λ free. free && not controller.advertising && not controller.refused) c.has_free.ensures))))

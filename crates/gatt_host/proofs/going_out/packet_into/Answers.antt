@@ -41,7 +41,8 @@ returns-clause-some c =
     let slots = c.args.slots.now in
     let first = c.first_that_gives in
     let at = sym first.ensures.place ∙ c.in-Some.is in
-    let is : is_some c.next_into.result ≡ true = c.next_into.ensures.gives ∙ found_passes gives slots first.new.self first.ensures.unchanged c.in-Some.place at in
+    let is : is_some c.next_into.result ≡ true = c.next_into.ensures.gives ∙ found_passes gives slots first.new.self first.ensures.unchanged c.in-Some.place at
+    in
     is
     ∙ sym (some_packet c.next_into.result (λ count. take count c.next_into.new.out) _ is (returns-clause-octets c))
 
@@ -50,5 +51,6 @@ returns-clause-after c =
     let slots = c.args.slots.now in
     let first = c.first_that_gives in
     let at = sym first.ensures.place ∙ c.in-Some.is in
-    let is : is_some c.next_into.result ≡ true = c.next_into.ensures.gives ∙ found_passes gives slots first.new.self first.ensures.unchanged c.in-Some.place at in
+    let is : is_some c.next_into.result ≡ true = c.next_into.ensures.gives ∙ found_passes gives slots first.new.self first.ensures.unchanged c.in-Some.place at
+    in
     OnTrue_at is c.next_into.ensures.after ∙ found_changed gives slots first.new.self first.ensures.unchanged c.in-Some.place at slot_without_packet

@@ -22,7 +22,8 @@ returns-clause-some c =
     let is : c.next_packet.result ≡ true = c.next_packet.ensures.gives ∙ found_passes gives slots first.new.self first.ensures.unchanged c.in-Some.place at in
     is
     ∙ sym (ap is_some (first_packet slots c.in-Some.place _ at
-    ∙ ap (option_and_then slot_packet) (sym (found_at gives slots first.new.self first.ensures.unchanged c.in-Some.place at)) ∙ OnTrue_at is c.next_packet.ensures.packet))
+    ∙ ap (option_and_then slot_packet) (sym (found_at gives slots first.new.self first.ensures.unchanged c.in-Some.place at))
+    ∙ OnTrue_at is c.next_packet.ensures.packet))
 
 pub returns-clause-octets : goal.returns-clause-octets
 returns-clause-octets c =
@@ -31,7 +32,8 @@ returns-clause-octets c =
     let at = sym first.ensures.place ∙ c.in-Some.is in
     OnTrue_from _ _ (λ is.
     first_packet slots c.in-Some.place _ at
-    ∙ ap (option_and_then slot_packet) (sym (found_at gives slots first.new.self first.ensures.unchanged c.in-Some.place at)) ∙ OnTrue_at is c.next_packet.ensures.packet)
+    ∙ ap (option_and_then slot_packet) (sym (found_at gives slots first.new.self first.ensures.unchanged c.in-Some.place at))
+    ∙ OnTrue_at is c.next_packet.ensures.packet)
 
 pub returns-clause-after : goal.returns-clause-after
 returns-clause-after c =

@@ -30,7 +30,8 @@ pub returns-in-Some-clause-after : goal.returns-in-Some-clause-after
 returns-in-Some-clause-after c =
     let first = c.first_with_command in
     c.command_at_out.ensures.after
-    ∙ found_changed has_command c.args.slots.now first.new.self first.ensures.unchanged c.in-Some.place (sym first.ensures.place ∙ c.in-Some.is) slot_without_command
+    ∙ found_changed has_command c.args.slots.now first.new.self first.ensures.unchanged c.in-Some.place (sym first.ensures.place ∙ c.in-Some.is)
+    slot_without_command
 
 pub returns-in-None-clause-opcode : goal.returns-in-None-clause-opcode
 returns-in-None-clause-opcode c = sym (ap (option_map opcode_of) (no_command c.args.slots.now (sym c.first_with_command.ensures.place ∙ c.in-None.is)))

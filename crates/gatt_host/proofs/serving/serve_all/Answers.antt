@@ -47,7 +47,8 @@ returns-then-is_empty-clause-ends g c =
 pub returns-in_err-feed_to-clause-serves : goal.returns-in_err-feed_to-clause-serves
 returns-in_err-feed_to-clause-serves g c =
     let stopped = err_from_is_err_and c.from_residual-in_err-feed_to.result c.from_residual-in_err-feed_to.ensures.1 in
-    serves_broken c.from_residual-in_err-feed_to.result c.in_err-feed_to.field-0.0 c.args.turns c.loop-turn.turn c.in-Ok.read.now c.args.host.now c.loop-turn.host c.feed_to.new.host
+    serves_broken c.from_residual-in_err-feed_to.result c.in_err-feed_to.field-0.0 c.args.turns c.loop-turn.turn c.in-Ok.read.now c.args.host.now
+    c.loop-turn.host c.feed_to.new.host
     (g.R.Source.remaining c.args.reader.now) (g.R.Source.remaining c.loop-turn.reader) (g.R.Source.remaining c.read_turn.new.reader)
     (g.W.Sink.contents c.args.writer.now) (g.W.Sink.contents c.loop-turn.writer) (g.W.Sink.contents c.feed_to.new.out)
     (stopped.1 ∙ ap (λ (why : HostFault). Err why) stopped.2) (c.in_err-feed_to.ensures.processes c.loop-turn.invariant.none).feeding
@@ -56,7 +57,8 @@ returns-in_err-feed_to-clause-serves g c =
 pub returns-in_err-feed_to-clause-reads : goal.returns-in_err-feed_to-clause-reads
 returns-in_err-feed_to-clause-reads g c =
     let stopped = err_from_is_err_and c.from_residual-in_err-feed_to.result c.from_residual-in_err-feed_to.ensures.1 in
-    reads_stopped c.from_residual-in_err-feed_to.result c.in_err-feed_to.field-0.0 (c.loop-turn.turn + 1) c.args.turns (g.R.Source.reads c.args.reader.now) (g.R.Source.reads c.read_turn.new.reader)
+    reads_stopped c.from_residual-in_err-feed_to.result c.in_err-feed_to.field-0.0 (c.loop-turn.turn + 1) c.args.turns (g.R.Source.reads c.args.reader.now)
+    (g.R.Source.reads c.read_turn.new.reader)
     (stopped.1 ∙ ap (λ (why : HostFault). Err why) stopped.2) (many_more c.loop-turn.turn _ _ _ c.loop-turn.invariant.reads c.read_turn.ensures.reads)
     (omega (arith, c.loop-turn-test.true)) (no_turns c.in_err-feed_to.field-0.0 (c.in_err-feed_to.ensures.processes c.loop-turn.invariant.none).feeding)
 
@@ -69,24 +71,30 @@ loop-turn-preserved g c =
       served = served_more c.loop-turn.turn c.in-Ok.read.now c.args.host.now mid new
           (g.R.Source.remaining c.args.reader.now) (g.R.Source.remaining c.loop-turn.reader) (g.R.Source.remaining c.read_turn.new.reader)
           (g.W.Sink.contents c.args.writer.now) (g.W.Sink.contents c.loop-turn.writer) (g.W.Sink.contents c.feed_to.new.out)
-          c.loop-turn.invariant.served c.in-Ok.ensures.consumed (some_where c.in-Ok.read.now (sym c.is_empty.ensures ∙ c.if-is_empty.false)) c.in-Ok.ensures.within
+          c.loop-turn.invariant.served c.in-Ok.ensures.consumed (some_where c.in-Ok.read.now (sym c.is_empty.ensures ∙ c.if-is_empty.false))
+          c.in-Ok.ensures.within
           (going_takes (octet_items c.in-Ok.read.now) mid new (g.W.Sink.contents c.loop-turn.writer) (g.W.Sink.contents c.feed_to.new.out) new.fault none
           (c.feed_to.ensures.processes c.loop-turn.invariant.none).feeds);
       few = omega (arith, c.loop-turn-test.true);
       none = none;
       drained = (c.in_ok-feed_to.ensures.processes c.loop-turn.invariant.none).out (refl {a = true});
       reads = many_more c.loop-turn.turn _ _ _ c.loop-turn.invariant.reads c.read_turn.ensures.reads;
-      ends = counts_none _ _ _ c.loop-turn.invariant.ends (counts_where_some c.in-Ok.read.now _ _ (sym c.is_empty.ensures ∙ c.if-is_empty.false) c.in-Ok.ensures.ends);
+      ends = counts_none _ _ _ c.loop-turn.invariant.ends
+          (counts_where_some c.in-Ok.read.now _ _ (sym c.is_empty.ensures ∙ c.if-is_empty.false) c.in-Ok.ensures.ends);
       read_failures = counts_none _ _ _ c.loop-turn.invariant.read_failures c.in-Ok.ensures.failures;
-      write_failures = counts_none _ _ _ c.loop-turn.invariant.write_failures (counts_where_going new.fault _ _ none (c.feed_to.ensures.processes c.loop-turn.invariant.none).failures);
+      write_failures =
+          counts_none _ _ _ c.loop-turn.invariant.write_failures
+          (counts_where_going new.fault _ _ none (c.feed_to.ensures.processes c.loop-turn.invariant.none).failures);
       heard = served_to_more c.loop-turn.turn c.in-Ok.read.now c.args.host.now mid new
           (g.R.Source.remaining c.args.reader.now) (g.R.Source.remaining c.loop-turn.reader) (g.R.Source.remaining c.read_turn.new.reader)
           (g.W.Sink.contents c.args.writer.now) (g.W.Sink.contents c.loop-turn.writer) (g.W.Sink.contents c.feed_to.new.out)
           (g.L.Listener.heard c.args.listener.now) (g.L.Listener.heard c.loop-turn.listener) (g.L.Listener.heard c.feed_to.new.listener)
-          c.loop-turn.invariant.heard c.in-Ok.ensures.consumed (some_where c.in-Ok.read.now (sym c.is_empty.ensures ∙ c.if-is_empty.false)) c.in-Ok.ensures.within
+          c.loop-turn.invariant.heard c.in-Ok.ensures.consumed (some_where c.in-Ok.read.now (sym c.is_empty.ensures ∙ c.if-is_empty.false))
+          c.in-Ok.ensures.within
           (going_takes (octet_items c.in-Ok.read.now) mid new (g.W.Sink.contents c.loop-turn.writer) (g.W.Sink.contents c.feed_to.new.out) new.fault none
           (c.feed_to.ensures.processes c.loop-turn.invariant.none).feeds)
-          (going_hears (octet_items c.in-Ok.read.now) mid new (g.L.Listener.heard c.loop-turn.listener) (g.L.Listener.heard c.feed_to.new.listener) new.fault none
+          (going_hears (octet_items c.in-Ok.read.now) mid new (g.L.Listener.heard c.loop-turn.listener) (g.L.Listener.heard c.feed_to.new.listener) new.fault
+          none
           (c.feed_to.ensures.heard c.loop-turn.invariant.none));
     }
 
@@ -95,7 +103,8 @@ returns-clause-serves g c =
     serves_stopped c.stop-2.result stop.Turns c.args.turns c.loop-turn.turn c.args.host.now c.loop-turn.host c.stop-2.new.host
     (g.R.Source.remaining c.args.reader.now) (g.R.Source.remaining c.loop-turn.reader) (g.R.Source.remaining c.loop-turn.reader)
     (g.W.Sink.contents c.args.writer.now) (g.W.Sink.contents c.loop-turn.writer)
-    c.stop-2.ensures.fault c.loop-turn.invariant.none c.stop-2.ensures.stopped refl refl (Keeps-refl (g.R.Source.remaining c.loop-turn.reader)) c.loop-turn.invariant.served
+    c.stop-2.ensures.fault c.loop-turn.invariant.none c.stop-2.ensures.stopped refl refl (Keeps-refl (g.R.Source.remaining c.loop-turn.reader))
+    c.loop-turn.invariant.served
     (λ is. omega (arith, c.loop-turn.invariant.few, c.loop-turn-test.false))
 
 pub returns-in_default-clause-due : goal.returns-in_default-clause-due
@@ -126,7 +135,8 @@ pub returns-in_default-clause-heard : goal.returns-in_default-clause-heard
 returns-in_default-clause-heard g c =
     stops_serving c.loop-turn.turn c.args.host.now c.loop-turn.host c.stop.new.host
     (g.R.Source.remaining c.args.reader.now) (g.R.Source.remaining c.loop-turn.reader) (g.R.Source.remaining c.read_turn.new.reader)
-    (g.W.Sink.contents c.args.writer.now) (g.W.Sink.contents c.loop-turn.writer) (g.L.Listener.heard c.args.listener.now) (g.L.Listener.heard c.loop-turn.listener)
+    (g.W.Sink.contents c.args.writer.now) (g.W.Sink.contents c.loop-turn.writer) (g.L.Listener.heard c.args.listener.now)
+    (g.L.Listener.heard c.loop-turn.listener)
     (Some stop.Read) (ap (λ (host : HostModel). host.fault) c.stop.ensures.stopped) refl c.loop-turn.invariant.heard
     (kept_where_failed c.read_turn.result c.in_default.not-Ok c.read_turn.ensures.unread)
 
@@ -135,7 +145,8 @@ returns-then-is_empty-clause-heard g c =
     let nothing : c.in-Ok.read.now ≡ [] = empty_where c.in-Ok.read.now (sym c.is_empty.ensures ∙ c.if-is_empty.true) in
     ends_serving c.loop-turn.turn c.args.host.now c.loop-turn.host c.end_stream.new.host
     (g.R.Source.remaining c.args.reader.now) (g.R.Source.remaining c.loop-turn.reader) (g.R.Source.remaining c.read_turn.new.reader)
-    (g.W.Sink.contents c.args.writer.now) (g.W.Sink.contents c.loop-turn.writer) (g.L.Listener.heard c.args.listener.now) (g.L.Listener.heard c.loop-turn.listener)
+    (g.W.Sink.contents c.args.writer.now) (g.W.Sink.contents c.loop-turn.writer) (g.L.Listener.heard c.args.listener.now)
+    (g.L.Listener.heard c.loop-turn.listener)
     None c.end_stream.ensures.fault refl c.loop-turn.invariant.heard
     (subst (Consumes (g.R.Source.remaining c.loop-turn.reader) (g.R.Source.remaining c.read_turn.new.reader)) nothing c.in-Ok.ensures.consumed)
 
@@ -151,7 +162,8 @@ pub returns-clause-heard : goal.returns-clause-heard
 returns-clause-heard g c =
     stops_serving c.loop-turn.turn c.args.host.now c.loop-turn.host c.stop-2.new.host
     (g.R.Source.remaining c.args.reader.now) (g.R.Source.remaining c.loop-turn.reader) (g.R.Source.remaining c.loop-turn.reader)
-    (g.W.Sink.contents c.args.writer.now) (g.W.Sink.contents c.loop-turn.writer) (g.L.Listener.heard c.args.listener.now) (g.L.Listener.heard c.loop-turn.listener)
+    (g.W.Sink.contents c.args.writer.now) (g.W.Sink.contents c.loop-turn.writer) (g.L.Listener.heard c.args.listener.now)
+    (g.L.Listener.heard c.loop-turn.listener)
     (Some stop.Turns) (ap (λ (host : HostModel). host.fault) c.stop-2.ensures.stopped) refl c.loop-turn.invariant.heard
     (Keeps-refl (g.R.Source.remaining c.loop-turn.reader))
 
@@ -184,6 +196,7 @@ returns-in_err-write_out-clause-serves g c =
     let remaining : Option Octets = g.R.Source.remaining c.args.reader.now in
     let before : Option Octets = g.W.Sink.contents c.args.writer.now in
     let stopped = err_from_is_err_and c.from_residual.result c.from_residual.ensures.1 in
-    serves_broken c.from_residual.result c.in_err-write_out.field-0.0 c.args.turns 0 [] old old c.write_out.new.host remaining remaining remaining before before (g.W.Sink.contents c.write_out.new.out)
+    serves_broken c.from_residual.result c.in_err-write_out.field-0.0 c.args.turns 0 [] old old c.write_out.new.host remaining remaining remaining before before
+    (g.W.Sink.contents c.write_out.new.out)
     (stopped.1 ∙ ap (λ (why : HostFault). Err why) stopped.2) (ap is_of_feeding c.in_err-write_out.ensures.write) (Consumes-nil remaining)
     (served_none old old remaining before before (takes_none old before)) c.write_out.ensures.feeds

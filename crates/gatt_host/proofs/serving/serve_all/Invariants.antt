@@ -7,7 +7,8 @@ use Rattle.octet_io.specs.Stream.{CountsMany, CountsNone}
 
 abbrev pub invariant-loop-turn : goal.invariant-loop-turn
 invariant-loop-turn g l = record {
-  served : HasServed l.turn l.fn.host l.host (g.R.Source.remaining l.fn.reader) (g.R.Source.remaining l.reader) (g.W.Sink.contents l.fn.writer) (g.W.Sink.contents l.writer);
+  served : HasServed l.turn l.fn.host l.host (g.R.Source.remaining l.fn.reader) (g.R.Source.remaining l.reader) (g.W.Sink.contents l.fn.writer)
+      (g.W.Sink.contents l.writer);
   few : l.turn ≤ l.turns;
   none : l.host.fault ≡ None;
   drained : all_out l.host ≡ true;
@@ -15,6 +16,7 @@ invariant-loop-turn g l = record {
   ends : CountsNone (g.R.Source.ends l.fn.reader) (g.R.Source.ends l.reader);
   read_failures : CountsNone (g.R.Source.failures l.fn.reader) (g.R.Source.failures l.reader);
   write_failures : CountsNone (g.W.Sink.failures l.fn.writer) (g.W.Sink.failures l.writer);
-  heard : HasServedTo l.turn l.fn.host l.host (g.R.Source.remaining l.fn.reader) (g.R.Source.remaining l.reader) (g.W.Sink.contents l.fn.writer) (g.W.Sink.contents l.writer)
+  heard : HasServedTo l.turn l.fn.host l.host (g.R.Source.remaining l.fn.reader) (g.R.Source.remaining l.reader) (g.W.Sink.contents l.fn.writer)
+      (g.W.Sink.contents l.writer)
       (g.L.Listener.heard l.fn.listener) (g.L.Listener.heard l.listener);
 }

@@ -17,7 +17,7 @@ take_in-requires-clause-of_table c =
 pub returns-in-Ok-clause-refines : goal.returns-in-Ok-clause-refines
 returns-in-Ok-clause-refines c =
     let old : HostModel = the_view c.host.inside in
-    let new : HostModel = record old { server = c.take_in.new.state; frames = c.take_in.new.frames; stream = c.take_in.new.deframer } in
+    let new : HostModel = record old { server = c.take_in.new.server; frames = c.take_in.new.frames; stream = c.take_in.new.stream } in
     let none : old.fault ≡ None = subst (λ (host : HostModel). host.fault ≡ None) (sym c.host.view_is) c.requires.no_fault in
     subst (λ (host : HostModel). Refines (items_taken c.args.octets.now (Ok c.in-Ok.used)) [] host new) c.host.view_is
     (leads_from old new (items_taken c.args.octets.now (Ok c.in-Ok.used)) None none none c.in-Ok.ensures.refines)
@@ -25,7 +25,7 @@ returns-in-Ok-clause-refines c =
 pub invariant_of-host-in-Err : goal.invariant_of-host-in-Err
 invariant_of-host-in-Err c =
     let old : HostModel = the_view c.host.inside in
-    let new : HostModel = record { server = c.take_in.new.state; frames = c.take_in.new.frames; stream = c.take_in.new.deframer; fault = Some c.in-Err.fault } in
+    let new : HostModel = record { server = c.take_in.new.server; frames = c.take_in.new.frames; stream = c.take_in.new.stream; fault = Some c.in-Err.fault } in
     let none : old.fault ≡ None = subst (λ (host : HostModel). host.fault ≡ None) (sym c.host.view_is) c.requires.no_fault in
     reached_by (items_taken c.args.octets.now (Err c.in-Err.fault)) [] old new c.host.invariant
     (leads_from old new (items_taken c.args.octets.now (Err c.in-Err.fault)) (Some c.in-Err.fault) none refl c.in-Err.ensures.refines)
@@ -33,7 +33,7 @@ invariant_of-host-in-Err c =
 pub returns-in-Err-clause-refines : goal.returns-in-Err-clause-refines
 returns-in-Err-clause-refines c =
     let old : HostModel = the_view c.host.inside in
-    let new : HostModel = record { server = c.take_in.new.state; frames = c.take_in.new.frames; stream = c.take_in.new.deframer; fault = Some c.in-Err.fault } in
+    let new : HostModel = record { server = c.take_in.new.server; frames = c.take_in.new.frames; stream = c.take_in.new.stream; fault = Some c.in-Err.fault } in
     let none : old.fault ≡ None = subst (λ (host : HostModel). host.fault ≡ None) (sym c.host.view_is) c.requires.no_fault in
     subst (λ (host : HostModel). Refines (items_taken c.args.octets.now (Err c.in-Err.fault)) [] host new) c.host.view_is
     (leads_from old new (items_taken c.args.octets.now (Err c.in-Err.fault)) (Some c.in-Err.fault) none refl c.in-Err.ensures.refines)
@@ -41,7 +41,7 @@ returns-in-Err-clause-refines c =
 pub invariant_of-host : goal.invariant_of-host
 invariant_of-host c =
     let old : HostModel = the_view c.host.inside in
-    let new : HostModel = record old { server = c.take_in.new.state; frames = c.take_in.new.frames; stream = c.take_in.new.deframer } in
+    let new : HostModel = record old { server = c.take_in.new.server; frames = c.take_in.new.frames; stream = c.take_in.new.stream } in
     let none : old.fault ≡ None = subst (λ (host : HostModel). host.fault ≡ None) (sym c.host.view_is) c.requires.no_fault in
     reached_by (items_taken c.args.octets.now (Ok c.in-Ok.used)) [] old new c.host.invariant
     (leads_from old new (items_taken c.args.octets.now (Ok c.in-Ok.used)) None none none c.in-Ok.ensures.refines)
@@ -49,7 +49,7 @@ invariant_of-host c =
 pub returns-in-Ok-clause-told : goal.returns-in-Ok-clause-told
 returns-in-Ok-clause-told c =
     let old : HostModel = the_view c.host.inside in
-    let new : HostModel = record old { server = c.take_in.new.state; frames = c.take_in.new.frames; stream = c.take_in.new.deframer } in
+    let new : HostModel = record old { server = c.take_in.new.server; frames = c.take_in.new.frames; stream = c.take_in.new.stream } in
     let none : old.fault ≡ None = subst (λ (host : HostModel). host.fault ≡ None) (sym c.host.view_is) c.requires.no_fault in
     subst (λ (host : HostModel). TellsOfAll (items_taken c.args.octets.now (Ok c.in-Ok.used)) host new) c.host.view_is
     (tells_from old new (items_taken c.args.octets.now (Ok c.in-Ok.used)) None none none c.in-Ok.ensures.told)
@@ -64,7 +64,7 @@ returns-in-Ok-clause-up_to c =
 pub returns-in-Err-clause-told : goal.returns-in-Err-clause-told
 returns-in-Err-clause-told c =
     let old : HostModel = the_view c.host.inside in
-    let new : HostModel = record { server = c.take_in.new.state; frames = c.take_in.new.frames; stream = c.take_in.new.deframer; fault = Some c.in-Err.fault } in
+    let new : HostModel = record { server = c.take_in.new.server; frames = c.take_in.new.frames; stream = c.take_in.new.stream; fault = Some c.in-Err.fault } in
     let none : old.fault ≡ None = subst (λ (host : HostModel). host.fault ≡ None) (sym c.host.view_is) c.requires.no_fault in
     subst (λ (host : HostModel). TellsOfAll (items_taken c.args.octets.now (Err c.in-Err.fault)) host new) c.host.view_is
     (tells_from old new (items_taken c.args.octets.now (Err c.in-Err.fault)) (Some c.in-Err.fault) none refl c.in-Err.ensures.told)

@@ -22,39 +22,41 @@ use Rattle.gatt_host.proofs.stream_packets.take_in.Goals as goal
 
 pub returns-in-Err-clause-refines : goal.returns-in-Err-clause-refines
 returns-in-Err-clause-refines c =
-    let old : HostModel = record { server = c.args.state.now; frames = c.args.frames.now; stream = c.args.deframer.now; fault = None } in
-    subst (λ (fault : HostFault). Refines (octet_items c.args.octets.now) [] old (record old { stream = c.feed.new.self; fault = Some fault })) (sym c.lost_fault.ensures)
+    let old : HostModel = record { server = c.args.server.now; frames = c.args.frames.now; stream = c.args.stream.now; fault = None } in
+    subst (λ (fault : HostFault). Refines (octet_items c.args.octets.now) [] old (record old { stream = c.feed.new.self; fault = Some fault }))
+    (sym c.lost_fault.ensures)
     (lost_leads old c.args.octets.now c.feed.new.self c.in-Err.fault refl c.in-Err.ensures.desync c.in-Err.ensures.desynced)
 
 pub returns-then-not-fed-clause-refines : goal.returns-then-not-fed-clause-refines
 returns-then-not-fed-clause-refines c = λ start input sent is.
-    let old : HostModel = record { server = c.args.state.now; frames = c.args.frames.now; stream = c.args.deframer.now; fault = None } in
+    let old : HostModel = record { server = c.args.server.now; frames = c.args.frames.now; stream = c.args.stream.now; fault = None } in
     let octets : Octets = take c.in-Ok.fed.used c.args.octets.now in
     let items : List Item = octet_items octets in
     let none : c.feed.new.self.marked ≡ None =
     none_marked c.in-Ok.fed.packet c.feed.new.self.marked (not-true c.in-Ok.fed.packet c.if-not-fed.true) c.in-Ok.ensures.marked in
-    subst (λ (server : ServerState). RefinesRun (run start (input ++ items)) (sent ++ []) (record old { server = server; stream = c.feed.new.self })) (sym c.forget.ensures)
+    subst (λ (server : ServerState). RefinesRun (run start (input ++ items)) (sent ++ []) (record old { server = server; stream = c.feed.new.self }))
+    (sym c.forget.ensures)
     (stands_at_in_silence (run start (input ++ items)) (sent ++ []) (record old { stream = c.feed.new.self })
     (octets_pass old c.feed.new.self octets refl c.in-Ok.ensures.divided none c.in-Ok.ensures.unfinished start input sent is))
 
 pub returns-then-not-fed-clause-told : goal.returns-then-not-fed-clause-told
 returns-then-not-fed-clause-told c =
-    let old : HostModel = record { server = c.args.state.now; frames = c.args.frames.now; stream = c.args.deframer.now; fault = None } in
+    let old : HostModel = record { server = c.args.server.now; frames = c.args.frames.now; stream = c.args.stream.now; fault = None } in
     let new : HostModel = record old { server = c.forget.new.self; stream = c.feed.new.self } in
     let none : c.feed.new.self.marked ≡ None =
     none_marked c.in-Ok.fed.packet c.feed.new.self.marked (not-true c.in-Ok.fed.packet c.if-not-fed.true) c.in-Ok.ensures.marked in
     octets_told [] old new (take c.in-Ok.fed.used c.args.octets.now)
-    (ends_none c.args.deframer.now c.feed.new.self (take c.in-Ok.fed.used c.args.octets.now) none c.in-Ok.ensures.divided c.in-Ok.ensures.unfinished) refl
+    (ends_none c.args.stream.now c.feed.new.self (take c.in-Ok.fed.used c.args.octets.now) none c.in-Ok.ensures.divided c.in-Ok.ensures.unfinished) refl
     (λ run sent no_why is slot_state. ap (λ (server : ServerState). last_notices server) c.forget.ensures)
 
 pub returns-then-not-fed-clause-up_to : goal.returns-then-not-fed-clause-up_to
 returns-then-not-fed-clause-up_to c =
-    let old : HostModel = record { server = c.args.state.now; frames = c.args.frames.now; stream = c.args.deframer.now; fault = None } in
+    let old : HostModel = record { server = c.args.server.now; frames = c.args.frames.now; stream = c.args.stream.now; fault = None } in
     let new : HostModel = record old { stream = c.feed.new.self } in
     let none : c.feed.new.self.marked ≡ None =
     none_marked c.in-Ok.fed.packet c.feed.new.self.marked (not-true c.in-Ok.fed.packet c.if-not-fed.true) c.in-Ok.ensures.marked in
     takes_up_to [] old new c.args.octets.now c.in-Ok.fed.used
-    (ends_none c.args.deframer.now c.feed.new.self (take c.in-Ok.fed.used c.args.octets.now) none c.in-Ok.ensures.divided c.in-Ok.ensures.unfinished)
+    (ends_none c.args.stream.now c.feed.new.self (take c.in-Ok.fed.used c.args.octets.now) none c.in-Ok.ensures.divided c.in-Ok.ensures.unfinished)
     (c.in-Ok.ensures.used_all (is_none_marked c.feed.new.self.marked none))
 
 pub returns-in_err-packet-clause-refines : goal.returns-in_err-packet-clause-refines
@@ -63,21 +65,22 @@ returns-in_err-packet-clause-refines c =
     let used : ℕ = host.used in
     let octets : Octets = c.args.octets.now in
     let fault = c.in_err-packet.field-0.0 in
-    let old : HostModel = record { server = c.args.state.now; frames = c.args.frames.now; stream = c.args.deframer.now; fault = None } in
-    let new : HostModel = record { server = c.packet.new.state; frames = c.packet.new.frames; stream = c.if-is_none.deframer; fault = Some fault } in
-    let ends : EndsPacket c.args.deframer.now octets c.if-is_none.deframer used (packet_of_ref host.packet) =
+    let old : HostModel = record { server = c.args.server.now; frames = c.args.frames.now; stream = c.args.stream.now; fault = None } in
+    let new : HostModel = record { server = c.packet.new.server; frames = c.packet.new.frames; stream = c.if-is_none.stream; fault = Some fault } in
+    let ends : EndsPacket c.args.stream.now octets c.if-is_none.stream used (packet_of_ref host.packet) =
     elim c.if-is_none.branch [
       | then-is_none+in-Ok+else-not-fed w ↦
-          packet_marked c.whole_packet-lent.result c.args.deframer.now c.if-is_none.deframer octets host w.feed.new.self w.in-Ok.fed.used c.if-is_none.used
-          (c.is_none.ensures ∙ ap not w.if-is_none.true) w.deframer-is w.in-Ok.ensures.divided w.in-Ok.ensures.unfinished
+          packet_marked c.whole_packet-lent.result c.args.stream.now c.if-is_none.stream octets host w.feed.new.self w.in-Ok.fed.used c.if-is_none.used
+          (c.is_none.ensures ∙ ap not w.if-is_none.true) w.stream-is w.in-Ok.ensures.divided w.in-Ok.ensures.unfinished
           c.lent_or_marked-whole.ensures.marked c.lent_or_marked-whole.ensures.marked_used w.used-is
       | else-is_none w ↦
-          packet_lent c.whole_packet-lent.result c.args.deframer.now c.if-is_none.deframer octets host
-          (c.is_none.ensures ∙ ap not w.if-is_none.false) w.deframer-is c.whole_packet-lent.ensures.divided c.whole_packet-lent.ensures.unfinished
+          packet_lent c.whole_packet-lent.result c.args.stream.now c.if-is_none.stream octets host
+          (c.is_none.ensures ∙ ap not w.if-is_none.false) w.stream-is c.whole_packet-lent.ensures.divided c.whole_packet-lent.ensures.unfinished
           c.lent_or_marked-whole.ensures.lent c.lent_or_marked-whole.ensures.lent_used
     ] in
     let stopped = err_from_is_err_and c.from_residual.result c.from_residual.ensures.1 in
-    subst (λ (result : Result ℕ HostFault). Refines (items_taken octets result) [] old (record new { fault = result_err result })) (sym (stopped.1 ∙ ap (λ (why : HostFault). Err why) stopped.2))
+    subst (λ (result : Result ℕ HostFault). Refines (items_taken octets result) [] old (record new { fault = result_err result }))
+    (sym (stopped.1 ∙ ap (λ (why : HostFault). Err why) stopped.2))
     (subst (λ (all : Octets). Refines (octet_items all) [] old new) (take-append-drop used octets)
     (octets_stop_whole old new (take used octets) (drop used octets) (packet_of_ref host.packet) fault refl ends.divided
     c.in_err-packet.ensures.refines refl c.in_err-packet.ensures.not_own))
@@ -87,17 +90,17 @@ returns-clause-refines c =
     let host : WholePacket = c.lent_or_marked-whole.result in
     let used : ℕ = host.used in
     let octets : Octets = c.args.octets.now in
-    let old : HostModel = record { server = c.args.state.now; frames = c.args.frames.now; stream = c.args.deframer.now; fault = None } in
-    let new : HostModel = record { server = c.packet.new.state; frames = c.packet.new.frames; stream = c.if-is_none.deframer; fault = None } in
-    let ends : EndsPacket c.args.deframer.now octets c.if-is_none.deframer used (packet_of_ref host.packet) =
+    let old : HostModel = record { server = c.args.server.now; frames = c.args.frames.now; stream = c.args.stream.now; fault = None } in
+    let new : HostModel = record { server = c.packet.new.server; frames = c.packet.new.frames; stream = c.if-is_none.stream; fault = None } in
+    let ends : EndsPacket c.args.stream.now octets c.if-is_none.stream used (packet_of_ref host.packet) =
     elim c.if-is_none.branch [
       | then-is_none+in-Ok+else-not-fed w ↦
-          packet_marked c.whole_packet-lent.result c.args.deframer.now c.if-is_none.deframer octets host w.feed.new.self w.in-Ok.fed.used c.if-is_none.used
-          (c.is_none.ensures ∙ ap not w.if-is_none.true) w.deframer-is w.in-Ok.ensures.divided w.in-Ok.ensures.unfinished
+          packet_marked c.whole_packet-lent.result c.args.stream.now c.if-is_none.stream octets host w.feed.new.self w.in-Ok.fed.used c.if-is_none.used
+          (c.is_none.ensures ∙ ap not w.if-is_none.true) w.stream-is w.in-Ok.ensures.divided w.in-Ok.ensures.unfinished
           c.lent_or_marked-whole.ensures.marked c.lent_or_marked-whole.ensures.marked_used w.used-is
       | else-is_none w ↦
-          packet_lent c.whole_packet-lent.result c.args.deframer.now c.if-is_none.deframer octets host
-          (c.is_none.ensures ∙ ap not w.if-is_none.false) w.deframer-is c.whole_packet-lent.ensures.divided c.whole_packet-lent.ensures.unfinished
+          packet_lent c.whole_packet-lent.result c.args.stream.now c.if-is_none.stream octets host
+          (c.is_none.ensures ∙ ap not w.if-is_none.false) w.stream-is c.whole_packet-lent.ensures.divided c.whole_packet-lent.ensures.unfinished
           c.lent_or_marked-whole.ensures.lent c.lent_or_marked-whole.ensures.lent_used
     ] in
     octets_bring_whole old new (take used octets) (packet_of_ref host.packet) refl ends.divided ends.last c.in_ok-packet.ensures.refines
@@ -107,17 +110,17 @@ returns-clause-told c =
     let host : WholePacket = c.lent_or_marked-whole.result in
     let used : ℕ = host.used in
     let octets : Octets = c.args.octets.now in
-    let old : HostModel = record { server = c.args.state.now; frames = c.args.frames.now; stream = c.args.deframer.now; fault = None } in
-    let new : HostModel = record { server = c.packet.new.state; frames = c.packet.new.frames; stream = c.if-is_none.deframer; fault = None } in
-    let ends : EndsPacket c.args.deframer.now octets c.if-is_none.deframer used (packet_of_ref host.packet) =
+    let old : HostModel = record { server = c.args.server.now; frames = c.args.frames.now; stream = c.args.stream.now; fault = None } in
+    let new : HostModel = record { server = c.packet.new.server; frames = c.packet.new.frames; stream = c.if-is_none.stream; fault = None } in
+    let ends : EndsPacket c.args.stream.now octets c.if-is_none.stream used (packet_of_ref host.packet) =
     elim c.if-is_none.branch [
       | then-is_none+in-Ok+else-not-fed w ↦
-          packet_marked c.whole_packet-lent.result c.args.deframer.now c.if-is_none.deframer octets host w.feed.new.self w.in-Ok.fed.used c.if-is_none.used
-          (c.is_none.ensures ∙ ap not w.if-is_none.true) w.deframer-is w.in-Ok.ensures.divided w.in-Ok.ensures.unfinished
+          packet_marked c.whole_packet-lent.result c.args.stream.now c.if-is_none.stream octets host w.feed.new.self w.in-Ok.fed.used c.if-is_none.used
+          (c.is_none.ensures ∙ ap not w.if-is_none.true) w.stream-is w.in-Ok.ensures.divided w.in-Ok.ensures.unfinished
           c.lent_or_marked-whole.ensures.marked c.lent_or_marked-whole.ensures.marked_used w.used-is
       | else-is_none w ↦
-          packet_lent c.whole_packet-lent.result c.args.deframer.now c.if-is_none.deframer octets host
-          (c.is_none.ensures ∙ ap not w.if-is_none.false) w.deframer-is c.whole_packet-lent.ensures.divided c.whole_packet-lent.ensures.unfinished
+          packet_lent c.whole_packet-lent.result c.args.stream.now c.if-is_none.stream octets host
+          (c.is_none.ensures ∙ ap not w.if-is_none.false) w.stream-is c.whole_packet-lent.ensures.divided c.whole_packet-lent.ensures.unfinished
           c.lent_or_marked-whole.ensures.lent c.lent_or_marked-whole.ensures.lent_used
     ] in
     octets_told (packet_of_ref host.packet ∷ []) old new (take used octets) (record { divided = ends.divided; last = ends.last }) refl
@@ -128,17 +131,17 @@ returns-clause-up_to c =
     let host : WholePacket = c.lent_or_marked-whole.result in
     let used : ℕ = host.used in
     let octets : Octets = c.args.octets.now in
-    let old : HostModel = record { server = c.args.state.now; frames = c.args.frames.now; stream = c.args.deframer.now; fault = None } in
-    let new : HostModel = record { server = c.packet.new.state; frames = c.packet.new.frames; stream = c.if-is_none.deframer; fault = None } in
-    let ends : EndsPacket c.args.deframer.now octets c.if-is_none.deframer used (packet_of_ref host.packet) =
+    let old : HostModel = record { server = c.args.server.now; frames = c.args.frames.now; stream = c.args.stream.now; fault = None } in
+    let new : HostModel = record { server = c.packet.new.server; frames = c.packet.new.frames; stream = c.if-is_none.stream; fault = None } in
+    let ends : EndsPacket c.args.stream.now octets c.if-is_none.stream used (packet_of_ref host.packet) =
     elim c.if-is_none.branch [
       | then-is_none+in-Ok+else-not-fed w ↦
-          packet_marked c.whole_packet-lent.result c.args.deframer.now c.if-is_none.deframer octets host w.feed.new.self w.in-Ok.fed.used c.if-is_none.used
-          (c.is_none.ensures ∙ ap not w.if-is_none.true) w.deframer-is w.in-Ok.ensures.divided w.in-Ok.ensures.unfinished
+          packet_marked c.whole_packet-lent.result c.args.stream.now c.if-is_none.stream octets host w.feed.new.self w.in-Ok.fed.used c.if-is_none.used
+          (c.is_none.ensures ∙ ap not w.if-is_none.true) w.stream-is w.in-Ok.ensures.divided w.in-Ok.ensures.unfinished
           c.lent_or_marked-whole.ensures.marked c.lent_or_marked-whole.ensures.marked_used w.used-is
       | else-is_none w ↦
-          packet_lent c.whole_packet-lent.result c.args.deframer.now c.if-is_none.deframer octets host
-          (c.is_none.ensures ∙ ap not w.if-is_none.false) w.deframer-is c.whole_packet-lent.ensures.divided c.whole_packet-lent.ensures.unfinished
+          packet_lent c.whole_packet-lent.result c.args.stream.now c.if-is_none.stream octets host
+          (c.is_none.ensures ∙ ap not w.if-is_none.false) w.stream-is c.whole_packet-lent.ensures.divided c.whole_packet-lent.ensures.unfinished
           c.lent_or_marked-whole.ensures.lent c.lent_or_marked-whole.ensures.lent_used
     ] in
     takes_up_to (packet_of_ref host.packet ∷ []) old new octets used (record { divided = ends.divided; last = ends.last }) refl
@@ -148,33 +151,34 @@ returns-clause-frames c =
     let host : WholePacket = c.lent_or_marked-whole.result in
     let used : ℕ = host.used in
     let octets : Octets = c.args.octets.now in
-    let old : HostModel = record { server = c.args.state.now; frames = c.args.frames.now; stream = c.args.deframer.now; fault = None } in
-    let new : HostModel = record { server = c.packet.new.state; frames = c.packet.new.frames; stream = c.if-is_none.deframer; fault = None } in
-    let ends : EndsPacket c.args.deframer.now octets c.if-is_none.deframer used (packet_of_ref host.packet) =
+    let old : HostModel = record { server = c.args.server.now; frames = c.args.frames.now; stream = c.args.stream.now; fault = None } in
+    let new : HostModel = record { server = c.packet.new.server; frames = c.packet.new.frames; stream = c.if-is_none.stream; fault = None } in
+    let ends : EndsPacket c.args.stream.now octets c.if-is_none.stream used (packet_of_ref host.packet) =
     elim c.if-is_none.branch [
       | then-is_none+in-Ok+else-not-fed w ↦
-          packet_marked c.whole_packet-lent.result c.args.deframer.now c.if-is_none.deframer octets host w.feed.new.self w.in-Ok.fed.used c.if-is_none.used
-          (c.is_none.ensures ∙ ap not w.if-is_none.true) w.deframer-is w.in-Ok.ensures.divided w.in-Ok.ensures.unfinished
+          packet_marked c.whole_packet-lent.result c.args.stream.now c.if-is_none.stream octets host w.feed.new.self w.in-Ok.fed.used c.if-is_none.used
+          (c.is_none.ensures ∙ ap not w.if-is_none.true) w.stream-is w.in-Ok.ensures.divided w.in-Ok.ensures.unfinished
           c.lent_or_marked-whole.ensures.marked c.lent_or_marked-whole.ensures.marked_used w.used-is
       | else-is_none w ↦
-          packet_lent c.whole_packet-lent.result c.args.deframer.now c.if-is_none.deframer octets host
-          (c.is_none.ensures ∙ ap not w.if-is_none.false) w.deframer-is c.whole_packet-lent.ensures.divided c.whole_packet-lent.ensures.unfinished
+          packet_lent c.whole_packet-lent.result c.args.stream.now c.if-is_none.stream octets host
+          (c.is_none.ensures ∙ ap not w.if-is_none.false) w.stream-is c.whole_packet-lent.ensures.divided c.whole_packet-lent.ensures.unfinished
           c.lent_or_marked-whole.ensures.lent c.lent_or_marked-whole.ensures.lent_used
     ] in
     c.in_ok-packet.ensures.frames
-    ∙ frames_ended old.server old.frames (packet_of_ref host.packet ∷ []) old.stream new.stream (take used octets) (record { divided = ends.divided; last = ends.last })
+    ∙ frames_ended old.server old.frames (packet_of_ref host.packet ∷ []) old.stream new.stream (take used octets)
+    (record { divided = ends.divided; last = ends.last })
 
 pub returns-then-not-fed-clause-frames : goal.returns-then-not-fed-clause-frames
 returns-then-not-fed-clause-frames c =
     let none : c.feed.new.self.marked ≡ None =
     none_marked c.in-Ok.fed.packet c.feed.new.self.marked (not-true c.in-Ok.fed.packet c.if-not-fed.true) c.in-Ok.ensures.marked in
     let octets : Octets = take c.in-Ok.fed.used c.args.octets.now in
-    frames_ended c.args.state.now c.args.frames.now [] c.args.deframer.now c.feed.new.self octets
-    (ends_none c.args.deframer.now c.feed.new.self octets none c.in-Ok.ensures.divided c.in-Ok.ensures.unfinished)
+    frames_ended c.args.server.now c.args.frames.now [] c.args.stream.now c.feed.new.self octets
+    (ends_none c.args.stream.now c.feed.new.self octets none c.in-Ok.ensures.divided c.in-Ok.ensures.unfinished)
 
 pub returns-in-Err-clause-told : goal.returns-in-Err-clause-told
 returns-in-Err-clause-told c =
-    let old : HostModel = record { server = c.args.state.now; frames = c.args.frames.now; stream = c.args.deframer.now; fault = None } in
+    let old : HostModel = record { server = c.args.server.now; frames = c.args.frames.now; stream = c.args.stream.now; fault = None } in
     lost_silent old (record old { stream = c.feed.new.self; fault = Some c.lost_fault.result }) c.args.octets.now c.in-Err.fault c.lost_fault.result refl
     c.in-Err.ensures.desync
 
@@ -184,21 +188,22 @@ returns-in_err-packet-clause-told c =
     let used : ℕ = host.used in
     let octets : Octets = c.args.octets.now in
     let fault = c.in_err-packet.field-0.0 in
-    let old : HostModel = record { server = c.args.state.now; frames = c.args.frames.now; stream = c.args.deframer.now; fault = None } in
-    let new : HostModel = record { server = c.packet.new.state; frames = c.packet.new.frames; stream = c.if-is_none.deframer; fault = Some fault } in
-    let ends : EndsPacket c.args.deframer.now octets c.if-is_none.deframer used (packet_of_ref host.packet) =
+    let old : HostModel = record { server = c.args.server.now; frames = c.args.frames.now; stream = c.args.stream.now; fault = None } in
+    let new : HostModel = record { server = c.packet.new.server; frames = c.packet.new.frames; stream = c.if-is_none.stream; fault = Some fault } in
+    let ends : EndsPacket c.args.stream.now octets c.if-is_none.stream used (packet_of_ref host.packet) =
     elim c.if-is_none.branch [
       | then-is_none+in-Ok+else-not-fed w ↦
-          packet_marked c.whole_packet-lent.result c.args.deframer.now c.if-is_none.deframer octets host w.feed.new.self w.in-Ok.fed.used c.if-is_none.used
-          (c.is_none.ensures ∙ ap not w.if-is_none.true) w.deframer-is w.in-Ok.ensures.divided w.in-Ok.ensures.unfinished
+          packet_marked c.whole_packet-lent.result c.args.stream.now c.if-is_none.stream octets host w.feed.new.self w.in-Ok.fed.used c.if-is_none.used
+          (c.is_none.ensures ∙ ap not w.if-is_none.true) w.stream-is w.in-Ok.ensures.divided w.in-Ok.ensures.unfinished
           c.lent_or_marked-whole.ensures.marked c.lent_or_marked-whole.ensures.marked_used w.used-is
       | else-is_none w ↦
-          packet_lent c.whole_packet-lent.result c.args.deframer.now c.if-is_none.deframer octets host
-          (c.is_none.ensures ∙ ap not w.if-is_none.false) w.deframer-is c.whole_packet-lent.ensures.divided c.whole_packet-lent.ensures.unfinished
+          packet_lent c.whole_packet-lent.result c.args.stream.now c.if-is_none.stream octets host
+          (c.is_none.ensures ∙ ap not w.if-is_none.false) w.stream-is c.whole_packet-lent.ensures.divided c.whole_packet-lent.ensures.unfinished
           c.lent_or_marked-whole.ensures.lent c.lent_or_marked-whole.ensures.lent_used
     ] in
     let stopped = err_from_is_err_and c.from_residual.result c.from_residual.ensures.1 in
-    subst (λ (result : Result ℕ HostFault). TellsOfAll (items_taken octets result) old (record new { fault = result_err result })) (sym (stopped.1 ∙ ap (λ (why : HostFault). Err why) stopped.2))
+    subst (λ (result : Result ℕ HostFault). TellsOfAll (items_taken octets result) old (record new { fault = result_err result }))
+    (sym (stopped.1 ∙ ap (λ (why : HostFault). Err why) stopped.2))
     (subst (λ (all : Octets). TellsOfAll (octet_items all) old new) (take-append-drop used octets)
     (stopped_told old new (take used octets) (drop used octets) (packet_of_ref host.packet) fault ends.divided
     c.in_err-packet.ensures.refines refl c.in_err-packet.ensures.not_own))

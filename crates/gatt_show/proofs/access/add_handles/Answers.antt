@@ -5,12 +5,14 @@ use Rattle.gatt_show.proofs.access.add_handles.Goals as goal
 
 pub loop-attr-preserved : goal.loop-attr-preserved
 loop-attr-preserved c =
-    one_added (handle_text c.args.way c.args.key) c.args.attributes.now c.args.text.now.items c.loop-attr.text.items c.add_handle.new.text.items c.loop-attr.attr-index _ _
+    one_added (handle_text c.args.way c.args.key) c.args.attributes.now c.args.text.now.items c.loop-attr.text.items c.add_handle.new.text.items
+    c.loop-attr.attr-index _ _
     c.loop-attr-test.true refl c.loop-attr.invariant c.in_ok-add_handle.ensures.ok
 
 pub returns : goal.returns
 returns c = record {
   ok =
-      all_added (handle_text c.args.way c.args.key) c.args.attributes.now c.args.text.now.items c.loop-attr.text.items c.loop-attr.attr-index c.loop-attr-test.false
+      all_added (handle_text c.args.way c.args.key) c.args.attributes.now c.args.text.now.items c.loop-attr.text.items c.loop-attr.attr-index
+      c.loop-attr-test.false
       c.loop-attr.invariant;
 }

@@ -7,6 +7,7 @@ use Rattle.gatt_subs.proofs.fit.fit_entries.Given as goal
 
 abbrev pub invariant-loop-entry : goal.invariant-loop-entry
 invariant-loop-entry l = record {
-  fitted : with_entries l.row (filter (is_supported l.table.attributes) (row_in (drop l.entry-index l.entries) l.peer)) ≡ row_fitted l.table.attributes (row_in l.entries l.peer);
+  fitted : with_entries l.row (filter (is_supported l.table.attributes) (row_in (drop l.entry-index l.entries) l.peer))
+      ≡ row_fitted l.table.attributes (row_in l.entries l.peer);
   table : IsRowOf l.table.attributes l.row;
 }

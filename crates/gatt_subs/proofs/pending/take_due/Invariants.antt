@@ -7,6 +7,7 @@ use Rattle.gatt_subs.proofs.pending.take_due.Given as goal
 abbrev pub invariant-loop-taken : goal.invariant-loop-taken
 invariant-loop-taken g l = record {
   count : length l.waiting.items + l._taken ≡ l._taken-end;
-  same : from_due (is_indicated l.table.attributes l.row l.standing) l.waiting.items ≡ from_due (is_indicated l.table.attributes l.row l.standing) l.fn.waiting.items;
+  same : from_due (is_indicated l.table.attributes l.row l.standing) l.waiting.items
+      ≡ from_due (is_indicated l.table.attributes l.row l.standing) l.fn.waiting.items;
   places : HaveOnePlace l.waiting.items;
 }

@@ -11,4 +11,5 @@ loop-place-preserved c =
     let place = c.loop-place.place in
     let within : place < length bonds = omega (arith, c.loop-place-test.true, c.args.bonds.now.ok.0) in
     ap (λ (row : Row). set c.loop-place.bonds.items place (record { row = row; owed = bond.owed })) c.keep.ensures.kept
-    ∙ map_over_more (kept_bond c.args.old.now.attributes c.args.new.now.attributes) bonds c.loop-place.bonds.items place bond within c.loop-place.invariant c.index_mut.ensures.value
+    ∙ map_over_more (kept_bond c.args.old.now.attributes c.args.new.now.attributes) bonds c.loop-place.bonds.items place bond within c.loop-place.invariant
+    c.index_mut.ensures.value

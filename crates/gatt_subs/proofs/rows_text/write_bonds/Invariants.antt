@@ -7,6 +7,7 @@ use Rattle.gatt_subs.proofs.rows_text.write_bonds.Given as goal
 
 abbrev pub invariant-loop-place : goal.invariant-loop-place
 invariant-loop-place g l = record {
-  written : HasWritten (flat_map entry_line (bond_entries l.peers l.bonds)) (flat_map entry_line (bond_entries (drop l.place l.peers) (drop l.place l.bonds))) (g.W.Sink.contents l.fn.sink) (g.W.Sink.contents l.sink);
+  written : HasWritten (flat_map entry_line (bond_entries l.peers l.bonds)) (flat_map entry_line (bond_entries (drop l.place l.peers) (drop l.place l.bonds)))
+      (g.W.Sink.contents l.fn.sink) (g.W.Sink.contents l.sink);
   failures : CountsNone (g.W.Sink.failures l.fn.sink) (g.W.Sink.failures l.sink);
 }

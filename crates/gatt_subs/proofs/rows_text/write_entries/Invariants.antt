@@ -7,6 +7,7 @@ use Rattle.gatt_subs.proofs.rows_text.write_entries.Given as goal
 
 abbrev pub invariant-loop-entry : goal.invariant-loop-entry
 invariant-loop-entry g l = record {
-  written : HasWritten (flat_map entry_line l.entries) (flat_map entry_line (drop l.entry-index l.entries)) (g.W.Sink.contents l.fn.sink) (g.W.Sink.contents l.sink);
+  written : HasWritten (flat_map entry_line l.entries) (flat_map entry_line (drop l.entry-index l.entries)) (g.W.Sink.contents l.fn.sink)
+      (g.W.Sink.contents l.sink);
   failures : CountsNone (g.W.Sink.failures l.fn.sink) (g.W.Sink.failures l.sink);
 }

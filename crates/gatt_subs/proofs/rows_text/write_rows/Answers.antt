@@ -17,5 +17,7 @@ returns-clause-front g c =
     let mid = g.W.Sink.contents c.write_configured.new.sink in
     let holds = g.W.Sink.contents c.write_owed_in.new.sink in
     second_breaks_off c.write_owed_in.result _ _ held mid holds
-    (subst (λ (entries : List RowEntry). Appends held mid (flat_map entry_line (bond_entries peers bonds ++ entries))) c.entries.ensures c.in_ok-write_configured.ensures.ok)
-    (subst (λ (owed : List Peer). OnErr c.write_owed_in.result (WritesFront (flat_map owed_line (owed_peers peers bonds ++ owed)) mid holds)) c.owed.ensures c.write_owed_in.ensures.front)
+    (subst (λ (entries : List RowEntry). Appends held mid (flat_map entry_line (bond_entries peers bonds ++ entries))) c.entries.ensures
+    c.in_ok-write_configured.ensures.ok)
+    (subst (λ (owed : List Peer). OnErr c.write_owed_in.result (WritesFront (flat_map owed_line (owed_peers peers bonds ++ owed)) mid holds)) c.owed.ensures
+    c.write_owed_in.ensures.front)

@@ -26,7 +26,8 @@ returns-in-Some-clause-marked c =
     let new = c.packets_completed.new.self in
     let is : new ≡ option_map (slot_after_packets_completed count) (slot_state_at slots place) =
     c.packets_completed.ensures ∙ ap (λ (it : Option SlotState). option_map (slot_after_packets_completed count) it)
-    (there_at slots slots (λ i. slots) place (get_or slots place c.index-slots-place.result) within (ap (λ it. get_or slots place it) c.index-slots-place.is)) in
+    (there_at slots slots (λ i. slots) place (get_or slots place c.index-slots-place.result) within (ap (λ it. get_or slots place it) c.index-slots-place.is))
+    in
     c.mark_giving.ensures slots new within c.requires.marked
     (completed_goes_on count (slot_state_at slots place) new is) (completed_listens count (slot_state_at slots place) new is)
     (λ none. OnFalse_at none c.may_give-giving.ensures)

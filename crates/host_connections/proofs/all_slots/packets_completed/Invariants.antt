@@ -7,5 +7,6 @@ use Rattle.host_connections.proofs.all_slots.packets_completed.Given as goal
 
 abbrev pub invariant-loop-octets : goal.invariant-loop-octets
 invariant-loop-octets l =
-    (slots_after_entries (map completed_packets_of (drop l.octets-index l.entries)) l.slots ≡ slots_after_entries (map completed_packets_of l.fn.entries) l.fn.slots)
+    (slots_after_entries (map completed_packets_of (drop l.octets-index l.entries)) l.slots
+    ≡ slots_after_entries (map completed_packets_of l.fn.entries) l.fn.slots)
     × (IsMarked l.slots l.marks × AreNotedIfAny l.slots l.handles.noted)

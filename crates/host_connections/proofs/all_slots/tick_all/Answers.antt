@@ -12,10 +12,13 @@ loop-place-preserved c =
     let slots = c.args.slots.now in
     let place = c.loop-place.place in
     let within : place < length slots = omega (arith, c.loop-place-test.true) in (
-      ap (λ (slot : Option SlotState). set c.loop-place.slots place slot) (c.tick-handle.ensures.after ∙ ap (λ (slot : Option SlotState). option_map (after_time c.args.now) slot) (sym c.index-slots-place.is))
-          ∙ map_over_more (λ (slot : Option SlotState). option_map (after_time c.args.now) slot) slots c.loop-place.slots place c.index-slots-place.result within c.loop-place.invariant.0 c.index-slots-place.is,
+      ap (λ (slot : Option SlotState). set c.loop-place.slots place slot)
+          (c.tick-handle.ensures.after ∙ ap (λ (slot : Option SlotState). option_map (after_time c.args.now) slot) (sym c.index-slots-place.is))
+          ∙ map_over_more (λ (slot : Option SlotState). option_map (after_time c.args.now) slot) slots c.loop-place.slots place c.index-slots-place.result
+          within c.loop-place.invariant.0 c.index-slots-place.is,
       c.add.ensures
-          ∙ late_more c.args.now (λ (slot : Option SlotState). option_map (after_time c.args.now) slot) slots c.loop-place.slots place c.index-slots-place.result
+          ∙ late_more c.args.now (λ (slot : Option SlotState). option_map (after_time c.args.now) slot) slots c.loop-place.slots place
+          c.index-slots-place.result
           c.loop-place.late.items (option_to_list c.tick-handle.result) within c.loop-place.invariant.0 c.index-slots-place.is c.loop-place.invariant.1
           (c.tick-handle.ensures.late ∙ ap (λ (slot : Option SlotState). option_map_or (late_handle c.args.now) slot []) (sym c.index-slots-place.is)),
     )

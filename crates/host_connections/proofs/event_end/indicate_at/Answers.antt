@@ -15,7 +15,8 @@ returns-clause-slots c =
     let place = a.place in
     ap (λ (it : Option SlotState). set slots place it) (c.indicate-told.ensures.heard
     ∙ ap (λ (it : Option SlotState). slot_heard a.moment.table.now a.moment.now a.moment.rows.now [] it)
-    (there_at slots slots (λ i. slots) place (get_or slots place c.index-slots-place.result) c.requires.place (ap (λ it. get_or slots place it) c.index-slots-place.is)))
+    (there_at slots slots (λ i. slots) place (get_or slots place c.index-slots-place.result) c.requires.place
+    (ap (λ it. get_or slots place it) c.index-slots-place.is)))
 
 pub returns-clause-covered : goal.returns-clause-covered
 returns-clause-covered c = λ covers.

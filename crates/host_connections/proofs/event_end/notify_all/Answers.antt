@@ -8,7 +8,8 @@ use Rattle.host_connections.proofs.event_end.notify_all.Goals as goal
 pub notify_for-requires-clause-of_table : goal.notify_for-requires-clause-of_table
 notify_for-requires-clause-of_table c =
     let a = c.args in
-    of_table_of_some a.handles.now a.moment.table.now.attributes a.moment.rows.now c.loop-handle.slots (omega (arith, c.loop-handle-test.true)) c.loop-handle.invariant.1.1.1.1
+    of_table_of_some a.handles.now a.moment.table.now.attributes a.moment.rows.now c.loop-handle.slots (omega (arith, c.loop-handle-test.true))
+    c.loop-handle.invariant.1.1.1.1
 
 pub loop-handle-preserved : goal.loop-handle-preserved
 loop-handle-preserved c =
@@ -21,7 +22,8 @@ loop-handle-preserved c =
     let new = c.notify_for.new.slots in
     let so-far = c.loop-handle.invariant in (
       ap (λ (it : SlotStates). all_notified_in_turn table now rows a.whom.bits (drop (at + 1) handles) it) c.notify_for.ensures.notified
-          ∙ sym (ap (λ (it : List Handle). all_notified_in_turn table now rows a.whom.bits it c.loop-handle.slots) (drop_more handles at 0 c.loop-handle-test.true))
+          ∙ sym (ap (λ (it : List Handle). all_notified_in_turn table now rows a.whom.bits it c.loop-handle.slots)
+          (drop_more handles at 0 c.loop-handle-test.true))
           ∙ so-far.0,
       (
         c.notify_for.ensures.covered,

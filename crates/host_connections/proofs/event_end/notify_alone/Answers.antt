@@ -34,7 +34,8 @@ notify_alone-told-requires-clause-slot c =
     let read : get_or slots place c.index-slots-place.result ≡ slot_state_at slots place =
     get_or_default slots place c.index-slots-place.result None there ∙ sym (kept-is slots place there) in
     let as-before : slot_state_at slots place ≡ slot_state_at a.slots.now place =
-    unheard (slot_notified_alone a.moment.table.now a.moment.now a.moment.rows.now a.handle) refl a.whom.bits c.loop-place.left.bits c.remove.new.self.bits place a.slots.now slots
+    unheard (slot_notified_alone a.moment.table.now a.moment.now a.moment.rows.now a.handle) refl a.whom.bits c.loop-place.left.bits c.remove.new.self.bits
+    place a.slots.now slots
     c.loop-place.invariant.0 first.few first.within c.remove.ensures.removed c.remove.ensures.others in
     subst (λ (it : Option SlotState). SlotIsOfTable a.moment.table.now.attributes it) (sym (read ∙ as-before)) (c.requires.of_table.each place)
 
@@ -59,7 +60,8 @@ loop-place-preserved-then-place-slots c =
     let as-before : slot ≡ slot_state_at a.slots.now place =
     unheard (slot_notified_alone table now rows a.handle) refl a.whom.bits c.loop-place.left.bits c.remove.new.self.bits place a.slots.now slots
     so-far.0 first.few first.within c.remove.ensures.removed c.remove.ensures.others in
-    let noted-here : c.note_skips.new.skipped.items ≡ c.loop-place.skipped.items ++ slot_skips table now rows (a.handle ∷ []) (slot_state_at a.slots.now place) =
+    let noted-here : c.note_skips.new.skipped.items ≡ c.loop-place.skipped.items ++ slot_skips table now rows (a.handle ∷ [])
+    (slot_state_at a.slots.now place) =
     c.note_skips.ensures
     ∙ ap (λ (it : Option SlotState). c.loop-place.skipped.items ++ slot_skips table now rows (a.handle ∷ []) it) (read ∙ as-before) in (
       goes_on (slot_notified_alone table now rows a.handle) refl a.whom.bits c.loop-place.left.bits c.remove.new.self.bits place a.slots.now slots so-far.0
@@ -68,7 +70,8 @@ loop-place-preserved-then-place-slots c =
           (λ none. OnFalse_at none c.notify_alone-told.ensures.untold ∙ ap gives read)
           (λ told. OnTrue_at told c.notify_alone-told.ensures.told ∙ ap waits read)
           (λ none. OnFalse_at none c.may_wait.ensures),
-      ap (λ (noted : List Skipped). noted ++ skips_in (λ place slot. slot_skips table now rows (a.handle ∷ []) slot) c.remove.new.self.bits a.slots.now) noted-here
+      ap (λ (noted : List Skipped). noted ++ skips_in (λ place slot. slot_skips table now rows (a.handle ∷ []) slot) c.remove.new.self.bits a.slots.now)
+          noted-here
           ∙ notes_at (λ place slot. slot_skips table now rows (a.handle ∷ []) slot) c.loop-place.left.bits c.remove.new.self.bits place a.slots.now
           c.loop-place.skipped.items (skips_among table now rows a.whom.bits (a.handle ∷ []) a.slots.now) c.requires.few first c.remove.ensures.removed
           c.remove.ensures.others so-far.2 (omega (arith, there, so-far.0.count)),
@@ -82,7 +85,8 @@ loop-place-preserved c =
     let so-far = c.loop-place.invariant in
     let first = c.in-Some-first.ensures.first in
     let beyond : length slots ≤ place = omega (arith, c.if-place-slots.false) in (
-      goes_past (slot_notified_alone a.moment.table.now a.moment.now a.moment.rows.now a.handle) refl a.whom.bits c.loop-place.left.bits c.remove.new.self.bits place a.slots.now slots so-far.0
+      goes_past (slot_notified_alone a.moment.table.now a.moment.now a.moment.rows.now a.handle) refl a.whom.bits c.loop-place.left.bits c.remove.new.self.bits
+          place a.slots.now slots so-far.0
           first.few first.within c.remove.ensures.removed c.remove.ensures.others beyond,
       so-far.1,
       notes_past (λ place slot. slot_skips a.moment.table.now a.moment.now a.moment.rows.now (a.handle ∷ []) slot) c.loop-place.left.bits c.remove.new.self.bits

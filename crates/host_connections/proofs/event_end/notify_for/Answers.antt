@@ -53,7 +53,8 @@ loop-place-preserved-then-place-slots c =
             (λ told. OnTrue_at told c.notify-notified.ensures.told ∙ ap waits read)
             (λ none. OnFalse_at none c.may_wait.ensures),
         set_of_table table.attributes rows slots place new there told.1.1
-            (subst (λ (it : Option SlotState). SlotIsOfTable table.attributes it) (sym notified) (notified_of_table table now rows a.handle told.1.1.bonds slot (told.1.1.each place))),
+            (subst (λ (it : Option SlotState). SlotIsOfTable table.attributes it) (sym notified)
+            (notified_of_table table now rows a.handle told.1.1.bonds slot (told.1.1.each place))),
       ),
     )
 
@@ -65,7 +66,8 @@ loop-place-preserved c =
     let told = c.loop-place.invariant in
     let first = c.in-Some-first.ensures.first in
     let beyond : length slots ≤ place = omega (arith, c.if-place-slots.false) in (
-      goes_past (slot_notified a.moment.table.now a.moment.now a.moment.rows.now a.handle) refl a.whom.bits c.loop-place.left.bits c.remove.new.self.bits place a.slots.now slots told.0
+      goes_past (slot_notified a.moment.table.now a.moment.now a.moment.rows.now a.handle) refl a.whom.bits c.loop-place.left.bits c.remove.new.self.bits place
+          a.slots.now slots told.0
           first.few first.within c.remove.ensures.removed c.remove.ensures.others beyond,
       told.1,
     )

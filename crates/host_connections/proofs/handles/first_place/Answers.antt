@@ -30,6 +30,7 @@ returns-else-mask-eq0 c =
     let same : lanes ≡ numbers = take_all 8 numbers (omega (arith, c.told-numbers)) in
     let within : position_or_len test numbers < length numbers = elim (cases_lt (position_or_len test numbers) (length numbers)) [
       | inl less ↦ less
-      | inr none ↦ absurd (omega (arith, mask, c.if-mask-eq0.false, none_masked test lanes (omega (arith, none, long, c.told-numbers, ap (position_or_len test) same))))
+      | inr none ↦ absurd
+          (omega (arith, mask, c.if-mask-eq0.false, none_masked test lanes (omega (arith, none, long, c.told-numbers, ap (position_or_len test) same))))
     ] in
     ap Some place ∙ ap (λ (at : List ℕ). Some (position_or_len test at)) same ∙ sym (position_here test numbers (position_or_len test numbers) refl within)

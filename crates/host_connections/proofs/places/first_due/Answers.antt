@@ -22,7 +22,8 @@ loop-place-preserved c =
     let place = c.in-Some.place in
     let idle : is_slot_due c.args.due (slot_state_at slots place) ≡ false = elim c.else-place-slots.branch [
       | else-place-slots-via-then-place-slots+else-is_due w ↦
-          ap (is_slot_due c.args.due) (read_at slots place w.index-slots-place.result (omega (arith, w.if-place-slots.true)) w.index-slots-place.is) ∙ sym w.is_due.ensures ∙ w.if-is_due.false
+          ap (is_slot_due c.args.due) (read_at slots place w.index-slots-place.result (omega (arith, w.if-place-slots.true)) w.index-slots-place.is)
+          ∙ sym w.is_due.ensures ∙ w.if-is_due.false
       | else-place-slots-via-else-place-slots w ↦ ap (is_slot_due c.args.due) (past slots place (omega (arith, w.if-place-slots.false))) ∙ none-due c.args.due
     ] in
     covered_without c.args.due c.loop-place.places.bits c.remove.new.self.bits slots place c.requires.few c.loop-place.invariant idle c.remove.ensures.others

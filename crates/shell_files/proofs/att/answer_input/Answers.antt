@@ -23,7 +23,8 @@ returns-in-Ok-eq0-clause-not_hex g c number h =
 
 pub returns-in_err-take_and_write_out-in-Ok-clause-not_hex : goal.returns-in_err-take_and_write_out-in-Ok-clause-not_hex
 returns-in_err-take_and_write_out-in-Ok-clause-not_hex g c number h =
-    let said = same_fault c.take_and_write_out.result c.from_residual.result _ (NotHex number) c.in_err-take_and_write_out-in-Ok.was c.from_residual.ensures.1 h in
+    let said = same_fault c.take_and_write_out.result c.from_residual.result _ (NotHex number) c.in_err-take_and_write_out-in-Ok.was c.from_residual.ensures.1 h
+    in
     let read = rw c.in-Ok.is at c.read.ensures.bytes in
     refuses_input _ _ _ _ _ _ _ _ _ _ c.requires c.loop-read.invariant.so_far read.0 (c.take_and_write_out.ensures.stops number said)
 

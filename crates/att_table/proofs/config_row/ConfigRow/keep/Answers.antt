@@ -15,7 +15,8 @@ invariant_of-self c =
 
 pub returns-clause-table : goal.returns-clause-table
 returns-clause-table c =
-    subst (IsRowOf c.args.new.now.attributes) (sym c.retain_kept.ensures) (row_of_kept c.args.old.now.attributes c.args.new.now.attributes c.self.inside.entries)
+    subst (IsRowOf c.args.new.now.attributes) (sym c.retain_kept.ensures)
+    (row_of_kept c.args.old.now.attributes c.args.new.now.attributes c.self.inside.entries)
 
 pub returns-clause-bits : goal.returns-clause-bits
 returns-clause-bits c handle =

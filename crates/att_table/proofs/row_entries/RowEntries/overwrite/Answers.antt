@@ -9,5 +9,6 @@ pub returns-in-Some-clause-written : goal.returns-in-Some-clause-written
 returns-in-Some-clause-written c =
     let row = c.self.inside in
     let found = ap (λ (of : Row). position (λ (entry : Handle × ℕ). entry.0 == c.args.handle) of) c.self.view_is ∙ sym c.place_of.ensures ∙ c.in-Some.is in
-    set_found_at row.handles row.bits row.len c.args.handle c.args.bits c.in-Some.place (omega (arith, c.self.told.0, c.self.invariant.0)) (omega (arith, c.self.told.1, c.self.invariant.0)) found
+    set_found_at row.handles row.bits row.len c.args.handle c.args.bits c.in-Some.place (omega (arith, c.self.told.0, c.self.invariant.0))
+    (omega (arith, c.self.told.1, c.self.invariant.0)) found
     ∙ ap (λ (of : Row). with_bits of c.args.handle c.args.bits) c.self.view_is

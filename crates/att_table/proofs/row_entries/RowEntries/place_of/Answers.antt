@@ -7,7 +7,8 @@ use Rattle.att_table.proofs.row_entries.RowEntries.place_of.Goals as goal
 pub returns-in-Some : goal.returns-in-Some
 returns-in-Some c =
     let row = c.self.inside in
-    sym (entry_found row.handles row.bits row.len c.args.handle c.in-Some.place (omega (arith, c.self.told.1, c.self.invariant.0)) c.in-Some.ensures.found c.if-place-self.true)
+    sym (entry_found row.handles row.bits row.len c.args.handle c.in-Some.place (omega (arith, c.self.told.1, c.self.invariant.0)) c.in-Some.ensures.found
+    c.if-place-self.true)
     ∙ ap (λ (of : Row). position (λ (entry : Handle × ℕ). entry.0 == c.args.handle) of) c.self.view_is
 
 pub returns-in_default : goal.returns-in_default

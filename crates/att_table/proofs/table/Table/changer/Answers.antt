@@ -14,7 +14,8 @@ returns-clause-found c =
     let contents : List Attr → Contents = λ attributes. record { attributes = attributes; values = values_of table.values } in
     let answered : c.changer_of.result ≡ changer_of c.args.self.now =
     c.changer_of.ensures ∙ ap (λ attributes. changer_of (contents attributes)) c.deref.ensures.value ∙ ap changer_of c.self.view_is in
-    changer_found table.attributes.items table.values table.group_ends.items table.by_type.items table.runs.items c.args.self.now _ c.self.invariant c.self.view_is answered
+    changer_found table.attributes.items table.values table.group_ends.items table.by_type.items table.runs.items c.args.self.now _ c.self.invariant
+    c.self.view_is answered
 
 pub returns-clause-most : goal.returns-clause-most
 returns-clause-most c =

@@ -7,16 +7,24 @@ use Rattle.att_table.proofs.table.Table.set.Goals as goal
 
 pub patch_at-requires-clause-fits : goal.patch_at-requires-clause-fits
 patch_at-requires-clause-fits c =
-    let fits = fits_cell c.self.inside.attributes.items c.self.inside.values c.args.self.now c.args.handle _ c.self.invariant.kept c.self.view_is c.requires.exists c.requires.fits in
+    let fits =
+    fits_cell c.self.inside.attributes.items c.self.inside.values c.args.self.now c.args.handle _ c.self.invariant.kept c.self.view_is c.requires.exists
+    c.requires.fits in
     omega arith
 
 pub invariant_of-self : goal.invariant_of-self
 invariant_of-self c =
-    let fits = fits_cell c.self.inside.attributes.items c.self.inside.values c.args.self.now c.args.handle _ c.self.invariant.kept c.self.view_is c.requires.exists c.requires.fits in
+    let fits =
+    fits_cell c.self.inside.attributes.items c.self.inside.values c.args.self.now c.args.handle _ c.self.invariant.kept c.self.view_is c.requires.exists
+    c.requires.fits in
     let cells = c.self.inside.values in
     let used = (place_within c.args.self.now.attributes c.args.handle c.requires.exists).0 in
-    let keeps = keeps_replaced c.self.inside.attributes.items cells c.args.self.now c.args.handle c.args.octets.now c.self.invariant.kept c.self.view_is used c.requires.exact in
-    let exact = exact-set c.self.inside.attributes.items cells (c.args.handle - 1) (patched_cell false (cell_at cells c.args.handle) 0 c.args.octets.now) c.self.invariant.kept.exact keeps in
+    let keeps =
+    keeps_replaced c.self.inside.attributes.items cells c.args.self.now c.args.handle c.args.octets.now c.self.invariant.kept c.self.view_is used
+    c.requires.exact in
+    let exact =
+    exact-set c.self.inside.attributes.items cells (c.args.handle - 1) (patched_cell false (cell_at cells c.args.handle) 0 c.args.octets.now)
+    c.self.invariant.kept.exact keeps in
     record {
       kept = rw c.patch_at.ensures (kept-patched _ _ false c.args.handle 0 c.args.octets.now c.self.invariant.kept (omega arith) (omega arith) exact);
       few = c.self.invariant.few;

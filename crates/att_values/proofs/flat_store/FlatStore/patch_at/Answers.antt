@@ -23,7 +23,8 @@ pub invariant_of-self : goal.invariant_of-self
 invariant_of-self c =
     let octets = c.self.inside.octets in
     rw c.set_end.ensures
-    (part_laid_out octets.items c.args.part.now c.self.inside.places.items c.args.self.now octets.len c.args.handle c.from.result c.args.offset c.args.keep c.index_mut-place.result.now
+    (part_laid_out octets.items c.args.part.now c.self.inside.places.items c.args.self.now octets.len c.args.handle c.from.result c.args.offset c.args.keep
+    c.index_mut-place.result.now
     c.self.invariant octets.ok.0 c.self.view_is c.requires.exists c.from.ensures c.index_mut-place.ensures.value c.requires.fits)
 
 pub returns : goal.returns
@@ -32,5 +33,6 @@ returns c =
     let wrote : c.write_part.new.octets ≡ written octets.items (c.index_mut-place.result.now.start + c.args.offset) c.args.part.now =
     rw (← c.deref_mut.ensures.value) c.write_part.ensures in
     rw (c.set_end.ensures, with_items_is octets c.write_part.new.octets (omega arith))
-    (part_written octets.items c.write_part.new.octets c.args.part.now c.self.inside.places.items c.args.self.now octets.len c.args.handle c.from.result c.args.offset c.args.keep c.index_mut-place.result.now
+    (part_written octets.items c.write_part.new.octets c.args.part.now c.self.inside.places.items c.args.self.now octets.len c.args.handle c.from.result
+    c.args.offset c.args.keep c.index_mut-place.result.now
     c.self.invariant octets.ok.0 c.self.view_is c.requires.exists c.from.ensures c.index_mut-place.ensures.value c.requires.offset c.requires.fits wrote)

@@ -25,7 +25,8 @@ invariant_of-self c =
     let new : HostModel = record old { server = c.app.new.self } in
     let out : all_out old ≡ true = subst (λ (host : HostModel). all_out host ≡ true) (sym c.self.view_is) c.requires.drained in
     reached_by (ACall (call_of c.args.call) ∷ []) [] old new c.self.invariant
-    (takes_call (call_of c.args.call) old new (is_none_where old.fault (sym c.is_some.ensures ∙ c.if-is_some.false)) out c.app.result c.app.ensures.after c.app.ensures.refused
+    (takes_call (call_of c.args.call) old new (is_none_where old.fault (sym c.is_some.ensures ∙ c.if-is_some.false)) out c.app.result c.app.ensures.after
+    c.app.ensures.refused
     c.app.ensures.silent (record { frames = refl; stream = refl; fault = refl }))
 
 pub returns-clause-takes : goal.returns-clause-takes
@@ -53,16 +54,19 @@ returns-clause-told c = λ start input sent is none still.
     let going : old.fault ≡ None = subst (λ (host : HostModel). host.fault ≡ None) (sym c.self.view_is) none in
     told_in_run (ACall (call_of c.args.call)) (run start input) sent old new going (call_event (run start input).intake.state (call_of c.args.call))
     refl still (subst (λ (host : HostModel). RefinesRun (run start input) sent host) (sym c.self.view_is) is) (λ refines.
-    call_told (call_of c.args.call) old new going out c.app.result c.app.ensures.after c.app.ensures.refused c.app.ensures.silent (run start input) sent refines)
+    call_told (call_of c.args.call) old new going out c.app.result c.app.ensures.after c.app.ensures.refused c.app.ensures.silent
+    (run start input) sent refines)
 
 pub returns-then-is_some-clause-takes : goal.returns-then-is_some-clause-takes
 returns-then-is_some-clause-takes c = past_some (the_view c.self.inside) c.args.self.now c.self.view_is (sym c.is_some.ensures ∙ c.if-is_some.true)
 
 pub returns-then-is_some-clause-told : goal.returns-then-is_some-clause-told
-returns-then-is_some-clause-told c = λ start input sent is none. past_some (the_view c.self.inside) c.args.self.now c.self.view_is (sym c.is_some.ensures ∙ c.if-is_some.true) none
+returns-then-is_some-clause-told c =
+    λ start input sent is none. past_some (the_view c.self.inside) c.args.self.now c.self.view_is (sym c.is_some.ensures ∙ c.if-is_some.true) none
 
 pub returns-then-is_some-clause-refused : goal.returns-then-is_some-clause-refused
-returns-then-is_some-clause-refused c = λ start input sent is. past_some (the_view c.self.inside) c.args.self.now c.self.view_is (sym c.is_some.ensures ∙ c.if-is_some.true)
+returns-then-is_some-clause-refused c =
+    λ start input sent is. past_some (the_view c.self.inside) c.args.self.now c.self.view_is (sym c.is_some.ensures ∙ c.if-is_some.true)
 
 pub returns-then-is_some-clause-policy : goal.returns-then-is_some-clause-policy
 returns-then-is_some-clause-policy c = keeps_the_policy
@@ -71,7 +75,9 @@ pub returns-then-is_some-clause-apart : goal.returns-then-is_some-clause-apart
 returns-then-is_some-clause-apart c = keeps_connections_apart
 
 pub returns-clause-stopped : goal.returns-clause-stopped
-returns-clause-stopped c = past_none (the_view c.self.inside) c.args.self.now c.self.view_is (is_none_where (the_view c.self.inside).fault (sym c.is_some.ensures ∙ c.if-is_some.false))
+returns-clause-stopped c =
+    past_none (the_view c.self.inside) c.args.self.now c.self.view_is
+    (is_none_where (the_view c.self.inside).fault (sym c.is_some.ensures ∙ c.if-is_some.false))
 
 pub returns-clause-policy : goal.returns-clause-policy
 returns-clause-policy c = keeps_the_policy

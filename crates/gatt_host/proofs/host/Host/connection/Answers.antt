@@ -20,7 +20,8 @@ returns-then-connection-handle-clause-run c =
 pub loop-connection-preserved : goal.loop-connection-preserved
 loop-connection-preserved c = record {
   left = c.loop-connection.invariant.left
-      ∙ found_later c.args.handle c.in-Some.connection c.loop-connection.connection-iterator c.next.new.self c.in-Some.ensures.steps c.if-connection-handle.false;
+      ∙ found_later c.args.handle c.in-Some.connection c.loop-connection.connection-iterator c.next.new.self c.in-Some.ensures.steps
+      c.if-connection-handle.false;
 }
 
 pub returns-clause-server : goal.returns-clause-server

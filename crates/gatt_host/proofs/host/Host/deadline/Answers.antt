@@ -3,7 +3,7 @@ use Rattle.gatt_host.proofs.host.Host.deadline.Goals as goal
 use Rattle.gatt_host.proofs.model.Deadlines.{deadline_where}
 use Rattle.gatt_host.specs.declared.host.Host.TheInside.{Inside}
 use Rattle.gatt_host.specs.HostModel.{HostModel}
-use Rattle.gatt_laws.proofs.QuietTicks.{is_quiet_before_the_deadline}
+use Rattle.gatt_laws.proofs.notices.QuietTicks.{is_quiet_before_the_deadline}
 use Rattle.gatt_laws.specs.machine.Input.{run}
 use Rattle.host_connections.specs.Slots.{slots_deadline}
 

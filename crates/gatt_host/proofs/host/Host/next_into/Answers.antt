@@ -14,7 +14,7 @@ use Rattle.gatt_host.proofs.host.Host.next_into.Goals as goal
 pub invariant_of-self : goal.invariant_of-self
 invariant_of-self c =
     let old : HostModel = the_view c.self.inside in
-    reached_into old (record old { server = c.next_into.new.state }) c.next_into.result c.next_into.new.out c.self.invariant c.next_into.ensures.octets
+    reached_into old (record old { server = c.next_into.new.server }) c.next_into.result c.next_into.new.out c.self.invariant c.next_into.ensures.octets
     c.next_into.ensures.after c.next_into.ensures.unchanged refl refl refl
 
 pub returns-clause-some : goal.returns-clause-some
@@ -26,24 +26,24 @@ returns-clause-some c =
 pub returns-clause-refines : goal.returns-clause-refines
 returns-clause-refines c =
     let old : HostModel = the_view c.self.inside in
-    let new : HostModel = record old { server = c.next_into.new.state } in
+    let new : HostModel = record old { server = c.next_into.new.server } in
     subst (λ (host : HostModel). IfSome c.next_into.result (λ count. Refines [] (take count c.next_into.new.out ∷ []) host new)) c.self.view_is
     (goes_into old new c.next_into.result c.next_into.new.out c.next_into.ensures.octets c.next_into.ensures.after refl refl refl)
 
 pub returns-clause-fewer : goal.returns-clause-fewer
 returns-clause-fewer c = λ some.
     let old : HostModel = the_view c.self.inside in
-    subst (λ (host : HostModel). most_out c.next_into.new.state < most_out host.server) c.self.view_is
+    subst (λ (host : HostModel). most_out c.next_into.new.server < most_out host.server) c.self.view_is
     (subst (λ (server : ServerState). most_out server < most_out old.server) (sym c.next_into.ensures.after)
     (fewer_into old.server c.next_into.result c.next_into.new.out c.next_into.ensures.octets some))
 
 pub returns-clause-notices : goal.returns-clause-notices
 returns-clause-notices c =
     let old : HostModel = the_view c.self.inside in
-    subst (λ (host : HostModel). notices_told (record old { server = c.next_into.new.state }) ≡ notices_told host) c.self.view_is
-    (told_after_out old c.next_into.new.state c.next_into.ensures.after)
+    subst (λ (host : HostModel). notices_told (record old { server = c.next_into.new.server }) ≡ notices_told host) c.self.view_is
+    (told_after_out old c.next_into.new.server c.next_into.ensures.after)
 
 pub returns-clause-table : goal.returns-clause-table
 returns-clause-table c =
-    subst (λ (host : HostModel). c.next_into.new.state.table ≡ host.server.table) c.self.view_is
-    (table_after_out (the_view c.self.inside).server c.next_into.new.state c.next_into.ensures.after)
+    subst (λ (host : HostModel). c.next_into.new.server.table ≡ host.server.table) c.self.view_is
+    (table_after_out (the_view c.self.inside).server c.next_into.new.server c.next_into.ensures.after)

@@ -15,7 +15,8 @@ use Rattle.gatt_host.proofs.host.Host.next_out.Goals as goal
 pub invariant_of-self : goal.invariant_of-self
 invariant_of-self c =
     let old : HostModel = the_view c.self.inside in
-    reached_out old (record old { server = c.copy_next.new.state }) c.copy_next.result c.copy_next.new.out.items c.self.invariant c.copy_next.ensures.octets c.copy_next.ensures.after
+    reached_out old (record old { server = c.copy_next.new.server }) c.copy_next.result c.copy_next.new.out.items c.self.invariant c.copy_next.ensures.octets
+    c.copy_next.ensures.after
     c.copy_next.ensures.unchanged refl refl refl
 
 pub returns-clause-some : goal.returns-clause-some
@@ -27,24 +28,24 @@ returns-clause-some c =
 pub returns-clause-refines : goal.returns-clause-refines
 returns-clause-refines c = OnTrue_from _ _ (λ goes.
     let old : HostModel = the_view c.self.inside in
-    let new : HostModel = record old { server = c.copy_next.new.state } in
+    let new : HostModel = record old { server = c.copy_next.new.server } in
     subst (λ (host : HostModel). Refines [] (c.copy_next.new.out.items ∷ []) host new) c.self.view_is
     (goes_out old new c.copy_next.new.out.items (OnTrue_at goes c.copy_next.ensures.octets) c.copy_next.ensures.after refl refl refl))
 
 pub returns-clause-fewer : goal.returns-clause-fewer
 returns-clause-fewer c = OnTrue_from _ _ (λ goes.
     let old : HostModel = the_view c.self.inside in
-    subst (λ (host : HostModel). most_out c.copy_next.new.state < most_out host.server) c.self.view_is
+    subst (λ (host : HostModel). most_out c.copy_next.new.server < most_out host.server) c.self.view_is
     (subst (λ (server : ServerState). most_out server < most_out old.server) (sym c.copy_next.ensures.after)
     (fewer_out old.server c.copy_next.new.out.items (OnTrue_at goes c.copy_next.ensures.octets))))
 
 pub returns-clause-notices : goal.returns-clause-notices
 returns-clause-notices c =
     let old : HostModel = the_view c.self.inside in
-    subst (λ (host : HostModel). notices_told (record old { server = c.copy_next.new.state }) ≡ notices_told host) c.self.view_is
-    (told_after_out old c.copy_next.new.state c.copy_next.ensures.after)
+    subst (λ (host : HostModel). notices_told (record old { server = c.copy_next.new.server }) ≡ notices_told host) c.self.view_is
+    (told_after_out old c.copy_next.new.server c.copy_next.ensures.after)
 
 pub returns-clause-table : goal.returns-clause-table
 returns-clause-table c =
-    subst (λ (host : HostModel). c.copy_next.new.state.table ≡ host.server.table) c.self.view_is
-    (table_after_out (the_view c.self.inside).server c.copy_next.new.state c.copy_next.ensures.after)
+    subst (λ (host : HostModel). c.copy_next.new.server.table ≡ host.server.table) c.self.view_is
+    (table_after_out (the_view c.self.inside).server c.copy_next.new.server c.copy_next.ensures.after)

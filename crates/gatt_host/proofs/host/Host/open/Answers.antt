@@ -10,9 +10,11 @@ use Rattle.host_connections.specs.Slots.{SlotStates}
 pub returns-clause-opened : goal.returns-clause-opened
 returns-clause-opened c =
     let host : HostModel = record { server = c.held_at_first.result; frames = c.new.result; stream = c.new-2.result; fault = None } in
-    stands_when_opened c.args.table c.args.keys c.args.rows c.free_slots.new.rows c.args.config (c.in-Ok.ensures.bonds (refl {a = true})) (c.in-Ok.ensures.rows (refl {a = true})) host
+    stands_when_opened c.args.table c.args.keys c.args.rows c.free_slots.new.rows c.args.config (c.in-Ok.ensures.bonds (refl {a = true}))
+    (c.in-Ok.ensures.rows (refl {a = true})) host
     (c.in-Ok.ensures.configured (refl {a = true}))
-    (c.held_at_first.ensures ∙ ap (λ (slots : SlotStates). held_at_first c.args.table c.args.keys c.free_slots.new.rows slots c.args.config) c.in-Ok.ensures.slots)
+    (c.held_at_first.ensures ∙ ap (λ (slots : SlotStates). held_at_first c.args.table c.args.keys c.free_slots.new.rows slots c.args.config)
+    c.in-Ok.ensures.slots)
     c.new.ensures.assembled c.new.ensures.arrivals c.new-2.ensures.at_start (λ i. None)
 
 pub invariant_of-result : goal.invariant_of-result
@@ -25,8 +27,10 @@ pub returns-clause-promise : goal.returns-clause-promise
 returns-clause-promise c = keeps_its_promise
 
 pub returns-in-Err-clause-config : goal.returns-in-Err-clause-config
-returns-in-Err-clause-config c =
-    (λ is. c.in-Err.ensures.config.0 (still_refused c.in-Err.fault BadConfig is), λ wrong. still_refused c.in-Err.fault BadConfig (c.in-Err.ensures.config.1 wrong))
+returns-in-Err-clause-config c = (
+  λ is. c.in-Err.ensures.config.0 (still_refused c.in-Err.fault BadConfig is),
+  λ wrong. still_refused c.in-Err.fault BadConfig (c.in-Err.ensures.config.1 wrong),
+)
 
 pub returns-in-Err-clause-promise : goal.returns-in-Err-clause-promise
 returns-in-Err-clause-promise c = keeps_its_promise

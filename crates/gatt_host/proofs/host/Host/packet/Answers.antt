@@ -21,9 +21,11 @@ packet-taken-requires-clause-of_table c =
 pub invariant_of-self-2 : goal.invariant_of-self-2
 invariant_of-self-2 c =
     let old : HostModel = the_view c.self.inside in
-    let new : HostModel = record old { server = c.packet-taken.new.state; frames = c.packet-taken.new.frames; fault = c.err-self-inside.result } in
-    reached_by (APacket (packet_of_ref c.args.packet) ∷ []) [] old new c.self.invariant (takes_packet (packet_of_ref c.args.packet) old new (sym c.is_long.ensures ∙ c.if-is_long.false) (none_unless old.fault c.in_default.not-Some) refl
-    (subst (RefinesPacket (packet_of_ref c.args.packet) old.server old.frames new.server new.frames) (sym c.err-self-inside.ensures.value) c.packet-taken.ensures.refines))
+    let new : HostModel = record old { server = c.packet-taken.new.server; frames = c.packet-taken.new.frames; fault = c.err-self-inside.result } in
+    reached_by (APacket (packet_of_ref c.args.packet) ∷ []) [] old new c.self.invariant
+    (takes_packet (packet_of_ref c.args.packet) old new (sym c.is_long.ensures ∙ c.if-is_long.false) (none_unless old.fault c.in_default.not-Some) refl
+    (subst (RefinesPacket (packet_of_ref c.args.packet) old.server old.frames new.server new.frames) (sym c.err-self-inside.ensures.value)
+    c.packet-taken.ensures.refines))
 
 pub invariant_of-self : goal.invariant_of-self
 invariant_of-self c =
@@ -44,25 +46,28 @@ pub returns-then-is_long-clause-told : goal.returns-then-is_long-clause-told
 returns-then-is_long-clause-told c = λ start input sent is none still.
     let old : HostModel = the_view c.self.inside in
     let new : HostModel = record old { server = c.forget.new.self } in
-    long_told (packet_of_ref c.args.packet) (run start input) old new (sym c.is_long.ensures ∙ c.if-is_long.true) still (λ i. record old { server = c.forget.ensures i })
+    long_told (packet_of_ref c.args.packet) (run start input) old new (sym c.is_long.ensures ∙ c.if-is_long.true) still
+    (λ i. record old { server = c.forget.ensures i })
 
 pub returns-clause-takes : goal.returns-clause-takes
 returns-clause-takes c =
     let old : HostModel = the_view c.self.inside in
-    let new : HostModel = record old { server = c.packet-taken.new.state; frames = c.packet-taken.new.frames; fault = c.err-self-inside.result } in
+    let new : HostModel = record old { server = c.packet-taken.new.server; frames = c.packet-taken.new.frames; fault = c.err-self-inside.result } in
     subst (λ (host : HostModel). host.fault ≡ None → Takes (APacket (packet_of_ref c.args.packet)) host new) c.self.view_is (λ none.
     takes_packet (packet_of_ref c.args.packet) old new (sym c.is_long.ensures ∙ c.if-is_long.false) none refl
-    (subst (RefinesPacket (packet_of_ref c.args.packet) old.server old.frames new.server new.frames) (sym c.err-self-inside.ensures.value) c.packet-taken.ensures.refines))
+    (subst (RefinesPacket (packet_of_ref c.args.packet) old.server old.frames new.server new.frames) (sym c.err-self-inside.ensures.value)
+    c.packet-taken.ensures.refines))
 
 pub returns-clause-told : goal.returns-clause-told
 returns-clause-told c = λ start input sent is none still.
     let old : HostModel = the_view c.self.inside in
-    let new : HostModel = record old { server = c.packet-taken.new.state; frames = c.packet-taken.new.frames; fault = c.err-self-inside.result } in
+    let new : HostModel = record old { server = c.packet-taken.new.server; frames = c.packet-taken.new.frames; fault = c.err-self-inside.result } in
     let going : old.fault ≡ None = subst (λ (host : HostModel). host.fault ≡ None) (sym c.self.view_is) none in
     let done : IsOk c.packet-taken.result = ok_where c.packet-taken.result (sym c.err-self-inside.ensures.value ∙ still) in
     told_in_run (APacket (packet_of_ref c.args.packet)) (run start input) sent old new going
     (packet_event (run start input).intake.state (run start input).intake.fragments (packet_of_ref c.args.packet))
-    (not_long (run start input).intake.state (run start input).intake.fragments (packet_of_ref c.args.packet) (sym c.is_long.ensures ∙ c.if-is_long.false)) still
+    (not_long (run start input).intake.state (run start input).intake.fragments (packet_of_ref c.args.packet) (sym c.is_long.ensures ∙ c.if-is_long.false))
+    still
     (subst (λ (host : HostModel). RefinesRun (run start input) sent host) (sym c.self.view_is) is) (λ refines.
     c.packet-taken.ensures.told done (run start input) sent refines)
 

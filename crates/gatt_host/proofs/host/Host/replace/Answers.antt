@@ -18,7 +18,8 @@ invariant_of-self c =
     let out : all_out old ≡ true = subst (λ (host : HostModel). all_out host ≡ true) (sym c.self.view_is) c.requires.drained in
     reached_by (ATable c.args.table ∷ []) [] old new c.self.invariant
     (takes_table c.args.table old new (is_none_where old.fault (sym c.is_some.ensures ∙ c.if-is_some.false)) out c.replace_table.result
-    (replaced_after c.args.table old.server new.server c.replace_table.result c.replace_table.ensures.after) c.replace_table.ensures.accepted c.replace_table.ensures.refused
+    (replaced_after c.args.table old.server new.server c.replace_table.result c.replace_table.ensures.after) c.replace_table.ensures.accepted
+    c.replace_table.ensures.refused
     c.replace_table.ensures.silent (record { frames = refl; stream = refl; fault = refl }))
 
 pub returns-clause-takes : goal.returns-clause-takes
@@ -28,7 +29,8 @@ returns-clause-takes c =
     let out : all_out old ≡ true = subst (λ (host : HostModel). all_out host ≡ true) (sym c.self.view_is) c.requires.drained in
     subst (λ (host : HostModel). host.fault ≡ None → Takes (ATable c.args.table) host new) c.self.view_is (λ none.
     takes_table c.args.table old new none out c.replace_table.result
-    (replaced_after c.args.table old.server new.server c.replace_table.result c.replace_table.ensures.after) c.replace_table.ensures.accepted c.replace_table.ensures.refused
+    (replaced_after c.args.table old.server new.server c.replace_table.result c.replace_table.ensures.after) c.replace_table.ensures.accepted
+    c.replace_table.ensures.refused
     c.replace_table.ensures.silent (record { frames = refl; stream = refl; fault = refl }))
 
 pub returns-clause-told : goal.returns-clause-told
@@ -40,17 +42,20 @@ returns-clause-told c = λ start input sent is none still.
     told_in_run (ATable c.args.table) (run start input) sent old new going (replacement_event (run start input).intake.state c.args.table)
     refl still (subst (λ (host : HostModel). RefinesRun (run start input) sent host) (sym c.self.view_is) is) (λ refines.
     table_told c.args.table old new going out c.replace_table.result
-    (replaced_after c.args.table old.server new.server c.replace_table.result c.replace_table.ensures.after) c.replace_table.ensures.accepted c.replace_table.ensures.refused
+    (replaced_after c.args.table old.server new.server c.replace_table.result c.replace_table.ensures.after) c.replace_table.ensures.accepted
+    c.replace_table.ensures.refused
     c.replace_table.ensures.silent (run start input) sent refines)
 
 pub returns-then-is_some-clause-takes : goal.returns-then-is_some-clause-takes
 returns-then-is_some-clause-takes c = past_some (the_view c.self.inside) c.args.self.now c.self.view_is (sym c.is_some.ensures ∙ c.if-is_some.true)
 
 pub returns-then-is_some-clause-told : goal.returns-then-is_some-clause-told
-returns-then-is_some-clause-told c = λ start input sent is none. past_some (the_view c.self.inside) c.args.self.now c.self.view_is (sym c.is_some.ensures ∙ c.if-is_some.true) none
+returns-then-is_some-clause-told c =
+    λ start input sent is none. past_some (the_view c.self.inside) c.args.self.now c.self.view_is (sym c.is_some.ensures ∙ c.if-is_some.true) none
 
 pub returns-then-is_some-clause-refused : goal.returns-then-is_some-clause-refused
-returns-then-is_some-clause-refused c = λ start input sent is. past_some (the_view c.self.inside) c.args.self.now c.self.view_is (sym c.is_some.ensures ∙ c.if-is_some.true)
+returns-then-is_some-clause-refused c =
+    λ start input sent is. past_some (the_view c.self.inside) c.args.self.now c.self.view_is (sym c.is_some.ensures ∙ c.if-is_some.true)
 
 pub returns-then-is_some-clause-policy : goal.returns-then-is_some-clause-policy
 returns-then-is_some-clause-policy c = keeps_the_policy
@@ -59,7 +64,9 @@ pub returns-then-is_some-clause-apart : goal.returns-then-is_some-clause-apart
 returns-then-is_some-clause-apart c = keeps_connections_apart
 
 pub returns-clause-stopped : goal.returns-clause-stopped
-returns-clause-stopped c = past_none (the_view c.self.inside) c.args.self.now c.self.view_is (is_none_where (the_view c.self.inside).fault (sym c.is_some.ensures ∙ c.if-is_some.false))
+returns-clause-stopped c =
+    past_none (the_view c.self.inside) c.args.self.now c.self.view_is
+    (is_none_where (the_view c.self.inside).fault (sym c.is_some.ensures ∙ c.if-is_some.false))
 
 pub returns-clause-policy : goal.returns-clause-policy
 returns-clause-policy c = keeps_the_policy

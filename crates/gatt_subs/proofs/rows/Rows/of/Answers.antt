@@ -16,12 +16,14 @@ returns c =
     let bond = c.index_mut.result.now in
     let at = sym (c.place_of.ensures ∙ ap (λ (peers : List Peer). peer_place peers peer) c.deref.ensures.value) ∙ c.in_ok-place.was in (
       ends_alike _ _ _
-          (λ (row : Row). lent_row c.args.self.now held.peers.items held.bonds.items held.unfitted peer place bond bond row c.self.view_is c.self.invariant at c.index_mut.ensures.value),
+          (λ (row : Row). lent_row c.args.self.now held.peers.items held.bonds.items held.unfitted peer place bond bond row c.self.view_is c.self.invariant at
+          c.index_mut.ensures.value),
       record {
         writes_back = tt;
         row =
             ap (option_map (λ (bond : Bond). bond.row))
-            (row_there c.args.self.now held.peers.items held.bonds.items held.unfitted peer place bond bond c.self.view_is c.self.invariant at c.index_mut.ensures.value);
+            (row_there c.args.self.now held.peers.items held.bonds.items held.unfitted peer place bond bond c.self.view_is c.self.invariant at
+            c.index_mut.ensures.value);
         none = λ is. absurd (false≢true (sym is));
         changes = λ row. row_changes c.args.self.now held.peers.items held.bonds.items held.unfitted peer row c.self.view_is c.self.invariant;
       },

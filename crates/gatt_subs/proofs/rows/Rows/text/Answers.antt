@@ -14,7 +14,8 @@ returns-clause-ok g c =
     (λ i. text_by_parts (c.deref.ensures.value i) (c.deref-2.ensures.value i) held.unfitted)
     ∙ text_of_parts (record { peers = held.peers.items; bonds = held.bonds.items; unfitted = held.unfitted })
     ∙ ap rows_text c.self.view_is in
-    subst (λ (octets : Octets). OnOk c.write_rows.result (Appends (g.W.Sink.contents c.args.sink.now) (g.W.Sink.contents c.write_rows.new.sink) octets)) is c.write_rows.ensures.ok
+    subst (λ (octets : Octets). OnOk c.write_rows.result (Appends (g.W.Sink.contents c.args.sink.now) (g.W.Sink.contents c.write_rows.new.sink) octets)) is
+    c.write_rows.ensures.ok
 
 pub returns-clause-front : goal.returns-clause-front
 returns-clause-front g c =
@@ -23,4 +24,5 @@ returns-clause-front g c =
     (λ i. text_by_parts (c.deref.ensures.value i) (c.deref-2.ensures.value i) held.unfitted)
     ∙ text_of_parts (record { peers = held.peers.items; bonds = held.bonds.items; unfitted = held.unfitted })
     ∙ ap rows_text c.self.view_is in
-    subst (λ (octets : Octets). OnErr c.write_rows.result (WritesFront octets (g.W.Sink.contents c.args.sink.now) (g.W.Sink.contents c.write_rows.new.sink))) is c.write_rows.ensures.front
+    subst (λ (octets : Octets). OnErr c.write_rows.result (WritesFront octets (g.W.Sink.contents c.args.sink.now) (g.W.Sink.contents c.write_rows.new.sink))) is
+    c.write_rows.ensures.front

@@ -63,7 +63,8 @@ as_mut_spec 𝓤 𝓛 𝓜 𝓡 wired =
     -- [what the pointer owns; its place; the open borrow, in three entries; the token]
     rewrite ! 1 (λ (ws : List Val). ‵ (cell_at full_share Self.mir ws b o)) eu refl $ null_or_block ! global d.at d.host
     (λ is_null so. let none : Val = live 0 vnil in
-    sets ! (is ! (of_opd ! (load ! (through ! refl (fld ! refl (stop !))) (look_in ! 0 (sub ! 0 refl (whole !))))) (ap ptr_val is_null)) refl (Ptr-Good null_ptr) $
+    sets ! (is ! (of_opd ! (load ! (through ! refl (fld ! refl (stop !))) (look_in ! 0 (sub ! 0 refl (whole !))))) (ap ptr_val is_null)) refl
+    (Ptr-Good null_ptr) $
     sets ! (of_opd ! (get ! refl)) refl (Ptr-Good null_ptr) $ sets ! (bin ! (get ! refl) (lit ! tt) tt) refl (tt, tt) $
     first ! $ branches ! (get ! refl)
     (λ _. sets ! (agg ! (and_then ! (lit ! tt) (no_more !))) refl (tt, (record { fits = lit< tt }, tt)) $
@@ -86,8 +87,11 @@ as_mut_spec 𝓤 𝓛 𝓜 𝓡 wired =
     exec ! 𝓣.C 𝓣.Λ Locals (after 5 fn.body) (at_ret Locals (W.post y)) $
     sets ! (of_opd ! (get ! refl)) refl (tt, (record { fits = lit< tt }, (tt, tt))) $
     fsplit ! $ move ! (1 ∷ 2 ∷ []) $ fjoin ! $ move ! (2 ∷ 3 ∷ 4 ∷ 1 ∷ 0 ∷ []) $ group ! 5 $
-    use1 𝓛 (later (some (λ (γ' : GName). ‵ (Lent.own_val (record { ref_ptr = (b', o'); ghost_name = γ'; now = x }) (at ∷ [])) ⊛ ‵ (flft κ q) ⊛ ‵ (follows Self OpenRow γ γ' (with_host d)))))
-    (lends_Part 𝓛 Self OpenRow (with_host d) (named 0) κ q b o b' o' γ (sem 𝓛 (Beside 𝓛 d b' o' b o)) back (Self.coded.code d) (Self.coded.code d) x) $ await ! tt $ pick ! (λ γ'.
+    use1 𝓛 (later
+    (some (λ (γ' : GName). ‵ (Lent.own_val (record { ref_ptr = (b', o'); ghost_name = γ'; now = x }) (at ∷ [])) ⊛ ‵ (flft κ q) ⊛ ‵
+    (follows Self OpenRow γ γ' (with_host d)))))
+    (lends_Part 𝓛 Self OpenRow (with_host d) (named 0) κ q b o b' o' γ (sem 𝓛 (Beside 𝓛 d b' o' b o)) back (Self.coded.code d) (Self.coded.code d) x) $ await !
+    tt $ pick ! (λ γ'.
     let lent : MutBor OpenRow.Denot = record { ref_ptr = (b', o'); ghost_name = γ'; now = x } in
     split3 ! $ use1 𝓛 (‵ (Out.own_val (Some lent) (some_at ∷ []))) (Some-of 𝓛 Lent lent at) $
     returns ! (look_at ! 0 refl) $ free_all ! refl $

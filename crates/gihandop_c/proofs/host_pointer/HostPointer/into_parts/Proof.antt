@@ -57,7 +57,8 @@ into_parts_spec 𝓤 𝓛 𝓜 𝓡 wired =
     handle_tells E.al ! a vs (λ hv ea fits. move ! (2 ∷ []) $ pointer_out ! d us (λ eu. null_or_block ! a d.at d.host
     (λ is so. let w : Val = pointer_word null_ptr in let none : Val = live 0 vnil in
     let is_w : us ≡ w ∷ [] = subst (λ (p : Ptr). us ≡ pointer_word p ∷ []) is eu in
-    suffices ! (Run (w ∷ hv ∷ [])) (subst (λ (xs : List Val). ent 𝓤 (Run (w ∷ hv ∷ [])) (Run xs)) (sym (λ i. is_w i ++ (ea i ++ []))) (id⊢ 𝓤 (Run (w ∷ hv ∷ [])))) $
+    suffices ! (Run (w ∷ hv ∷ []))
+    (subst (λ (xs : List Val). ent 𝓤 (Run (w ∷ hv ∷ [])) (Run xs)) (sym (λ i. is_w i ++ (ea i ++ []))) (id⊢ 𝓤 (Run (w ∷ hv ∷ [])))) $
     enter ! 𝓣.C 𝓣.Λ fn (w ∷ hv ∷ []) Post $ alloc_all ! (λ l. pass_all ! refl ((tt, (record { fits = lit< tt }, tt)), (fits, tt)) $
     let Locals = env fn.locals l in
     sets ! (of_opd ! (get_in ! (fld ! refl (stop !)) (sub ! 0 refl (whole !)))) refl (Ptr-Good null_ptr) $
@@ -76,7 +77,8 @@ into_parts_spec 𝓤 𝓛 𝓜 𝓡 wired =
     let boxed : D E = record { ptr = block_ptr b o; alloc = a; value = x } in
     let taken : Parts.Denot = record { at = block_ptr b o; alloc = a; value = x } in
     let good : Good (layout Out) some = (and_tt _ typed.0, (record { fits = lit< tt }, (typed.1, tt))) in
-    suffices ! (Run (w ∷ hv ∷ [])) (subst (λ (xs : List Val). ent 𝓤 (Run (w ∷ hv ∷ [])) (Run xs)) (sym (λ i. is_w i ++ (ea i ++ []))) (id⊢ 𝓤 (Run (w ∷ hv ∷ [])))) $
+    suffices ! (Run (w ∷ hv ∷ []))
+    (subst (λ (xs : List Val). ent 𝓤 (Run (w ∷ hv ∷ [])) (Run xs)) (sym (λ i. is_w i ++ (ea i ++ []))) (id⊢ 𝓤 (Run (w ∷ hv ∷ [])))) $
     -- [what the box owns; the allocator; ..]
     fsplit ! $ move ! (0 ∷ 1 ∷ 2 ∷ []) $ box_in E ! boxed b o x refl refl $
     enter ! 𝓣.C 𝓣.Λ fn (w ∷ hv ∷ []) Post $ alloc_all ! (λ l. pass_all ! refl ((tt, (tt, tt)), (fits, tt)) $

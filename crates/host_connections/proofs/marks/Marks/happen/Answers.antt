@@ -11,7 +11,9 @@ returns c = λ slots slot within marked goes due.
     let place = c.args.place in
     record {
       few = omega (arith, marked.few, length-set slots place slot);
-      commands = covered_if Command c.args.commanded old.commands.bits c.add_if.new.self.bits slots place slot marked.commands c.add_if.ensures.added c.add_if.ensures.others due;
+      commands =
+          covered_if Command c.args.commanded old.commands.bits c.add_if.new.self.bits slots place slot marked.commands c.add_if.ensures.added
+          c.add_if.ensures.others due;
       packets = covered_with Packet old.packets.bits c.add.new.self.bits slots place slot marked.packets c.add.ensures.added c.add.ensures.others;
       listening = covered_with Value old.listening.bits c.add-2.new.self.bits slots place slot marked.listening c.add-2.ensures.added c.add-2.ensures.others;
       waiting = covered_still Indication old.waiting.bits slots place slot marked.waiting goes.waiting;

@@ -17,7 +17,8 @@ raise_value-notified-requires c =
     let inside = c.self.inside in
     let live : inside.used ≡ Live = search rules in (
       omega arith,
-      room_in_slot a.moment.table.now a.moment.rows.now inside.used inside.handle inside.peer inside.key_known inside.until inside.row inside.link inside.conn inside.pending inside.sender inside.reply
+      room_in_slot a.moment.table.now a.moment.rows.now inside.used inside.handle inside.peer inside.key_known inside.until inside.row inside.link inside.conn
+          inside.pending inside.sender inside.reply
           inside.reason c.row_in_force-row.result.now a.raised.now.handle c.requires.table c.requires.bonds live
           (subst (λ (it : Option SlotState). SlotIsOfTable a.moment.table.now.attributes it) (sym c.self.view_is) c.requires.slot) c.row_in_force-row.ensures,
     )
@@ -28,10 +29,12 @@ returns-then-notified-clause-told c =
     let inside = c.self.inside in
     let raised = c.raise_value-notified in
     OnTrue_from raised.result _ (λ told.
-    waits_as_before inside.used inside.handle inside.peer inside.key_known inside.until inside.row inside.link inside.conn inside.pending raised.new.self inside.sender
+    waits_as_before inside.used inside.handle inside.peer inside.key_known inside.until inside.row inside.link inside.conn inside.pending raised.new.self
+    inside.sender
     c.queue_value.new.sender inside.reply inside.reason
     (ap (λ (it : Indications). it.waiting) (raised.ensures.pending
-    ∙ notified_stays inside.pending a.raised.now.table.attributes c.row_in_force-row.result.now c.standing-standing.result a.raised.now.handle c.backlog-backlog.result
+    ∙ notified_stays inside.pending a.raised.now.table.attributes c.row_in_force-row.result.now c.standing-standing.result a.raised.now.handle
+    c.backlog-backlog.result
     (sym raised.ensures.notified ∙ told)))
     ∙ ap waits c.self.view_is)
 
@@ -39,6 +42,7 @@ pub returns-else-notified-clause-unnotified : goal.returns-else-notified-clause-
 returns-else-notified-clause-unnotified c =
     let inside = c.self.inside in
     OnFalse_from c.raise_value-notified.result _ (λ none.
-    gives_as_before inside.used inside.handle inside.peer inside.key_known inside.until inside.row inside.link inside.conn inside.pending c.raise_value-notified.new.self inside.sender
+    gives_as_before inside.used inside.handle inside.peer inside.key_known inside.until inside.row inside.link inside.conn inside.pending
+    c.raise_value-notified.new.self inside.sender
     inside.reply inside.reason
     ∙ ap gives c.self.view_is)

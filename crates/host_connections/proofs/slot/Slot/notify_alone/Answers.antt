@@ -15,7 +15,8 @@ raise_alone-requires c =
     let inside = c.self.inside in
     let live : inside.used ≡ Live = search rules in (
       omega arith,
-      room_in_slot a.moment.table.now a.moment.rows.now inside.used inside.handle inside.peer inside.key_known inside.until inside.row inside.link inside.conn inside.pending inside.sender inside.reply
+      room_in_slot a.moment.table.now a.moment.rows.now inside.used inside.handle inside.peer inside.key_known inside.until inside.row inside.link inside.conn
+          inside.pending inside.sender inside.reply
           inside.reason c.row_in_force-row.result.now a.raised.now.handle c.requires.table c.requires.bonds live
           (subst (λ (it : Option SlotState). SlotIsOfTable a.moment.table.now.attributes it) (sym c.self.view_is) c.requires.slot) c.row_in_force-row.ensures,
     )
@@ -24,17 +25,20 @@ pub returns-clause-told : goal.returns-clause-told
 returns-clause-told c =
     let a = c.args in
     let inside = c.self.inside in
-    waits_as_before inside.used inside.handle inside.peer inside.key_known inside.until inside.row inside.link inside.conn inside.pending c.raise_alone.new.self inside.sender
+    waits_as_before inside.used inside.handle inside.peer inside.key_known inside.until inside.row inside.link inside.conn inside.pending c.raise_alone.new.self
+    inside.sender
     c.queue_telling.new.sender inside.reply inside.reason
     (ap (λ (it : Indications). it.waiting) c.raise_alone.ensures.pending
-    ∙ told_stays inside.pending a.raised.now.table.attributes c.row_in_force-row.result.now c.standing-standing.result a.raised.now.handle c.backlog-backlog.result a.moment.now
+    ∙ told_stays inside.pending a.raised.now.table.attributes c.row_in_force-row.result.now c.standing-standing.result a.raised.now.handle
+    c.backlog-backlog.result a.moment.now
     c.in-Some.telling (sym c.raise_alone.ensures.told ∙ c.in-Some.is))
     ∙ ap waits c.self.view_is
 
 pub returns-in_default-clause-untold : goal.returns-in_default-clause-untold
 returns-in_default-clause-untold c =
     let inside = c.self.inside in
-    gives_as_before inside.used inside.handle inside.peer inside.key_known inside.until inside.row inside.link inside.conn inside.pending c.raise_alone.new.self inside.sender
+    gives_as_before inside.used inside.handle inside.peer inside.key_known inside.until inside.row inside.link inside.conn inside.pending c.raise_alone.new.self
+    inside.sender
     inside.reply inside.reason
     ∙ ap gives c.self.view_is
 

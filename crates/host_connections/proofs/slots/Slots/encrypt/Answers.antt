@@ -16,8 +16,10 @@ invariant_of-self c =
     let within : place < length slots = subst (λ (it : SlotStates). place < length it) (sym c.self.view_is) c.requires in
     let change : SlotState → SlotState = after_link_step (Encryption c.args.status c.args.enabled) in (
       c.happen.ensures slots c.encrypt-gained.new.self within c.self.invariant.0
-          (happened_at slots place c.index_mut-slot.result.now c.encrypt-gained.new.self within c.index_mut-slot.ensures.value change (linked_waits (Encryption c.args.status c.args.enabled)) c.encrypt-gained.ensures.after) (λ none. sym c.has_command-commanded.ensures ∙ none),
-      λ other some. changed_noted slots c.self.inside.handles.noted place c.index_mut-slot.result.now c.encrypt-gained.new.self change within c.index_mut-slot.ensures.value
+          (happened_at slots place c.index_mut-slot.result.now c.encrypt-gained.new.self within c.index_mut-slot.ensures.value change
+          (linked_waits (Encryption c.args.status c.args.enabled)) c.encrypt-gained.ensures.after) (λ none. sym c.has_command-commanded.ensures ∙ none),
+      λ other some. changed_noted slots c.self.inside.handles.noted place c.index_mut-slot.result.now c.encrypt-gained.new.self change within
+          c.index_mut-slot.ensures.value
           (linked_handle (Encryption c.args.status c.args.enabled)) c.encrypt-gained.ensures.after (c.self.invariant.1 other some),
     )
 
@@ -32,5 +34,8 @@ pub returns-clause-gained : goal.returns-clause-gained
 returns-clause-gained c =
     let slots = c.self.inside.slots.items in
     let within : c.args.place < length slots = subst (λ (it : SlotStates). c.args.place < length it) (sym c.self.view_is) c.requires in
-    subst (λ (it : Option SlotState). IfSome it (λ slot_state. c.encrypt-gained.result ≡ gained_encryption slot_state.link.key (after_step slot_state.link (Encryption c.args.status c.args.enabled)).key))
-    (there_at slots c.args.self.now c.self.view_is c.args.place c.index_mut-slot.result.now within c.index_mut-slot.ensures.value) c.encrypt-gained.ensures.gained
+    subst (λ (it : Option SlotState).
+    IfSome it
+    (λ slot_state. c.encrypt-gained.result ≡ gained_encryption slot_state.link.key (after_step slot_state.link (Encryption c.args.status c.args.enabled)).key))
+    (there_at slots c.args.self.now c.self.view_is c.args.place c.index_mut-slot.result.now within c.index_mut-slot.ensures.value)
+    c.encrypt-gained.ensures.gained

@@ -11,6 +11,7 @@ returns-in-Some-clause-place c =
     let slots = c.as_slice-slots.result.now in
     let place = c.in-Some.place in
     found_serving slots c.args.handle place c.in-Some.ensures.place
-    (ap (λ (slot : Option SlotState). option_map_or (λ (slot_state : SlotState). slot_state.live) slot false) (read_at slots place c.index-slots-place.result c.in-Some.ensures.there.within c.index-slots-place.is)
+    (ap (λ (slot : Option SlotState). option_map_or (λ (slot_state : SlotState). slot_state.live) slot false)
+    (read_at slots place c.index-slots-place.result c.in-Some.ensures.there.within c.index-slots-place.is)
     ∙ sym c.is_live.ensures ∙ c.if-is_live.true)
     ∙ ap (λ (it : SlotStates). place_serving it c.args.handle) (c.as_slice-slots.ensures.value ∙ c.self.view_is)

@@ -29,12 +29,14 @@ invariant_of-self c =
     let is : lent ≡ old = c.as_mut_slice-slots.ensures.value in
     let theirs : ℕ = c.without_own-whom.result.bits in
     let few : length lent ≤ MAX_SLOTS = omega (arith, ap (λ (it : SlotStates). length it) is, c.self.invariant.0.few) in
-    let listens : Covers Value c.self.inside.marks.listening.bits lent = subst (Covers Value c.self.inside.marks.listening.bits) (sym is) c.self.invariant.0.listening in
+    let listens : Covers Value c.self.inside.marks.listening.bits lent =
+    subst (Covers Value c.self.inside.marks.listening.bits) (sym is) c.self.invariant.0.listening in
     let heard : new ≡ all_heard table now rows own [] (handle ∷ []) old =
     c.indicate_due.ensures.heard
     ∙ ap (λ (it : SlotStates). all_heard table now rows None [] [] it)
     c.notify_alone.ensures.notified
-    ∙ all_alone table now rows own theirs c.self.inside.marks.listening.bits handle lent listens c.without_own-whom.ensures.own c.without_own-whom.ensures.others few
+    ∙ all_alone table now rows own theirs c.self.inside.marks.listening.bits handle lent listens c.without_own-whom.ensures.own
+    c.without_own-whom.ensures.others few
     ∙ ap (λ (it : SlotStates). all_heard table now rows own [] (handle ∷ []) it) is in
     let count : length new ≡ length old =
     c.indicate_due.ensures.count ∙ c.notify_alone.ensures.count ∙ ap (λ (it : SlotStates). length it) is in
@@ -67,20 +69,23 @@ returns-clause-heard c =
     let is : lent ≡ old = c.as_mut_slice-slots.ensures.value in
     let theirs : ℕ = c.without_own-whom.result.bits in
     let few : length lent ≤ MAX_SLOTS = omega (arith, ap (λ (it : SlotStates). length it) is, c.self.invariant.0.few) in
-    let listens : Covers Value c.self.inside.marks.listening.bits lent = subst (Covers Value c.self.inside.marks.listening.bits) (sym is) c.self.invariant.0.listening in
+    let listens : Covers Value c.self.inside.marks.listening.bits lent =
+    subst (Covers Value c.self.inside.marks.listening.bits) (sym is) c.self.invariant.0.listening in
     let count : length new ≡ length old =
     c.indicate_due.ensures.count ∙ c.notify_alone.ensures.count ∙ ap (λ (it : SlotStates). length it) is in
     written_over c.self.inside.slots.len old new count (ap (λ (it : SlotStates). length it) (sym is) ∙ c.as_mut_slice-slots.ensures.len)
     ∙ c.indicate_due.ensures.heard
     ∙ ap (λ (it : SlotStates). all_heard table now rows None [] [] it)
     c.notify_alone.ensures.notified
-    ∙ all_alone table now rows own theirs c.self.inside.marks.listening.bits handle lent listens c.without_own-whom.ensures.own c.without_own-whom.ensures.others few
+    ∙ all_alone table now rows own theirs c.self.inside.marks.listening.bits handle lent listens c.without_own-whom.ensures.own
+    c.without_own-whom.ensures.others few
     ∙ ap (λ (it : SlotStates). all_heard table now rows own [] (handle ∷ []) it) (is ∙ c.self.view_is)
 
 pub notify_alone-requires-clause-of_table : goal.notify_alone-requires-clause-of_table
 notify_alone-requires-clause-of_table c =
     let a = c.args in
-    subst (λ (it : SlotStates). AreOfTable a.moment.table.now.attributes a.moment.rows.now it) (sym (c.as_mut_slice-slots.ensures.value ∙ c.self.view_is)) c.requires.of_table
+    subst (λ (it : SlotStates). AreOfTable a.moment.table.now.attributes a.moment.rows.now it) (sym (c.as_mut_slice-slots.ensures.value ∙ c.self.view_is))
+    c.requires.of_table
 
 pub returns-clause-count : goal.returns-clause-count
 returns-clause-count c =
@@ -104,7 +109,8 @@ returns-clause-skipped c =
     let lent = c.as_mut_slice-slots.result.now in
     let is : lent ≡ old = c.as_mut_slice-slots.ensures.value in
     let few : length lent ≤ MAX_SLOTS = omega (arith, ap (λ (it : SlotStates). length it) is, c.self.invariant.0.few) in
-    let listens : Covers Value c.self.inside.marks.listening.bits lent = subst (Covers Value c.self.inside.marks.listening.bits) (sym is) c.self.invariant.0.listening in
+    let listens : Covers Value c.self.inside.marks.listening.bits lent =
+    subst (Covers Value c.self.inside.marks.listening.bits) (sym is) c.self.invariant.0.listening in
     c.notify_alone.ensures.skipped
     ∙ others_miss table now rows own c.without_own-whom.result.bits c.self.inside.marks.listening.bits handle lent listens c.without_own-whom.ensures.own
     c.without_own-whom.ensures.others few

@@ -30,7 +30,8 @@ invariant_of-self c =
     let mine : ℕ = c.of_own.result.bits in
     let theirs : ℕ = c.without_own-others.result.bits in
     let few : length lent ≤ MAX_SLOTS = omega (arith, ap (λ (it : SlotStates). length it) is, c.self.invariant.0.few) in
-    let listens : Covers Value c.self.inside.marks.listening.bits lent = subst (Covers Value c.self.inside.marks.listening.bits) (sym is) c.self.invariant.0.listening in
+    let listens : Covers Value c.self.inside.marks.listening.bits lent =
+    subst (Covers Value c.self.inside.marks.listening.bits) (sym is) c.self.invariant.0.listening in
     let heard : new ≡ all_heard table now rows own here handles old =
     c.indicate_due.ensures.heard
     ∙ ap (λ (it : SlotStates). all_heard table now rows None [] [] it)
@@ -71,7 +72,8 @@ returns-clause-heard c =
     let mine : ℕ = c.of_own.result.bits in
     let theirs : ℕ = c.without_own-others.result.bits in
     let few : length lent ≤ MAX_SLOTS = omega (arith, ap (λ (it : SlotStates). length it) is, c.self.invariant.0.few) in
-    let listens : Covers Value c.self.inside.marks.listening.bits lent = subst (Covers Value c.self.inside.marks.listening.bits) (sym is) c.self.invariant.0.listening in
+    let listens : Covers Value c.self.inside.marks.listening.bits lent =
+    subst (Covers Value c.self.inside.marks.listening.bits) (sym is) c.self.invariant.0.listening in
     let count : length new ≡ length old =
     c.indicate_due.ensures.count ∙ c.notify_all-2.ensures.count ∙ c.notify_all.ensures.count ∙ ap (λ (it : SlotStates). length it) is in
     written_over c.self.inside.slots.len old new count (ap (λ (it : SlotStates). length it) (sym is) ∙ c.as_mut_slice-slots.ensures.len)
@@ -85,13 +87,16 @@ returns-clause-heard c =
 pub notify_all-requires-clause-of_table : goal.notify_all-requires-clause-of_table
 notify_all-requires-clause-of_table c =
     let a = c.args in
-    subst (λ (it : SlotStates). AreOfTableIfAny a.here.now a.moment.table.now.attributes a.moment.rows.now it) (sym (c.as_mut_slice-slots.ensures.value ∙ c.self.view_is)) c.requires.here
+    subst (λ (it : SlotStates). AreOfTableIfAny a.here.now a.moment.table.now.attributes a.moment.rows.now it)
+    (sym (c.as_mut_slice-slots.ensures.value ∙ c.self.view_is)) c.requires.here
 
 pub notify_all-requires-2-clause-of_table : goal.notify_all-requires-2-clause-of_table
 notify_all-requires-2-clause-of_table c =
     let a = c.args in
-    of_table_then a.handles.now a.moment.table.now.attributes a.moment.rows.now c.as_mut_slice-slots.result.now c.notify_all.new.slots c.notify_all.ensures.of_table
-    (subst (λ (it : SlotStates). AreOfTableIfAny a.handles.now a.moment.table.now.attributes a.moment.rows.now it) (sym (c.as_mut_slice-slots.ensures.value ∙ c.self.view_is)) c.requires.handles)
+    of_table_then a.handles.now a.moment.table.now.attributes a.moment.rows.now c.as_mut_slice-slots.result.now c.notify_all.new.slots
+    c.notify_all.ensures.of_table
+    (subst (λ (it : SlotStates). AreOfTableIfAny a.handles.now a.moment.table.now.attributes a.moment.rows.now it)
+    (sym (c.as_mut_slice-slots.ensures.value ∙ c.self.view_is)) c.requires.handles)
 
 pub returns-clause-count : goal.returns-clause-count
 returns-clause-count c =

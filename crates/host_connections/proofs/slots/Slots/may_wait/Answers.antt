@@ -10,7 +10,8 @@ use Rattle.host_connections.proofs.slots.Slots.may_wait.Goals as goal
 
 pub returns : goal.returns
 returns c = OnFalse_from _ _ (λ none.
-    let all : (table : Contents) → (rows : Subscriptions) → (now : ℕ) → all_heard table now rows None [] [] c.args.self.now ≡ c.args.self.now = λ table rows now.
+    let all : (table : Contents) → (rows : Subscriptions) → (now : ℕ) → all_heard table now rows None [] [] c.args.self.now ≡ c.args.self.now =
+    λ table rows now.
     subst (λ (it : SlotStates). all_heard table now rows None [] [] it ≡ it) c.self.view_is
     (sym (nothing_heard_by_all table now rows None c.self.inside.slots.items (OnFalse_at none
     (none_marked Indication c.self.inside.marks.waiting.bits c.self.inside.slots.items c.is_empty.result c.self.invariant.0.waiting c.is_empty.ensures)))) in

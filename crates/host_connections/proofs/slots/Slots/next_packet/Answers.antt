@@ -26,27 +26,32 @@ invariant_of-self c =
     let slot = c.index_mut-slot.result.now in
     let within : place < length slots = subst (λ (it : SlotStates). place < length it) (sym c.self.view_is) c.requires in
     let there = there_at slots slots (λ i. slots) place slot within c.index_mut-slot.ensures.value in
-    let goes = given_goes_on slot c.next_packet-given.new.self c.next_packet-given.result c.next_packet-given.ensures.after c.next_packet-given.ensures.unchanged in (
+    let goes =
+    given_goes_on slot c.next_packet-given.new.self c.next_packet-given.result c.next_packet-given.ensures.after c.next_packet-given.ensures.unchanged in (
       c.mark_giving.ensures slots c.next_packet-given.new.self within c.self.invariant.0
           (subst (λ (it : Option SlotState). WaitsForNothingNew it c.next_packet-given.new.self) there goes)
-          (λ listens. sym (ap may_listen there) ∙ given_listens slot c.next_packet-given.new.self c.next_packet-given.result c.next_packet-given.ensures.after c.next_packet-given.ensures.unchanged listens)
+          (λ listens. sym (ap may_listen there) ∙ given_listens slot c.next_packet-given.new.self c.next_packet-given.result c.next_packet-given.ensures.after
+          c.next_packet-given.ensures.unchanged listens)
           (λ none. OnFalse_at none c.may_give-giving.ensures),
       λ other some. noted_still slots c.self.inside.handles.noted (c.self.invariant.1 other some) place c.next_packet-given.new.self within
-          (given_noted slot c.next_packet-given.new.self c.next_packet-given.result c.next_packet-given.ensures.after c.next_packet-given.ensures.unchanged ∙ ap noted_of there),
+          (given_noted slot c.next_packet-given.new.self c.next_packet-given.result c.next_packet-given.ensures.after c.next_packet-given.ensures.unchanged
+          ∙ ap noted_of there),
     )
 
 pub returns-clause-gives : goal.returns-clause-gives
 returns-clause-gives c =
     let slots = c.self.inside.slots.items in
     let within : c.args.place < length slots = subst (λ (it : SlotStates). c.args.place < length it) (sym c.self.view_is) c.requires in
-    c.next_packet-given.ensures.gives ∙ ap gives (there_at slots c.args.self.now c.self.view_is c.args.place c.index_mut-slot.result.now within c.index_mut-slot.ensures.value)
+    c.next_packet-given.ensures.gives
+    ∙ ap gives (there_at slots c.args.self.now c.self.view_is c.args.place c.index_mut-slot.result.now within c.index_mut-slot.ensures.value)
 
 pub returns-clause-packet : goal.returns-clause-packet
 returns-clause-packet c =
     let slots = c.self.inside.slots.items in
     let within : c.args.place < length slots = subst (λ (it : SlotStates). c.args.place < length it) (sym c.self.view_is) c.requires in
     subst (λ (it : Option SlotState). OnTrue c.next_packet-given.result (option_and_then slot_packet it ≡ Some c.next_packet-given.new.out))
-    (there_at slots c.args.self.now c.self.view_is c.args.place c.index_mut-slot.result.now within c.index_mut-slot.ensures.value) c.next_packet-given.ensures.packet
+    (there_at slots c.args.self.now c.self.view_is c.args.place c.index_mut-slot.result.now within c.index_mut-slot.ensures.value)
+    c.next_packet-given.ensures.packet
 
 pub returns-clause-unchanged : goal.returns-clause-unchanged
 returns-clause-unchanged c =

@@ -33,7 +33,8 @@ returns-else-is_empty-2-clause-heard c =
     let marked = c.self.invariant.0 in
     let here : a.here.now ≡ [] = none_there a.here.now (sym c.is_empty.ensures ∙ c.if-is_empty.true) in
     OnTrue_from _ _ (λ is.
-    let only : (place : ℕ) → place < MAX_SLOTS → bit_at c.self.inside.marks.listening.bits place ≡ 1 → is_own_place a.own place ≡ true = OnTrue_at is c.is_empty_but.ensures in
+    let only : (place : ℕ) → place < MAX_SLOTS → bit_at c.self.inside.marks.listening.bits place ≡ 1 → is_own_place a.own place ≡ true =
+    OnTrue_at is c.is_empty_but.ensures in
     let all : (table : Contents) → (rows : Subscriptions) → (now : ℕ)
     → all_heard table now rows a.own a.here.now a.handles.now a.self.now ≡ all_heard table now rows None [] [] a.self.now = λ table rows now.
     ap (λ (it : List Handle). all_heard table now rows a.own it a.handles.now a.self.now) here
@@ -47,7 +48,8 @@ returns-then-is_empty-2-clause-skipped c =
     let a = c.args in
     let here : a.here.now ≡ [] = none_there a.here.now (sym c.is_empty.ensures ∙ c.if-is_empty.true) in
     let handles : a.handles.now ≡ [] = none_there a.handles.now (sym c.is_empty-then-is_empty.ensures ∙ c.if-is_empty-2.true) in
-    let all : (table : Contents) → (rows : Subscriptions) → (now : ℕ) → all_skipped table now rows a.own a.here.now a.handles.now a.self.now ≡ [] = λ table rows now.
+    let all : (table : Contents) → (rows : Subscriptions) → (now : ℕ) → all_skipped table now rows a.own a.here.now a.handles.now a.self.now ≡ [] =
+    λ table rows now.
     ap (λ (it : List Handle). all_skipped table now rows a.own it a.handles.now a.self.now) here
     ∙ ap (λ (it : List Handle). all_skipped table now rows a.own [] it a.self.now) handles
     ∙ nothing_is_missed table now rows a.own a.self.now in
@@ -60,8 +62,10 @@ returns-else-is_empty-2-clause-skipped c =
     let marked = c.self.invariant.0 in
     let here : a.here.now ≡ [] = none_there a.here.now (sym c.is_empty.ensures ∙ c.if-is_empty.true) in
     OnTrue_from _ _ (λ is.
-    let only : (place : ℕ) → place < MAX_SLOTS → bit_at c.self.inside.marks.listening.bits place ≡ 1 → is_own_place a.own place ≡ true = OnTrue_at is c.is_empty_but.ensures in
-    let all : (table : Contents) → (rows : Subscriptions) → (now : ℕ) → all_skipped table now rows a.own a.here.now a.handles.now a.self.now ≡ [] = λ table rows now.
+    let only : (place : ℕ) → place < MAX_SLOTS → bit_at c.self.inside.marks.listening.bits place ≡ 1 → is_own_place a.own place ≡ true =
+    OnTrue_at is c.is_empty_but.ensures in
+    let all : (table : Contents) → (rows : Subscriptions) → (now : ℕ) → all_skipped table now rows a.own a.here.now a.handles.now a.self.now ≡ [] =
+    λ table rows now.
     ap (λ (it : List Handle). all_skipped table now rows a.own it a.handles.now a.self.now) here
     ∙ ap (λ (it : SlotStates). all_skipped table now rows a.own [] a.handles.now it) (sym c.self.view_is)
     ∙ nobody_misses table now rows a.own a.handles.now slots

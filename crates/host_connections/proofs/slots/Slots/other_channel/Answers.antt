@@ -15,8 +15,10 @@ invariant_of-self c =
     let within : place < length slots = subst (λ (it : SlotStates). place < length it) (sym c.self.view_is) c.requires in
     let change : SlotState → SlotState = slot_after_other_channel c.args.channel c.args.payload.now in (
       c.happen.ensures slots c.other_channel-ended.new.self within c.self.invariant.0
-          (happened_at slots place c.index_mut-slot.result.now c.other_channel-ended.new.self within c.index_mut-slot.ensures.value change (other_channel_waits c.args.channel c.args.payload.now) c.other_channel-ended.ensures.after) (λ none. sym c.has_command-commanded.ensures ∙ none),
-      λ other some. changed_noted slots c.self.inside.handles.noted place c.index_mut-slot.result.now c.other_channel-ended.new.self change within c.index_mut-slot.ensures.value
+          (happened_at slots place c.index_mut-slot.result.now c.other_channel-ended.new.self within c.index_mut-slot.ensures.value change
+          (other_channel_waits c.args.channel c.args.payload.now) c.other_channel-ended.ensures.after) (λ none. sym c.has_command-commanded.ensures ∙ none),
+      λ other some. changed_noted slots c.self.inside.handles.noted place c.index_mut-slot.result.now c.other_channel-ended.new.self change within
+          c.index_mut-slot.ensures.value
           (other_channel_handle c.args.channel c.args.payload.now) c.other_channel-ended.ensures.after (c.self.invariant.1 other some),
     )
 
@@ -31,5 +33,7 @@ pub returns-clause-ended : goal.returns-clause-ended
 returns-clause-ended c =
     let slots = c.self.inside.slots.items in
     let within : c.args.place < length slots = subst (λ (it : SlotStates). c.args.place < length it) (sym c.self.view_is) c.requires in
-    subst (λ (it : Option SlotState). IfSome it (λ slot_state. c.other_channel-ended.result ≡ has_no_room (channel_answer c.args.channel c.args.payload.now) slot_state))
-    (there_at slots c.args.self.now c.self.view_is c.args.place c.index_mut-slot.result.now within c.index_mut-slot.ensures.value) c.other_channel-ended.ensures.ended
+    subst (λ (it : Option SlotState).
+    IfSome it (λ slot_state. c.other_channel-ended.result ≡ has_no_room (channel_answer c.args.channel c.args.payload.now) slot_state))
+    (there_at slots c.args.self.now c.self.view_is c.args.place c.index_mut-slot.result.now within c.index_mut-slot.ensures.value)
+    c.other_channel-ended.ensures.ended

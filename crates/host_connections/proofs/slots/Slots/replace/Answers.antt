@@ -18,6 +18,13 @@ invariant_of-self c =
     let change : SlotState → SlotState = (after_table c.args.old.now.attributes c.args.new.now.attributes) in
     let changed : others ≡ map (λ (slot : Option SlotState). option_map change slot) slots =
     c.replace_all.ensures ∙ ap (λ (it : SlotStates). map (λ (slot : Option SlotState). option_map change slot) it) c.as_mut_slice.ensures.value in
-    let count : length others ≡ length slots = ap (λ (it : SlotStates). length it) changed ∙ length-map slots (λ (slot : Option SlotState). option_map change slot) in
-    subst (λ (it : SlotStates). IsMarked it c.self.inside.marks × AreNotedIfAny it noted) (sym (written_over c.self.inside.slots.len slots others count (ap (λ (it : SlotStates). length it) (sym c.as_mut_slice.ensures.value) ∙ c.as_mut_slice.ensures.len)))
-    (subst (λ (it : SlotStates). IsMarked it c.self.inside.marks) (sym changed) (table_marked c.args.old.now.attributes c.args.new.now.attributes slots c.self.inside.marks c.self.invariant.0), λ other some. each_noted slots others noted change (replaced_handle c.args.old.now.attributes c.args.new.now.attributes) changed (c.self.invariant.1 other some))
+    let count : length others ≡ length slots =
+    ap (λ (it : SlotStates). length it) changed ∙ length-map slots (λ (slot : Option SlotState). option_map change slot) in
+    subst (λ (it : SlotStates). IsMarked it c.self.inside.marks × AreNotedIfAny it noted)
+    (sym (written_over c.self.inside.slots.len slots others count
+    (ap (λ (it : SlotStates). length it) (sym c.as_mut_slice.ensures.value) ∙ c.as_mut_slice.ensures.len))) (
+      subst (λ (it : SlotStates). IsMarked it c.self.inside.marks) (sym changed)
+          (table_marked c.args.old.now.attributes c.args.new.now.attributes slots c.self.inside.marks c.self.invariant.0),
+      λ other some.
+          each_noted slots others noted change (replaced_handle c.args.old.now.attributes c.args.new.now.attributes) changed (c.self.invariant.1 other some),
+    )

@@ -12,6 +12,8 @@ invariant_of-self c =
     let noted = c.self.inside.handles.noted in (
       subst (λ (it : SlotStates). IsMarked it c.self.inside.marks) (sym c.truncate.ensures.items)
           (front_marked c.self.inside.slots.items c.args.count c.self.inside.marks
-          (subst (λ (it : SlotStates). length it ≤ MAX_SLOTS) c.truncate.ensures.items (omega (arith, c.self.invariant.0.few, c.truncate.ensures.len))) c.self.invariant.0),
-      subst (λ (it : SlotStates). AreNotedIfAny it noted) (sym c.truncate.ensures.items) (λ other some. first_noted c.self.inside.slots.items noted c.args.count (c.self.invariant.1 other some)),
+          (subst (λ (it : SlotStates). length it ≤ MAX_SLOTS) c.truncate.ensures.items (omega (arith, c.self.invariant.0.few, c.truncate.ensures.len)))
+          c.self.invariant.0),
+      subst (λ (it : SlotStates). AreNotedIfAny it noted) (sym c.truncate.ensures.items)
+          (λ other some. first_noted c.self.inside.slots.items noted c.args.count (c.self.invariant.1 other some)),
     )

@@ -18,9 +18,11 @@ pub returns-clause-first : goal.returns-clause-first
 returns-clause-first c =
     let some : 0 < c.self.inside.count = omega (arith, c.if-self-eq0.false) in
     let header : Header = get_or c.self.inside.headers c.self.inside.first no_header in
-    let below : c.self.inside.first < length c.self.inside.payloads.items.items = omega (arith, c.self.invariant.first_below, c.self.invariant.payloads_length) in
+    let below : c.self.inside.first < length c.self.inside.payloads.items.items = omega (arith, c.self.invariant.first_below, c.self.invariant.payloads_length)
+    in
     let octets : (get_or c.self.inside.payloads.items.items c.self.inside.first empty).items ≡ c.as_slice.result.now =
-    ap (λ (payload : ArrayVec ℕ). payload.items) (get_or_default c.self.inside.payloads.items.items c.self.inside.first empty c.index.result.now below ∙ sym c.index.ensures)
+    ap (λ (payload : ArrayVec ℕ). payload.items) (get_or_default c.self.inside.payloads.items.items c.self.inside.first empty c.index.result.now below
+    ∙ sym c.index.ensures)
     ∙ sym c.as_slice.ensures.value in
     ap (λ (q : Queued). slice_get q.pdus 0) (sym c.self.view_is)
     ∙ front_is _ _ _ _ c.self.invariant some

@@ -9,7 +9,8 @@ use Rattle.le_acl.proofs.pdus.Pdus.queue.Goals as goal
 
 pub invariant_of-self : goal.invariant_of-self
 invariant_of-self c =
-    let has_room : c.self.inside.count < 16 = omega (arith, c.requires.room, count_is _ _ _ _ c.self.invariant, ap (λ (q : Queued). length q.pdus) c.self.view_is) in
+    let has_room : c.self.inside.count < 16 =
+    omega (arith, c.requires.room, count_is _ _ _ _ c.self.invariant, ap (λ (q : Queued). length q.pdus) c.self.view_is) in
     let header : Header = record { channel = c.args.channel; len = length c.args.front.now + length c.args.rest.now } in
     let long = c.lengthen.new.payload in
     let out = c.write_front.new.out in
@@ -17,11 +18,19 @@ invariant_of-self c =
     let written : ArrayVec ℕ = with_items long out in
     let all : written.items ≡ out = take_at out (drop (length out) long.items) (length long.items) same in
     ring-push _ _ _ _ (ring-written _ _ _ _ c.self.invariant written has_room) header has_room
-    (omega (arith, c.requires.fits, c.lengthen.ensures, same, ap length all, ap (λ (q : Queued). length q.room) (room_is _ _ _ _ c.self.invariant written has_room)))
+    (omega (
+      arith,
+      c.requires.fits,
+      c.lengthen.ensures,
+      same,
+      ap length all,
+      ap (λ (q : Queued). length q.room) (room_is _ _ _ _ c.self.invariant written has_room),
+    ))
 
 pub returns : goal.returns
 returns c =
-    let has_room : c.self.inside.count < 16 = omega (arith, c.requires.room, count_is _ _ _ _ c.self.invariant, ap (λ (q : Queued). length q.pdus) c.self.view_is) in
+    let has_room : c.self.inside.count < 16 =
+    omega (arith, c.requires.room, count_is _ _ _ _ c.self.invariant, ap (λ (q : Queued). length q.pdus) c.self.view_is) in
     let count = length c.args.front.now + length c.args.rest.now in
     let header : Header = record { channel = c.args.channel; len = count } in
     let long = c.lengthen.new.payload in

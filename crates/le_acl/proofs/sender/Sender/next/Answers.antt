@@ -15,6 +15,8 @@ returns-clause-given c =
     let some : 0 < c.self.inside.acl_len = omega (arith, c.self.invariant.size_least) in
     let P : Sending → Type 0 = λ sending. option_map (acl_octets c.args.handle) (next_of sending.outgoing.queue) ≡ Some c.match-at.out.items in
     subst P c.self.view_is (elim c.match-at.branch [
-      | in-Beginning w ↦ gives_first _ _ _ pdu c.in-Some.ensures.front some left _ _ _ w.in-Beginning.ensures.fragment (ap (λ out. out.items) w.out-is ∙ w.write_acl_parts.ensures)
-      | in-Continuation w ↦ gives_first _ _ _ pdu c.in-Some.ensures.front some left _ _ _ w.in-Continuation.ensures.fragment (ap (λ out. out.items) w.out-is ∙ w.write_acl_parts-in-Continuation.ensures)
+      | in-Beginning w ↦ gives_first _ _ _ pdu c.in-Some.ensures.front some left _ _ _ w.in-Beginning.ensures.fragment
+          (ap (λ out. out.items) w.out-is ∙ w.write_acl_parts.ensures)
+      | in-Continuation w ↦ gives_first _ _ _ pdu c.in-Some.ensures.front some left _ _ _ w.in-Continuation.ensures.fragment
+          (ap (λ out. out.items) w.out-is ∙ w.write_acl_parts-in-Continuation.ensures)
     ])

@@ -17,7 +17,8 @@ returns-clause-given c =
     let P : Sending → Type 0 = λ sending. option_map (acl_octets c.args.handle) (next_of sending.outgoing.queue) ≡ Some c.match-at.out in
     subst P c.self.view_is (elim c.match-at.branch [
       | in-Beginning w ↦ gives_first _ _ _ pdu c.in-Some.ensures.first some left _ _ _ w.in-Beginning.ensures.fragment (w.out-is ∙ w.acl.ensures)
-      | in-Continuation w ↦ gives_first _ _ _ pdu c.in-Some.ensures.first some left _ _ _ w.in-Continuation.ensures.fragment (w.out-is ∙ w.acl-in-Continuation.ensures)
+      | in-Continuation w ↦ gives_first _ _ _ pdu c.in-Some.ensures.first some left _ _ _ w.in-Continuation.ensures.fragment
+          (w.out-is ∙ w.acl-in-Continuation.ensures)
     ])
 
 pub returns-then-frame_len-self-clause-given : goal.returns-then-frame_len-self-clause-given
@@ -26,7 +27,8 @@ returns-then-frame_len-self-clause-given c =
     let left : c.self.inside.gone < length (frame_octets pdu) = not_all_gone _ _ _ pdu c.in-Some.ensures.first c.self.invariant.within in
     let some : 0 < c.self.inside.acl_len = omega (arith, c.self.invariant.size_least) in
     let none : c.self.inside.gone ≡ 0 = omega (arith, c.if-self-eq0.true) in
-    let fits : length (frame_octets pdu) ≤ c.self.inside.acl_len = omega (arith, c.if-frame_len-self.true, c.in-Some.ensures.within, length-take-le c.in-Some.pdu.len c.in-Some.pdu.octets.now c.in-Some.ensures.within) in
+    let fits : length (frame_octets pdu) ≤ c.self.inside.acl_len =
+    omega (arith, c.if-frame_len-self.true, c.in-Some.ensures.within, length-take-le c.in-Some.pdu.len c.in-Some.pdu.octets.now c.in-Some.ensures.within) in
     let P : Sending → Type 0 = λ sending. option_map (acl_octets c.args.handle) (next_of sending.outgoing.queue) ≡ Some c.acl_front.new.self in
     subst P c.self.view_is (gives_first c.self.inside.acl_len c.self.inside.gone _ pdu c.in-Some.ensures.first some left c.args.handle _ _
     (ap Beginning c.header_of-header.ensures ∙ whole_first c.self.inside.acl_len c.self.inside.gone pdu none fits) c.acl_front.ensures)

@@ -16,7 +16,8 @@ pub returns-in_err-take_octet-clause-stops : goal.returns-in_err-take_octet-clau
 returns-in_err-take_octet-clause-stops g c number h =
     let said = same_fault c.take_octet.result c.from_residual.result _ (NotHex number) c.in_err-take_octet.was c.from_residual.ensures.1 h in
     let i = c.loop-octet.octet-index in
-    let P : List ℕ → Type 0 = λ octets. StopsAt c.args.self.now octets number (g.W.Write.contents c.args.writer.now) (g.W.Write.contents c.take_octet.new.writer) in
+    let P : List ℕ → Type 0 =
+    λ octets. StopsAt c.args.self.now octets number (g.W.Write.contents c.args.writer.now) (g.W.Write.contents c.take_octet.new.writer) in
     subst P (cut_at c.args.octets.now i c.loop-octet-test.true)
     (stops_after _ _ _ _ (drop (i + 1) c.args.octets.now) number _ _ _ c.loop-octet.invariant.passed (c.take_octet.ensures.stops number said))
 
@@ -24,7 +25,8 @@ pub returns-in_err-take_octet-clause-breaks_off : goal.returns-in_err-take_octet
 returns-in_err-take_octet-clause-breaks_off g c h =
     let said = same_fault c.take_octet.result c.from_residual.result _ Unwritten c.in_err-take_octet.was c.from_residual.ensures.1 h in
     let i = c.loop-octet.octet-index in
-    let P : List ℕ → Type 0 = λ octets. BreaksOffPrinting c.args.self.now octets (g.W.Write.contents c.args.writer.now) (g.W.Write.contents c.take_octet.new.writer) in
+    let P : List ℕ → Type 0 =
+    λ octets. BreaksOffPrinting c.args.self.now octets (g.W.Write.contents c.args.writer.now) (g.W.Write.contents c.take_octet.new.writer) in
     subst P (cut_at c.args.octets.now i c.loop-octet-test.true)
     (break_after _ _ _ _ (drop (i + 1) c.args.octets.now) _ _ _ c.loop-octet.invariant.passed (c.take_octet.ensures.breaks_off said))
 

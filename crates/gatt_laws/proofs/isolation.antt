@@ -1,0 +1,14 @@
+pub mod AlikeHearing
+pub mod AnswersAlike
+pub mod ChangersAlike
+pub mod ChangesAlike
+pub mod EffectsAlike
+pub mod HiddenItems
+pub mod NothingCrosses
+pub mod OwnQueues
+pub mod Renaming
+pub mod SameRun
+pub mod SameView
+pub mod TwoWorlds
+pub mod ViewOfOthers
+pub mod ViewOfOwn

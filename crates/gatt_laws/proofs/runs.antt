@@ -1,0 +1,14 @@
+pub mod Always
+pub mod Ends
+pub mod Inputs
+pub mod ItemEvents
+pub mod KeptByChanges
+pub mod Meant
+pub mod Named
+pub mod NextConnections
+pub mod Places
+pub mod Runs
+pub mod Silence
+pub mod Steady
+pub mod Streams
+pub mod Unfinished
