@@ -1,5 +1,5 @@
 pub mod Alone
 pub mod Beginning
 pub mod Capturing
-pub mod Course
+pub mod Calls
 pub mod Example

@@ -1,4 +1,4 @@
 pub mod Capture
-pub mod Course
+pub mod Calls
 pub mod Packet
 pub mod Record

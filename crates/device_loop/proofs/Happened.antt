@@ -333,8 +333,3 @@ goes_as count old new at come comes knows before after holds heard hears hearing
     (subst (λ (it : Option Octets). Goes count old new come comes before it heard hearing counted counting) (sym third)
     (subst (λ (it : Option (List Received)). Goes count old new come comes before after heard it counted counting) (sym fourth)
     (subst (λ (it : Option ℕ). Goes count old new come comes before after heard hears counted it) (sym fifth) goes))))
-
--- none was counted before what is counted at the end
-pub counts_at_end : (fails : Bool) (before mid now : Option ℕ) → CountsNone before mid → CountsIf fails mid now → CountsIf fails before now
-counts_at_end true before mid now first second = counts_one before mid now first second
-counts_at_end false before mid now first second = counts_none before mid now first second

@@ -1,13 +1,13 @@
 //! Serves a host its events.
 
-ghost use Rattle.std.specs.Prelude.{◌≡◌, ◌∷◌, [], true, None, Some, IsSome, IsOk, IfErr};
+ghost use Rattle.std.specs.Prelude.{◌≡◌, ◌∷◌, [], true, None, IsSome, IfSome};
+ghost use Rattle.std.specs.Result.{result_err};
 ghost use Rattle.gatt_host.specs.Calls.{call_of};
-ghost use Rattle.gatt_host.specs.Feeding.{is_of_feeding, is_write_fault, Feeds, WritesAllThatIsDue};
+ghost use Rattle.gatt_host.specs.Feeding.{is_of_feeding, Processes, Settles};
 ghost use Rattle.gatt_host.specs.Listening.{Listens};
-ghost use Rattle.gatt_host.specs.Promises.{KeepsConnectionsApart, KeepsThePolicy};
+ghost use Rattle.gatt_host.specs.Promises.{ContinuesApart, ContinuesByThePolicy};
 ghost use Rattle.gatt_host.specs.HostModel.{all_out, fault_outcome};
 ghost use Rattle.gatt_laws.specs.machine.Input.{ACall};
-ghost use Rattle.octet_io.specs.Stream.{CountsIf};
 ghost use Rattle.device_loop.specs.Serving.{known, RecordsTheAnswer, ServesDevice};
 ghost use Rattle.device_loop.specs.Time.{KeepsTheTime};
 
@@ -46,21 +46,20 @@ pub fn serve_happenings<H: Happenings, W: Sink, L: Listener>(
         (known (H.octets happenings.old) (H.calls happenings.old) (H.history happenings.old))
         (known (H.octets happenings.new) (H.calls happenings.new) (H.history happenings.new))
         (W.contents out.old) (W.contents out.new) (L.heard listener.old) (L.heard listener.new) }
-    ensures going_on { IsOk result → host.new.fault ≡ None }
-    ensures fault { IfErr result (λ fault. host.new.fault ≡ Some fault) }
+    ensures settles { host.old.fault ≡ None
+        → Settles host.new (W.failures out.old) (W.failures out.new) }
     ensures feeding { host.old.fault ≡ None
-        → IfErr result (λ fault. is_of_feeding fault ≡ true) }
-    ensures out { IsOk result → all_out host.new ≡ true }
-    ensures due { host.old.fault ≡ None → WritesAllThatIsDue host.new.fault host.new }
-    ensures failures { host.old.fault ≡ None
-        → CountsIf (is_write_fault host.new.fault) (W.failures out.old) (W.failures out.new) }
+        → IfSome host.new.fault (λ fault. is_of_feeding fault ≡ true) }
+    ensures outcome { host.new.fault ≡ result_err result }
     ensures stopped { IsSome host.old.fault → host.new ≡ host.old }
     ensures happenings_stopped { IsSome host.old.fault → happenings.new ≡ happenings.old }
     ensures sink_stopped { IsSome host.old.fault → out.new ≡ out.old }
     ensures listener_stopped { IsSome host.old.fault → listener.new ≡ listener.old }
+    ensures policy { ContinuesByThePolicy host.old host.new (W.contents out.old)
+        (W.contents out.new) }
+    ensures apart { ContinuesApart host.old host.new (W.contents out.old)
+        (W.contents out.new) }
     // For every start and input:
-    ensures policy { KeepsThePolicy }
-    ensures apart { KeepsConnectionsApart }
     ensures time { KeepsTheTime }
 {
     serve_turns(host, happenings, out, listener, turns)
@@ -78,14 +77,11 @@ fn serve_turns<H: Happenings, W: Sink, L: Listener>(
         (known (H.octets happenings.old) (H.calls happenings.old) (H.history happenings.old))
         (known (H.octets happenings.new) (H.calls happenings.new) (H.history happenings.new))
         (W.contents out.old) (W.contents out.new) (L.heard listener.old) (L.heard listener.new) }
-    ensures going_on { IsOk result → host.new.fault ≡ None }
-    ensures fault { IfErr result (λ fault. host.new.fault ≡ Some fault) }
+    ensures settles { host.old.fault ≡ None
+        → Settles host.new (W.failures out.old) (W.failures out.new) }
     ensures feeding { host.old.fault ≡ None
-        → IfErr result (λ fault. is_of_feeding fault ≡ true) }
-    ensures out { IsOk result → all_out host.new ≡ true }
-    ensures due { host.old.fault ≡ None → WritesAllThatIsDue host.new.fault host.new }
-    ensures failures { host.old.fault ≡ None
-        → CountsIf (is_write_fault host.new.fault) (W.failures out.old) (W.failures out.new) }
+        → IfSome host.new.fault (λ fault. is_of_feeding fault ≡ true) }
+    ensures outcome { host.new.fault ≡ result_err result }
     ensures stopped { IsSome host.old.fault → host.new ≡ host.old }
     ensures happenings_stopped { IsSome host.old.fault → happenings.new ≡ happenings.old }
     ensures sink_stopped { IsSome host.old.fault → out.new ≡ out.old }
@@ -114,8 +110,8 @@ fn take_call<H: Happenings, W: Sink, L: Listener>(
 ) -> Result<(), HostFault>
     requires none { host.old.fault ≡ None }
     requires drained { all_out host.old ≡ true }
-    ensures feeds { Feeds (ACall (call_of call.entry) ∷ []) host.old host.new
-        (W.contents out.old) (W.contents out.new) host.new.fault }
+    ensures processes { Processes (ACall (call_of call.entry) ∷ []) host.old host.new
+        (W.contents out.old) (W.contents out.new) (W.failures out.old) (W.failures out.new) }
     ensures heard { Listens (ACall (call_of call.entry) ∷ []) host.old host.new host.new.fault
         (L.heard listener.old) (L.heard listener.new) }
     ensures answer { RecordsTheAnswer (call_of call.entry) host.old
@@ -123,11 +119,6 @@ fn take_call<H: Happenings, W: Sink, L: Listener>(
     ensures octets { H.octets happenings.new ≡ H.octets happenings.old }
     ensures calls { H.calls happenings.new ≡ H.calls happenings.old }
     ensures outcome { result ≡ fault_outcome host.new.fault }
-    ensures feeding { IfErr result (λ fault. is_of_feeding fault ≡ true) }
-    ensures out { IsOk result → all_out host.new ≡ true }
-    ensures due { WritesAllThatIsDue host.new.fault host.new }
-    ensures failures { CountsIf (is_write_fault host.new.fault) (W.failures out.old)
-        (W.failures out.new) }
 {
     let answer = host.app(call);
     happenings.answered(answer);

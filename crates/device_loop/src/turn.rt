@@ -1,10 +1,9 @@
 //! One turn of a device: an event, then saving, and only then sending.
 
-ghost use Rattle.std.specs.Prelude.{◌≡◌, true, None, Some, IsSome, IsOk, IfErr, option_map};
-ghost use Rattle.gatt_host.specs.Feeding.{is_of_feeding, is_write_fault, WritesAllThatIsDue};
-ghost use Rattle.gatt_host.specs.HostModel.{all_out};
+ghost use Rattle.std.specs.Prelude.{◌≡◌, true, None, Some, IsSome, IfSome, option_map};
+ghost use Rattle.std.specs.Result.{result_err};
+ghost use Rattle.gatt_host.specs.Feeding.{is_of_feeding, Settles};
 ghost use Rattle.octet_io.specs.Number.{Octets};
-ghost use Rattle.octet_io.specs.Stream.{CountsIf};
 ghost use Rattle.device_loop.specs.Outside.{octets_to_send, waits_after};
 ghost use Rattle.device_loop.specs.Serving.{known};
 ghost use Rattle.device_loop.specs.Turn.{StaysInOrder, TakesATurn};
@@ -42,14 +41,11 @@ pub fn serve_turn<O: Outside<L>, W: Outgoing, L: Listener>(
         (known (O.octets outside.new) (O.calls outside.new) (O.history outside.new))
         (W.contents out.old) (W.contents out.new) (L.heard listener.old) (L.heard listener.new) }
     ensures order { StaysInOrder host.old (O.history outside.old) (O.history outside.new) }
-    ensures going_on { IsOk result.served → host.new.fault ≡ None }
-    ensures fault { IfErr result.served (λ fault. host.new.fault ≡ Some fault) }
+    ensures settles { host.old.fault ≡ None
+        → Settles host.new (W.failures out.old) (W.failures out.new) }
     ensures feeding { host.old.fault ≡ None
-        → IfErr result.served (λ fault. is_of_feeding fault ≡ true) }
-    ensures out { IsOk result.served → all_out host.new ≡ true }
-    ensures due { host.old.fault ≡ None → WritesAllThatIsDue host.new.fault host.new }
-    ensures failures { host.old.fault ≡ None
-        → CountsIf (is_write_fault host.new.fault) (W.failures out.old) (W.failures out.new) }
+        → IfSome host.new.fault (λ fault. is_of_feeding fault ≡ true) }
+    ensures outcome { host.new.fault ≡ result_err result.served }
     ensures stopped { IsSome host.old.fault → host.new ≡ host.old }
 {
     let served = serve_happenings(host, outside, out, listener, 1);

@@ -53,8 +53,14 @@ module _ (shows : Bool) (names : List Octets) (act : Act) (refused : Option Refu
       → IsExchangeFault fault → FailsToExchange fault heard acted new held holds → IfErr result (λ fault. EndsAtLine fault shows names act old new held holds)
   ends_exchanging result fault was is fails =
       passed_on result fault (λ fault. EndsAtLine fault shows names act old new held holds) was
-      (record { refused = refused; acted = acted; heard = heard; done = done; fails = fails-exchanging fault shows names refused heard acted new held holds is
-      fails })
+      (record {
+        refused = refused;
+        acted = acted;
+        heard = heard;
+        done = done;
+        fails = fails-exchanging fault shows names refused heard acted new held holds is
+            fails;
+      })
 
   pub runs_line : (result : Result (Unit {0}) ShellFault) (quiet : Simulated) (last : Notes)
       → ExchangesAll (pair_of acted.host acted.sim heard) (pair_of new.host quiet last) → last.is_refused ≡ false → new.next ≡ acted.next
@@ -108,7 +114,7 @@ module _ (shown left : Shown) (names : List Octets) (acts : List Act) (index : �
       → RunsNext left names act now next between holds
       → HasRun shown (shown_of left.notices lines) names acts (drop (index + 1) acts) old next held holds
   run_more lines are_left next holds line =
-  subst (λ (lines : List Octets). HasRun shown (shown_of left.notices lines) names acts (drop (index + 1) acts) old next held holds)
+      subst (λ (lines : List Octets). HasRun shown (shown_of left.notices lines) names acts (drop (index + 1) acts) old next held holds)
       (sym are_left) (record {
         all = λ new last runs.
             so_far.all new last (subst (λ (rest : List Act). Runs left names rest now new between last) next-line (next, holds, line, runs));

@@ -3,13 +3,13 @@
 ghost use Rattle.std.specs.Prelude.{◌≡◌, ◌≢◌, ◌⊎◌, ℕ, is_some, Err, IfErr, IfSome, IsOk};
 ghost use Rattle.std.specs.Option.{option_map};
 ghost use Rattle.scripts.specs.declared.script_fault.ScriptFault.TheVariants.{BadLine};
-ghost use Rattle.shell_files.specs.KeyFile.{keys_in, KeysAreRefusedAs};
+ghost use Rattle.shell_files.specs.KeyFile.{keys_out_of_memory, keys_in, KeysAreRefusedAs};
 ghost use Rattle.gatt_commands.specs.Faults.{IsRunCommandFault, IsScriptRunFault};
 ghost use Rattle.gatt_commands.specs.Loop.{ClosesTheLoop};
-ghost use Rattle.shell_files.specs.RowsFile.{rows_in, RowsAreRefusedAs};
+ghost use Rattle.shell_files.specs.RowsFile.{rows_out_of_memory, rows_in, RowsAreRefusedAs};
 ghost use Rattle.gatt_commands.specs.Runs.{RunsFile, RunsFiles, ShowsNothingUnasked, files_of};
 ghost use Rattle.shell_files.specs.ScriptFile.{script_in};
-ghost use Rattle.shell_files.specs.TableFile.{table_in, TableIsRefusedAs};
+ghost use Rattle.shell_files.specs.TableFile.{table_out_of_memory, table_in, TableIsRefusedAs};
 ghost use Rattle.shell_files.specs.Turns.{IsPast, OfTable, OfNext, OfKeys, OfRows, OfScript};
 
 use crate::opening::open_host;
@@ -39,16 +39,15 @@ pub fn run_script<T: Read, N: Read, K: Read, R: Read, S: Read, V: RowsStore, W: 
     shows: Shows,
     writer: &mut W,
 ) -> Result<(), ShellFault>
-    // A table, key or subscriptions file is refused by the number of its first fault; 10, 8 and 4
-    // are those of refused memory.
-    ensures table { (number : ℕ) → result ≡ Err (ShellFault.Table number) → number ≢ 10
+    // A file is refused by the number of its first fault, or by that of refused memory.
+    ensures table { (number : ℕ) → result ≡ Err (ShellFault.Table number) → number ≢ table_out_of_memory
         → IfSome (T.remaining table.old) (λ octets. TableIsRefusedAs number (table_in octets)) }
-    ensures next { (number : ℕ) → result ≡ Err (ShellFault.Next number) → number ≢ 10
+    ensures next { (number : ℕ) → result ≡ Err (ShellFault.Next number) → number ≢ table_out_of_memory
         → IfSome next.old (λ file. IfSome (N.remaining file)
         (λ octets. TableIsRefusedAs number (table_in octets))) }
-    ensures keys { (number : ℕ) → result ≡ Err (ShellFault.Keys number) → number ≢ 8
+    ensures keys { (number : ℕ) → result ≡ Err (ShellFault.Keys number) → number ≢ keys_out_of_memory
         → IfSome (K.remaining keys.old) (λ octets. KeysAreRefusedAs number (keys_in octets)) }
-    ensures rows { (number : ℕ) → result ≡ Err (ShellFault.Rows number) → number ≢ 4
+    ensures rows { (number : ℕ) → result ≡ Err (ShellFault.Rows number) → number ≢ rows_out_of_memory
         → IfSome (R.remaining rows.old) (λ octets. RowsAreRefusedAs number (rows_in octets)) }
     ensures script { (line : ℕ) → result ≡ Err (ShellFault.Script line)
         → IfSome (S.remaining script.old)

@@ -2,11 +2,11 @@
 
 ghost use Rattle.std.specs.Prelude.{◌≡◌, ◌≢◌, ℕ, None, Err, IfErr, IfOk, IfSome};
 ghost use Rattle.gatt_subs.specs.RowsText.{rows_text};
-ghost use Rattle.shell_files.specs.KeyFile.{keys_in, KeysAreRefusedAs};
+ghost use Rattle.shell_files.specs.KeyFile.{keys_out_of_memory, keys_in, KeysAreRefusedAs};
 ghost use Rattle.gatt_commands.specs.Opening.{IsOpenedWithFiles};
-ghost use Rattle.shell_files.specs.RowsFile.{rows_in, RowsAreRefusedAs};
+ghost use Rattle.shell_files.specs.RowsFile.{rows_out_of_memory, rows_in, RowsAreRefusedAs};
 ghost use Rattle.gatt_commands.specs.Serving.{fault_told_of, IsOpeningFault, IsOutcomeOf, IsServeFault, IsServedFault, SavesBy, ServesBy, ServesStream};
-ghost use Rattle.shell_files.specs.TableFile.{table_in, TableIsRefusedAs};
+ghost use Rattle.shell_files.specs.TableFile.{table_out_of_memory, table_in, TableIsRefusedAs};
 
 use crate::opening::open_host;
 use gatt_host::{Host, serve};
@@ -147,13 +147,12 @@ fn open_files<T: Read, K: Read, R: Read>(
 ) -> Result<Host, ShellFault>
     ensures opened { IfOk result
         (IsOpenedWithFiles (T.remaining table.old) (K.remaining keys.old) (R.remaining rows.old)) }
-    // A table, key or subscriptions file is refused by the number of its first fault; 10, 8 and 4
-    // are those of refused memory.
-    ensures table { (number : ℕ) → result ≡ Err (ShellFault.Table number) → number ≢ 10
+    // A file is refused by the number of its first fault, or by that of refused memory.
+    ensures table { (number : ℕ) → result ≡ Err (ShellFault.Table number) → number ≢ table_out_of_memory
         → IfSome (T.remaining table.old) (λ octets. TableIsRefusedAs number (table_in octets)) }
-    ensures keys { (number : ℕ) → result ≡ Err (ShellFault.Keys number) → number ≢ 8
+    ensures keys { (number : ℕ) → result ≡ Err (ShellFault.Keys number) → number ≢ keys_out_of_memory
         → IfSome (K.remaining keys.old) (λ octets. KeysAreRefusedAs number (keys_in octets)) }
-    ensures rows { (number : ℕ) → result ≡ Err (ShellFault.Rows number) → number ≢ 4
+    ensures rows { (number : ℕ) → result ≡ Err (ShellFault.Rows number) → number ≢ rows_out_of_memory
         → IfSome (R.remaining rows.old) (λ octets. RowsAreRefusedAs number (rows_in octets)) }
     ensures faults { IfErr result IsOpeningFault }
 {

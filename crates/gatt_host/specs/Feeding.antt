@@ -1,7 +1,8 @@
 -- The input that a call processes, and the output that it writes.
-use Rattle.std.specs.Prelude.{◌≡◌, ℕ, ◌+◌, ◌-◌, ◌*◌, ◌<◌, ◌≤◌, length, IsOk, IfErr, IfOk, Bool, true, false, is_some, List, [], ◌∷◌, ◌++◌, map, take, if◌then◌else◌, Option, Some, None, Result, Ok, Err}
+use Rattle.std.specs.Prelude.{◌≡◌, ℕ, ◌+◌, ◌-◌, ◌*◌, ◌<◌, ◌≤◌, length, is_ok, IsOk, IfOk, IfSome, Bool, true, false, is_some, List, [], ◌∷◌, ◌++◌, map, take, if◌then◌else◌, Option, Some, None, Result, Ok, Err}
 use Rattle.std.specs.Io.KnownBytes.{Appends, Consumes, IsAtEnd}
 use Rattle.std.specs.List.{flat_map}
+use Rattle.std.specs.Result.{result_err}
 use Rattle.gatt_host.specs.Calls.{call_of}
 use Rattle.gatt_host.specs.declared.driving.Input.{Input}
 use Rattle.gatt_host.specs.declared.driving.Input.TheVariants as input
@@ -66,17 +67,19 @@ abbrev pub is_read_fault : Option HostFault → Bool
 is_read_fault (Some stop.Read) = true
 is_read_fault fault = false
 
--- How the fault, the result and the output of a call with these items go together: unless the
--- writer fails, it writes everything that was pending; after `Ok` nothing is pending; the reader
--- and the turns cause no fault; and a failure of the writer is counted.
-pub record Processes {A : Type 0} (items : List Item) (old new : HostModel)
-    (result : Result A HostFault) (before after : Option Octets)
+-- A call ends: nothing is pending, or the host has stopped; all output of the run has been sent,
+-- unless the writer failed; and exactly that failure is counted.
+pub record Settles (host : HostModel) (failed failed' : Option ℕ) : Type 0 where
+  pub out : all_out host ≡ true
+  pub due : WritesAllThatIsDue host.fault host
+  pub failures : CountsIf (is_write_fault host.fault) failed failed'
+
+-- A call processes these items and writes their output.
+pub record Processes (items : List Item) (old new : HostModel) (before after : Option Octets)
     (failed failed' : Option ℕ) : Type 0 where
   pub feeds : Feeds items old new before after new.fault
-  pub out : IsOk result → all_out new ≡ true
-  pub due : WritesAllThatIsDue new.fault new
-  pub feeding : IfErr result (λ fault. is_of_feeding fault ≡ true)
-  pub failures : CountsIf (is_write_fault new.fault) failed failed'
+  pub feeding : IfSome new.fault (λ fault. is_of_feeding fault ≡ true)
+  pub settles : Settles new failed failed'
 
 abbrev pub octet_items : Octets → List Item
 octet_items octets = map AnOctet octets
@@ -141,11 +144,14 @@ pub record Serves (result : Result End HostFault) (turns : ℕ) (old new : HostM
   pub ended : IfOk result (λ (end : End). (0 < end.turns) × IsReadIn (end.turns - 1) read)
   pub over : result ≡ Err stop.Turns → IsReadIn turns read
 
--- A call makes at most `turns` reads, and exactly that many if it returns `Turns`.
-pub record Reads (result : Result End HostFault) (turns : ℕ) (before after : Option ℕ) : Type 0
-  where
-    pub made : ℕ
-    pub counted : CountsMany made before after
-    pub most : made ≤ turns
-    pub told : IfOk result (λ (end : End). end.turns ≡ made)
-    pub over : result ≡ Err stop.Turns → made ≡ turns
+-- A call makes at most `turns` reads, and exactly that many if it returns `Turns`. It finds the end
+-- once if it returns `Ok`, and a read fails exactly if it returns `Read`.
+pub record Reads (result : Result End HostFault) (turns : ℕ)
+    (reads reads' found found' failed failed' : Option ℕ) : Type 0 where
+  pub made : ℕ
+  pub counted : CountsMany made reads reads'
+  pub most : made ≤ turns
+  pub told : IfOk result (λ (end : End). end.turns ≡ made)
+  pub over : result ≡ Err stop.Turns → made ≡ turns
+  pub ends : CountsIf (is_ok result) found found'
+  pub failures : CountsIf (is_read_fault (result_err result)) failed failed'

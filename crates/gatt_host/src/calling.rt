@@ -1,15 +1,14 @@
 //! One call of the application, and the packets that it causes.
 
-ghost use Rattle.std.specs.Prelude.{◌≡◌, ◌∷◌, [], None, IsSome, IsOk, IfErr, IfOk, true};
+ghost use Rattle.std.specs.Prelude.{◌≡◌, ◌∷◌, [], None, IsSome, IfOk, true};
 ghost use Rattle.std.specs.Result.{result_err};
 ghost use Rattle.gatt_host.specs.Calls.{call_of};
 ghost use Rattle.gatt_host.specs.Calling.{fault_told, Answers, IsCallRefusedAs};
-ghost use Rattle.gatt_host.specs.Feeding.{is_write_fault, Feeds, WritesAllThatIsDue};
+ghost use Rattle.gatt_host.specs.Feeding.{Processes};
 ghost use Rattle.gatt_host.specs.Listening.{Listens};
-ghost use Rattle.gatt_host.specs.Promises.{KeepsConnectionsApart, KeepsThePolicy};
+ghost use Rattle.gatt_host.specs.Promises.{ContinuesApart, ContinuesByThePolicy};
 ghost use Rattle.gatt_host.specs.HostModel.{all_out};
 ghost use Rattle.gatt_laws.specs.machine.Input.{ACall};
-ghost use Rattle.octet_io.specs.Stream.{CountsIf};
 
 use crate::fault::Fault;
 use crate::feeding::{feed, write_out};
@@ -25,21 +24,18 @@ use octet_io::Sink;
 /// Returns `Fault::Call` if the host refuses the call, which then changes nothing. Returns
 /// `Fault::Host` if the writer fails or the host had stopped before.
 pub fn call<W: Sink>(host: &mut Host, call: App<'_>, out: &mut W) -> Result<(), Fault>
-    ensures feeds { host.old.fault ≡ None
-        → Feeds (ACall (call_of call.entry) ∷ []) host.old host.new (W.contents out.old)
-        (W.contents out.new) host.new.fault }
+    ensures processes { host.old.fault ≡ None
+        → Processes (ACall (call_of call.entry) ∷ []) host.old host.new (W.contents out.old)
+        (W.contents out.new) (W.failures out.old) (W.failures out.new) }
     ensures answers { host.old.fault ≡ None
         → Answers (call_of call.entry) host.old host.new.fault result }
     ensures outcome { fault_told result ≡ host.new.fault }
-    ensures out { all_out host.new ≡ true }
-    ensures due { host.old.fault ≡ None → WritesAllThatIsDue host.new.fault host.new }
-    ensures failures { host.old.fault ≡ None
-        → CountsIf (is_write_fault host.new.fault) (W.failures out.old) (W.failures out.new) }
     ensures stopped { IsSome host.old.fault → host.new ≡ host.old }
     ensures sink_stopped { IsSome host.old.fault → out.new ≡ out.old }
-    // For every start and input:
-    ensures policy { KeepsThePolicy }
-    ensures apart { KeepsConnectionsApart }
+    ensures policy { ContinuesByThePolicy host.old host.new (W.contents out.old)
+        (W.contents out.new) }
+    ensures apart { ContinuesApart host.old host.new (W.contents out.old)
+        (W.contents out.new) }
 {
     call_to(host, call, out, &mut Nobody)
 }
@@ -52,24 +48,22 @@ pub fn call_to<W: Sink, L: Listener>(
     out: &mut W,
     listener: &mut L,
 ) -> Result<(), Fault>
-    ensures feeds { host.old.fault ≡ None
-        → Feeds (ACall (call_of call.entry) ∷ []) host.old host.new (W.contents out.old)
-        (W.contents out.new) host.new.fault }
+    ensures processes { host.old.fault ≡ None
+        → Processes (ACall (call_of call.entry) ∷ []) host.old host.new (W.contents out.old)
+        (W.contents out.new) (W.failures out.old) (W.failures out.new) }
     ensures heard { host.old.fault ≡ None
         → Listens (ACall (call_of call.entry) ∷ []) host.old host.new host.new.fault
         (L.heard listener.old) (L.heard listener.new) }
     ensures answers { host.old.fault ≡ None
         → Answers (call_of call.entry) host.old host.new.fault result }
     ensures outcome { fault_told result ≡ host.new.fault }
-    ensures out { all_out host.new ≡ true }
-    ensures due { host.old.fault ≡ None → WritesAllThatIsDue host.new.fault host.new }
-    ensures failures { host.old.fault ≡ None
-        → CountsIf (is_write_fault host.new.fault) (W.failures out.old) (W.failures out.new) }
     ensures stopped { IsSome host.old.fault → host.new ≡ host.old }
     ensures sink_stopped { IsSome host.old.fault → out.new ≡ out.old }
     ensures listener_stopped { IsSome host.old.fault → listener.new ≡ listener.old }
-    ensures policy { KeepsThePolicy }
-    ensures apart { KeepsConnectionsApart }
+    ensures policy { ContinuesByThePolicy host.old host.new (W.contents out.old)
+        (W.contents out.new) }
+    ensures apart { ContinuesApart host.old host.new (W.contents out.old)
+        (W.contents out.new) }
 {
     feed(host, &[], out)?;
     do_call(host, call, out, listener)?.map_err(Fault::Call)
@@ -84,16 +78,11 @@ pub(crate) fn do_call<W: Sink, L: Listener>(
 ) -> Result<Result<(), AppFault>, HostFault>
     requires none { host.old.fault ≡ None }
     requires drained { all_out host.old ≡ true }
-    ensures feeds { Feeds (ACall (call_of call.entry) ∷ []) host.old host.new (W.contents out.old)
-        (W.contents out.new) host.new.fault }
+    ensures processes { Processes (ACall (call_of call.entry) ∷ []) host.old host.new
+        (W.contents out.old) (W.contents out.new) (W.failures out.old) (W.failures out.new) }
     ensures heard { Listens (ACall (call_of call.entry) ∷ []) host.old host.new host.new.fault
         (L.heard listener.old) (L.heard listener.new) }
     ensures fault { host.new.fault ≡ result_err result }
-    ensures write { IfErr result (λ fault. fault ≡ HostFault.Write) }
-    ensures out { IsOk result → all_out host.new ≡ true }
-    ensures due { WritesAllThatIsDue host.new.fault host.new }
-    ensures failures { CountsIf (is_write_fault host.new.fault) (W.failures out.old)
-        (W.failures out.new) }
     ensures refused { IfOk result
         (λ answer. IsCallRefusedAs (call_of call.entry) host.old answer) }
 {

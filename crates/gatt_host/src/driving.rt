@@ -1,12 +1,11 @@
 //! Processes a list of bytes and calls, and writes the packets that follow.
 
-ghost use Rattle.std.specs.Prelude.{◌≡◌, None, IsSome, IsOk, IfErr, IfOk, Some, true, if◌then◌else◌};
+ghost use Rattle.std.specs.Prelude.{◌≡◌, None, IsSome, IfOk, Some, true, if◌then◌else◌};
 ghost use Rattle.std.specs.Result.{result_err};
-ghost use Rattle.gatt_host.specs.Feeding.{is_of_feeding, input_items, is_write_fault, items_of, CountsRefused, Feeds, Processes, WritesAllThatIsDue};
+ghost use Rattle.gatt_host.specs.Feeding.{input_items, items_of, CountsRefused, Processes};
 ghost use Rattle.gatt_host.specs.Listening.{Listens};
-ghost use Rattle.gatt_host.specs.Promises.{KeepsConnectionsApart, KeepsThePolicy};
+ghost use Rattle.gatt_host.specs.Promises.{ContinuesApart, ContinuesByThePolicy};
 ghost use Rattle.gatt_host.specs.HostModel.{all_out};
-ghost use Rattle.octet_io.specs.Stream.{CountsIf};
 
 use crate::calling::do_call;
 use crate::feeding::{feed_to, write_out};
@@ -35,16 +34,16 @@ pub fn drive<W: Sink>(
     out: &mut W,
 ) -> Result<usize, HostFault>
     ensures processes { host.old.fault ≡ None
-        → Processes (items_of inputs.now) host.old host.new result (W.contents out.old)
+        → Processes (items_of inputs.now) host.old host.new (W.contents out.old)
         (W.contents out.new) (W.failures out.old) (W.failures out.new) }
-    ensures outcome { IfErr result (λ fault. host.new.fault ≡ Some fault) }
-    ensures going_on { IsOk result → host.new.fault ≡ None }
+    ensures outcome { host.new.fault ≡ result_err result }
     ensures refused { IfOk result (λ count. CountsRefused count (items_of inputs.now) host.old) }
     ensures stopped { IsSome host.old.fault → host.new ≡ host.old }
     ensures sink_stopped { IsSome host.old.fault → out.new ≡ out.old }
-    // For every start and input:
-    ensures policy { KeepsThePolicy }
-    ensures apart { KeepsConnectionsApart }
+    ensures policy { ContinuesByThePolicy host.old host.new (W.contents out.old)
+        (W.contents out.new) }
+    ensures apart { ContinuesApart host.old host.new (W.contents out.old)
+        (W.contents out.new) }
 {
     drive_to(host, inputs, out, &mut Nobody)
 }
@@ -58,19 +57,20 @@ pub fn drive_to<W: Sink, L: Listener>(
     listener: &mut L,
 ) -> Result<usize, HostFault>
     ensures processes { host.old.fault ≡ None
-        → Processes (items_of inputs.now) host.old host.new result (W.contents out.old)
+        → Processes (items_of inputs.now) host.old host.new (W.contents out.old)
         (W.contents out.new) (W.failures out.old) (W.failures out.new) }
     ensures heard { host.old.fault ≡ None
         → Listens (items_of inputs.now) host.old host.new host.new.fault (L.heard listener.old)
         (L.heard listener.new) }
-    ensures outcome { IfErr result (λ fault. host.new.fault ≡ Some fault) }
-    ensures going_on { IsOk result → host.new.fault ≡ None }
+    ensures outcome { host.new.fault ≡ result_err result }
     ensures refused { IfOk result (λ count. CountsRefused count (items_of inputs.now) host.old) }
     ensures stopped { IsSome host.old.fault → host.new ≡ host.old }
     ensures sink_stopped { IsSome host.old.fault → out.new ≡ out.old }
     ensures listener_stopped { IsSome host.old.fault → listener.new ≡ listener.old }
-    ensures policy { KeepsThePolicy }
-    ensures apart { KeepsConnectionsApart }
+    ensures policy { ContinuesByThePolicy host.old host.new (W.contents out.old)
+        (W.contents out.new) }
+    ensures apart { ContinuesApart host.old host.new (W.contents out.old)
+        (W.contents out.new) }
 {
     match host.fault {
         Some(fault) => Err(fault),
@@ -86,12 +86,11 @@ fn drive_all<W: Sink, L: Listener>(
     listener: &mut L,
 ) -> Result<usize, HostFault>
     requires none { host.old.fault ≡ None }
-    ensures processes { Processes (items_of inputs.now) host.old host.new result
+    ensures processes { Processes (items_of inputs.now) host.old host.new
         (W.contents out.old) (W.contents out.new) (W.failures out.old) (W.failures out.new) }
     ensures heard { Listens (items_of inputs.now) host.old host.new host.new.fault
         (L.heard listener.old) (L.heard listener.new) }
-    ensures outcome { IfErr result (λ fault. host.new.fault ≡ Some fault) }
-    ensures going_on { IsOk result → host.new.fault ≡ None }
+    ensures outcome { host.new.fault ≡ result_err result }
     ensures refused { IfOk result (λ count. CountsRefused count (items_of inputs.now) host.old) }
 {
     write_out(host, out)?;
@@ -113,16 +112,11 @@ fn take_input<W: Sink, L: Listener>(
 ) -> Result<bool, HostFault>
     requires none { host.old.fault ≡ None }
     requires drained { all_out host.old ≡ true }
-    ensures feeds { Feeds (input_items input.now) host.old host.new (W.contents out.old)
-        (W.contents out.new) host.new.fault }
+    ensures processes { Processes (input_items input.now) host.old host.new
+        (W.contents out.old) (W.contents out.new) (W.failures out.old) (W.failures out.new) }
     ensures heard { Listens (input_items input.now) host.old host.new host.new.fault
         (L.heard listener.old) (L.heard listener.new) }
     ensures fault { host.new.fault ≡ result_err result }
-    ensures feeding { IfErr result (λ fault. is_of_feeding fault ≡ true) }
-    ensures out { IsOk result → all_out host.new ≡ true }
-    ensures due { WritesAllThatIsDue host.new.fault host.new }
-    ensures failures { CountsIf (is_write_fault host.new.fault) (W.failures out.old)
-        (W.failures out.new) }
     ensures refused { IfOk result
         (λ refused. CountsRefused (if refused then 1 else 0) (input_items input.now) host.old) }
 {

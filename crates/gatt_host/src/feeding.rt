@@ -1,14 +1,14 @@
 //! Processes the controller's stream and writes the packets that follow.
 
-ghost use Rattle.std.specs.Prelude.{◌≡◌, [], true, None, Some, IsSome, IsOk, IfErr, Err};
+ghost use Rattle.std.specs.Prelude.{◌≡◌, [], true, false, None, Some, IsSome, IsOk, IfErr, Err};
 ghost use Rattle.std.specs.Result.{result_err};
-ghost use Rattle.gatt_host.specs.Feeding.{is_of_feeding, octet_items, is_write_fault, Feeds, Processes, WritesAllThatIsDue};
+ghost use Rattle.gatt_host.specs.Feeding.{octet_items, is_write_fault, Feeds, Processes, Settles};
 ghost use Rattle.gatt_host.specs.GoingOut.{is_drained};
 ghost use Rattle.gatt_host.specs.ServerState.{OwesPacketsAlone, open_slots};
 ghost use Rattle.gatt_host.specs.Meaning.{Frames};
 ghost use Rattle.gatt_host.specs.Listening.{Listens};
-ghost use Rattle.gatt_host.specs.Promises.{KeepsConnectionsApart, KeepsThePolicy};
-ghost use Rattle.gatt_host.specs.HostModel.{all_out, going, is_own_fault, fault_outcome, write_outcome, IsStateOfOne};
+ghost use Rattle.gatt_host.specs.Promises.{ContinuesApart, ContinuesByThePolicy};
+ghost use Rattle.gatt_host.specs.HostModel.{going, is_own_fault, fault_outcome, write_outcome, IsStateOfOne};
 ghost use Rattle.le_h4.specs.Deframer.{Deframing};
 ghost use Rattle.octet_io.specs.Stream.{CountsIf};
 
@@ -25,14 +25,15 @@ use octet_io::{Sink, write_all};
 /// the next is processed. After a fault it returns that fault and changes nothing.
 pub fn feed<W: Sink>(host: &mut Host, octets: &[u8], out: &mut W) -> Result<(), HostFault>
     ensures processes { host.old.fault ≡ None
-        → Processes (octet_items octets.now) host.old host.new result (W.contents out.old)
+        → Processes (octet_items octets.now) host.old host.new (W.contents out.old)
         (W.contents out.new) (W.failures out.old) (W.failures out.new) }
     ensures outcome { result ≡ fault_outcome host.new.fault }
     ensures stopped { IsSome host.old.fault → host.new ≡ host.old }
     ensures sink_stopped { IsSome host.old.fault → out.new ≡ out.old }
-    // For every start and input:
-    ensures policy { KeepsThePolicy }
-    ensures apart { KeepsConnectionsApart }
+    ensures policy { ContinuesByThePolicy host.old host.new (W.contents out.old)
+        (W.contents out.new) }
+    ensures apart { ContinuesApart host.old host.new (W.contents out.old)
+        (W.contents out.new) }
 {
     feed_to(host, octets, out, &mut Nobody)
 }
@@ -46,7 +47,7 @@ pub fn feed_to<W: Sink, L: Listener>(
     listener: &mut L,
 ) -> Result<(), HostFault>
     ensures processes { host.old.fault ≡ None
-        → Processes (octet_items octets.now) host.old host.new result (W.contents out.old)
+        → Processes (octet_items octets.now) host.old host.new (W.contents out.old)
         (W.contents out.new) (W.failures out.old) (W.failures out.new) }
     ensures heard { host.old.fault ≡ None
         → Listens (octet_items octets.now) host.old host.new host.new.fault (L.heard listener.old)
@@ -55,8 +56,10 @@ pub fn feed_to<W: Sink, L: Listener>(
     ensures stopped { IsSome host.old.fault → host.new ≡ host.old }
     ensures sink_stopped { IsSome host.old.fault → out.new ≡ out.old }
     ensures listener_stopped { IsSome host.old.fault → listener.new ≡ listener.old }
-    ensures policy { KeepsThePolicy }
-    ensures apart { KeepsConnectionsApart }
+    ensures policy { ContinuesByThePolicy host.old host.new (W.contents out.old)
+        (W.contents out.new) }
+    ensures apart { ContinuesApart host.old host.new (W.contents out.old)
+        (W.contents out.new) }
 {
     if let Some(fault) = host.fault {
         return Err(fault);
@@ -71,7 +74,7 @@ fn feed_all<W: Sink, L: Listener>(
     listener: &mut L,
 ) -> Result<(), HostFault>
     requires none { host.old.fault ≡ None }
-    ensures processes { Processes (octet_items octets.now) host.old host.new result
+    ensures processes { Processes (octet_items octets.now) host.old host.new
         (W.contents out.old) (W.contents out.new) (W.failures out.old) (W.failures out.new) }
     ensures heard { Listens (octet_items octets.now) host.old host.new host.new.fault
         (L.heard listener.old) (L.heard listener.new) }
@@ -109,10 +112,7 @@ pub(crate) fn write_out<W: Sink>(host: &mut Host, out: &mut W) -> Result<(), Hos
         (W.contents out.new) host.new.fault }
     ensures fault { result ≡ fault_outcome host.new.fault }
     ensures write { IfErr result (λ fault. fault ≡ HostFault.Write) }
-    ensures out { IsOk result → all_out host.new ≡ true }
-    ensures due { WritesAllThatIsDue host.new.fault host.new }
-    ensures failures { CountsIf (is_write_fault host.new.fault) (W.failures out.old)
-        (W.failures out.new) }
+    ensures settles { Settles host.new (W.failures out.old) (W.failures out.new) }
 {
     let written = write_owed(&mut host.server, &mut host.packet, out);
     if written.is_err() {
@@ -140,11 +140,11 @@ fn write_owed<W: Sink>(
     if server.may_have_command() {
         write_outcome(write_in_order(server, packet, out))
     } else {
-        write_outcome(write_packets(server, packet, out))
+        write_outcome(write_packets::<false, W>(server, packet, out))
     }
 }
 
-/// Writes all pending packets, commands included. Returns false if the sink fails.
+/// Writes all pending packets, commands included. Separate function: this is rare.
 #[cold]
 #[inline(never)]
 fn write_in_order<W: Sink>(server: &mut Server, packet: &mut PacketBuf, out: &mut W) -> bool
@@ -158,20 +158,19 @@ fn write_in_order<W: Sink>(server: &mut Server, packet: &mut PacketBuf, out: &mu
     ensures failures { CountsIf (is_write_fault (result_err (write_outcome result)))
         (W.failures out.old) (W.failures out.new) }
 {
-    while server.next_out(packet) {
-        if write_all(packet.as_slice(), out).is_err() {
-            return false;
-        }
-    }
-    true
+    write_packets::<true, W>(server, packet, out)
 }
 
-/// Writes all packets of connections if no command is pending: sending a packet creates none.
-/// Returns false if the sink fails.
+/// Writes all pending packets. Without `COMMANDS`, no command is pending: sending a packet creates
+/// none. Returns false if the sink fails.
 #[inline(always)]
-fn write_packets<W: Sink>(server: &mut Server, packet: &mut PacketBuf, out: &mut W) -> bool
+fn write_packets<const COMMANDS: bool, W: Sink>(
+    server: &mut Server,
+    packet: &mut PacketBuf,
+    out: &mut W,
+) -> bool
     requires one { IsStateOfOne server.old }
-    requires packets { OwesPacketsAlone server.old }
+    requires packets { COMMANDS ≡ false → OwesPacketsAlone server.old }
     ensures feeds { (frames : Frames) (stream : Deframing)
         → Feeds [] (going server.old frames stream)
         (record (going server.new frames stream) { fault = result_err (write_outcome result) })
@@ -181,7 +180,7 @@ fn write_packets<W: Sink>(server: &mut Server, packet: &mut PacketBuf, out: &mut
     ensures failures { CountsIf (is_write_fault (result_err (write_outcome result)))
         (W.failures out.old) (W.failures out.new) }
 {
-    while server.next_packet(packet) {
+    while server.next_pending::<COMMANDS>(packet) {
         if write_all(packet.as_slice(), out).is_err() {
             return false;
         }

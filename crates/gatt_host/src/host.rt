@@ -20,7 +20,7 @@ ghost use Rattle.gatt_host.specs.ServerState.{after_out, next_packet_out, open_s
 ghost use Rattle.gatt_host.specs.Notices.{notice_of, HasTheValue};
 ghost use Rattle.gatt_host.specs.Packet.{frames_after_any, frames_after_octets};
 ghost use Rattle.gatt_host.specs.StateRefinement.{rows_of};
-ghost use Rattle.gatt_host.specs.Promises.{KeepsConnectionsApart, KeepsThePolicy};
+ghost use Rattle.gatt_host.specs.Promises.{ContinuesApart, ContinuesByThePolicy};
 ghost use Rattle.gatt_host.specs.HostModel.{all_out, is_own_fault, fault_outcome, Refines, RefinesRun, Takes};
 ghost use Rattle.gatt_host.specs.Telling.{notices_told, silent, TellsOf, TellsOfAll};
 ghost use Rattle.host_connections.specs.Slots.{slots_deadline};
@@ -151,9 +151,8 @@ impl Host {
         ensures not_own { self.old.fault ≡ None
             → IfErr result (λ fault. is_own_fault fault ≡ false) }
         ensures stopped { IsSome self.old.fault → self.new ≡ self.old }
-        // For every start and input:
-        ensures policy { KeepsThePolicy }
-        ensures apart { KeepsConnectionsApart }
+        ensures policy { ContinuesByThePolicy self.old self.new None None }
+        ensures apart { ContinuesApart self.old self.new None None }
     {
         if let Some(fault) = self.fault {
             return Err(fault);
@@ -186,8 +185,8 @@ impl Host {
             → IfErr result (λ fault. is_own_fault fault ≡ false) }
         ensures server { OnErr result (self.new.server ≡ self.old.server) }
         ensures stopped { IsSome self.old.fault → self.new ≡ self.old }
-        ensures policy { KeepsThePolicy }
-        ensures apart { KeepsConnectionsApart }
+        ensures policy { ContinuesByThePolicy self.old self.new None None }
+        ensures apart { ContinuesApart self.old self.new None None }
     {
         if let Some(fault) = self.fault {
             return Err(fault);
@@ -210,8 +209,8 @@ impl Host {
         ensures frames { self.new.frames ≡ self.old.frames }
         ensures fault { self.new.fault ≡ self.old.fault }
         ensures unchanged { OnErr result (self.new ≡ silent self.old) }
-        ensures policy { KeepsThePolicy }
-        ensures apart { KeepsConnectionsApart }
+        ensures policy { ContinuesByThePolicy self.old self.new None None }
+        ensures apart { ContinuesApart self.old self.new None None }
     {
         if self.fault.is_some() {
             return Err(AppFault::Stopped);
@@ -234,8 +233,8 @@ impl Host {
         ensures frames { self.new.frames ≡ self.old.frames }
         ensures fault { self.new.fault ≡ self.old.fault }
         ensures unchanged { OnErr result (self.new ≡ silent self.old) }
-        ensures policy { KeepsThePolicy }
-        ensures apart { KeepsConnectionsApart }
+        ensures policy { ContinuesByThePolicy self.old self.new None None }
+        ensures apart { ContinuesApart self.old self.new None None }
     {
         if self.fault.is_some() {
             return Err((AppFault::Stopped, table));
@@ -249,7 +248,6 @@ impl Host {
     pub fn notices(&self) -> Notices<'_>
         ensures told { result.notices ≡ notices_told self.now }
         ensures table { result.table ≡ self.now.server.table }
-        // For every start and input:
         ensures laws { TellsTheApplication }
     {
         Notices {

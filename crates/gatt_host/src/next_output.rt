@@ -1,6 +1,6 @@
 //! The next output of the whole host state.
 
-ghost use Rattle.std.specs.Prelude.{◌≡◌, ◌≤◌, is_some, length, take, true, Some, None, IfSome};
+ghost use Rattle.std.specs.Prelude.{◌≡◌, ◌≤◌, is_some, length, take, true, false, Some, None, IfSome};
 ghost use Rattle.std.specs.Bool.{OnFalse, OnTrue};
 ghost use Rattle.gatt_host.specs.GoingOut.{is_drained};
 ghost use Rattle.gatt_host.specs.ServerState.{open_slots, next_packet_out, after_out, OwesPacketsAlone};
@@ -50,6 +50,23 @@ impl Server {
         ensures out_unchanged { OnFalse result (out.new ≡ out.old) }
     {
         packet_out(&mut self.slots, out)
+    }
+
+    /// Does the same as `next_out`. Without `COMMANDS`, no command may be pending.
+    #[inline(always)]
+    pub(crate) fn next_pending<const COMMANDS: bool>(&mut self, out: &mut PacketBuf) -> bool
+        requires { COMMANDS ≡ false → OwesPacketsAlone self.old }
+        ensures some { result ≡ is_some (next_packet_out self.old) }
+        ensures octets { OnTrue result (next_packet_out self.old ≡ Some out.new) }
+        ensures after { self.new ≡ after_out self.old }
+        ensures packets { COMMANDS ≡ false → OwesPacketsAlone self.new }
+        ensures unchanged { OnFalse result (self.new ≡ self.old) }
+    {
+        if COMMANDS {
+            self.next_out(out)
+        } else {
+            self.next_packet(out)
+        }
     }
 
     /// Writes the next packet to the start of `out` and returns its length; a command goes through

@@ -1,12 +1,13 @@
 //! Serves a controller through a reader and a writer.
 
-ghost use Rattle.std.specs.Prelude.{◌≡◌, ◌≤◌, ◌==◌, [], is_ok, length, None, Some, IsSome, IsOk, IfErr, IfOk, OnErr, true};
+ghost use Rattle.std.specs.Prelude.{◌≡◌, ◌≤◌, ◌==◌, [], length, None, Some, IsSome, IfOk, OnErr};
+ghost use Rattle.std.specs.Result.{result_err};
 ghost use Rattle.std.specs.Io.KnownBytes.{Consumes, IsAtEnd, Keeps};
-ghost use Rattle.gatt_host.specs.Feeding.{is_read_fault, is_write_fault, Reads, Serves, WritesAllThatIsDue};
+ghost use Rattle.gatt_host.specs.Feeding.{Reads, Serves, Settles};
 ghost use Rattle.gatt_host.specs.ServerState.{without_notices};
 ghost use Rattle.gatt_host.specs.Listening.{ListensServing};
-ghost use Rattle.gatt_host.specs.Promises.{KeepsConnectionsApart, KeepsThePolicy};
-ghost use Rattle.gatt_host.specs.HostModel.{all_out, Takes};
+ghost use Rattle.gatt_host.specs.Promises.{ContinuesApart, ContinuesByThePolicy};
+ghost use Rattle.gatt_host.specs.HostModel.{Takes};
 ghost use Rattle.gatt_laws.specs.machine.Input.{TheEnd};
 ghost use Rattle.octet_io.specs.Stream.{CountsFailure, CountsIf, CountsNone, CountsOne};
 
@@ -42,25 +43,19 @@ pub fn serve<R: Source, W: Sink>(
     ensures serves { host.old.fault ≡ None
         → Serves result turns host.old host.new (R.remaining reader.old) (R.remaining reader.new)
         (W.contents writer.old) (W.contents writer.new) }
-    ensures going_on { IsOk result → host.new.fault ≡ None }
-    ensures out { IsOk result → all_out host.new ≡ true }
-    ensures due { host.old.fault ≡ None → WritesAllThatIsDue host.new.fault host.new }
-    ensures fault { IfErr result (λ fault. host.new.fault ≡ Some fault) }
+    ensures settles { host.old.fault ≡ None
+        → Settles host.new (W.failures writer.old) (W.failures writer.new) }
     ensures reads { host.old.fault ≡ None
-        → Reads result turns (R.reads reader.old) (R.reads reader.new) }
-    ensures ends { host.old.fault ≡ None
-        → CountsIf (is_ok result) (R.ends reader.old) (R.ends reader.new) }
-    ensures read_failures { host.old.fault ≡ None
-        → CountsIf (is_read_fault host.new.fault) (R.failures reader.old)
-        (R.failures reader.new) }
-    ensures write_failures { host.old.fault ≡ None
-        → CountsIf (is_write_fault host.new.fault) (W.failures writer.old)
-        (W.failures writer.new) }
+        → Reads result turns (R.reads reader.old) (R.reads reader.new) (R.ends reader.old)
+        (R.ends reader.new) (R.failures reader.old) (R.failures reader.new) }
+    ensures outcome { host.new.fault ≡ result_err result }
     ensures stopped { IsSome host.old.fault → host.new ≡ host.old }
     ensures reader_stopped { IsSome host.old.fault → reader.new ≡ reader.old }
     ensures writer_stopped { IsSome host.old.fault → writer.new ≡ writer.old }
-    ensures policy { KeepsThePolicy }
-    ensures apart { KeepsConnectionsApart }
+    ensures policy { ContinuesByThePolicy host.old host.new (W.contents writer.old)
+        (W.contents writer.new) }
+    ensures apart { ContinuesApart host.old host.new (W.contents writer.old)
+        (W.contents writer.new) }
 {
     serve_to(host, reader, writer, turns, &mut Nobody)
 }
@@ -80,26 +75,20 @@ pub fn serve_to<R: Source, W: Sink, L: Listener>(
     ensures heard { host.old.fault ≡ None
         → ListensServing host.old host.new (R.remaining reader.old) (R.remaining reader.new)
         (L.heard listener.old) (L.heard listener.new) }
-    ensures going_on { IsOk result → host.new.fault ≡ None }
-    ensures out { IsOk result → all_out host.new ≡ true }
-    ensures due { host.old.fault ≡ None → WritesAllThatIsDue host.new.fault host.new }
-    ensures fault { IfErr result (λ fault. host.new.fault ≡ Some fault) }
+    ensures settles { host.old.fault ≡ None
+        → Settles host.new (W.failures writer.old) (W.failures writer.new) }
     ensures reads { host.old.fault ≡ None
-        → Reads result turns (R.reads reader.old) (R.reads reader.new) }
-    ensures ends { host.old.fault ≡ None
-        → CountsIf (is_ok result) (R.ends reader.old) (R.ends reader.new) }
-    ensures read_failures { host.old.fault ≡ None
-        → CountsIf (is_read_fault host.new.fault) (R.failures reader.old)
-        (R.failures reader.new) }
-    ensures write_failures { host.old.fault ≡ None
-        → CountsIf (is_write_fault host.new.fault) (W.failures writer.old)
-        (W.failures writer.new) }
+        → Reads result turns (R.reads reader.old) (R.reads reader.new) (R.ends reader.old)
+        (R.ends reader.new) (R.failures reader.old) (R.failures reader.new) }
+    ensures outcome { host.new.fault ≡ result_err result }
     ensures stopped { IsSome host.old.fault → host.new ≡ host.old }
     ensures reader_stopped { IsSome host.old.fault → reader.new ≡ reader.old }
     ensures writer_stopped { IsSome host.old.fault → writer.new ≡ writer.old }
     ensures listener_stopped { IsSome host.old.fault → listener.new ≡ listener.old }
-    ensures policy { KeepsThePolicy }
-    ensures apart { KeepsConnectionsApart }
+    ensures policy { ContinuesByThePolicy host.old host.new (W.contents writer.old)
+        (W.contents writer.new) }
+    ensures apart { ContinuesApart host.old host.new (W.contents writer.old)
+        (W.contents writer.new) }
 {
     match host.fault {
         Some(fault) => Err(fault),
@@ -120,16 +109,10 @@ fn serve_all<R: Source, W: Sink, L: Listener>(
         (R.remaining reader.new) (W.contents writer.old) (W.contents writer.new) }
     ensures heard { ListensServing host.old host.new (R.remaining reader.old)
         (R.remaining reader.new) (L.heard listener.old) (L.heard listener.new) }
-    ensures going_on { IsOk result → host.new.fault ≡ None }
-    ensures out { IsOk result → all_out host.new ≡ true }
-    ensures due { WritesAllThatIsDue host.new.fault host.new }
-    ensures fault { IfErr result (λ fault. host.new.fault ≡ Some fault) }
-    ensures reads { Reads result turns (R.reads reader.old) (R.reads reader.new) }
-    ensures ends { CountsIf (is_ok result) (R.ends reader.old) (R.ends reader.new) }
-    ensures read_failures { CountsIf (is_read_fault host.new.fault) (R.failures reader.old)
-        (R.failures reader.new) }
-    ensures write_failures { CountsIf (is_write_fault host.new.fault) (W.failures writer.old)
-        (W.failures writer.new) }
+    ensures settles { Settles host.new (W.failures writer.old) (W.failures writer.new) }
+    ensures reads { Reads result turns (R.reads reader.old) (R.reads reader.new)
+        (R.ends reader.old) (R.ends reader.new) (R.failures reader.old) (R.failures reader.new) }
+    ensures outcome { host.new.fault ≡ result_err result }
 {
     write_out(host, writer)?;
     let mut octets = [0; TURN];

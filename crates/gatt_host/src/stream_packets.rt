@@ -51,7 +51,7 @@ pub(crate) fn take(host: &mut Host, octets: &[u8]) -> Result<usize, HostFault>
 fn take_in(
     server: &mut Server,
     frames: &mut Frames,
-    deframer: &mut Deframer,
+    stream: &mut Deframer,
     octets: &[u8],
 ) -> Result<usize, HostFault>
     requires of_table { IsOfItsTable server.old }
@@ -106,7 +106,7 @@ fn take_in(
 #[inline(always)]
 fn lent_or_marked<'a>(
     lent: Option<WholePacket<'a>>,
-    deframer: &'a Deframer,
+    stream: &'a Deframer,
     used: usize,
 ) -> WholePacket<'a>
     requires { lent ≡ None → IsSome stream.now.marked }

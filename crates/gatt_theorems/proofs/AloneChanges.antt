@@ -270,8 +270,21 @@ module _ (ordinal : Ordinal) (peer : Peer) (hidden : Handle → Bool) (state : S
     to_notify = refl;
   }
   change-same (Credit allowed opcode status (Some init)) kept hides named spares spares_too =
-  record { state = record { shared = refl; values = same; bonds = refl; owed = owes; owed_too = owes_too; own = own; others = rest; slots = refl; next = refl;
-  controller = refl }; to_notify = refl }
+      record {
+        state = record {
+          shared = refl;
+          values = same;
+          bonds = refl;
+          owed = owes;
+          owed_too = owes_too;
+          own = own;
+          others = rest;
+          slots = refl;
+          next = refl;
+          controller = refl;
+        };
+        to_notify = refl;
+      }
   change-same (Update handle value) kept hides named spares spares_too = record {
     state = record {
       shared = refl;

@@ -8,6 +8,7 @@ pub mod Front
 pub mod Gained
 pub mod GainedBefore
 pub mod HearerTold
+pub mod InRuns
 pub mod Promise
 pub mod Standing
 pub mod Stopping

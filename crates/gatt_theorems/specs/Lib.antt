@@ -4,6 +4,7 @@ pub mod Crossing
 pub mod FirstCase
 pub mod Front
 pub mod Gained
+pub mod InRuns
 pub mod Promise
 pub mod Standing
 pub mod Stopping

@@ -11,4 +11,4 @@ pub mod PdusLends
 pub mod Reassembler
 pub mod SenderLends
 pub mod Sending
-pub mod Quotas
+pub mod Shares

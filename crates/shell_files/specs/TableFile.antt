@@ -1,6 +1,7 @@
 -- The faults of table files.
 use Rattle.std.specs.Prelude.{◌≡◌, ◌≢◌, ℕ, Option, Some, None, Result, Ok, Err, IfSome}
 use Rattle.att_table.specs.declared.table_fault.TableFault.{TableFault}
+use Rattle.att_table.specs.declared.table_fault.TableFault.TheVariants.{OutOfMemory}
 use Rattle.att_table.specs.Table.{Contents}
 use Rattle.att_table.specs.TableFault.{table_fault_number}
 pub use Rattle.att_table.specs.file.TableFile.{table_in}
@@ -8,13 +9,17 @@ use Rattle.octet_io.specs.Number.{Octets}
 use Rattle.shell_files.specs.declared.fault.ShellFault.{ShellFault}
 use Rattle.shell_files.specs.declared.fault.ShellFault.TheVariants.{Table, Next, Unreadable, Memory}
 
+-- The number of a table file for which memory was refused.
+abbrev pub table_out_of_memory : ℕ
+table_out_of_memory = table_fault_number OutOfMemory
+
 abbrev pub TableIsRefusedAs : ℕ → Result Contents TableFault → Type 0
 TableIsRefusedAs number (Ok table) = ⊥
 TableIsRefusedAs number (Err fault) = number ≡ table_fault_number fault
 
--- A table file is refused for its first fault or for refused memory (10).
+-- A table file is refused for its first fault or for refused memory.
 abbrev pub IsTableRefusal : Octets → ShellFault → Type 0
-IsTableRefusal octets (Table number) = number ≢ 10 → TableIsRefusedAs number (table_in octets)
+IsTableRefusal octets (Table number) = number ≢ table_out_of_memory → TableIsRefusedAs number (table_in octets)
 IsTableRefusal octets _ = ⊥
 
 abbrev pub IsTableFileFault : ShellFault → Type 0

@@ -3,8 +3,8 @@
 ghost use Rattle.std.specs.Prelude.{◌≡◌, ◌≢◌, ◌++◌, ℕ, IfErr, IfSome, IsOk, OnOk};
 ghost use Rattle.std.specs.Io.KnownBytes.{Appends, Keeps};
 ghost use Rattle.shell_files.specs.Check.{AreCounted, IsCheckFault, attributes_line, keys_line};
-ghost use Rattle.shell_files.specs.KeyFile.{keys_in, KeysAreRefusedAs};
-ghost use Rattle.shell_files.specs.TableFile.{table_in, TableIsRefusedAs};
+ghost use Rattle.shell_files.specs.KeyFile.{keys_out_of_memory, keys_in, KeysAreRefusedAs};
+ghost use Rattle.shell_files.specs.TableFile.{table_out_of_memory, table_in, TableIsRefusedAs};
 
 use crate::fault::{ShellFault, push_numbered};
 use crate::key_file::read_keys;
@@ -29,13 +29,11 @@ pub fn check_files<T: Read, K: Read, W: Write>(
 ) -> Result<(), ShellFault>
     ensures ok { OnOk result (AreCounted (T.remaining table.old) (K.remaining keys.old)
         (W.contents writer.old) (W.contents writer.new)) }
-    // 10 is refused memory.
-    ensures table { (number : ℕ) → result ≡ Err (ShellFault.Table number) → number ≢ 10
+    ensures table { (number : ℕ) → result ≡ Err (ShellFault.Table number) → number ≢ table_out_of_memory
         → IfSome (T.remaining table.old) (λ octets. TableIsRefusedAs number (table_in octets)) }
     ensures keys_unread { (number : ℕ) → result ≡ Err (ShellFault.Table number)
         → keys.new ≡ keys.old }
-    // 8 is refused memory.
-    ensures keys { (number : ℕ) → result ≡ Err (ShellFault.Keys number) → number ≢ 8
+    ensures keys { (number : ℕ) → result ≡ Err (ShellFault.Keys number) → number ≢ keys_out_of_memory
         → IfSome (K.remaining keys.old) (λ octets. KeysAreRefusedAs number (keys_in octets)) }
     ensures table_first { (number : ℕ) → result ≡ Err (ShellFault.Keys number)
         → IfSome (T.remaining table.old) (λ octets. IsOk (table_in octets)) }

@@ -1,7 +1,7 @@
 //! Key files as inputs.
 
 ghost use Rattle.std.specs.Prelude.{◌≡◌, ◌≢◌, ◌≤◌, ℕ, length, IfErr, IfOk, IfSome};
-ghost use Rattle.shell_files.specs.KeyFile.{keys_in, KeysAreRefusedAs, IsKeyRefusal, IsKeyFileFault};
+ghost use Rattle.shell_files.specs.KeyFile.{keys_out_of_memory, keys_in, KeysAreRefusedAs, IsKeyRefusal, IsKeyFileFault};
 ghost use Rattle.shell_files.specs.declared.input.TheConstants.{TOML_OCTETS};
 
 use crate::fault::ShellFault;
@@ -14,7 +14,7 @@ use std::io::Read;
 pub fn read_keys<R: Read>(alloc: Global, reader: &mut R) -> Result<Keys, ShellFault>
     ensures keys { IfOk result
         (λ keys. IfSome (R.remaining reader.old) (λ octets. keys_in octets ≡ Ok keys)) }
-    ensures refused { (number : ℕ) → result ≡ Err (ShellFault.Keys number) → number ≢ 8
+    ensures refused { (number : ℕ) → result ≡ Err (ShellFault.Keys number) → number ≢ keys_out_of_memory
         → IfSome (R.remaining reader.old) (λ octets. KeysAreRefusedAs number (keys_in octets)) }
     ensures faults { IfErr result IsKeyFileFault }
 {

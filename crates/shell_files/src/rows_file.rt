@@ -1,7 +1,7 @@
 //! Subscriptions files as inputs.
 
 ghost use Rattle.std.specs.Prelude.{◌≡◌, ◌≢◌, ℕ, IfErr, IfOk, IfSome};
-ghost use Rattle.shell_files.specs.RowsFile.{rows_in, RowsAreRefusedAs, IsRowsRefusal, IsRowsFileFault};
+ghost use Rattle.shell_files.specs.RowsFile.{rows_out_of_memory, rows_in, RowsAreRefusedAs, IsRowsRefusal, IsRowsFileFault};
 
 use crate::fault::ShellFault;
 use crate::input;
@@ -13,7 +13,7 @@ use std::io::Read;
 pub fn read_rows<R: Read>(alloc: Global, reader: &mut R) -> Result<Rows, ShellFault>
     ensures rows { IfOk result
         (λ rows. IfSome (R.remaining reader.old) (λ octets. rows_in octets ≡ Ok rows)) }
-    ensures refused { (number : ℕ) → result ≡ Err (ShellFault.Rows number) → number ≢ 4
+    ensures refused { (number : ℕ) → result ≡ Err (ShellFault.Rows number) → number ≢ rows_out_of_memory
         → IfSome (R.remaining reader.old) (λ octets. RowsAreRefusedAs number (rows_in octets)) }
     ensures faults { IfErr result IsRowsFileFault }
 {

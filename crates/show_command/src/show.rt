@@ -3,10 +3,10 @@
 ghost use Rattle.std.specs.Prelude.{◌≡◌, ◌≢◌, ℕ, IfErr, IfOk, IfSome, IsOk, OnOk, is_some};
 ghost use Rattle.std.specs.Io.KnownBytes.{Keeps};
 ghost use Rattle.std.specs.Option.{option_map};
-ghost use Rattle.shell_files.specs.KeyFile.{keys_in, KeysAreRefusedAs, IsKeyFileFault, IsKeyRefusal};
-ghost use Rattle.shell_files.specs.RowsFile.{rows_in, RowsAreRefusedAs, IsRowsFileFault};
+ghost use Rattle.shell_files.specs.KeyFile.{keys_out_of_memory, keys_in, KeysAreRefusedAs, IsKeyFileFault, IsKeyRefusal};
+ghost use Rattle.shell_files.specs.RowsFile.{rows_out_of_memory, rows_in, RowsAreRefusedAs, IsRowsFileFault};
 ghost use Rattle.show_command.specs.Show.{AreShown, HasHolders, IsShowFault, TellsHoldersOf};
-ghost use Rattle.shell_files.specs.TableFile.{table_in, TableIsRefusedAs, IsTableFileFault};
+ghost use Rattle.shell_files.specs.TableFile.{table_out_of_memory, table_in, TableIsRefusedAs, IsTableFileFault};
 ghost use Rattle.shell_files.specs.Turns.{IsPast, OfKeys, OfRows, OfTable};
 
 use att_table::Table;
@@ -37,13 +37,13 @@ pub fn show_files<T: Read, K: Read, R: Read, W: Write>(
 ) -> Result<(), ShellFault>
     ensures ok { OnOk result (AreShown (T.remaining table.old) (option_map K.remaining keys.old)
         (W.contents writer.old) (W.contents writer.new)) }
-    // Refused memory is fault 10 of a table file, 8 of a key file and 4 of a subscriptions file.
-    ensures table { (number : ℕ) → result ≡ Err (ShellFault.Table number) → number ≢ 10
+    // A file is refused by the number of its first fault, or by that of refused memory.
+    ensures table { (number : ℕ) → result ≡ Err (ShellFault.Table number) → number ≢ table_out_of_memory
         → IfSome (T.remaining table.old) (λ octets. TableIsRefusedAs number (table_in octets)) }
-    ensures keys { (number : ℕ) → result ≡ Err (ShellFault.Keys number) → number ≢ 8
+    ensures keys { (number : ℕ) → result ≡ Err (ShellFault.Keys number) → number ≢ keys_out_of_memory
         → IfSome keys.old (λ file. IfSome (K.remaining file)
         (λ octets. KeysAreRefusedAs number (keys_in octets))) }
-    ensures rows { (number : ℕ) → result ≡ Err (ShellFault.Rows number) → number ≢ 4
+    ensures rows { (number : ℕ) → result ≡ Err (ShellFault.Rows number) → number ≢ rows_out_of_memory
         → IfSome (R.remaining rows.old) (λ octets. RowsAreRefusedAs number (rows_in octets)) }
     // The files are accepted in the order table, keys, rows; only then is the output written.
     ensures table_first { IsPast OfTable result
@@ -79,7 +79,7 @@ fn read_table_at<R: Read>(
 ) -> Result<Table, ShellFault>
     ensures table { IfOk result
         (λ table. IfSome (R.remaining reader.old) (λ octets. table_in octets ≡ Ok table)) }
-    ensures refused { (number : ℕ) → result ≡ Err (ShellFault.Table number) → number ≢ 10
+    ensures refused { (number : ℕ) → result ≡ Err (ShellFault.Table number) → number ≢ table_out_of_memory
         → IfSome (R.remaining reader.old) (λ octets. TableIsRefusedAs number (table_in octets)) }
     ensures place { IsOk result → place.new ≡ place.old }
     ensures faults { IfErr result IsTableFileFault }
@@ -134,7 +134,7 @@ fn add_keys<K: Read>(
         table.now text.old.items text.new.items) }
     ensures accepted { OnOk result
         (IfSome keys.old (λ file. IfSome (K.remaining file) (λ octets. IsOk (keys_in octets)))) }
-    ensures refused { (number : ℕ) → result ≡ Err (ShellFault.Keys number) → number ≢ 8
+    ensures refused { (number : ℕ) → result ≡ Err (ShellFault.Keys number) → number ≢ keys_out_of_memory
         → IfSome keys.old (λ file. IfSome (K.remaining file)
         (λ octets. KeysAreRefusedAs number (keys_in octets))) }
     ensures place { IsOk result → place.new ≡ place.old }
@@ -157,7 +157,7 @@ fn add_holders<K: Read>(
         table.now text.old.items text.new.items) }
     ensures accepted { OnOk result
         (IfSome (K.remaining reader.old) (λ octets. IsOk (keys_in octets))) }
-    ensures refused { (number : ℕ) → result ≡ Err (ShellFault.Keys number) → number ≢ 8
+    ensures refused { (number : ℕ) → result ≡ Err (ShellFault.Keys number) → number ≢ keys_out_of_memory
         → IfSome (K.remaining reader.old) (λ octets. KeysAreRefusedAs number (keys_in octets)) }
     ensures place { IsOk result → place.new ≡ place.old }
     ensures faults { IfErr result IsKeyFileFault }
@@ -211,7 +211,7 @@ fn judge_rows_at<R: Read>(
 ) -> Result<(), ShellFault>
     ensures accepted { OnOk result
         (IfSome (R.remaining reader.old) (λ octets. IsOk (rows_in octets))) }
-    ensures refused { (number : ℕ) → result ≡ Err (ShellFault.Rows number) → number ≢ 4
+    ensures refused { (number : ℕ) → result ≡ Err (ShellFault.Rows number) → number ≢ rows_out_of_memory
         → IfSome (R.remaining reader.old) (λ octets. RowsAreRefusedAs number (rows_in octets)) }
     ensures place { IsOk result → place.new ≡ place.old }
     ensures faults { IfErr result IsRowsFileFault }

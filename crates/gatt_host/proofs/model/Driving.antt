@@ -105,7 +105,7 @@ module _ (inputs : List Input) (index : ℕ) (last : Input) (within : index < le
     (before between after : Option Octets)
     (has : HasDriven count inputs (drop index inputs) old mid before between) where
   abbrev pub driven_more : (next : ℕ) → TakesAll (input_items (get_or inputs index last)) mid new between after
-  → CountsRefused next (input_items (get_or inputs index last)) mid
+      → CountsRefused next (input_items (get_or inputs index last)) mid
       → HasDriven (count + next) inputs (drop (index + 1) inputs) old new before after
   driven_more next takes counts = record {
     items = has.items ++ input_items (get_or inputs index last);

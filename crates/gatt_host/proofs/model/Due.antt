@@ -1,15 +1,15 @@
 -- A host of which all is out owes nothing, and still does not where it stops.
-use Rattle.std.proofs.Common.{◌≡◌, true, false, Option, Some, None, Result, Ok, Err, refl, sym, subst}
-use Rattle.std.specs.Prelude.{is_err, IsOk}
+use Rattle.std.proofs.Common.{◌≡◌, ◌||◌, true, false, Option, Some, None, Result, Ok, Err, refl, sym, ap, subst, ◌∙◌}
+use Rattle.std.specs.Prelude.{is_err, is_some, IsOk, IfSome}
 use Rattle.gatt_host.proofs.owing.Nexts.{clash}
 use Rattle.gatt_host.proofs.meaning.Drained.{all_sent}
 use Rattle.gatt_host.proofs.model.Items.{drained_where}
 use Rattle.gatt_host.specs.declared.host_fault.HostFault.{HostFault}
 use Rattle.gatt_host.specs.declared.host_fault.HostFault.TheVariants as stop
-use Rattle.gatt_host.specs.Feeding.{IsAllOut, WritesAllThatIsDue}
+use Rattle.gatt_host.specs.Feeding.{IsAllOut, WritesAllThatIsDue, is_of_feeding}
 use Rattle.gatt_host.specs.GoingOut.{is_drained}
 use Rattle.gatt_host.specs.ServerState.{ServerState, open_slots, without_notices}
-use Rattle.gatt_host.specs.HostModel.{HostModel, all_out}
+use Rattle.gatt_host.specs.HostModel.{HostModel, all_out, is_own_fault}
 use Rattle.gatt_laws.specs.machine.Input.{run}
 
 -- by the fault that stands
@@ -51,3 +51,37 @@ due_in_silence old new fault none out same =
 pub ok_where : {T E : Type 0} (result : Result T E) → is_err result ≡ false → IsOk result
 ok_where (Ok x) works = refl
 ok_where (Err e) works = absurd (clash (sym works))
+
+-- one that has stopped has nothing pending
+pub out_where_stopped : (host : HostModel) (fault : HostFault) → host.fault ≡ Some fault → all_out host ≡ true
+out_where_stopped host fault is =
+    ap (λ (found : Option HostFault). is_some found || is_drained host.server.controller (open_slots host.server)) is
+
+-- the fault of a feeding
+pub feeding_where : (found : Option HostFault) (fault : HostFault) → found ≡ Some fault → is_of_feeding fault ≡ true
+    → IfSome found (λ (fault : HostFault). is_of_feeding fault ≡ true)
+feeding_where found fault is comes =
+    subst (λ (found : Option HostFault). IfSome found (λ (fault : HostFault). is_of_feeding fault ≡ true)) (sym is) comes
+
+pub feeding_at : (found : Option HostFault) (fault : HostFault) → found ≡ Some fault
+    → IfSome found (λ (fault : HostFault). is_of_feeding fault ≡ true) → is_of_feeding fault ≡ true
+feeding_at found fault is comes = subst (λ (found : Option HostFault). IfSome found (λ (fault : HostFault). is_of_feeding fault ≡ true)) is comes
+
+pub feeding_going : (found : Option HostFault) → found ≡ None → IfSome found (λ (fault : HostFault). is_of_feeding fault ≡ true)
+feeding_going found none = subst (λ (found : Option HostFault). IfSome found (λ (fault : HostFault). is_of_feeding fault ≡ true)) (sym none) tt
+
+pub feeding_by_run : (fault : HostFault) → is_own_fault fault ≡ false → is_of_feeding fault ≡ true
+feeding_by_run (stop.Desync indicator) other = refl
+feeding_by_run (stop.BadEvent code) other = refl
+feeding_by_run (stop.Init why) other = refl
+feeding_by_run (stop.Hardware code) other = refl
+feeding_by_run stop.Read other = absurd (clash (sym other))
+feeding_by_run stop.Write other = absurd (clash (sym other))
+feeding_by_run stop.Turns other = absurd (clash (sym other))
+
+-- one of which nothing is told any more still has nothing pending
+pub out_in_silence : (old new : HostModel) → old.fault ≡ None → new.fault ≡ None → all_out old ≡ true → new.server ≡ without_notices old.server
+    → all_out new ≡ true
+out_in_silence old new none still out same =
+    ap (λ (found : Option HostFault). is_some found || is_drained new.server.controller (open_slots new.server)) still
+    ∙ subst (λ (server : ServerState). is_drained server.controller (open_slots server) ≡ true) (sym same) (drained_where old none out)

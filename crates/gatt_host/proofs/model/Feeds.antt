@@ -1,22 +1,24 @@
 -- Calls one after another take in their items one after another, and write their packets so.
-use Rattle.std.proofs.Common.{◌≡◌, ℕ, true, false, List, [], ◌∷◌, ◌++◌, take, drop, Option, Some, None, Result, Ok, Err, refl, sym, ap, subst, ◌∙◌, append_assoc, append-nil, take-append-drop}
+use Rattle.std.proofs.Common.{◌≡◌, ℕ, Bool, true, false, List, [], ◌∷◌, ◌++◌, take, drop, Option, Some, None, Result, Ok, Err, refl, sym, ap, subst, ◌∙◌, append_assoc, append-nil, take-append-drop}
 use Rattle.std.proofs.KnownBytes.{Appends-nil, Appends-trans}
 use Rattle.std.proofs.lemmas.List.{map-append}
 use Rattle.std.proofs.lemmas.List.Concat.{flat_map-append}
 use Rattle.std.specs.Prelude.{is_err, IsSome, OnErr, OnOk}
 use Rattle.std.specs.Io.KnownBytes.{Appends}
 use Rattle.gatt_host.proofs.owing.Nexts.{clash}
+use Rattle.gatt_host.proofs.model.Due.{due_where_out}
 use Rattle.gatt_host.proofs.model.Items.{leads_nowhere, leads_on, leads_stopped}
 use Rattle.gatt_host.specs.declared.host_fault.HostFault.{HostFault}
 use Rattle.gatt_host.specs.declared.host_fault.HostFault.TheVariants as stop
-use Rattle.gatt_host.specs.Feeding.{BreaksOff, Feeds, TakesAll, is_of_feeding, is_write_fault, joined, octet_items}
-use Rattle.gatt_host.specs.HostModel.{Refines, SameFault, RefinesRun, HostModel, is_own_fault, fault_outcome}
+use Rattle.gatt_host.specs.Feeding.{BreaksOff, Feeds, Settles, TakesAll, is_of_feeding, is_write_fault, joined, octet_items}
+use Rattle.gatt_host.specs.HostModel.{Refines, SameFault, RefinesRun, HostModel, all_out, is_own_fault, fault_outcome}
 use Rattle.gatt_laws.proofs.runs.Inputs.{items_append}
 use Rattle.gatt_laws.proofs.runs.Streams.{stays_stopped}
 use Rattle.gatt_laws.specs.machine.Input.{AnOctet, Run, Item, after_items, run_at_start, run}
 use Rattle.gatt_laws.specs.machine.Packets.{Fault}
 use Rattle.octet_io.specs.Number.{Octets}
 use Rattle.octet_io.specs.Stream.{CountsFailure, CountsIf, CountsNone, WritesFront}
+use Rattle.octet_io.proofs.Writing.{counts_none, counts_one}
 
 pub joined_append : (packets others : List Octets) → joined (packets ++ others) ≡ joined packets ++ joined others
 joined_append packets others = flat_map-append (λ (packet : Octets). packet) packets others
@@ -261,6 +263,43 @@ taken_breaks octets rest old mid new before between after found has is feeds =
 pub counts_where_going : (found : Option HostFault) (before after : Option ℕ) → found ≡ None → CountsIf (is_write_fault found) before after
     → CountsNone before after
 counts_where_going found before after none fails = subst (λ (found : Option HostFault). CountsIf (is_write_fault found) before after) none fails
+
+-- none was counted before what is counted at the end
+pub counts_at_end : (fails : Bool) (before mid now : Option ℕ) → CountsNone before mid → CountsIf fails mid now → CountsIf fails before now
+counts_at_end true before mid now first second = counts_one before mid now first second
+counts_at_end false before mid now first second = counts_none before mid now first second
+
+pub settles_then : (host : HostModel) (before mid now : Option ℕ) → CountsNone before mid → Settles host mid now → Settles host before now
+settles_then host before mid now first settles = record {
+  out = settles.out;
+  due = settles.due;
+  failures = counts_at_end (is_write_fault host.fault) before mid now first settles.failures;
+}
+
+pub settles_going : (host : HostModel) (before now : Option ℕ) → host.fault ≡ None → all_out host ≡ true → CountsNone before now
+    → Settles host before now
+settles_going host before now none out counts = record {
+  out = out;
+  due = due_where_out host none out;
+  failures = subst (λ (found : Option HostFault). CountsIf (is_write_fault found) before now) (sym none) counts;
+}
+
+-- where the writer did not fail, no failure of it is counted
+pub counts_where_written : (found : Option HostFault) (before now : Option ℕ) → is_write_fault found ≡ false → CountsNone before now
+    → CountsIf (is_write_fault found) before now
+counts_where_written found before now other counts = subst (λ (fails : Bool). CountsIf fails before now) (sym other) counts
+
+pub written_at : (found : Option HostFault) (fault : HostFault) → found ≡ Some fault → is_write_fault (Some fault) ≡ false → is_write_fault found ≡ false
+written_at found fault is other = ap is_write_fault is ∙ other
+
+pub written_by_run : (fault : HostFault) → is_own_fault fault ≡ false → is_write_fault (Some fault) ≡ false
+written_by_run (stop.Desync indicator) other = refl
+written_by_run (stop.BadEvent code) other = refl
+written_by_run (stop.Init why) other = refl
+written_by_run (stop.Hardware code) other = refl
+written_by_run stop.Read other = refl
+written_by_run stop.Write other = absurd (clash (sym other))
+written_by_run stop.Turns other = refl
 
 -- by whether a call failed
 pub on_err_at : {T E : Type 0} (result : Result T E) (P : Type 0) → is_err result ≡ true → OnErr result P → P

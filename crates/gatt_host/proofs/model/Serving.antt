@@ -12,14 +12,14 @@ use Rattle.gatt_host.specs.declared.host_fault.HostFault.{HostFault}
 use Rattle.gatt_host.proofs.owing.Nexts.{clash}
 use Rattle.gatt_host.specs.declared.host_fault.HostFault.TheVariants as stop
 use Rattle.gatt_host.specs.declared.serving.End.{End}
-use Rattle.gatt_host.specs.Feeding.{Feeds, IsReadIn, Reads, Serves, TakesAll, is_of_feeding, is_write_fault, octet_items}
+use Rattle.gatt_host.specs.Feeding.{Feeds, IsReadIn, Reads, Serves, TakesAll, is_of_feeding, is_read_fault, is_write_fault, octet_items}
 use Rattle.gatt_host.specs.ServerState.{without_notices}
 use Rattle.gatt_host.specs.HostModel.{RefinesRun, Takes, HostModel, is_own_fault}
 use Rattle.gatt_laws.specs.machine.Input.{Run, Item, TheEnd, run}
 use Rattle.le_h4.specs.Deframer.{deframing_at_start, still}
 use Rattle.le_h4.specs.Division.{division}
 use Rattle.octet_io.specs.Number.{Octets}
-use Rattle.octet_io.specs.Stream.{CountsIf, CountsMany, CountsNone, CountsOne}
+use Rattle.octet_io.specs.Stream.{CountsFailure, CountsIf, CountsMany, CountsNone, CountsOne}
 
 -- where nothing is held, a stream divides from its start
 from-the-start : (rest : Octets) → still deframing_at_start rest ≡ division rest
@@ -160,12 +160,29 @@ serves_broken result fault turns given octets old mid new remaining between left
     })
 
 -- the reads that were made where the host stops
-pub reads_stopped : (result : Result End HostFault) (fault : HostFault) (made turns : ℕ) (before after : Option ℕ) → result ≡ Err fault
-    → CountsMany made before after → made ≤ turns
-    → (fault ≡ stop.Turns → made ≡ turns) → Reads result turns before after
-reads_stopped result fault made turns before after answers counted most over =
-    subst (λ (result : Result End HostFault). Reads result turns before after) (sym answers)
-    (record { made = made; counted = counted; most = most; told = tt; over = λ is_over. over (err-is is_over) })
+pub reads_stopped : (result : Result End HostFault) (fault : HostFault) (made turns : ℕ) (reads reads' ends ends' failed failed' : Option ℕ)
+    → result ≡ Err fault → CountsMany made reads reads' → made ≤ turns → (fault ≡ stop.Turns → made ≡ turns) → CountsNone ends ends'
+    → CountsIf (is_read_fault (Some fault)) failed failed' → Reads result turns reads reads' ends ends' failed failed'
+reads_stopped result fault made turns reads reads' ends ends' failed failed' answers counted most over none fails =
+    subst (λ (result : Result End HostFault). Reads result turns reads reads' ends ends' failed failed') (sym answers)
+    (record { made = made; counted = counted; most = most; told = tt; over = λ is_over. over (err-is is_over); ends = none; failures = fails })
+
+-- a fault of a feeding is none of the reader
+pub counts_unread : (fault : HostFault) (before now : Option ℕ) → is_of_feeding fault ≡ true → CountsNone before now
+    → CountsIf (is_read_fault (Some fault)) before now
+counts_unread (stop.Desync indicator) before now comes counts = counts
+counts_unread (stop.BadEvent code) before now comes counts = counts
+counts_unread (stop.Init why) before now comes counts = counts
+counts_unread (stop.Hardware code) before now comes counts = counts
+counts_unread stop.Read before now comes counts = absurd (clash comes)
+counts_unread stop.Write before now comes counts = counts
+counts_unread stop.Turns before now comes counts = counts
+
+-- a read that failed is counted
+pub counts_failed : {A E : Type 0} (result : Result A E) (before now : Option ℕ) → ((x : A) → result ≡ Ok x → ⊥) → CountsFailure before now result
+    → CountsOne before now
+counts_failed (Ok x) before now fails counts = absurd (fails x refl)
+counts_failed (Err why) before now fails counts = counts
 
 pub no_turns : {P : Type 0} (fault : HostFault) → is_of_feeding fault ≡ true → fault ≡ stop.Turns → P
 no_turns fault comes is = absurd (no-turns fault is comes)

@@ -70,8 +70,8 @@ module _ (state : State) (server : ServerState) (is : Holds state (all_given sta
   others-stay : (other : Ordinal) → (other == ordinal) ≡ false → slot_state_handed state (all_given state) (Some other)
       ≡ slot_state_handed new (all_given state) (Some other)
   others-stay other differs =
-  ap (λ (same : Bool). slot_state_if_there state.shared (if same then effect.connection else state.connections other) (state.connections other).given)
-  (sym differs)
+      ap (λ (same : Bool). slot_state_if_there state.shared (if same then effect.connection else state.connections other) (state.connections other).given)
+      (sym differs)
 
   itself : slot_state_if_there state.shared effect.connection connection.given ≡ slot_state_handed new (all_given state) (Some ordinal)
   itself =

@@ -1,13 +1,13 @@
 use Rattle.std.proofs.Common.{◌≡◌, ◌+◌, List, [], ◌∷◌, Option, None, true, refl, ap, arith}
 use Rattle.std.proofs.lemmas.Result.{err_from_is_err_and}
-use Rattle.device_loop.proofs.Happened.{Goes, call_comes, counts_at_end, ended_recorded, failed_recorded, goes_as, known_as, octets_come, served_more, served_none, serves_all, serves_ended, serves_nothing, serves_stopped}
+use Rattle.device_loop.proofs.Happened.{Goes, call_comes, ended_recorded, failed_recorded, goes_as, known_as, octets_come, served_more, served_none, serves_all, serves_ended, serves_nothing, serves_stopped}
 use Rattle.device_loop.proofs.serving.serve_turns.Goals as goal
 use Rattle.device_loop.proofs.serving.serve_turns.Goals.{in-Octets+in_ok-feed_to-in-Octets, in-Call+in_ok-take_call-in-Call}
 use Rattle.device_loop.specs.declared.serving.End.TheVariants as end
 use Rattle.device_loop.specs.Happenings.{Came, Asked}
 use Rattle.device_loop.specs.Serving.{Known, known}
-use Rattle.gatt_host.proofs.model.Due.{due_where_out}
-use Rattle.gatt_host.proofs.model.Feeds.{counts_where_going, going_takes, none_answered, none_before}
+use Rattle.gatt_host.proofs.model.Due.{feeding_going}
+use Rattle.gatt_host.proofs.model.Feeds.{counts_where_going, going_takes, none_answered, none_before, settles_going, settles_then}
 use Rattle.gatt_host.proofs.model.Hearing.{going_hears}
 use Rattle.gatt_host.specs.Calls.{call_of}
 use Rattle.gatt_host.specs.Feeding.{octet_items}
@@ -25,6 +25,12 @@ returns-in_err-feed-clause-serves g c = λ none.
     (g.W.Sink.contents c.args.out.now) (g.W.Sink.contents c.feed.new.out) (g.L.Listener.heard c.args.listener.now) stopped.1 none
     (c.feed.ensures.processes none).feeds
 
+pub returns-in_err-feed-clause-settles : goal.returns-in_err-feed-clause-settles
+returns-in_err-feed-clause-settles g c = λ none. (c.feed.ensures.processes none).settles
+
+pub returns-in_err-feed-clause-feeding : goal.returns-in_err-feed-clause-feeding
+returns-in_err-feed-clause-feeding g c = λ none. (c.feed.ensures.processes none).feeding
+
 pub loop-turn-init : goal.loop-turn-init
 loop-turn-init g c =
     let old : HostModel = c.args.host.now in
@@ -40,8 +46,8 @@ loop-turn-init g c =
       began = none;
       few = omega arith;
       none = still;
-      drained = (c.in_ok-feed.ensures.processes none).out (refl {a = true});
-      failures = counts_where_going new.fault _ _ still (c.feed.ensures.processes none).failures;
+      drained = (c.feed.ensures.processes none).settles.out;
+      failures = counts_where_going new.fault _ _ still (c.feed.ensures.processes none).settles.failures;
     }
 
 pub returns-in_err-feed_to-in-Octets-clause-serves : goal.returns-in_err-feed_to-in-Octets-clause-serves
@@ -61,9 +67,12 @@ returns-in_err-feed_to-in-Octets-clause-serves g c = λ none.
     c.in-Octets.ensures.octets c.in-Octets.ensures.calls c.in-Octets.ensures.history)
     (c.feed_to.ensures.processes c.loop-turn.invariant.none).feeds (c.feed_to.ensures.heard c.loop-turn.invariant.none)
 
-pub returns-in_err-feed_to-in-Octets-clause-failures : goal.returns-in_err-feed_to-in-Octets-clause-failures
-returns-in_err-feed_to-in-Octets-clause-failures g c =
-    λ none. counts_at_end _ _ _ _ c.loop-turn.invariant.failures (c.feed_to.ensures.processes c.loop-turn.invariant.none).failures
+pub returns-in_err-feed_to-in-Octets-clause-settles : goal.returns-in_err-feed_to-in-Octets-clause-settles
+returns-in_err-feed_to-in-Octets-clause-settles g c =
+    λ none. settles_then c.feed_to.new.host _ _ _ c.loop-turn.invariant.failures (c.feed_to.ensures.processes c.loop-turn.invariant.none).settles
+
+pub returns-in_err-feed_to-in-Octets-clause-feeding : goal.returns-in_err-feed_to-in-Octets-clause-feeding
+returns-in_err-feed_to-in-Octets-clause-feeding g c = λ none. (c.feed_to.ensures.processes c.loop-turn.invariant.none).feeding
 
 pub returns-in_err-take_call-in-Call-clause-serves : goal.returns-in_err-take_call-in-Call-clause-serves
 returns-in_err-take_call-in-Call-clause-serves g c = λ none.
@@ -83,10 +92,14 @@ returns-in_err-take_call-in-Call-clause-serves g c = λ none.
     c.loop-turn.invariant.none
     (call_comes (call_of c.in-Call.call) c.deadline.result c.loop-turn.host between asks comes c.deadline.ensures.run
     c.in-Call.ensures.octets c.in-Call.ensures.calls c.in-Call.ensures.history c.take_call.ensures.octets c.take_call.ensures.calls c.take_call.ensures.answer)
-    c.take_call.ensures.feeds c.take_call.ensures.heard
+    c.take_call.ensures.processes.feeds c.take_call.ensures.heard
 
-pub returns-in_err-take_call-in-Call-clause-failures : goal.returns-in_err-take_call-in-Call-clause-failures
-returns-in_err-take_call-in-Call-clause-failures g c = λ none. counts_at_end _ _ _ _ c.loop-turn.invariant.failures c.take_call.ensures.failures
+pub returns-in_err-take_call-in-Call-clause-settles : goal.returns-in_err-take_call-in-Call-clause-settles
+returns-in_err-take_call-in-Call-clause-settles g c =
+    λ none. settles_then c.take_call.new.host _ _ _ c.loop-turn.invariant.failures c.take_call.ensures.processes.settles
+
+pub returns-in_err-take_call-in-Call-clause-feeding : goal.returns-in_err-take_call-in-Call-clause-feeding
+returns-in_err-take_call-in-Call-clause-feeding g c = λ none. c.take_call.ensures.processes.feeding
 
 pub returns-in-Ended-clause-serves : goal.returns-in-Ended-clause-serves
 returns-in-Ended-clause-serves g c = λ none.
@@ -100,8 +113,12 @@ returns-in-Ended-clause-serves g c = λ none.
     c.args.turns end.Ended comes c.loop-turn.invariant.none (omega (arith, c.loop-turn-test.true)) c.in-Ended.ensures.octets c.in-Ended.ensures.calls
     (ended_recorded c.deadline.result c.loop-turn.host between.history comes.history comes.history c.deadline.ensures.run c.in-Ended.ensures.history)
 
-pub returns-in-Ended-clause-due : goal.returns-in-Ended-clause-due
-returns-in-Ended-clause-due g c = λ none. due_where_out c.loop-turn.host c.loop-turn.invariant.none c.loop-turn.invariant.drained
+pub returns-in-Ended-clause-settles : goal.returns-in-Ended-clause-settles
+returns-in-Ended-clause-settles g c =
+    λ none. settles_going c.loop-turn.host _ _ c.loop-turn.invariant.none c.loop-turn.invariant.drained c.loop-turn.invariant.failures
+
+pub returns-in-Ended-clause-feeding : goal.returns-in-Ended-clause-feeding
+returns-in-Ended-clause-feeding g c = λ none. feeding_going c.loop-turn.host.fault c.loop-turn.invariant.none
 
 pub returns-in-Failed-clause-serves : goal.returns-in-Failed-clause-serves
 returns-in-Failed-clause-serves g c = λ none.
@@ -115,8 +132,12 @@ returns-in-Failed-clause-serves g c = λ none.
     c.args.turns end.Failed comes c.loop-turn.invariant.none (omega (arith, c.loop-turn-test.true)) c.in-Failed.ensures.octets c.in-Failed.ensures.calls
     (failed_recorded c.deadline.result c.loop-turn.host between.history comes.history comes.history c.deadline.ensures.run c.in-Failed.ensures.history)
 
-pub returns-in-Failed-clause-due : goal.returns-in-Failed-clause-due
-returns-in-Failed-clause-due g c = λ none. due_where_out c.loop-turn.host c.loop-turn.invariant.none c.loop-turn.invariant.drained
+pub returns-in-Failed-clause-settles : goal.returns-in-Failed-clause-settles
+returns-in-Failed-clause-settles g c =
+    λ none. settles_going c.loop-turn.host _ _ c.loop-turn.invariant.none c.loop-turn.invariant.drained c.loop-turn.invariant.failures
+
+pub returns-in-Failed-clause-feeding : goal.returns-in-Failed-clause-feeding
+returns-in-Failed-clause-feeding g c = λ none. feeding_going c.loop-turn.host.fault c.loop-turn.invariant.none
 
 pub loop-turn-preserved : goal.loop-turn-preserved
 loop-turn-preserved g c =
@@ -158,10 +179,10 @@ loop-turn-preserved g c =
                 (going_takes (octet_items octets) mid new written after new.fault none (w.feed_to.ensures.processes c.loop-turn.invariant.none).feeds)
                 (going_hears (octet_items octets) mid new so_far hears new.fault none (w.feed_to.ensures.heard c.loop-turn.invariant.none));
             none = none;
-            drained = (w.in_ok-feed_to-in-Octets.ensures.processes c.loop-turn.invariant.none).out (refl {a = true});
+            drained = (w.feed_to.ensures.processes c.loop-turn.invariant.none).settles.out;
             failures =
                 counts_none _ _ _ c.loop-turn.invariant.failures
-                (counts_where_going new.fault _ _ none (w.feed_to.ensures.processes c.loop-turn.invariant.none).failures);
+                (counts_where_going new.fault _ _ none (w.feed_to.ensures.processes c.loop-turn.invariant.none).settles.failures);
           })
       | in-Call+in_ok-take_call-in-Call w ↦
           let new : HostModel = w.take_call.new.host in
@@ -184,11 +205,11 @@ loop-turn-preserved g c =
                 (call_comes (call_of w.in-Call.call) c.deadline.result mid between asks comes c.deadline.ensures.run
                 w.in-Call.ensures.octets w.in-Call.ensures.calls w.in-Call.ensures.history w.take_call.ensures.octets w.take_call.ensures.calls
                 w.take_call.ensures.answer)
-                (going_takes (ACall (call_of w.in-Call.call) ∷ []) mid new written after new.fault none w.take_call.ensures.feeds)
+                (going_takes (ACall (call_of w.in-Call.call) ∷ []) mid new written after new.fault none w.take_call.ensures.processes.feeds)
                 (going_hears (ACall (call_of w.in-Call.call) ∷ []) mid new so_far hears new.fault none w.take_call.ensures.heard);
             none = none;
-            drained = w.in_ok-take_call-in-Call.ensures.out (refl {a = true});
-            failures = counts_none _ _ _ c.loop-turn.invariant.failures (counts_where_going new.fault _ _ none w.take_call.ensures.failures);
+            drained = w.take_call.ensures.processes.settles.out;
+            failures = counts_none _ _ _ c.loop-turn.invariant.failures (counts_where_going new.fault _ _ none w.take_call.ensures.processes.settles.failures);
           })
     ] in
     record {
@@ -209,5 +230,9 @@ returns-clause-serves g c = λ none.
     (g.L.Listener.heard c.args.listener.now) (g.L.Listener.heard c.loop-turn.listener) c.loop-turn.invariant.served
     c.args.turns c.loop-turn.invariant.none (omega (arith, c.loop-turn.invariant.few, c.loop-turn-test.false))
 
-pub returns-clause-due : goal.returns-clause-due
-returns-clause-due g c = λ none. due_where_out c.loop-turn.host c.loop-turn.invariant.none c.loop-turn.invariant.drained
+pub returns-clause-settles : goal.returns-clause-settles
+returns-clause-settles g c =
+    λ none. settles_going c.loop-turn.host _ _ c.loop-turn.invariant.none c.loop-turn.invariant.drained c.loop-turn.invariant.failures
+
+pub returns-clause-feeding : goal.returns-clause-feeding
+returns-clause-feeding g c = λ none. feeding_going c.loop-turn.host.fault c.loop-turn.invariant.none

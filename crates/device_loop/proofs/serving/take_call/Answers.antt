@@ -9,12 +9,16 @@ use Rattle.gatt_host.specs.Calls.{call_of}
 use Rattle.gatt_laws.specs.machine.Calls.{Refused}
 use Rattle.gatt_laws.specs.machine.Input.{ACall}
 
-pub returns-clause-feeds : goal.returns-clause-feeds
-returns-clause-feeds g c =
+pub returns-clause-processes : goal.returns-clause-processes
+returns-clause-processes g c =
     let going : c.app-answer.new.self.fault ≡ None = c.app-answer.ensures.fault ∙ c.requires.none in
-    call_feeds (ACall (call_of c.args.call)) c.args.host.now c.app-answer.new.self c.feed.new.host (g.W.Sink.contents c.args.out.now)
-    (g.W.Sink.contents c.feed.new.out)
-    c.feed.new.host.fault (c.app-answer.ensures.takes c.requires.none) (c.feed.ensures.processes going).feeds
+    record {
+      feeds = call_feeds (ACall (call_of c.args.call)) c.args.host.now c.app-answer.new.self c.feed.new.host (g.W.Sink.contents c.args.out.now)
+          (g.W.Sink.contents c.feed.new.out)
+          c.feed.new.host.fault (c.app-answer.ensures.takes c.requires.none) (c.feed.ensures.processes going).feeds;
+      feeding = (c.feed.ensures.processes going).feeding;
+      settles = (c.feed.ensures.processes going).settles;
+    }
 
 pub returns-clause-heard : goal.returns-clause-heard
 returns-clause-heard g c =

@@ -1,12 +1,13 @@
-use Rattle.std.proofs.Common.{List, [], ◌∷◌, Option, sym, ap, ◌∙◌}
+use Rattle.std.proofs.Common.{◌≡◌, List, [], ◌∷◌, Option, Some, None, sym, ap, ◌∙◌}
 use Rattle.gatt_host.proofs.calling.call_to.Goals as goal
 use Rattle.gatt_host.proofs.model.Calling.{answer_as, call_behind, call_listens, call_refused, error_told, stopped_answers}
 use Rattle.gatt_host.proofs.model.Driving.{past_fault}
-use Rattle.gatt_host.proofs.model.Feeds.{fault_answered, none_answered}
+use Rattle.gatt_host.proofs.model.Due.{feeding_at}
+use Rattle.gatt_host.proofs.model.Feeds.{counts_where_going, fault_answered, none_answered, none_before, settles_then}
 use Rattle.gatt_host.proofs.model.Hearing.{past_heard}
 use Rattle.gatt_host.proofs.model.HearingTurns.{nothing_heard}
 use Rattle.gatt_host.proofs.model.Stands.{past_going}
-use Rattle.gatt_host.proofs.Promises.{keeps_connections_apart, keeps_the_policy}
+use Rattle.gatt_host.proofs.Promises.{fed_apart, fed_by_the_policy}
 use Rattle.gatt_host.specs.Calls.{call_of}
 use Rattle.gatt_host.specs.Calling.{answer_told}
 use Rattle.gatt_host.specs.declared.fault.Fault.TheVariants as told
@@ -15,13 +16,17 @@ use Rattle.gatt_host.specs.HostModel.{HostModel}
 use Rattle.gatt_laws.specs.machine.Input.{ACall}
 use Rattle.gatt_laws.specs.machine.Notice.{Received}
 
-pub returns-in_err-feed-clause-feeds : goal.returns-in_err-feed-clause-feeds
-returns-in_err-feed-clause-feeds g c = λ none.
+pub returns-in_err-feed-clause-processes : goal.returns-in_err-feed-clause-processes
+returns-in_err-feed-clause-processes g c = λ none.
     let new : HostModel = c.feed.new.host in
-    past_fault [] (ACall (call_of c.args.call) ∷ []) c.args.host.now new (g.W.Sink.contents c.args.out.now) (g.W.Sink.contents c.feed.new.out)
-    c.in_err-feed.field-0.0
-    (fault_answered new.fault c.in_err-feed.field-0.0 c.in_err-feed.ensures.outcome) (c.in_err-feed.ensures.processes none).feeding
-    (c.feed.ensures.processes none).feeds
+    let is : new.fault ≡ Some c.in_err-feed.field-0.0 = fault_answered new.fault c.in_err-feed.field-0.0 c.in_err-feed.ensures.outcome in
+    record {
+      feeds = past_fault [] (ACall (call_of c.args.call) ∷ []) c.args.host.now new (g.W.Sink.contents c.args.out.now) (g.W.Sink.contents c.feed.new.out)
+          c.in_err-feed.field-0.0 is (feeding_at new.fault c.in_err-feed.field-0.0 is (c.feed.ensures.processes none).feeding)
+          (c.feed.ensures.processes none).feeds;
+      feeding = (c.feed.ensures.processes none).feeding;
+      settles = (c.feed.ensures.processes none).settles;
+    }
 
 pub returns-in_err-feed-clause-heard : goal.returns-in_err-feed-clause-heard
 returns-in_err-feed-clause-heard g c = λ none.
@@ -29,7 +34,9 @@ returns-in_err-feed-clause-heard g c = λ none.
     let known : Option (List Received) = g.L.Listener.heard c.args.listener.now in
     past_heard [] (ACall (call_of c.args.call) ∷ []) c.args.host.now new (g.W.Sink.contents c.args.out.now) (g.W.Sink.contents c.feed.new.out) known known
     c.in_err-feed.field-0.0
-    (fault_answered new.fault c.in_err-feed.field-0.0 c.in_err-feed.ensures.outcome) (c.in_err-feed.ensures.processes none).feeding
+    (fault_answered new.fault c.in_err-feed.field-0.0 c.in_err-feed.ensures.outcome)
+    (feeding_at new.fault c.in_err-feed.field-0.0 (fault_answered new.fault c.in_err-feed.field-0.0 c.in_err-feed.ensures.outcome)
+    (c.feed.ensures.processes none).feeding)
     (c.feed.ensures.processes none).feeds
     (nothing_heard c.args.host.now new (g.W.Sink.contents c.args.out.now) (g.W.Sink.contents c.feed.new.out) known new.fault
     (c.feed.ensures.processes none).feeds)
@@ -40,11 +47,17 @@ returns-in_err-feed-clause-answers g c = λ none.
     (fault_answered c.feed.new.host.fault c.in_err-feed.field-0.0 c.in_err-feed.ensures.outcome) c.from_residual.result
     (error_told c.from_residual.result (told.Host c.in_err-feed.field-0.0) c.from_residual.ensures.1 (λ found is. is))
 
-pub returns-in_err-do_call-clause-feeds : goal.returns-in_err-do_call-clause-feeds
-returns-in_err-do_call-clause-feeds g c = λ none.
-    call_behind (call_of c.args.call) c.args.host.now c.feed.new.host c.do_call.new.host (g.W.Sink.contents c.args.out.now) (g.W.Sink.contents c.feed.new.out)
-    (g.W.Sink.contents c.do_call.new.out)
-    (none_answered c.feed.new.host.fault c.in_ok-feed.ensures.outcome) (c.feed.ensures.processes none).feeds c.do_call.new.host.fault c.do_call.ensures.feeds
+pub returns-in_err-do_call-clause-processes : goal.returns-in_err-do_call-clause-processes
+returns-in_err-do_call-clause-processes g c = λ none.
+    let still : c.feed.new.host.fault ≡ None = none_answered c.feed.new.host.fault c.in_ok-feed.ensures.outcome in
+    record {
+      feeds = call_behind (call_of c.args.call) c.args.host.now c.feed.new.host c.do_call.new.host (g.W.Sink.contents c.args.out.now)
+          (g.W.Sink.contents c.feed.new.out) (g.W.Sink.contents c.do_call.new.out) still (c.feed.ensures.processes none).feeds c.do_call.new.host.fault
+          c.do_call.ensures.processes.feeds;
+      feeding = c.do_call.ensures.processes.feeding;
+      settles = settles_then c.do_call.new.host _ _ _
+          (counts_where_going c.feed.new.host.fault _ _ still (c.feed.ensures.processes none).settles.failures) c.do_call.ensures.processes.settles;
+    }
 
 pub returns-in_err-do_call-clause-heard : goal.returns-in_err-do_call-clause-heard
 returns-in_err-do_call-clause-heard g c = λ none.
@@ -59,11 +72,17 @@ returns-in_err-do_call-clause-answers g c = λ none.
     c.from_residual-in_err-do_call.result
     (error_told c.from_residual-in_err-do_call.result (told.Host c.in_err-do_call.field-0.0) c.from_residual-in_err-do_call.ensures.1 (λ found is. is))
 
-pub returns-clause-feeds : goal.returns-clause-feeds
-returns-clause-feeds g c = λ none.
-    call_behind (call_of c.args.call) c.args.host.now c.feed.new.host c.do_call.new.host (g.W.Sink.contents c.args.out.now) (g.W.Sink.contents c.feed.new.out)
-    (g.W.Sink.contents c.do_call.new.out)
-    (none_answered c.feed.new.host.fault c.in_ok-feed.ensures.outcome) (c.feed.ensures.processes none).feeds c.do_call.new.host.fault c.do_call.ensures.feeds
+pub returns-clause-processes : goal.returns-clause-processes
+returns-clause-processes g c = λ none.
+    let still : c.feed.new.host.fault ≡ None = none_answered c.feed.new.host.fault c.in_ok-feed.ensures.outcome in
+    record {
+      feeds = call_behind (call_of c.args.call) c.args.host.now c.feed.new.host c.do_call.new.host (g.W.Sink.contents c.args.out.now)
+          (g.W.Sink.contents c.feed.new.out) (g.W.Sink.contents c.do_call.new.out) still (c.feed.ensures.processes none).feeds c.do_call.new.host.fault
+          c.do_call.ensures.processes.feeds;
+      feeding = c.do_call.ensures.processes.feeding;
+      settles = settles_then c.do_call.new.host _ _ _
+          (counts_where_going c.feed.new.host.fault _ _ still (c.feed.ensures.processes none).settles.failures) c.do_call.ensures.processes.settles;
+    }
 
 pub returns-clause-heard : goal.returns-clause-heard
 returns-clause-heard g c = λ none.
@@ -85,22 +104,36 @@ returns-clause-answers g c = λ none. record {
 }
 
 pub returns-in_err-feed-clause-policy : goal.returns-in_err-feed-clause-policy
-returns-in_err-feed-clause-policy g c = keeps_the_policy
+returns-in_err-feed-clause-policy g c =
+    c.feed.ensures.policy
 
 pub returns-in_err-feed-clause-apart : goal.returns-in_err-feed-clause-apart
-returns-in_err-feed-clause-apart g c = keeps_connections_apart
+returns-in_err-feed-clause-apart g c =
+    c.feed.ensures.apart
 
 pub returns-in_err-do_call-clause-policy : goal.returns-in_err-do_call-clause-policy
-returns-in_err-do_call-clause-policy g c = keeps_the_policy
+returns-in_err-do_call-clause-policy g c =
+    fed_by_the_policy (ACall (call_of c.args.call) ∷ []) _ _ _ _
+    (returns-in_err-do_call-clause-processes g c
+    (none_before c.args.host.now c.feed.new.host c.feed.ensures.stopped (none_answered c.feed.new.host.fault c.in_ok-feed.ensures.outcome))).feeds
 
 pub returns-in_err-do_call-clause-apart : goal.returns-in_err-do_call-clause-apart
-returns-in_err-do_call-clause-apart g c = keeps_connections_apart
+returns-in_err-do_call-clause-apart g c =
+    fed_apart (ACall (call_of c.args.call) ∷ []) _ _ _ _
+    (returns-in_err-do_call-clause-processes g c
+    (none_before c.args.host.now c.feed.new.host c.feed.ensures.stopped (none_answered c.feed.new.host.fault c.in_ok-feed.ensures.outcome))).feeds
 
 pub returns-clause-policy : goal.returns-clause-policy
-returns-clause-policy g c = keeps_the_policy
+returns-clause-policy g c =
+    fed_by_the_policy (ACall (call_of c.args.call) ∷ []) _ _ _ _
+    (returns-clause-processes g c
+    (none_before c.args.host.now c.feed.new.host c.feed.ensures.stopped (none_answered c.feed.new.host.fault c.in_ok-feed.ensures.outcome))).feeds
 
 pub returns-clause-apart : goal.returns-clause-apart
-returns-clause-apart g c = keeps_connections_apart
+returns-clause-apart g c =
+    fed_apart (ACall (call_of c.args.call) ∷ []) _ _ _ _
+    (returns-clause-processes g c
+    (none_before c.args.host.now c.feed.new.host c.feed.ensures.stopped (none_answered c.feed.new.host.fault c.in_ok-feed.ensures.outcome))).feeds
 
 pub returns-in_err-do_call-clause-stopped : goal.returns-in_err-do_call-clause-stopped
 returns-in_err-do_call-clause-stopped g c =

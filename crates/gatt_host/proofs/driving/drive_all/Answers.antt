@@ -3,10 +3,10 @@ use Rattle.std.proofs.lemmas.List.{drop_all}
 use Rattle.std.specs.Prelude.{if◌then◌else◌}
 use Rattle.gatt_host.proofs.model.Driving.{HasDriven, driven_counts, driven_more, driven_none, driven_stops, past_fault, no_more, one_more}
 use Rattle.std.proofs.lemmas.Grind.{common_steps}
-use Rattle.gatt_host.proofs.model.Due.{due_where_out}
+use Rattle.gatt_host.proofs.model.Due.{feeding_at, feeding_going, feeding_where}
 use Rattle.gatt_host.proofs.model.Hearing.{going_hears, hears_nothing, past_heard}
 use Rattle.gatt_host.proofs.model.HearingTurns.{HasDrivenTo, driven_to_all, driven_to_more, driven_to_stops, nothing_heard}
-use Rattle.gatt_host.proofs.model.Feeds.{counts_where_going, fault_answered, going_takes, none_answered}
+use Rattle.gatt_host.proofs.model.Feeds.{counts_where_going, fault_answered, going_takes, none_answered, settles_going, settles_then}
 use Rattle.gatt_host.specs.Feeding.{is_of_feeding, TakesAll, items_of}
 use Rattle.gatt_host.specs.HostModel.{HostModel}
 use Rattle.gatt_laws.specs.machine.Notice.{Received}
@@ -23,10 +23,11 @@ returns-in_err-write_out-clause-processes g c = record {
       c.in_err-write_out.field-0.0
       (fault_answered new.fault c.in_err-write_out.field-0.0 c.in_err-write_out.ensures.fault) (ap is_of_feeding c.in_err-write_out.ensures.write)
       c.write_out.ensures.feeds);
-  out = search rules;
-  due = search rules;
-  feeding = search rules;
-  failures = search rules;
+  feeding =
+      feeding_where c.write_out.new.host.fault c.in_err-write_out.field-0.0
+      (fault_answered c.write_out.new.host.fault c.in_err-write_out.field-0.0 c.in_err-write_out.ensures.fault)
+      (ap is_of_feeding c.in_err-write_out.ensures.write);
+  settles = c.write_out.ensures.settles;
 }
 
 pub returns-in_err-take_input-clause-processes : goal.returns-in_err-take_input-clause-processes
@@ -35,20 +36,16 @@ returns-in_err-take_input-clause-processes g c = record {
       driven_stops c.args.inputs.now c.loop-input.input-index _ c.loop-input-test.true c.loop-input.refused c.args.host.now c.loop-input.host
       c.take_input.new.host
       (g.W.Sink.contents c.args.out.now) (g.W.Sink.contents c.loop-input.out) (g.W.Sink.contents c.take_input.new.out) c.loop-input.invariant.driven
-      c.in_err-take_input.field-0.0 c.in_err-take_input.ensures.fault c.in_err-take_input.ensures.feeding c.take_input.ensures.feeds);
-  out = search rules;
-  due = search rules;
-  feeding = search rules;
-  failures = search rules;
+      c.in_err-take_input.field-0.0 c.in_err-take_input.ensures.fault (feeding_at c.take_input.new.host.fault c.in_err-take_input.field-0.0 c.in_err-take_input.ensures.fault c.take_input.ensures.processes.feeding) c.take_input.ensures.processes.feeds);
+  feeding = c.take_input.ensures.processes.feeding;
+  settles = settles_then c.take_input.new.host _ _ _ c.loop-input.invariant.failures c.take_input.ensures.processes.settles;
 }
 
 pub returns-clause-processes : goal.returns-clause-processes
 returns-clause-processes g c = record {
   feeds = grind (arith, common_steps);
-  out = search rules;
-  due = (due_where_out c.loop-input.host c.loop-input.invariant.none c.loop-input.invariant.drained);
-  feeding = search rules;
-  failures = search rules;
+  feeding = feeding_going c.loop-input.host.fault c.loop-input.invariant.none;
+  settles = settles_going c.loop-input.host _ _ c.loop-input.invariant.none c.loop-input.invariant.drained c.loop-input.invariant.failures;
 }
 
 pub loop-input-preserved : goal.loop-input-preserved
@@ -79,17 +76,17 @@ loop-input-preserved g c =
           (sym counted)
           (driven_more c.args.inputs.now c.loop-input.input-index _ c.loop-input-test.true count c.args.host.now mid new before between after
           c.loop-input.invariant.driven
-          (if refused then 1 else 0) (going_takes _ mid new between after new.fault none c.take_input.ensures.feeds) c.in_ok-take_input.ensures.refused);
+          (if refused then 1 else 0) (going_takes _ mid new between after new.fault none c.take_input.ensures.processes.feeds) c.in_ok-take_input.ensures.refused);
       few = few;
       none = none;
-      drained = c.in_ok-take_input.ensures.out (refl {a = true});
-      failures = counts_none _ _ _ c.loop-input.invariant.failures (counts_where_going new.fault _ _ none c.take_input.ensures.failures);
+      drained = c.take_input.ensures.processes.settles.out;
+      failures = counts_none _ _ _ c.loop-input.invariant.failures (counts_where_going new.fault _ _ none c.take_input.ensures.processes.settles.failures);
       heard = subst
           (λ (count : ℕ). HasDrivenTo count c.args.inputs.now (drop (c.loop-input.input-index + 1) c.args.inputs.now) c.args.host.now new before after first
           then_heard) (sym counted)
           (driven_to_more c.args.inputs.now c.loop-input.input-index _ c.loop-input-test.true count c.args.host.now mid new before between after first so_far
           then_heard c.loop-input.invariant.heard
-          (if refused then 1 else 0) (going_takes _ mid new between after new.fault none c.take_input.ensures.feeds) c.in_ok-take_input.ensures.refused
+          (if refused then 1 else 0) (going_takes _ mid new between after new.fault none c.take_input.ensures.processes.feeds) c.in_ok-take_input.ensures.refused
           (going_hears _ mid new so_far then_heard new.fault none c.take_input.ensures.heard));
     }
 
@@ -116,7 +113,7 @@ returns-in_err-take_input-clause-heard g c =
     (g.W.Sink.contents c.args.out.now) (g.W.Sink.contents c.loop-input.out) (g.W.Sink.contents c.take_input.new.out)
     (g.L.Listener.heard c.args.listener.now) (g.L.Listener.heard c.loop-input.listener) (g.L.Listener.heard c.take_input.new.listener)
     c.loop-input.invariant.heard
-    c.in_err-take_input.field-0.0 c.in_err-take_input.ensures.fault c.in_err-take_input.ensures.feeding c.take_input.ensures.feeds c.take_input.ensures.heard
+    c.in_err-take_input.field-0.0 c.in_err-take_input.ensures.fault (feeding_at c.take_input.new.host.fault c.in_err-take_input.field-0.0 c.in_err-take_input.ensures.fault c.take_input.ensures.processes.feeding) c.take_input.ensures.processes.feeds c.take_input.ensures.heard
 
 pub returns-clause-heard : goal.returns-clause-heard
 returns-clause-heard g c =
@@ -139,7 +136,7 @@ loop-input-init g c =
       driven = driven_none c.args.inputs.now old new before after takes;
       few = omega arith;
       none = still;
-      drained = c.in_ok-write_out.ensures.out (refl {a = true});
-      failures = counts_where_going new.fault _ _ still c.write_out.ensures.failures;
+      drained = c.write_out.ensures.settles.out;
+      failures = counts_where_going new.fault _ _ still c.write_out.ensures.settles.failures;
       heard = record { driven = driven_none c.args.inputs.now old new before after takes; heard = hears_nothing old known };
     }

@@ -1,12 +1,12 @@
 use Rattle.std.proofs.Common.{◌≡◌, true, List, [], Option, Some, None, refl, sym, subst, ap, drop, ◌∙◌, arith, rules}
 use Rattle.std.proofs.lemmas.Grind.{common_steps}
-use Rattle.gatt_host.proofs.model.Due.{due_where_held, due_where_out}
-use Rattle.gatt_host.proofs.model.Feeds.{broken_before, counts_where_going, fault_answered, going_takes, none_answered, taken_breaks, taken_none, taken_silently, taken_stops, taken_then, HasTaken}
+use Rattle.gatt_host.proofs.model.Due.{due_where_held, feeding_by_run, feeding_going, feeding_where, out_where_stopped}
+use Rattle.gatt_host.proofs.model.Feeds.{broken_before, counts_where_going, counts_where_written, fault_answered, going_takes, none_answered, settles_going, settles_then, taken_breaks, taken_none, taken_silently, taken_stops, taken_then, written_at, written_by_run, HasTaken}
 use Rattle.gatt_host.proofs.model.Hearing.{HasHeard, breaks_heard, heard_all, heard_breaks, heard_none, heard_stops, heard_then, hears_nothing}
 use Rattle.gatt_host.proofs.model.Items.{leads_nowhere}
 use Rattle.gatt_host.specs.declared.host_fault.HostFault.{HostFault}
 use Rattle.gatt_host.proofs.model.Serving.{empty_where}
-use Rattle.gatt_host.specs.Feeding.{TakesAll, octet_items}
+use Rattle.gatt_host.specs.Feeding.{TakesAll, is_of_feeding, octet_items}
 use Rattle.gatt_host.specs.HostModel.{HostModel}
 use Rattle.gatt_laws.specs.machine.Notice.{Received}
 use Rattle.octet_io.proofs.Writing.{counts_none}
@@ -21,10 +21,11 @@ returns-in_err-write_out-clause-processes g c = record {
       c.write_out.new.host.fault (fault_answered c.write_out.new.host.fault c.in_err-write_out.field-0.0 c.in_err-write_out.ensures.fault
       ∙ ap (λ (why : HostFault). Some why) c.in_err-write_out.ensures.write)
       c.write_out.ensures.feeds);
-  out = search rules;
-  due = search rules;
-  feeding = search rules;
-  failures = search rules;
+  feeding =
+      feeding_where c.write_out.new.host.fault c.in_err-write_out.field-0.0
+      (fault_answered c.write_out.new.host.fault c.in_err-write_out.field-0.0 c.in_err-write_out.ensures.fault)
+      (ap is_of_feeding c.in_err-write_out.ensures.write);
+  settles = c.write_out.ensures.settles;
 }
 
 pub returns-in-Err-clause-processes : goal.returns-in-Err-clause-processes
@@ -33,11 +34,17 @@ returns-in-Err-clause-processes g c = record {
       taken_stops c.args.octets.now c.loop-rest.rest.now c.args.host.now c.loop-rest.host c.take.new.host (g.W.Sink.contents c.args.out.now)
       (g.W.Sink.contents c.loop-rest.out)
       c.take.new.host.fault c.in-Err.field-0 c.loop-rest.invariant.takes c.in-Err.ensures.refines c.in-Err.ensures.fault c.in-Err.ensures.not_own);
-  out = search rules;
-  due = (due_where_held c.loop-rest.host c.take.new.host c.take.new.host.fault c.loop-rest.invariant.none c.loop-rest.invariant.drained
-      c.in-Err.ensures.unchanged);
-  feeding = search rules;
-  failures = search rules;
+  feeding =
+      feeding_where c.take.new.host.fault c.in-Err.field-0 c.in-Err.ensures.fault (feeding_by_run c.in-Err.field-0 c.in-Err.ensures.not_own);
+  settles = record {
+    out = out_where_stopped c.take.new.host c.in-Err.field-0 c.in-Err.ensures.fault;
+    due = due_where_held c.loop-rest.host c.take.new.host c.take.new.host.fault c.loop-rest.invariant.none c.loop-rest.invariant.drained
+        c.in-Err.ensures.unchanged;
+    failures =
+        counts_where_written c.take.new.host.fault _ _
+        (written_at c.take.new.host.fault c.in-Err.field-0 c.in-Err.ensures.fault (written_by_run c.in-Err.field-0 c.in-Err.ensures.not_own))
+        c.loop-rest.invariant.failures;
+  };
 }
 
 pub returns-in_err-write_out-2-clause-processes : goal.returns-in_err-write_out-2-clause-processes
@@ -56,19 +63,19 @@ returns-in_err-write_out-2-clause-processes g c = record {
       (fault_answered new.fault c.in_err-write_out-2.field-0.0 c.in_err-write_out-2.ensures.fault
       ∙ ap (λ (why : HostFault). Some why) c.in_err-write_out-2.ensures.write)
       c.write_out-in-loop-rest.ensures.feeds);
-  out = search rules;
-  due = search rules;
-  feeding = search rules;
-  failures = search rules;
+  feeding =
+      feeding_where c.write_out-in-loop-rest.new.host.fault c.in_err-write_out-2.field-0.0
+      (fault_answered c.write_out-in-loop-rest.new.host.fault c.in_err-write_out-2.field-0.0 c.in_err-write_out-2.ensures.fault)
+      (ap is_of_feeding c.in_err-write_out-2.ensures.write);
+  settles =
+      settles_then c.write_out-in-loop-rest.new.host _ _ _ c.loop-rest.invariant.failures c.write_out-in-loop-rest.ensures.settles;
 }
 
 pub returns-clause-processes : goal.returns-clause-processes
 returns-clause-processes g c = record {
   feeds = grind (arith, common_steps);
-  out = search rules;
-  due = (due_where_out c.loop-rest.host c.loop-rest.invariant.none c.loop-rest.invariant.drained);
-  feeding = search rules;
-  failures = search rules;
+  feeding = feeding_going c.loop-rest.host.fault c.loop-rest.invariant.none;
+  settles = settles_going c.loop-rest.host _ _ c.loop-rest.invariant.none c.loop-rest.invariant.drained c.loop-rest.invariant.failures;
 }
 
 pub loop-rest-preserved : goal.loop-rest-preserved
@@ -89,8 +96,8 @@ loop-rest-preserved g c =
           (taken_silently c.args.octets.now rest used old at mid before between c.loop-rest.invariant.takes c.in-Ok.ensures.refines)
           (going_takes [] mid new between after new.fault none c.write_out-in-loop-rest.ensures.feeds));
       none = none;
-      drained = c.in_ok-write_out-2.ensures.out (refl {a = true});
-      failures = counts_none _ _ _ c.loop-rest.invariant.failures (counts_where_going new.fault _ _ none c.write_out-in-loop-rest.ensures.failures);
+      drained = c.write_out-in-loop-rest.ensures.settles.out;
+      failures = counts_none _ _ _ c.loop-rest.invariant.failures (counts_where_going new.fault _ _ none c.write_out-in-loop-rest.ensures.settles.failures);
       heard = subst
           (λ (left : Octets). HasHeard c.args.octets.now left old new before after (g.L.Listener.heard c.args.listener.now)
           (g.L.Listener.heard c.deliver_notices.new.listener)) (sym c.split_at.ensures.back)
@@ -141,8 +148,8 @@ loop-rest-init g c =
     record {
       takes = taken_none c.args.octets.now old new before after takes;
       none = none;
-      drained = c.in_ok-write_out.ensures.out (refl {a = true});
-      failures = counts_where_going new.fault _ _ none c.write_out.ensures.failures;
+      drained = c.write_out.ensures.settles.out;
+      failures = counts_where_going new.fault _ _ none c.write_out.ensures.settles.failures;
       heard = heard_none c.args.octets.now old new before after (g.L.Listener.heard c.args.listener.now) takes;
     }
 

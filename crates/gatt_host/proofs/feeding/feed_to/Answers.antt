@@ -1,6 +1,7 @@
 use Rattle.gatt_host.proofs.model.Stands.{past_none, past_stop}
-use Rattle.gatt_host.proofs.Promises.{keeps_connections_apart, keeps_the_policy}
+use Rattle.gatt_host.proofs.Promises.{fed_apart, fed_by_the_policy, stays_apart, stays_by_the_policy}
 use Rattle.gatt_host.specs.contracts.host.Host.{the_view}
+use Rattle.gatt_host.specs.Feeding.{octet_items}
 use Rattle.gatt_host.proofs.feeding.feed_to.Goals as goal
 
 pub returns-in-Some-clause-processes : goal.returns-in-Some-clause-processes
@@ -10,10 +11,12 @@ pub returns-in-Some-clause-heard : goal.returns-in-Some-clause-heard
 returns-in-Some-clause-heard g c = past_stop (the_view c.host.inside) c.args.host.now c.host.view_is c.in-Some.fault c.in-Some.is
 
 pub returns-in-Some-clause-policy : goal.returns-in-Some-clause-policy
-returns-in-Some-clause-policy g c = keeps_the_policy
+returns-in-Some-clause-policy g c =
+    stays_by_the_policy c.args.host.now (g.W.Sink.contents c.args.out.now)
 
 pub returns-in-Some-clause-apart : goal.returns-in-Some-clause-apart
-returns-in-Some-clause-apart g c = keeps_connections_apart
+returns-in-Some-clause-apart g c =
+    stays_apart c.args.host.now (g.W.Sink.contents c.args.out.now)
 
 pub returns-clause-stopped : goal.returns-clause-stopped
 returns-clause-stopped g c = past_none (the_view c.host.inside) c.args.host.now c.host.view_is c.in_default.is
@@ -25,7 +28,9 @@ pub returns-clause-listener_stopped : goal.returns-clause-listener_stopped
 returns-clause-listener_stopped g c = past_none (the_view c.host.inside) c.args.host.now c.host.view_is c.in_default.is
 
 pub returns-clause-policy : goal.returns-clause-policy
-returns-clause-policy g c = keeps_the_policy
+returns-clause-policy g c =
+    fed_by_the_policy (octet_items c.args.octets.now) _ _ _ _ c.feed_all.ensures.processes.feeds
 
 pub returns-clause-apart : goal.returns-clause-apart
-returns-clause-apart g c = keeps_connections_apart
+returns-clause-apart g c =
+    fed_apart (octet_items c.args.octets.now) _ _ _ _ c.feed_all.ensures.processes.feeds

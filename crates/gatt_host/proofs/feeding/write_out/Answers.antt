@@ -1,4 +1,4 @@
-use Rattle.std.proofs.Common.{◌≡◌, [], None, Option, refl, sym, subst, ◌∙◌}
+use Rattle.std.proofs.Common.{◌≡◌, [], None, Option, refl, sym, subst, ◌∙◌, rules}
 use Rattle.gatt_host.proofs.model.Due.{due_where_drained, ok_where}
 use Rattle.gatt_host.proofs.model.Owed.{feeds_from, no_fault_where, reached_fed}
 use Rattle.gatt_host.specs.contracts.host.Host.{the_view}
@@ -49,6 +49,16 @@ returns-else-is_err-clause-feeds g c =
     subst (λ (host : HostModel). Feeds [] host new before after new.fault) c.host.view_is
     (feeds_from old new before after _ none same (c.write_owed-written.ensures.feeds old.frames old.stream) refl refl)
 
-pub returns-else-is_err-clause-due : goal.returns-else-is_err-clause-due
-returns-else-is_err-clause-due g c =
-    due_where_drained _ _ (c.write_owed-written.ensures.out (ok_where c.write_owed-written.result (sym c.is_err.ensures.value ∙ c.if-is_err.false)))
+pub returns-then-is_err-clause-settles : goal.returns-then-is_err-clause-settles
+returns-then-is_err-clause-settles g c = record {
+  out = search rules;
+  due = search rules;
+  failures = search rules;
+}
+
+pub returns-else-is_err-clause-settles : goal.returns-else-is_err-clause-settles
+returns-else-is_err-clause-settles g c = record {
+  out = search rules;
+  due = due_where_drained _ _ (c.write_owed-written.ensures.out (ok_where c.write_owed-written.result (sym c.is_err.ensures.value ∙ c.if-is_err.false)));
+  failures = search rules;
+}

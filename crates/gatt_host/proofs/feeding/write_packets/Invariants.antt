@@ -1,4 +1,5 @@
-use Rattle.std.proofs.Common.{[]}
+use Rattle.std.proofs.Common.{◌≡◌, false, []}
+use Rattle.std.specs.Prelude.{◌==◌, not}
 use Rattle.gatt_host.proofs.feeding.write_packets.Given as goal
 use Rattle.gatt_host.specs.Credits.{most_out}
 use Rattle.gatt_host.specs.Feeding.{TakesAll}
@@ -13,7 +14,7 @@ invariant-loop-packet g l = record {
   takes : (frames : Frames) (stream : Deframing)
       → TakesAll [] (going l.fn.server frames stream) (going l.server frames stream) (g.W.Sink.contents l.fn.out) (g.W.Sink.contents l.out);
   server : IsStateOfOne l.server;
-  packets : OwesPacketsAlone l.server;
+  packets : not (g.row.COMMANDS == 0) ≡ false → OwesPacketsAlone l.server;
   failures : CountsNone (g.W.Sink.failures l.fn.out) (g.W.Sink.failures l.out);
 }
 

@@ -1,6 +1,7 @@
 use Rattle.gatt_host.proofs.model.Stands.{past_none, past_stop}
-use Rattle.gatt_host.proofs.Promises.{keeps_connections_apart, keeps_the_policy}
+use Rattle.gatt_host.proofs.Promises.{fed_apart, fed_by_the_policy, stays_apart, stays_by_the_policy}
 use Rattle.gatt_host.specs.contracts.host.Host.{the_view}
+use Rattle.gatt_host.specs.Feeding.{items_read}
 use Rattle.gatt_host.proofs.serving.serve_to.Goals as goal
 
 pub returns-in-Some-clause-serves : goal.returns-in-Some-clause-serves
@@ -9,26 +10,19 @@ returns-in-Some-clause-serves g c = past_stop (the_view c.host.inside) c.args.ho
 pub returns-in-Some-clause-heard : goal.returns-in-Some-clause-heard
 returns-in-Some-clause-heard g c = past_stop (the_view c.host.inside) c.args.host.now c.host.view_is c.in-Some.fault c.in-Some.is
 
-pub returns-in-Some-clause-due : goal.returns-in-Some-clause-due
-returns-in-Some-clause-due g c = past_stop (the_view c.host.inside) c.args.host.now c.host.view_is c.in-Some.fault c.in-Some.is
+pub returns-in-Some-clause-settles : goal.returns-in-Some-clause-settles
+returns-in-Some-clause-settles g c = past_stop (the_view c.host.inside) c.args.host.now c.host.view_is c.in-Some.fault c.in-Some.is
 
 pub returns-in-Some-clause-reads : goal.returns-in-Some-clause-reads
 returns-in-Some-clause-reads g c = past_stop (the_view c.host.inside) c.args.host.now c.host.view_is c.in-Some.fault c.in-Some.is
 
-pub returns-in-Some-clause-ends : goal.returns-in-Some-clause-ends
-returns-in-Some-clause-ends g c = past_stop (the_view c.host.inside) c.args.host.now c.host.view_is c.in-Some.fault c.in-Some.is
-
-pub returns-in-Some-clause-read_failures : goal.returns-in-Some-clause-read_failures
-returns-in-Some-clause-read_failures g c = past_stop (the_view c.host.inside) c.args.host.now c.host.view_is c.in-Some.fault c.in-Some.is
-
-pub returns-in-Some-clause-write_failures : goal.returns-in-Some-clause-write_failures
-returns-in-Some-clause-write_failures g c = past_stop (the_view c.host.inside) c.args.host.now c.host.view_is c.in-Some.fault c.in-Some.is
-
 pub returns-in-Some-clause-policy : goal.returns-in-Some-clause-policy
-returns-in-Some-clause-policy g c = keeps_the_policy
+returns-in-Some-clause-policy g c =
+    stays_by_the_policy c.args.host.now (g.W.Sink.contents c.args.writer.now)
 
 pub returns-in-Some-clause-apart : goal.returns-in-Some-clause-apart
-returns-in-Some-clause-apart g c = keeps_connections_apart
+returns-in-Some-clause-apart g c =
+    stays_apart c.args.host.now (g.W.Sink.contents c.args.writer.now)
 
 pub returns-in-None-clause-stopped : goal.returns-in-None-clause-stopped
 returns-in-None-clause-stopped g c = past_none (the_view c.host.inside) c.args.host.now c.host.view_is c.in-None.is
@@ -43,7 +37,9 @@ pub returns-in-None-clause-listener_stopped : goal.returns-in-None-clause-listen
 returns-in-None-clause-listener_stopped g c = past_none (the_view c.host.inside) c.args.host.now c.host.view_is c.in-None.is
 
 pub returns-in-None-clause-policy : goal.returns-in-None-clause-policy
-returns-in-None-clause-policy g c = keeps_the_policy
+returns-in-None-clause-policy g c =
+    fed_by_the_policy (items_read c.serve_all.result c.serve_all.ensures.serves.read) _ _ _ _ c.serve_all.ensures.serves.feeds
 
 pub returns-in-None-clause-apart : goal.returns-in-None-clause-apart
-returns-in-None-clause-apart g c = keeps_connections_apart
+returns-in-None-clause-apart g c =
+    fed_apart (items_read c.serve_all.result c.serve_all.ensures.serves.read) _ _ _ _ c.serve_all.ensures.serves.feeds

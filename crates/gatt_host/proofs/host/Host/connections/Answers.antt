@@ -8,5 +8,5 @@ use Rattle.host_connections.specs.Connections.{connections_left}
 
 pub returns-clause-run : goal.returns-clause-run
 returns-clause-run c = λ start input sent is.
-    ap (λ (inside : Inside). connections_left inside.state.slots inside.frames.arrivals 0) c.self-inside.view_is
+    ap (λ (inside : Inside). connections_left inside.server.slots inside.frames.arrivals 0) c.self-inside.view_is
     ∙ ap connections_in c.self.view_is ∙ seen_where (run start input) sent c.args.self.now is

@@ -10,7 +10,7 @@ use Rattle.host_connections.specs.Slots.{slots_deadline}
 pub returns-clause-run : goal.returns-clause-run
 returns-clause-run c = λ start input sent is.
     c.deadline.ensures
-    ∙ ap (λ (inside : Inside). slots_deadline inside.state.time inside.state.slots) c.self-inside.view_is
+    ∙ ap (λ (inside : Inside). slots_deadline inside.server.time inside.server.slots) c.self-inside.view_is
     ∙ ap (λ (host : HostModel). slots_deadline host.server.time host.server.slots) c.self.view_is ∙ deadline_where (run start input) sent c.args.self.now is
 
 pub returns-clause-quiet : goal.returns-clause-quiet

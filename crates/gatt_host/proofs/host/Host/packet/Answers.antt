@@ -4,7 +4,7 @@ use Rattle.gatt_host.proofs.model.Items.{drained_where, none_unless, reached_by,
 use Rattle.gatt_host.proofs.model.Packets.{passes_long, takes_packet}
 use Rattle.gatt_host.proofs.model.Told.{long_told, not_long, ok_where, told_in_run}
 use Rattle.gatt_host.proofs.model.Stands.{past_none, past_stop}
-use Rattle.gatt_host.proofs.Promises.{keeps_connections_apart, keeps_the_policy}
+use Rattle.gatt_host.proofs.Promises.{stays_apart, stays_by_the_policy, taken_apart, taken_by_the_policy}
 use Rattle.gatt_host.specs.contracts.host.Host.{the_view}
 use Rattle.gatt_host.specs.HostModel.{RefinesPacket, RefinesRun, Takes, HostModel, all_out}
 use Rattle.gatt_laws.specs.machine.Input.{APacket, run}
@@ -81,25 +81,31 @@ pub returns-in-Some-clause-not_own : goal.returns-in-Some-clause-not_own
 returns-in-Some-clause-not_own c = past_stop (the_view c.self.inside) c.args.self.now c.self.view_is c.in-Some.fault c.in-Some.is
 
 pub returns-in-Some-clause-policy : goal.returns-in-Some-clause-policy
-returns-in-Some-clause-policy c = keeps_the_policy
+returns-in-Some-clause-policy c =
+    stays_by_the_policy c.args.self.now None
 
 pub returns-in-Some-clause-apart : goal.returns-in-Some-clause-apart
-returns-in-Some-clause-apart c = keeps_connections_apart
+returns-in-Some-clause-apart c =
+    stays_apart c.args.self.now None
 
 pub returns-then-is_long-clause-stopped : goal.returns-then-is_long-clause-stopped
 returns-then-is_long-clause-stopped c = past_none (the_view c.self.inside) c.args.self.now c.self.view_is c.in_default.is
 
 pub returns-then-is_long-clause-policy : goal.returns-then-is_long-clause-policy
-returns-then-is_long-clause-policy c = keeps_the_policy
+returns-then-is_long-clause-policy c =
+    taken_by_the_policy (APacket (packet_of_ref c.args.packet) ∷ []) _ _ (returns-then-is_long-clause-takes c (sym (λ i. (c.self.view_is i).fault) ∙ c.in_default.is))
 
 pub returns-then-is_long-clause-apart : goal.returns-then-is_long-clause-apart
-returns-then-is_long-clause-apart c = keeps_connections_apart
+returns-then-is_long-clause-apart c =
+    taken_apart (APacket (packet_of_ref c.args.packet) ∷ []) _ _ (returns-then-is_long-clause-takes c (sym (λ i. (c.self.view_is i).fault) ∙ c.in_default.is))
 
 pub returns-clause-stopped : goal.returns-clause-stopped
 returns-clause-stopped c = past_none (the_view c.self.inside) c.args.self.now c.self.view_is c.in_default.is
 
 pub returns-clause-policy : goal.returns-clause-policy
-returns-clause-policy c = keeps_the_policy
+returns-clause-policy c =
+    taken_by_the_policy (APacket (packet_of_ref c.args.packet) ∷ []) _ _ (returns-clause-takes c (sym (λ i. (c.self.view_is i).fault) ∙ c.in_default.is))
 
 pub returns-clause-apart : goal.returns-clause-apart
-returns-clause-apart c = keeps_connections_apart
+returns-clause-apart c =
+    taken_apart (APacket (packet_of_ref c.args.packet) ∷ []) _ _ (returns-clause-takes c (sym (λ i. (c.self.view_is i).fault) ∙ c.in_default.is))

@@ -7,5 +7,5 @@ use Rattle.gatt_laws.specs.machine.Input.{run}
 
 pub returns-clause-run : goal.returns-clause-run
 returns-clause-run c = λ start input sent is.
-    ap (λ (inside : Inside). inside.state.rows) c.self-inside.view_is
+    ap (λ (inside : Inside). inside.server.rows) c.self-inside.view_is
     ∙ ap (λ (host : HostModel). host.server.rows) c.self.view_is ∙ rows_where (run start input) sent c.args.self.now is

@@ -1,6 +1,8 @@
+use Rattle.std.proofs.Common.{None}
 use Rattle.gatt_host.proofs.model.Stands.{past_none, past_stop}
-use Rattle.gatt_host.proofs.Promises.{keeps_connections_apart, keeps_the_policy}
+use Rattle.gatt_host.proofs.Promises.{stays_apart, stays_by_the_policy, taken_apart, taken_by_the_policy}
 use Rattle.gatt_host.specs.contracts.host.Host.{the_view}
+use Rattle.gatt_host.specs.Feeding.{items_taken}
 use Rattle.gatt_host.proofs.host.Host.take.Goals as goal
 
 pub returns-in-Some-clause-takes : goal.returns-in-Some-clause-takes
@@ -10,16 +12,20 @@ pub returns-in-Some-clause-not_own : goal.returns-in-Some-clause-not_own
 returns-in-Some-clause-not_own c = past_stop (the_view c.self.inside) c.args.self.now c.self.view_is c.in-Some.fault c.in-Some.is
 
 pub returns-in-Some-clause-policy : goal.returns-in-Some-clause-policy
-returns-in-Some-clause-policy c = keeps_the_policy
+returns-in-Some-clause-policy c =
+    stays_by_the_policy c.args.self.now None
 
 pub returns-in-Some-clause-apart : goal.returns-in-Some-clause-apart
-returns-in-Some-clause-apart c = keeps_connections_apart
+returns-in-Some-clause-apart c =
+    stays_apart c.args.self.now None
 
 pub returns-clause-stopped : goal.returns-clause-stopped
 returns-clause-stopped c = past_none (the_view c.self.inside) c.args.self.now c.self.view_is c.in_default.is
 
 pub returns-clause-policy : goal.returns-clause-policy
-returns-clause-policy c = keeps_the_policy
+returns-clause-policy c =
+    taken_by_the_policy (items_taken c.args.octets.now c.take.result) _ _ c.take.ensures.refines
 
 pub returns-clause-apart : goal.returns-clause-apart
-returns-clause-apart c = keeps_connections_apart
+returns-clause-apart c =
+    taken_apart (items_taken c.args.octets.now c.take.result) _ _ c.take.ensures.refines

@@ -1,7 +1,7 @@
 use Rattle.std.proofs.Common.{◌≡◌, List, [], Option, Some, ap, subst, sym, ◌∙◌}
 use Rattle.std.specs.Prelude.{IfSome, IsSome}
 use Rattle.att_numbers.specs.Types.{Handle}
-use Rattle.gatt_host.specs.contracts.host_state.Server.{the_view}
+use Rattle.gatt_host.specs.contracts.server.Server.{the_view}
 use Rattle.gatt_host.specs.Meaning.{IsOfItsTable}
 use Rattle.gatt_host.specs.ServerState.{ServerState, server_slot_at}
 use Rattle.gatt_host.proofs.places.Places.{asked_then_heard, both_brought}
@@ -26,8 +26,8 @@ returns c =
     (subst (λ (it : Option SlotState). IfSome it (λ slot_state. c.handle-handle.result ≡ slot_state.handle)) c.get.ensures c.handle-handle.ensures)
     (both_brought c.args.pdu.now c.serve_slot-brought.result (server_slot_at old c.args.place) c.serve_slot-brought.ensures.ended c.serve_slot-brought.ensures.confirmed)
 
-pub serve-brought-requires-clause-row : goal.serve-brought-requires-clause-row
-serve-brought-requires-clause-row c =
+pub serve_slot-brought-requires-clause-row : goal.serve_slot-brought-requires-clause-row
+serve_slot-brought-requires-clause-row c =
     let old : ServerState = the_view c.self.inside in
     row_at_of_table old.table.attributes old.rows old.slots (subst (λ (server : ServerState). IsOfItsTable server) (sym c.self.view_is) c.requires.of_table)
     c.args.place

@@ -1,5 +1,5 @@
 use Rattle.std.proofs.Common.{ℕ, Option, length, sym, ap, ◌∙◌}
-use Rattle.gatt_host.specs.contracts.host_state.Server.{the_view}
+use Rattle.gatt_host.specs.contracts.server.Server.{the_view}
 use Rattle.gatt_host.specs.ServerState.{ServerState}
 use Rattle.gatt_host.proofs.places.Places.{come_then_heard}
 use Rattle.gatt_laws.specs.machine.SharedState.{share_of, fragment_size_of}

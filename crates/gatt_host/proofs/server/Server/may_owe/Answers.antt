@@ -2,7 +2,7 @@ use Rattle.std.proofs.Common.{◌≡◌, true, sym, subst, ◌∙◌}
 use Rattle.std.specs.Bool.{OnFalse}
 use Rattle.std.proofs.lemmas.Bool.{OnFalse_at, OnFalse_from}
 use Rattle.gatt_host.proofs.owing.Lacking.{open_drained}
-use Rattle.gatt_host.specs.contracts.host_state.Server.{the_view}
+use Rattle.gatt_host.specs.contracts.server.Server.{the_view}
 use Rattle.gatt_host.specs.GoingOut.{is_drained}
 use Rattle.gatt_host.specs.ServerState.{ServerState, open_slots}
 use Rattle.gatt_host.proofs.server.Server.may_owe.Goals as goal

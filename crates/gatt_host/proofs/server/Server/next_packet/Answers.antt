@@ -1,6 +1,6 @@
 use Rattle.std.proofs.Common.{List, Option, subst, sym}
 use Rattle.gatt_host.proofs.model.PacketsAlone.{alone_still}
-use Rattle.gatt_host.specs.contracts.host_state.Server.{the_view}
+use Rattle.gatt_host.specs.contracts.server.Server.{the_view}
 use Rattle.gatt_host.specs.ServerState.{ServerState, OwesPacketsAlone}
 use Rattle.host_connections.specs.SlotState.{SlotState}
 use Rattle.gatt_host.proofs.server.Server.next_packet.Goals as goal

@@ -1,6 +1,6 @@
 use Rattle.std.proofs.Common.{ap, ◌∙◌}
 use Rattle.att_table.specs.Table.{Contents}
-use Rattle.gatt_host.specs.contracts.host_state.Server.{the_view}
+use Rattle.gatt_host.specs.contracts.server.Server.{the_view}
 use Rattle.gatt_host.specs.ServerState.{ServerState}
 use Rattle.host_connections.proofs.OfTable.{replaced_of_table}
 use Rattle.gatt_host.proofs.server.Server.replace.Goals as goal

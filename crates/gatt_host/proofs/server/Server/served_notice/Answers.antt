@@ -5,7 +5,7 @@ use Rattle.std.proofs.lemmas.Bool.{ltb-false}
 use Rattle.std.proofs.lemmas.List.{length-map}
 use Rattle.att_numbers.specs.Types.{Handle}
 use Rattle.gatt_host.proofs.packets.Appended.{behind}
-use Rattle.gatt_host.specs.contracts.host_state.Server.{the_view}
+use Rattle.gatt_host.specs.contracts.server.Server.{the_view}
 use Rattle.gatt_host.specs.ServerState.{ServerState}
 use Rattle.gatt_host.specs.Notices.{notice_of, row_at_place, served_told}
 use Rattle.gatt_laws.specs.machine.Notice.{Notice, Confirmed, Ending, write_told}

@@ -1,6 +1,6 @@
 use Rattle.std.proofs.Common.{List, subst, sym}
 use Rattle.att_attributes.specs.declared.attr.Attr.{Attr}
-use Rattle.gatt_host.specs.contracts.host_state.Server.{the_view}
+use Rattle.gatt_host.specs.contracts.server.Server.{the_view}
 use Rattle.gatt_host.specs.Meaning.{IsOfItsTable}
 use Rattle.gatt_host.specs.ServerState.{ServerState}
 use Rattle.host_connections.specs.OfTable.{AreOfTable}
