@@ -80,7 +80,6 @@ impl Controller {
     }
 
     /// Returns true if the controller is initialised.
-    #[inline(always)]
     pub fn is_ready(&self) -> bool
         ensures { result ≡ laws.is_ready self.now }
     {

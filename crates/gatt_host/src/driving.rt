@@ -78,7 +78,6 @@ pub fn drive_to<W: Sink, L: Listener>(
     }
 }
 
-#[inline(always)]
 fn drive_all<W: Sink, L: Listener>(
     host: &mut Host,
     inputs: &[Input<'_>],

@@ -189,7 +189,6 @@ fn write_packets<const COMMANDS: bool, W: Sink>(
 }
 
 /// Maps the result of writing to `HostFault::Write`.
-#[inline(always)]
 fn write_outcome(written: bool) -> Result<(), HostFault>
     ensures { result ≡ write_outcome written }
 {

@@ -21,7 +21,6 @@ use le_h4::PacketBuf;
 use le_hci::{Command, opcode};
 
 impl Controller {
-    #[inline(always)]
     fn takes(&self) -> bool
         ensures { result ≡ nat_lt 0 self.now.credit }
     {
@@ -45,7 +44,6 @@ impl Controller {
 
     /// Writes the pending command of initialisation and marks it as sent. Returns false if there is
     /// none.
-    #[inline(always)]
     fn init_command_out(&mut self, out: &mut PacketBuf) -> bool
         requires { nat_lt 0 self.old.credit ≡ true }
         ensures some { result ≡ is_some (init_command self.old) }
@@ -80,7 +78,6 @@ impl Controller {
         self.sent(opcode);
     }
 
-    #[inline(always)]
     fn has_init_command(&self) -> bool
         ensures { result ≡ is_some (init_command self.now) }
     {
@@ -247,7 +244,6 @@ fn either_out(controller: &mut Controller, slots: &mut Slots, out: &mut PacketBu
 }
 
 /// Writes a packet of the first slot that may send one to the start of `out`. Returns its length.
-#[inline(always)]
 fn packet_into(slots: &mut Slots, out: &mut [u8]) -> Option<usize>
     requires room { MAX_PACKET_OUT ≤ length out.old }
     ensures some { is_some result ≡ is_some (first_slot_packet slots.old) }
@@ -266,7 +262,6 @@ fn packet_into(slots: &mut Slots, out: &mut [u8]) -> Option<usize>
 
 /// Writes the next output to the start of `out` and returns its length; a command goes through
 /// `packet`. Returns `None` if there is no output.
-#[inline(always)]
 pub(crate) fn next_into(
     controller: &mut Controller,
     slots: &mut Slots,
@@ -290,7 +285,6 @@ pub(crate) fn next_into(
     packet_into(slots, out)
 }
 
-#[inline(always)]
 pub(crate) fn copy(octets: &[u8], out: &mut [u8]) -> usize
     requires { length octets.now ≤ length out.old }
     ensures copied { take result out.new ≡ octets.now }
@@ -339,7 +333,6 @@ fn none_waits(controller: &Controller, slots: &Slots) -> bool
 }
 
 /// Cheap check without the slots: false means that no command is pending.
-#[inline(always)]
 pub(crate) fn may_have_command(controller: &Controller, slots: &Slots) -> bool
     ensures { OnFalse result (command_next controller.now slots.now ≡ None) }
 {
@@ -350,7 +343,6 @@ pub(crate) fn may_have_command(controller: &Controller, slots: &Slots) -> bool
 }
 
 /// Cheap check without the slots: false means that there is no output.
-#[inline(always)]
 pub(crate) fn may_owe(controller: &Controller, slots: &Slots) -> bool
     ensures { OnFalse result (is_drained controller.now slots.now ≡ true) }
 {

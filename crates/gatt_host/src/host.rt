@@ -86,7 +86,6 @@ impl Host {
     }
 
     /// Cheap check: false means that no packet is pending; true may be a false alarm.
-    #[inline(always)]
     pub fn may_owe(&self) -> bool
         ensures { OnFalse result (all_out self.now ≡ true) }
     {
@@ -116,7 +115,6 @@ impl Host {
 
     /// Writes the next packet for the controller to the start of `out`. The packet then counts as
     /// sent. Returns its length, or `None` if `drained`. `out` has at least `MAX_PACKET_OUT` bytes.
-    #[inline(always)]
     pub fn next_into(&mut self, out: &mut [u8]) -> Option<usize>
         requires room { MAX_PACKET_OUT ≤ length out.old }
         ensures some { is_some result ≡ not (all_out self.old) }
@@ -383,7 +381,6 @@ fn copy_next(server: &mut Server, packet: &mut PacketBuf, out: &mut PacketOctets
     true
 }
 
-#[inline(always)]
 fn next_into(server: &mut Server, packet: &mut PacketBuf, out: &mut [u8]) -> Option<usize>
     requires room { MAX_PACKET_OUT ≤ length out.old }
     ensures some { is_some result ≡ is_some (next_packet_out server.old) }

@@ -20,7 +20,6 @@ pub trait Listener {
         ensures heard { Hears (received_from notice.entry ∷ []) (heard self.old) (heard self.new) };
 
     /// Returns true if it receives notices; `hear` is not called otherwise.
-    #[inline(always)]
     fn listens(&self) -> bool
         ensures deaf { OnFalse result (heard self.now ≡ None) }
     {
@@ -35,14 +34,12 @@ pub(crate) struct Nobody;
 impl Listener for Nobody {
     fn hear(&mut self, _notice: Notice<'_>) {}
 
-    #[inline(always)]
     fn listens(&self) -> bool {
         false
     }
 }
 
 /// Delivers the notices of the last input to a listener, with their values.
-#[inline(always)]
 pub fn deliver_notices<L: Listener>(host: &Host, listener: &mut L)
     ensures hears { Hears (received_told host.now) (L.heard listener.old) (L.heard listener.new) }
 {

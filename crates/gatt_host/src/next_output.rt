@@ -71,7 +71,6 @@ impl Server {
 
     /// Writes the next packet to the start of `out` and returns its length; a command goes through
     /// `packet`.
-    #[inline(always)]
     pub(crate) fn next_into(&mut self, packet: &mut PacketBuf, out: &mut [u8]) -> Option<usize>
         requires room { MAX_PACKET_OUT ≤ length out.old }
         ensures some { is_some result ≡ is_some (next_packet_out self.old) }
@@ -91,7 +90,6 @@ impl Server {
         Some(copy(packet.as_slice(), out))
     }
 
-    #[inline(always)]
     pub(crate) fn may_owe(&self) -> bool
         ensures { OnFalse result
             (is_drained self.now.controller (open_slots self.now) ≡ true) }

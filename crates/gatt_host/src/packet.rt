@@ -135,7 +135,6 @@ impl Server {
         }
     }
 
-    #[inline(always)]
     fn frame(&mut self, place: usize, octets: &[u8])
         requires there { IsThere self.old.slots place }
         requires of_table { IsOfItsTable self.old }
@@ -169,7 +168,6 @@ impl Server {
 }
 
 /// Returns true for a well-formed event of a kind that a host ignores.
-#[inline(always)]
 fn tells_nothing(octets: &[u8]) -> bool
     ensures { OnTrue result (event_of octets.now ≡ Ok (report_of Event.Other)) }
 {

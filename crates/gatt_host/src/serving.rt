@@ -96,7 +96,6 @@ pub fn serve_to<R: Source, W: Sink, L: Listener>(
     }
 }
 
-#[inline(always)]
 fn serve_all<R: Source, W: Sink, L: Listener>(
     host: &mut Host,
     reader: &mut R,

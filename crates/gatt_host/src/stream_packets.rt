@@ -103,7 +103,6 @@ fn take_in(
 }
 
 /// Returns the borrowed packet, or else the one in the deframer, which ends after `used` bytes.
-#[inline(always)]
 fn lent_or_marked<'a>(
     lent: Option<WholePacket<'a>>,
     stream: &'a Deframer,
