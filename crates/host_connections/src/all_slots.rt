@@ -25,7 +25,6 @@ pub(crate) fn find_serving(slots: &[Slot], handle: u16) -> Option<usize>
     slots.iter().position(|slot| slot.is_serving(handle))
 }
 
-#[inline(always)]
 #[tactic(auto, using(crate::proofs::Found::holding_there))]
 pub(crate) fn find_holding(slots: &[Slot], handle: u16) -> Option<usize>
     ensures place { result ≡ place_holding slots.now handle }

@@ -39,7 +39,6 @@ impl Arrivals {
     }
 
     /// Notes the time, in milliseconds, of a packet for a slot.
-    #[inline(always)]
     pub fn hear(&mut self, place: usize, time: u64)
         requires { place < MAX_SLOTS }
         ensures { self.new ≡ with_heard place time self.old }

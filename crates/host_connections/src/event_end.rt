@@ -25,7 +25,6 @@ pub(crate) struct Heard {
 impl Heard {
     /// Marks a slot after a value was notified: a packet if it was sent at once, else perhaps a
     /// waiting value.
-    #[inline(always)]
     fn take(&mut self, place: usize, told: bool, waiting: bool)
         requires { place < MAX_SLOTS }
         ensures { (slots : SlotStates) (slot : Option SlotState) → CoversHeard slots self.old
@@ -42,7 +41,6 @@ impl Heard {
     }
 
     /// Marks a packet if an indication was sent, and unmarks the slot if no value waits any more.
-    #[inline(always)]
     fn settle(&mut self, place: usize, told: bool, waiting: bool)
         requires { place < MAX_SLOTS }
         ensures { (slots : SlotStates) (slot : Option SlotState) → length slots ≤ MAX_SLOTS
@@ -119,7 +117,6 @@ fn notify_for(slots: &mut [Slot], heard: &mut Heard, moment: Moment<'_>, whom: P
 
 /// Notifies the only value, at once unless others wait. Notes in `skipped`, empty before, who skips
 /// it.
-#[inline(always)]
 pub(crate) fn notify_alone(
     slots: &mut [Slot],
     heard: &mut Heard,

@@ -54,7 +54,6 @@ impl Slot {
         self.used == Use::Free
     }
 
-    #[inline(always)]
     pub(crate) fn gives(&self) -> bool
         ensures { result ≡ gives self.now }
     {
@@ -62,7 +61,6 @@ impl Slot {
     }
 
     /// Cheap check: false means that no packet may be given.
-    #[inline(always)]
     pub(crate) fn may_give(&self) -> bool
         ensures { OnFalse result (gives self.now ≡ false) }
     {
@@ -70,7 +68,6 @@ impl Slot {
     }
 
     /// Cheap check of the share alone: false means that no packet may be given.
-    #[inline(always)]
     pub(crate) fn is_below_share(&self) -> bool
         ensures { OnFalse result (gives self.now ≡ false) }
     {
@@ -88,7 +85,6 @@ impl Slot {
         self.used != Use::Free && self.sender.next_packet(self.handle, out)
     }
 
-    #[inline(always)]
     pub(crate) fn next_into(&mut self, out: &mut [u8]) -> Option<usize>
         requires room { MAX_PACKET_OUT ≤ length out.old }
         ensures gives { is_some result ≡ gives self.old }
@@ -109,7 +105,6 @@ impl Slot {
 
 impl Slots {
     /// Returns true if a slot is free.
-    #[inline(always)]
     pub fn has_room(&mut self) -> bool
         ensures room { result ≡ list_any (λ slot. is_none slot) self.old }
         ensures unchanged { self.new ≡ self.old }
@@ -121,7 +116,6 @@ impl Slots {
     }
 
     /// Cheap check: false means that no slot is free.
-    #[inline(always)]
     pub fn may_have_room(&self) -> bool
         ensures { OnFalse result (list_any (λ slot. is_none slot) self.now ≡ false) }
     {
@@ -129,7 +123,6 @@ impl Slots {
     }
 
     /// Cheap check: false means that no command is pending.
-    #[inline(always)]
     pub fn may_have_command(&self) -> bool
         ensures { OnFalse result (list_any has_command self.now ≡ false) }
     {
@@ -137,7 +130,6 @@ impl Slots {
     }
 
     /// Cheap check: false means that no packet may be given.
-    #[inline(always)]
     pub fn may_give(&self) -> bool
         ensures { OnFalse result (list_any gives self.now ≡ false) }
     {
@@ -145,7 +137,6 @@ impl Slots {
     }
 
     /// Returns the first slot with a pending command.
-    #[inline(always)]
     pub fn first_with_command(&mut self) -> Option<usize>
         ensures place { result ≡ position has_command self.old }
         ensures within { IfSome result (λ place. place < length self.old) }
@@ -191,7 +182,6 @@ impl Slots {
 
     /// Writes the next packet of a slot to the start of `out`, and returns its length in octets.
     /// `None`: none may be given, and nothing changes.
-    #[inline(always)]
     pub fn next_into(&mut self, place: usize, out: &mut [u8]) -> Option<usize>
         requires place { place < length self.old }
         requires room { MAX_PACKET_OUT ≤ length out.old }

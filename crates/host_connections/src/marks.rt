@@ -68,7 +68,6 @@ impl Marks {
     }
 
     /// Marks a slot after a request.
-    #[inline(always)]
     pub(crate) fn note_served(&mut self, place: usize, ended: bool, giving: bool)
         requires { place < MAX_SLOTS }
         ensures { (slots : SlotStates) (slot : Option SlotState) → place < length slots

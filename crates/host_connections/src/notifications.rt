@@ -59,7 +59,6 @@ fn indicate(
     }
 }
 
-#[inline(always)]
 fn queue_telling(telling: Telling, raised: &Raised<'_>, mtu: u16, sender: &mut Sender)
     requires least { MIN_MTU ≤ mtu }
     requires most { mtu ≤ MAX_MTU }
@@ -91,7 +90,6 @@ fn queue_value(opcode: u8, handle: u16, value: &[u8], mtu: u16, sender: &mut Sen
 
 /// Returns the row of the peer's bond if the link has a key and the peer a bond, else the
 /// connection's own.
-#[inline(always)]
 pub(crate) fn row_in_force<'a>(
     link: &Link,
     peer: &Peer,
@@ -156,7 +154,6 @@ impl Slot {
     /// Notifies or indicates the only written value at once, unless another waits, if the
     /// connection may be notified of it. A notification above the backlog limit is skipped. Returns
     /// true if it is queued.
-    #[inline(always)]
     pub(crate) fn notify_alone(&mut self, raised: &Raised<'_>, moment: Moment<'_>) -> bool
         requires table { IsTable moment.table.now }
         requires bonds { HasBondsOfTable moment.table.now.attributes moment.rows.now }
@@ -218,7 +215,6 @@ impl Slot {
     }
 
     /// Cheap check: false means that no value waits.
-    #[inline(always)]
     pub(crate) fn may_wait(&self) -> bool
         ensures { OnFalse result (waits self.now ≡ false) }
     {

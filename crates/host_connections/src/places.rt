@@ -33,14 +33,12 @@ pub(crate) struct Places {
 impl Places {
     pub(crate) const NONE: Places = Places { bits: 0 };
 
-    #[inline(always)]
     pub(crate) fn is_empty(self) -> bool
         ensures { OnTrue result (self.bits ≡ 0) }
     {
         self.bits == 0
     }
 
-    #[inline(always)]
     pub(crate) fn add(&mut self, place: usize)
         requires { place < MAX_SLOTS }
         ensures added { bit_at self.new.bits place ≡ 1 }
@@ -50,7 +48,6 @@ impl Places {
         self.bits |= 1 << place;
     }
 
-    #[inline(always)]
     pub(crate) fn add_if(&mut self, due: bool, place: usize)
         requires { place < MAX_SLOTS }
         ensures added { due ≡ true → bit_at self.new.bits place ≡ 1 }
@@ -62,7 +59,6 @@ impl Places {
         }
     }
 
-    #[inline(always)]
     pub(crate) fn remove(&mut self, place: usize)
         requires { place < MAX_SLOTS }
         ensures removed { bit_at self.new.bits place ≡ 0 }
@@ -74,7 +70,6 @@ impl Places {
     }
 
     /// Returns the set with only the slot `own`.
-    #[inline(always)]
     pub(crate) fn of_own(own: Option<usize>) -> Places
         ensures own { (place : ℕ) → place < MAX_SLOTS → is_own_place own place ≡ true
             → bit_at result.bits place ≡ 1 }
@@ -91,7 +86,6 @@ impl Places {
     }
 
     /// Returns the set without the slot `own`.
-    #[inline(always)]
     pub(crate) fn without_own(self, own: Option<usize>) -> Places
         ensures own { (place : ℕ) → place < MAX_SLOTS → is_own_place own place ≡ true
             → bit_at result.bits place ≡ 0 }
@@ -108,7 +102,6 @@ impl Places {
     }
 
     /// Returns true if the set has no place except the slot `own`.
-    #[inline(always)]
     pub(crate) fn is_empty_but(self, own: Option<usize>) -> bool
         ensures { OnTrue result
             ((place : ℕ) → place < MAX_SLOTS → bit_at self.bits place ≡ 1
@@ -130,7 +123,6 @@ impl Places {
 }
 
 impl Slot {
-    #[inline(always)]
     fn is_due(&self, due: Due) -> bool
         ensures { result ≡ is_slot_due due self.now }
     {
@@ -143,7 +135,6 @@ impl Slot {
     }
 
     /// Returns false if the connection may not be notified of any value.
-    #[inline(always)]
     fn may_listen(&self) -> bool
         ensures { result ≡ may_listen self.now }
     {

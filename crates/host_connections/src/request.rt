@@ -106,7 +106,6 @@ impl Slot {
     }
 }
 
-#[inline(always)]
 fn is_full(conn: &Conn, sender: &Sender, pdu: &[u8]) -> bool
     ensures full { result
         ≡ (is_due (request_of pdu.now conn.now.mtu)

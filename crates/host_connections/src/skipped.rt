@@ -122,7 +122,6 @@ fn is_wanted(
 
 /// Notes the skipped values, if `here` are notified to the slot `own` and `handles` to all others.
 /// `listening` has all that may be notified.
-#[inline(always)]
 pub(crate) fn note_all_skips(
     slots: &[Slot],
     listening: Places,
@@ -151,7 +150,6 @@ pub(crate) fn note_all_skips(
     }
 }
 
-#[inline(always)]
 fn values_for<'a>(
     own: Option<usize>,
     here: &'a [u16],

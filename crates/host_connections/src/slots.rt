@@ -210,7 +210,6 @@ impl Slots {
     }
 
     /// Counts packets as completed, at most the outstanding ones; ignores unknown handles.
-    #[inline(always)]
     pub fn packets_completed(&mut self, entries: &[[u8; 4]])
         ensures { self.new ≡ slots_after_entries (map completed_packets_of entries.now) self.old }
     {
@@ -272,7 +271,6 @@ impl Slots {
     }
 
     /// Returns true if the marks show that no connection is notified of these values.
-    #[inline(always)]
     fn nobody_hears(&self, own: Option<usize>, here: &[u16], handles: &[u16]) -> bool
         ensures heard { OnTrue result ((table : Contents) (rows : Subscriptions) (now : ℕ)
             → all_heard table now rows own here.now handles.now self.now
@@ -284,7 +282,6 @@ impl Slots {
     }
 
     /// Cheap check: false means that nothing is indicated.
-    #[inline(always)]
     fn may_wait(&self) -> bool
         ensures { OnFalse result ((table : Contents) (rows : Subscriptions) (now : ℕ)
             → all_heard table now rows None [] [] self.now ≡ self.now) }
@@ -293,7 +290,6 @@ impl Slots {
     }
 
     /// Returns the first slot whose connection may be notified, and unmarks those before it.
-    #[inline(always)]
     fn first_that_listens(&mut self) -> Option<usize>
         ensures place { result ≡ position may_listen self.old }
         ensures unchanged { self.new ≡ self.old }
@@ -336,7 +332,6 @@ impl Slots {
 
     /// Notifies the values `here` to the connection of slot `own`, and `handles` to the others.
     /// Usually one value is notified, and only to others.
-    #[inline(always)]
     fn hear_values(
         &mut self,
         moment: Moment<'_>,
@@ -377,7 +372,6 @@ impl Slots {
         }
     }
 
-    #[inline(always)]
     fn hear_alone(
         &mut self,
         moment: Moment<'_>,
