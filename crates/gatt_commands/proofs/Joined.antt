@@ -31,7 +31,8 @@ use Rattle.sim_controller.specs.Simulated.{Simulated, phone_at}
 use Rattle.sim_controller.specs.Told.{sent_octets, sent_of}
 use Rattle.gatt_commands.proofs.Hearing.{Adds, adds_none, adds_one, tells_all}
 use Rattle.gatt_commands.specs.declared.refused.Refused.{Refused}
-use Rattle.gatt_commands.specs.Doing.{ByCall, DoesLine, ReplacesBy, Stage, refused_call, sim_act}
+use Rattle.gatt_commands.specs.declared.stage.Stage.{Stage}
+use Rattle.gatt_commands.specs.Doing.{ByCall, DoesLine, ReplacesBy, refused_call, sim_act}
 use Rattle.gatt_commands.specs.Exchange.{ControllerGives, ControllerTakes, Exchanges, HandsOver, HostTakes, Pair, TakesFirst}
 use Rattle.gatt_commands.specs.Lines.{with_told_phones}
 use Rattle.gatt_commands.specs.Loop.{IsJoined, SoFar, acts_in, after_line_done, after_printing, asked_unless, nothing_heard, other_in, others_in, packets_of_item, packets_of_items, packets_taken, printed_of, read_of, replacement_of, taken_by}

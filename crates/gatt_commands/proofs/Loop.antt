@@ -12,17 +12,17 @@ use Rattle.gatt_subs.specs.Rows.{Subscriptions}
 use Rattle.le_security.specs.declared.entry.Entry.{Entry}
 use Rattle.octet_io.specs.Number.{Octets}
 use Rattle.scripts.specs.declared.act.Act.{Act}
-use Rattle.sim_controller.specs.Simulated.{simulated_at_start}
+use Rattle.sim_controller.specs.Simulated.{Simulated, simulated_at_start}
 use Rattle.gatt_commands.proofs.Joined.{Joins, joins, is-joined, exchanges, does-act, tells}
 use Rattle.gatt_commands.proofs.Running.{keeps_all}
 use Rattle.shell_files.specs.declared.fault.ShellFault.{ShellFault}
 use Rattle.gatt_commands.specs.declared.notes.Notes.{Notes}
-use Rattle.gatt_commands.specs.Doing.{Stage}
+use Rattle.gatt_commands.specs.declared.stage.Stage.{Stage}
 use Rattle.gatt_commands.specs.Echo.{Shown, shown_after, shown_behind}
 use Rattle.gatt_commands.specs.Exchange.{ExchangesAll, pair_of}
 use Rattle.gatt_commands.specs.Loop.{ClosesTheLoop, IsJoinedUpTo, SoFar, after_line_done, after_line, after_lines, nothing_yet, packets_taken}
 use Rattle.gatt_commands.specs.Opening.{IsOpened, command_configuration}
-use Rattle.gatt_commands.specs.Runs.{EndsAmong, EndsAtNext, Runs, RunsLine, simulated}
+use Rattle.gatt_commands.specs.Runs.{EndsAmong, EndsAtNext, IsStageOpened, Runs, RunsLine, simulated}
 
 joins-line : (start : Start) (so_far : SoFar) (shows : Bool) (names : List Octets) (act : Act) (old new : Stage) (held holds : Option Octets)
     (runs : RunsLine shows names act old new held holds) → Joins start old.host old.sim so_far → Joins start new.host new.sim (after_line runs so_far)
@@ -54,13 +54,15 @@ joins-opened table keys rows host is = record {
 }
 
 -- the lines of a run: all of them, or those before one that ends it
-joins-begun : (table : Contents) (keys : List Entry) (rows : Subscriptions) (host : HostModel) → IsOpened table keys rows host
-    → (begun : Stage) (silent last : Notes) → ExchangesAll (pair_of host (simulated_at_start simulated) silent) (pair_of begun.host begun.sim last)
+joins-begun : (table : Contents) (next : Option Contents) (keys : List Entry) (rows : Subscriptions) (old : Stage)
+    → IsStageOpened table next keys rows old
+    → (begun : Stage) (silent last : Notes) → ExchangesAll (pair_of old.host old.sim silent) (pair_of begun.host begun.sim last)
     → Joins (start_of table keys rows command_configuration) begun.host begun.sim nothing_yet
-joins-begun table keys rows host opened begun silent last is =
-    exchanges (start_of table keys rows command_configuration) nothing_yet is.count (pair_of host (simulated_at_start simulated) silent)
-    (pair_of begun.host begun.sim last)
-    is.exchanges (joins-opened table keys rows host opened)
+joins-begun table next keys rows old opened begun silent last is =
+    exchanges (start_of table keys rows command_configuration) nothing_yet is.count (pair_of old.host old.sim silent) (pair_of begun.host begun.sim last)
+    is.exchanges
+    (subst (λ (sim : Simulated). Joins (start_of table keys rows command_configuration) old.host sim nothing_yet) (sym opened.fresh)
+    (joins-opened table keys rows old.host opened.opened))
 
 -- the lines before the one that ends a run
 record HasLast (fault : ShellFault) (shown : Shown) (names : List Octets) (lines : List Act) (old new : Stage) (held holds : Option Octets) : Type 0 where
@@ -126,12 +128,12 @@ closes_the_loop = record {
   all_lines = λ start so_far shown names lines old new held holds runs was.
       is-joined start new.host new.sim (after_lines shown names lines old new held holds runs so_far)
       (joins-lines start so_far shown names lines old new held holds runs (joins start old.host old.sim so_far was));
-  whole_run = λ table keys rows shown script host next new held holds opened runs.
+  whole_run = λ table next keys rows shown script old new held holds opened runs.
       is-joined (start_of table keys rows command_configuration) new.host new.sim
       (after_lines shown script.names script.acts runs.begun new held holds runs.lines nothing_yet)
       (joins-lines (start_of table keys rows command_configuration) nothing_yet shown script.names script.acts runs.begun new held holds runs.lines
-      (joins-begun table keys rows host opened runs.begun runs.silent runs.last runs.exchanges));
-  early_end = λ table keys rows fault shown script host next new held holds opened ends.
+      (joins-begun table next keys rows old opened runs.begun runs.silent runs.last runs.exchanges));
+  early_end = λ table next keys rows fault shown script old new held holds opened ends.
       joined-up-to (start_of table keys rows command_configuration) fault shown script.names script.acts ends.begun new held holds ends.lines
-      (joins-begun table keys rows host opened ends.begun ends.silent ends.last ends.exchanges);
+      (joins-begun table next keys rows old opened ends.begun ends.silent ends.last ends.exchanges);
 }

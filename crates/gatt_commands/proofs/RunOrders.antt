@@ -37,12 +37,12 @@ pub runs_all : (result : Result Unit ShellFault) (shows : Shows) (table : Conten
 runs_all result shows table next keys rows None items text held holds saves saves_then all same runs = record {
   script = runs.script;
   has_script = tt;
-  lines = runs.lines;
+  shown = runs.shown;
+  has_notices = runs.has_notices;
   has_lines = tt;
-  host = runs.host;
+  begun = runs.begun;
   opened = runs.opened;
   last = runs.last;
-  next_then = runs.next_then;
   runs = runs.runs;
 }
 runs_all result shows table next keys rows (Some input) items text held holds saves saves_then all same runs =

@@ -12,8 +12,8 @@ use Rattle.gatt_commands.specs.declared.refused.Refused.{Refused}
 use Rattle.shell_files.specs.declared.fault.ShellFault.{ShellFault}
 use Rattle.shell_files.specs.declared.fault.ShellFault.TheVariants.{Table, Keys, Rows, Next, Script, Host, Controller, TooLong, NotHex, Unreadable, Unwritten, Listen, Memory}
 use Rattle.gatt_commands.specs.declared.notes.Notes.{Notes}
-use Rattle.gatt_commands.specs.Doing.{Stage}
-use Rattle.gatt_commands.specs.Echo.{Shown, lines_behind, shown_of}
+use Rattle.gatt_commands.specs.declared.stage.Stage.{Stage}
+use Rattle.gatt_commands.specs.Echo.{Shown, shown_behind}
 use Rattle.gatt_commands.specs.Exchange.{ExchangesAll, pair_of}
 use Rattle.gatt_commands.specs.Faults.{IsExchangeFault}
 use Rattle.gatt_commands.specs.Lines.{with_told_phones}
@@ -110,12 +110,10 @@ module _ (shown left : Shown) (names : List Octets) (acts : List Act) (index : �
   next-line : act ∷ drop (index + 1) acts ≡ drop index acts
   next-line = ap (λ (first : Act). first ∷ drop (index + 1) acts) same ∙ sym (drop_more acts index act below)
 
-  pub run_more : (lines : List Octets) → lines ≡ lines_behind left.lines → (next : Stage) (holds : Option Octets)
-      → RunsNext left names act now next between holds
-      → HasRun shown (shown_of left.notices lines) names acts (drop (index + 1) acts) old next held holds
-  run_more lines are_left next holds line =
-      subst (λ (lines : List Octets). HasRun shown (shown_of left.notices lines) names acts (drop (index + 1) acts) old next held holds)
-      (sym are_left) (record {
+  pub run_more : (behind : Shown) → behind ≡ shown_behind left → (next : Stage) (holds : Option Octets)
+      → RunsNext left names act now next between holds → HasRun shown behind names acts (drop (index + 1) acts) old next held holds
+  run_more behind is_left next holds line =
+      subst (λ (behind : Shown). HasRun shown behind names acts (drop (index + 1) acts) old next held holds) (sym is_left) (record {
         all = λ new last runs.
             so_far.all new last (subst (λ (rest : List Act). Runs left names rest now new between last) next-line (next, holds, line, runs));
         ends = λ fault new last ends.

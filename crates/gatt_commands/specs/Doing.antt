@@ -24,16 +24,8 @@ use Rattle.sim_controller.specs.Simulated.{Simulated}
 use Rattle.gatt_commands.specs.declared.refused.Refused.{Refused}
 use Rattle.gatt_commands.specs.declared.refused.Refused.TheVariants as refused
 use Rattle.gatt_commands.specs.declared.notes.Notes.{Notes}
+use Rattle.gatt_commands.specs.declared.stage.Stage.{Stage}
 use Rattle.gatt_commands.specs.Notices.{NotesWhatIsTold}
-
--- The state between two lines; `next` is the table of the next replacement.
-pub record Stage : Type 0 where
-  pub host : HostModel
-  pub sim : Simulated
-  pub next : Option Contents
-
-abbrev pub stage_of : HostModel → Simulated → Option Contents → Stage
-stage_of host sim next = record { host = host; sim = sim; next = next }
 
 abbrev pub sim_act : ℕ → ScriptedAct → sim.SimulatedAct
 sim_act phone (does.Connect peer) = sim.Connect phone peer

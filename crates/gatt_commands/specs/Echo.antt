@@ -5,6 +5,7 @@ use Rattle.std.specs.Option.{option_map_or}
 use Rattle.octet_io.specs.Number.{Octets}
 use Rattle.scripts.specs.Script.{lines_of_script, number_sign}
 use Rattle.scripts.specs.declared.act.Act.{Act}
+use Rattle.gatt_commands.specs.declared.script_text.Shown as written
 use Rattle.gatt_commands.specs.Lines.{line_feed}
 
 -- A blank line or a comment says nothing.
@@ -32,8 +33,8 @@ pub record Shown : Type 0 where
   pub notices : Bool
   pub lines : List Octets
 
-abbrev pub shown_of : Bool → List Octets → Shown
-shown_of notices lines = record { notices = notices; lines = lines }
+abbrev pub shown_of : written.Shown → Shown
+shown_of shown = record { notices = shown.notices; lines = lines_left shown.lines }
 
 -- The output after one line, and after one line per act.
 abbrev pub shown_behind : Shown → Shown

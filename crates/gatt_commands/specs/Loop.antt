@@ -28,12 +28,13 @@ use Rattle.sim_controller.specs.Phones.{handle_of_phone}
 use Rattle.sim_controller.specs.Simulated.{Simulated, simulated_at_start, phone_at}
 use Rattle.sim_controller.specs.Told.{sent_octets, sent_of}
 use Rattle.gatt_commands.specs.declared.refused.Refused.{Refused}
+use Rattle.gatt_commands.specs.declared.stage.Stage.{Stage}
 use Rattle.shell_files.specs.declared.fault.ShellFault.{ShellFault}
-use Rattle.gatt_commands.specs.Doing.{DoesLine, Stage, sim_act, stage_of}
+use Rattle.gatt_commands.specs.Doing.{DoesLine, sim_act}
 use Rattle.gatt_commands.specs.Echo.{Shown, shown_after, shown_behind}
 use Rattle.gatt_commands.specs.Exchange.{Exchanges, Pair}
 use Rattle.gatt_commands.specs.Opening.{IsOpened, command_configuration}
-use Rattle.gatt_commands.specs.Runs.{EndsAtNext, EndsInLines, Runs, RunsAll, RunsLine, simulated}
+use Rattle.gatt_commands.specs.Runs.{EndsAtNext, EndsInLines, IsStageOpened, Runs, RunsAll, RunsLine, simulated}
 
 -- The packets that a controller accepted, in order.
 abbrev pub taken_by : Simulated → SimulatedCall → List Octets
@@ -195,18 +196,15 @@ pub record ClosesTheLoop : Type 0 where
       (runs : Runs shown names lines old new held holds) → IsJoined start old.host old.sim so_far
       → IsJoined start new.host new.sim
       (after_lines shown names lines old new held holds runs so_far)
-  pub whole_run : (table : Contents) (keys : List Entry) (rows : Subscriptions) (shown : Shown)
-      (script : scripts.Acts) (host : HostModel) (next : Option Contents)
-      (new : Stage) (held holds : Option Octets) → IsOpened table keys rows host
-      → (runs : RunsAll shown script (stage_of host (simulated_at_start simulated) next) new held
-      holds)
+  pub whole_run : (table : Contents) (next : Option Contents) (keys : List Entry)
+      (rows : Subscriptions) (shown : Shown) (script : scripts.Acts) (old new : Stage)
+      (held holds : Option Octets) → IsStageOpened table next keys rows old
+      → (runs : RunsAll shown script old new held holds)
       → IsJoined (start_of table keys rows command_configuration) new.host new.sim
       (after_lines shown script.names script.acts runs.begun new held holds runs.lines nothing_yet)
-  pub early_end : (table : Contents) (keys : List Entry) (rows : Subscriptions) (fault : ShellFault)
-      (shown : Shown) (script : scripts.Acts) (host : HostModel)
-      (next : Option Contents) (new : Stage) (held holds : Option Octets)
-      → IsOpened table keys rows host
-      → (ends : EndsInLines fault shown script (stage_of host (simulated_at_start simulated) next)
-      new held holds)
+  pub early_end : (table : Contents) (next : Option Contents) (keys : List Entry)
+      (rows : Subscriptions) (fault : ShellFault) (shown : Shown) (script : scripts.Acts)
+      (old new : Stage) (held holds : Option Octets) → IsStageOpened table next keys rows old
+      → (ends : EndsInLines fault shown script old new held holds)
       → IsJoinedUpTo (start_of table keys rows command_configuration) fault shown script.names
       script.acts ends.begun new held holds

@@ -2,7 +2,6 @@
 use Rattle.std.specs.Prelude.{◌≡◌, ◌≢◌, ◌⊎◌, ◌++◌, Bool, true, false, is_some, List, [], ◌∷◌, length, Option, Result, Ok, Err, IfSome}
 use Rattle.std.specs.Io.KnownBytes.{Appends, Keeps}
 use Rattle.att_table.specs.Table.{Contents}
-use Rattle.gatt_host.specs.HostModel.{HostModel}
 use Rattle.gatt_subs.specs.Rows.{Subscriptions}
 use Rattle.gatt_subs.specs.RowsText.{rows_text}
 use Rattle.le_acl.specs.declared.sender.TheConstants.{MIN_ACL_LEN}
@@ -18,9 +17,10 @@ use Rattle.shell_files.specs.declared.fault.ShellFault.{ShellFault}
 use Rattle.shell_files.specs.declared.fault.ShellFault.TheVariants.{Memory, Unwritten}
 use Rattle.gatt_commands.specs.declared.notes.Notes.{Notes}
 use Rattle.gatt_commands.specs.declared.script_text.Shows.{Shows}
-use Rattle.gatt_commands.specs.declared.simulation.TheConstants.{SIMULATED_PACKETS}
-use Rattle.gatt_commands.specs.Doing.{DoesLine, NotesAct, Stage, stage_of}
-use Rattle.gatt_commands.specs.Echo.{Shown, echo_of, lines_shown, shown_behind, shown_of}
+use Rattle.gatt_commands.specs.declared.stage.Stage.{Stage}
+use Rattle.gatt_commands.specs.declared.stage.TheConstants.{SIMULATED_PACKETS}
+use Rattle.gatt_commands.specs.Doing.{DoesLine, NotesAct}
+use Rattle.gatt_commands.specs.Echo.{Shown, echo_of, lines_shown, shown_behind}
 use Rattle.gatt_commands.specs.Exchange.{ExchangesAll, ExchangesUntil, pair_of}
 use Rattle.shell_files.specs.KeyFile.{keys_in}
 use Rattle.gatt_commands.specs.Lines.{outcome_text, with_told_phones}
@@ -185,51 +185,47 @@ EndsEarly fault shown script old new held holds =
     ((silent : Notes) × FailsToExchange fault silent old new held holds)
     ⊎ EndsInLines fault shown script old new held holds
 
--- The controller is new; at the end a store saves the subscriptions.
-pub record RunsHost (shown : Shown) (script : Acts) (old new : HostModel)
-    (next next_then : Option Contents) (held holds : Option Octets)
+-- At the end a store saves the subscriptions.
+pub record RunsHost (shown : Shown) (script : Acts) (old new : Stage) (held holds : Option Octets)
     (saves saves_then : Option (List Save)) : Type 0 where
-  pub sim : Simulated
-  pub runs : RunsAll shown script (stage_of old (simulated_at_start simulated) next)
-      (stage_of new sim next_then) held holds
-  pub saved : Saves (rows_text new.server.rows) true saves saves_then
+  pub runs : RunsAll shown script old new held holds
+  pub saved : Saves (rows_text new.host.server.rows) true saves saves_then
 
 -- The run ends early and the store is asked to save, or the store fails.
-pub record EndsHost (fault : ShellFault) (shown : Shown) (script : Acts) (old new : HostModel)
-    (next next_then : Option Contents) (held holds : Option Octets)
-    (saves saves_then : Option (List Save)) : Type 0 where
-  pub sim : Simulated
+pub record EndsHost (fault : ShellFault) (shown : Shown) (script : Acts) (old new : Stage)
+    (held holds : Option Octets) (saves saves_then : Option (List Save)) : Type 0 where
   pub is_saved : Bool
-  pub ends :
-      EndsEarly fault shown script (stage_of old (simulated_at_start simulated) next)
-      (stage_of new sim next_then) held holds
-      ⊎ ((fault ≡ Unwritten) × (is_saved ≡ false)
-      × RunsAll shown script (stage_of old (simulated_at_start simulated) next)
-      (stage_of new sim next_then) held holds)
-  pub saved : Saves (rows_text new.server.rows) is_saved saves saves_then
+  pub ends : EndsEarly fault shown script old new held holds
+      ⊎ ((fault ≡ Unwritten) × (is_saved ≡ false) × RunsAll shown script old new held holds)
+  pub saved : Saves (rows_text new.host.server.rows) is_saved saves saves_then
 
-abbrev pub HostRuns : Result (Unit {0}) ShellFault → Shown → Acts → HostModel → HostModel
-    → Option Contents → Option Contents
+abbrev pub HostRuns : Result (Unit {0}) ShellFault → Shown → Acts → Stage → Stage
     → Option Octets → Option Octets → Option (List Save) → Option (List Save) → Type 0
-HostRuns (Ok done) shown script old new next next_then held holds saves saves_then =
-    RunsHost shown script old new next next_then held holds saves saves_then
-HostRuns (Err fault) shown script old new next next_then held holds saves saves_then =
-    EndsHost fault shown script old new next next_then held holds saves saves_then
+HostRuns (Ok done) shown script old new held holds saves saves_then =
+    RunsHost shown script old new held holds saves saves_then
+HostRuns (Err fault) shown script old new held holds saves saves_then =
+    EndsHost fault shown script old new held holds saves saves_then
 
--- The host is new, and the script is the file's, if known.
+-- An open stage has a new host of these files, a new controller, and this next table.
+pub record IsStageOpened (table : Contents) (next : Option Contents) (keys : List Entry)
+    (rows : Subscriptions) (stage : Stage) : Type 0 where
+  pub opened : IsOpened table keys rows stage.host
+  pub fresh : stage.sim ≡ simulated_at_start simulated
+  pub given : stage.next ≡ next
+
+-- Host and controller are new, and the script is the file's, if known.
 pub record RunsFile (result : Result (Unit {0}) ShellFault) (shows : Shows) (table : Contents)
     (next : Option Contents) (keys : List Entry) (rows : Subscriptions)
     (script_file held holds : Option Octets) (saves saves_then : Option (List Save)) : Type 0 where
   pub script : Acts
   pub has_script : IfSome script_file (λ octets. script_in (is_some next) octets ≡ Ok script)
-  pub lines : List Octets
-  pub has_lines : IfSome script_file (λ octets. lines ≡ lines_shown shows.lines octets)
-  pub host : HostModel
-  pub opened : IsOpened table keys rows host
-  pub last : HostModel
-  pub next_then : Option Contents
-  pub runs : HostRuns result (shown_of shows.notices lines) script host last next next_then held
-      holds saves saves_then
+  pub shown : Shown
+  pub has_notices : shown.notices ≡ shows.notices
+  pub has_lines : IfSome script_file (λ octets. shown.lines ≡ lines_shown shows.lines octets)
+  pub begun : Stage
+  pub opened : IsStageOpened table next keys rows begun
+  pub last : Stage
+  pub runs : HostRuns result shown script begun last held holds saves saves_then
 
 -- The octets of a run's files, if known.
 pub record Files : Type 0 where

@@ -5,12 +5,13 @@ ghost use Rattle.gatt_host.specs.Calls.{call_of};
 ghost use Rattle.gatt_host.specs.HostModel.{all_out};
 ghost use Rattle.scripts.specs.Phones.{IsOfPhoneBelow};
 ghost use Rattle.sim_controller.specs.Acts.{DoesAct};
-ghost use Rattle.gatt_commands.specs.Doing.{Calls, DoesLine, NotesAct, NotesReplacing, NotesUnless, PhoneActs, ReplacesBy, sim_act, stage_of};
+ghost use Rattle.gatt_commands.specs.Doing.{Calls, DoesLine, NotesAct, NotesReplacing, NotesUnless, PhoneActs, ReplacesBy, sim_act};
 ghost use Rattle.gatt_commands.specs.Lines.{IsOfPhone};
 ghost use Rattle.scripts.specs.declared.script.TheConstants.{MAX_PHONES};
 
 use crate::notes::Notes;
 use crate::refused::Refused;
+use crate::stage::Stage;
 use arrayvec::ArrayVec;
 use att_table::Table;
 use gatt_host::{App, Host};
@@ -22,37 +23,34 @@ pub(crate) const FIRST_HANDLE: u16 = 0x40;
 
 /// Does what a line says, and records the host's notices, unless it is refused.
 ///
-/// A replacement exchanges the table and `next`.
-pub(crate) fn do_act(
-    host: &mut Host,
-    sim: &mut Sim,
-    next: &mut Option<Table>,
-    act: &Act<'_>,
-    notes: &mut Notes,
-) -> Option<Refused>
-    requires drained { all_out host.old ≡ true }
+/// A replacement exchanges the table and `stage.next`.
+pub(crate) fn do_act(stage: &mut Stage, act: &Act<'_>, notes: &mut Notes) -> Option<Refused>
+    requires drained { all_out stage.old.host ≡ true }
     requires phone { IsOfPhoneBelow MAX_PHONES act.now }
-    ensures does { DoesLine act.now result (stage_of host.old sim.old next.old)
-        (stage_of host.new sim.new next.new) }
-    ensures noted { NotesAct act.now next.old result host.new notes.old notes.new }
+    ensures does { DoesLine act.now result stage.old stage.new }
+    ensures noted { NotesAct act.now stage.old.next result stage.new.host notes.old notes.new }
     ensures named { (count : ℕ) → IsOfPhoneBelow count act.now
         → IfSome result (IsOfPhone count) }
-    ensures sim { IsSome result → sim.new ≡ sim.old }
-    ensures next { IsSome result → next.new ≡ next.old }
+    ensures sim { IsSome result → stage.new.sim ≡ stage.old.sim }
+    ensures next { IsSome result → stage.new.next ≡ stage.old.next }
 {
     match act {
-        Act::Phone { phone, act } => phone_act(sim, *phone, act),
+        Act::Phone { phone, act } => phone_act(&mut stage.sim, *phone, act),
         Act::Authorize { phone, until } => {
             let handle = FIRST_HANDLE + u16::from(*phone);
-            call(host, App::Authorize(handle, *until), notes)
+            call(&mut stage.host, App::Authorize(handle, *until), notes)
         }
         Act::Update { handle, value } => {
             let mut octets = ArrayVec::new();
             value.decode(&mut octets);
-            call(host, App::Update(*handle, octets.as_slice()), notes)
+            call(
+                &mut stage.host,
+                App::Update(*handle, octets.as_slice()),
+                notes,
+            )
         }
-        Act::Tick { time } => call(host, App::Tick(*time), notes),
-        Act::Replace => replace(host, next, notes),
+        Act::Tick { time } => call(&mut stage.host, App::Tick(*time), notes),
+        Act::Replace => replace(&mut stage.host, &mut stage.next, notes),
     }
 }
 

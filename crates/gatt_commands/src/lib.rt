@@ -12,7 +12,7 @@ mod refused;
 mod run;
 mod script_text;
 mod serve;
-mod simulation;
+mod stage;
 mod told;
 
 pub use app_lines::{add_line, add_number, add_value};

@@ -3,23 +3,27 @@
 ghost use Rattle.std.specs.Prelude.{◌≡◌, ◌≢◌, ◌⊎◌, ℕ, is_some, Err, IfErr, IfSome, IsOk};
 ghost use Rattle.std.specs.Option.{option_map};
 ghost use Rattle.scripts.specs.declared.script_fault.ScriptFault.TheVariants.{BadLine};
+ghost use Rattle.scripts.specs.Phones.{HasNamedPhones};
 ghost use Rattle.shell_files.specs.KeyFile.{keys_out_of_memory, keys_in, KeysAreRefusedAs};
-ghost use Rattle.gatt_commands.specs.Faults.{IsRunCommandFault, IsScriptRunFault};
+ghost use Rattle.gatt_commands.specs.Echo.{shown_of};
+ghost use Rattle.gatt_commands.specs.Faults.{IsRunCommandFault, IsRunFault, IsScriptRunFault};
 ghost use Rattle.gatt_commands.specs.Loop.{ClosesTheLoop};
 ghost use Rattle.shell_files.specs.RowsFile.{rows_out_of_memory, rows_in, RowsAreRefusedAs};
-ghost use Rattle.gatt_commands.specs.Runs.{RunsFile, RunsFiles, ShowsNothingUnasked, files_of};
+ghost use Rattle.gatt_commands.specs.Runs.{HostRuns, RunsFile, RunsFiles, ShowsNothingUnasked, files_of};
 ghost use Rattle.shell_files.specs.ScriptFile.{script_in};
 ghost use Rattle.shell_files.specs.TableFile.{table_out_of_memory, table_in, TableIsRefusedAs};
 ghost use Rattle.shell_files.specs.Turns.{IsPast, OfTable, OfNext, OfKeys, OfRows, OfScript};
 
-use crate::opening::open_host;
-use crate::script_text::{Shows, shown_text};
-use crate::simulation::run_opened;
+use crate::lines::run_lines;
+use crate::script_text::{Shown, Shows, shown_text};
+use crate::stage::{Stage, open_stage};
 use att_table::Table;
 use gatt_subs::Rows;
 use le_security::Keys;
+use scripts::Script;
 use shell_files::{
     RowsStore, ShellFault, judged_script, read_all, read_keys, read_next, read_rows, read_table,
+    save_after,
 };
 use std::alloc::Global;
 use std::io::{Read, Write};
@@ -122,7 +126,7 @@ fn run_files<S: Read, V: RowsStore, W: Write>(
 fn run_text<V: RowsStore, W: Write>(
     alloc: Global,
     table: Table,
-    mut next: Option<Table>,
+    next: Option<Table>,
     keys: Keys,
     rows: Rows,
     text: &[u8],
@@ -143,18 +147,31 @@ fn run_text<V: RowsStore, W: Write>(
     ensures faults { IfErr result IsScriptRunFault }
 {
     let script = judged_script(alloc, text, next.is_some())?;
-    let mut host = open_host(alloc, table, keys, rows)?;
-    let ran = run_opened(
-        alloc,
-        &mut host,
-        &mut next,
-        &script,
-        store,
-        shows.notices,
-        shown_text(text, shows.lines),
-        writer,
-    );
-    drop(host);
-    drop(next);
+    let mut stage = open_stage(alloc, table, next, keys, rows)?;
+    let shown = Shown {
+        notices: shows.notices,
+        lines: shown_text(text, shows.lines),
+    };
+    let ran = run_host(alloc, &mut stage, &script, store, shown, writer);
+    drop(stage);
     ran
+}
+
+/// Runs a script, then saves the subscriptions. A fault of the run precedes one of the store.
+fn run_host<V: RowsStore, W: Write>(
+    alloc: Global,
+    stage: &mut Stage,
+    script: &Script<'_>,
+    store: &mut V,
+    shown: Shown<'_>,
+    writer: &mut W,
+) -> Result<(), ShellFault>
+    requires { HasNamedPhones script.now }
+    ensures runs { HostRuns result (shown_of shown.entry) script.now stage.old stage.new
+        (W.contents writer.old) (W.contents writer.new)
+        (V.saves store.old) (V.saves store.new) }
+    ensures faults { IfErr result IsRunFault }
+{
+    let ran = run_lines(alloc, stage, script, shown, writer);
+    save_after(ran, stage.host.rows(), store)
 }

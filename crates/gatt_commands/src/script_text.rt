@@ -20,6 +20,15 @@ pub struct Shows {
     pub lines: bool,
 }
 
+/// The output of the lines that are left, besides the frames of phones.
+#[derive(Clone, Copy)]
+pub(crate) struct Shown<'a> {
+    /// True if the notices to the application are shown.
+    pub(crate) notices: bool,
+    /// The text of the lines, if they are shown.
+    pub(crate) lines: Option<&'a [u8]>,
+}
+
 /// Returns the text of a script, or `None` if its lines are not shown.
 pub fn shown_text(text: &[u8], shows: bool) -> Option<&[u8]>
     ensures { lines_left result ≡ lines_shown shows text.now }

@@ -1,9 +1,8 @@
-use Rattle.std.proofs.Common.{refl}
+use Rattle.std.proofs.Common.{refl, inr}
 use Rattle.std.specs.Prelude.{is_some, Ok, Err, Some}
 use Rattle.scripts.specs.declared.script_fault.ScriptFault.TheVariants.{BadLine}
 use Rattle.gatt_commands.specs.Echo.{lines_left}
 use Rattle.shell_files.specs.ScriptFile.{script_in}
-use Rattle.gatt_commands.proofs.RunEnds.{or_more}
 use Rattle.gatt_commands.proofs.RunFaults.{judged_at_all, ran_at_all}
 use Rattle.shell_files.proofs.Turns.{accepted}
 use Rattle.gatt_commands.proofs.RunOrders.{judged_all, refused_at, never_past}
@@ -20,31 +19,29 @@ returns-clause-runs g c = λ past. record {
   has_script =
       judged_all (Some c.args.text.now) c.args.text.now c.args.text.now c.is_some.result (is_some c.args.next)
       (Ok c.in_ok-script.script) refl refl c.is_some.ensures c.in_ok-script.ensures.script;
-  lines = lines_left c.shown_text.result;
+  shown = record { notices = c.args.shows.notices; lines = lines_left c.shown_text.result };
+  has_notices = refl;
   has_lines = c.shown_text.ensures;
-  host = c.in_ok-host.host;
-  opened = c.in_ok-host.ensures.opened;
-  last = c.run_opened-ran.new.host;
-  next_then = c.run_opened-ran.new.next;
-  runs = c.run_opened-ran.ensures.runs past;
+  begun = c.in_ok-stage.stage;
+  opened = c.in_ok-stage.ensures.opened;
+  last = c.run_host-ran.new.stage;
+  runs = c.run_host-ran.ensures.runs;
 }
 
 pub returns-clause-unbegun : goal.returns-clause-unbegun
-returns-clause-unbegun g c = or_more
-    (λ runs. record {
-      script = c.in_ok-script.script;
-      has_script =
-          judged_all (Some c.args.text.now) c.args.text.now c.args.text.now c.is_some.result (is_some c.args.next)
-          (Ok c.in_ok-script.script) refl refl c.is_some.ensures c.in_ok-script.ensures.script;
-      lines = lines_left c.shown_text.result;
-      has_lines = c.shown_text.ensures;
-      host = c.in_ok-host.host;
-      opened = c.in_ok-host.ensures.opened;
-      last = c.run_opened-ran.new.host;
-      next_then = c.run_opened-ran.new.next;
-      runs = runs;
-    })
-    c.run_opened-ran.ensures.unbegun
+returns-clause-unbegun g c = inr (record {
+  script = c.in_ok-script.script;
+  has_script =
+      judged_all (Some c.args.text.now) c.args.text.now c.args.text.now c.is_some.result (is_some c.args.next)
+      (Ok c.in_ok-script.script) refl refl c.is_some.ensures c.in_ok-script.ensures.script;
+  shown = record { notices = c.args.shows.notices; lines = lines_left c.shown_text.result };
+  has_notices = refl;
+  has_lines = c.shown_text.ensures;
+  begun = c.in_ok-stage.stage;
+  opened = c.in_ok-stage.ensures.opened;
+  last = c.run_host-ran.new.stage;
+  runs = c.run_host-ran.ensures.runs;
+})
 
 pub returns-in_err-script-clause-script : goal.returns-in_err-script-clause-script
 returns-in_err-script-clause-script g c = λ line is.
@@ -69,4 +66,4 @@ returns-in_err-script-clause-faults g c =
     c.from_residual.ensures.1 c.in_err-script.ensures.refused
 
 pub returns-clause-faults : goal.returns-clause-faults
-returns-clause-faults g c = ran_at_all c.run_opened-ran.result c.run_opened-ran.ensures.faults
+returns-clause-faults g c = ran_at_all c.run_host-ran.result c.run_host-ran.ensures.faults
