@@ -1,5 +1,5 @@
 -- What happens is taken in, one turn after another.
-use Rattle.std.proofs.Common.{◌≡◌, ℕ, ◌+◌, ◌<◌, Bool, true, false, List, [], ◌∷◌, ◌++◌, length, Option, Some, None, Result, Ok, Err, refl, sym, ap, subst, ◌∙◌, arith, append_assoc, append-nil}
+use Rattle.std.proofs.Common.{◌≡◌, ℕ, ◌+◌, ◌<◌, true, List, [], ◌∷◌, ◌++◌, length, Option, Some, None, Result, Ok, Err, refl, sym, ap, subst, ◌∙◌, arith, append_assoc, append-nil}
 use Rattle.std.proofs.KnownBytes.{Consumes-nil, Consumes-trans}
 use Rattle.std.proofs.lemmas.List.{length-append}
 use Rattle.std.proofs.lemmas.List.Concat.{flat_map-append}
@@ -18,9 +18,8 @@ use Rattle.gatt_laws.specs.laws.Deadline.{deadline}
 use Rattle.gatt_laws.specs.machine.Input.{Run, Item, after_items, run_at_start, run}
 use Rattle.gatt_laws.specs.machine.Notice.{Received}
 use Rattle.gatt_laws.specs.machine.Start.{Start}
-use Rattle.octet_io.proofs.Writing.{counts_none, counts_one}
 use Rattle.octet_io.specs.Number.{Octets}
-use Rattle.octet_io.specs.Stream.{CountsIf, CountsNone}
+use Rattle.octet_io.specs.Stream.{CountsNone}
 use Rattle.device_loop.specs.declared.serving.End.{End}
 use Rattle.device_loop.specs.declared.serving.End.TheVariants as end
 use Rattle.device_loop.specs.Happenings.{DeviceInput, Came, Asked, HistoryEntry, Waited, Happened, Ended, Failed, Hands, Records, input_octets, octets_that_came, calls_of, calls_in, input_items_of, items_in}

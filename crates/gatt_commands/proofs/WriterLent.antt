@@ -20,7 +20,8 @@ served_by result old new remaining contents reader first_reader last_reader writ
       serves = record {
         ended = result;
         serves = subst (λ (from : _). Serves result TURNS old new (remaining from) (remaining last_reader) (contents writer) (contents last_writer)) same_reader
-            (subst (λ (from : _). Serves result TURNS old new (remaining first_reader) (remaining last_reader) (contents from) (contents last_writer)) same_writer
+            (subst (λ (from : _). Serves result TURNS old new (remaining first_reader) (remaining last_reader) (contents from)
+            (contents last_writer)) same_writer
             serves);
         refines = outcome;
       };

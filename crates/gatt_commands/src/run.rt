@@ -44,14 +44,18 @@ pub fn run_script<T: Read, N: Read, K: Read, R: Read, S: Read, V: RowsStore, W: 
     writer: &mut W,
 ) -> Result<(), ShellFault>
     // A file is refused by the number of its first fault, or by that of refused memory.
-    ensures table { (number : ℕ) → result ≡ Err (ShellFault.Table number) → number ≢ table_out_of_memory
+    ensures table { (number : ℕ) → result ≡ Err (ShellFault.Table number)
+        → number ≢ table_out_of_memory
         → IfSome (T.remaining table.old) (λ octets. TableIsRefusedAs number (table_in octets)) }
-    ensures next { (number : ℕ) → result ≡ Err (ShellFault.Next number) → number ≢ table_out_of_memory
+    ensures next { (number : ℕ) → result ≡ Err (ShellFault.Next number)
+        → number ≢ table_out_of_memory
         → IfSome next.old (λ file. IfSome (N.remaining file)
         (λ octets. TableIsRefusedAs number (table_in octets))) }
-    ensures keys { (number : ℕ) → result ≡ Err (ShellFault.Keys number) → number ≢ keys_out_of_memory
+    ensures keys { (number : ℕ) → result ≡ Err (ShellFault.Keys number)
+        → number ≢ keys_out_of_memory
         → IfSome (K.remaining keys.old) (λ octets. KeysAreRefusedAs number (keys_in octets)) }
-    ensures rows { (number : ℕ) → result ≡ Err (ShellFault.Rows number) → number ≢ rows_out_of_memory
+    ensures rows { (number : ℕ) → result ≡ Err (ShellFault.Rows number)
+        → number ≢ rows_out_of_memory
         → IfSome (R.remaining rows.old) (λ octets. RowsAreRefusedAs number (rows_in octets)) }
     ensures script { (line : ℕ) → result ≡ Err (ShellFault.Script line)
         → IfSome (S.remaining script.old)

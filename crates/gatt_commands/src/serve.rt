@@ -148,11 +148,14 @@ fn open_files<T: Read, K: Read, R: Read>(
     ensures opened { IfOk result
         (IsOpenedWithFiles (T.remaining table.old) (K.remaining keys.old) (R.remaining rows.old)) }
     // A file is refused by the number of its first fault, or by that of refused memory.
-    ensures table { (number : ℕ) → result ≡ Err (ShellFault.Table number) → number ≢ table_out_of_memory
+    ensures table { (number : ℕ) → result ≡ Err (ShellFault.Table number)
+        → number ≢ table_out_of_memory
         → IfSome (T.remaining table.old) (λ octets. TableIsRefusedAs number (table_in octets)) }
-    ensures keys { (number : ℕ) → result ≡ Err (ShellFault.Keys number) → number ≢ keys_out_of_memory
+    ensures keys { (number : ℕ) → result ≡ Err (ShellFault.Keys number)
+        → number ≢ keys_out_of_memory
         → IfSome (K.remaining keys.old) (λ octets. KeysAreRefusedAs number (keys_in octets)) }
-    ensures rows { (number : ℕ) → result ≡ Err (ShellFault.Rows number) → number ≢ rows_out_of_memory
+    ensures rows { (number : ℕ) → result ≡ Err (ShellFault.Rows number)
+        → number ≢ rows_out_of_memory
         → IfSome (R.remaining rows.old) (λ octets. RowsAreRefusedAs number (rows_in octets)) }
     ensures faults { IfErr result IsOpeningFault }
 {

@@ -1,6 +1,5 @@
 -- The laws that hold of all that a host takes in, and what goes out from its opening on.
 use Rattle.std.proofs.Common.{◌≡◌, List, [], ◌++◌, Option, Some, None, refl, sym, subst, append-nil}
-use Rattle.std.proofs.KnownBytes.{Appends-nil}
 use Rattle.std.specs.Prelude.{IsSome}
 use Rattle.gatt_host.proofs.meaning.Drained.{all_sent}
 use Rattle.gatt_host.proofs.model.Feeds.{takes_silently}
@@ -8,7 +7,7 @@ use Rattle.gatt_host.proofs.model.Items.{drained_where, leads_nowhere}
 use Rattle.gatt_host.specs.declared.host_fault.HostFault.{HostFault}
 use Rattle.gatt_host.specs.declared.host_fault.HostFault.TheVariants as stop
 use Rattle.gatt_host.specs.Feeding.{BreaksOff, Feeds, TakesAll, joined}
-use Rattle.gatt_host.specs.Promises.{Continues, ContinuesApart, ContinuesByThePolicy, ContinuesRuns, GivesWhatIsDue, KeepsConnectionsApartIn, KeepsThePolicyIn}
+use Rattle.gatt_host.specs.Promises.{ContinuesApart, ContinuesByThePolicy, ContinuesRuns, GivesWhatIsDue, KeepsConnectionsApartIn, KeepsThePolicyIn}
 use Rattle.gatt_host.specs.HostModel.{Refines, RefinesRun, HostModel}
 use Rattle.gatt_laws.specs.machine.Input.{Item, run}
 use Rattle.gatt_laws.specs.machine.Start.{Start}

@@ -23,7 +23,7 @@ pub record Continues (Law : Start → List Item → Type 0) (start : Start) (inp
   pub front : (run start (input ++ items)).sent ≡ (sent ++ packets) ++ rest
   pub written : WritesFront (joined packets) before after
 
--- So in each run in which the host was before the call.
+-- A call does this in each run in which the host was before it.
 abbrev pub ContinuesRuns : (Start → List Item → Type 0) → HostModel → HostModel → Option Octets
     → Option Octets → Type 0
 ContinuesRuns Law old new before after =

@@ -74,7 +74,8 @@ impl Model for Host {
 
 impl Host {
     /// Returns true if no packet may be sent to the controller now, or the host has stopped.
-    /// Packets beyond a connection's share, and commands that it does not accept yet, may still be queued.
+    /// Packets beyond a connection's share, and commands that it does not accept yet, may still be
+    /// queued.
     pub fn drained(&self) -> bool
         ensures out { result ≡ all_out self.now }
         // Then all output of its input has been sent.

@@ -12,6 +12,7 @@ use Rattle.gatt_laws.specs.machine.State.{State, step}
 use Rattle.gatt_theorems.proofs.Changed.{changes_values_by_right}
 use Rattle.gatt_theorems.proofs.Front.{is_always_given_the_front}
 use Rattle.gatt_theorems.proofs.Gained.{gains_only_what_is_due}
+use Rattle.gatt_theorems.proofs.Promise.{keeps_connections_apart, keeps_the_policy}
 use Rattle.gatt_theorems.specs.InRuns.{AtEachEvent, EachGainsWhatIsDue, EachValueChangesByRight, KeepsConnectionsApartIn, KeepsThePolicyIn}
 
 at-each : (state : State) (events : List Event) → AtEachEvent EachGainsWhatIsDue state events
@@ -36,10 +37,14 @@ any-tables (TheEnd ∷ items) = any-tables items
 
 pub keeps_the_policy_in : (start : Start) (input : List Item) → KeepsThePolicyIn start input
 keeps_the_policy_in start input = record {
+  laws = keeps_the_policy;
   gains = at-each (state_at start) (events_of start input);
   values = by-right (state_at start) (events_of start input) (means_possible_events AnyTable start input (any-tables input));
   gives = λ ordinal. is_always_given_the_front start ordinal input;
 }
 
 pub keeps_connections_apart_in : (start : Start) (input : List Item) → KeepsConnectionsApartIn start input
-keeps_connections_apart_in start input = λ peer other its. crosses_nowhere peer start other input its
+keeps_connections_apart_in start input = record {
+  laws = keeps_connections_apart;
+  crosses = λ peer other its. crosses_nowhere peer start other input its;
+}

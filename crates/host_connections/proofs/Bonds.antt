@@ -1,6 +1,5 @@
 -- Changes of a peer's bond, one after another.
 use Rattle.std.proofs.Common.{◌≡◌, Bool, true, false, Option, Some, None, refl, sym, ap, ◌∙◌}
-use Rattle.std.specs.Prelude.{◌&&◌}
 use Rattle.std.specs.Option.{option_map}
 use Rattle.att_numbers.specs.Types.{Row}
 use Rattle.host_connections.specs.Request.{with_owed_after}

@@ -81,7 +81,8 @@ nothing_raised table now rows handle silent None = refl
 nothing_raised table now rows handle silent (Some slot_state) =
     let ear : HearerFacts = hearer_facts_of now (row_of rows slot_state.peer) slot_state in
     elim slot_state.live as
-    (λ live. Some (if live then with_delivery slot_state (delivery_when_notifying table ear handle (delivery_of slot_state)) else slot_state) ≡ Some slot_state) [
+    (λ live. Some (if live then with_delivery slot_state (delivery_when_notifying table ear handle (delivery_of slot_state)) else slot_state)
+    ≡ Some slot_state) [
       | true ↦ ap (λ (told : Delivery). Some (with_delivery slot_state told))
           (unheard-raised table ear handle (delivery_of slot_state) (silent ear.row ear.standing))
       | false ↦ refl

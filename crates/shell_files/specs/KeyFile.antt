@@ -19,7 +19,8 @@ KeysAreRefusedAs number (Err fault) = number ≡ key_fault_number fault
 
 -- A key file is refused for its first fault or for refused memory.
 abbrev pub IsKeyRefusal : Octets → ShellFault → Type 0
-IsKeyRefusal octets (Keys number) = number ≢ keys_out_of_memory → KeysAreRefusedAs number (keys_in octets)
+IsKeyRefusal octets (Keys number) =
+    number ≢ keys_out_of_memory → KeysAreRefusedAs number (keys_in octets)
 IsKeyRefusal octets _ = ⊥
 
 abbrev pub IsKeyFileFault : ShellFault → Type 0

@@ -19,7 +19,8 @@ RowsAreRefusedAs number (Err fault) = number ≡ rows_fault_number fault
 
 -- A subscriptions file is refused for its first fault or for refused memory.
 abbrev pub IsRowsRefusal : Octets → ShellFault → Type 0
-IsRowsRefusal octets (Rows number) = number ≢ rows_out_of_memory → RowsAreRefusedAs number (rows_in octets)
+IsRowsRefusal octets (Rows number) =
+    number ≢ rows_out_of_memory → RowsAreRefusedAs number (rows_in octets)
 IsRowsRefusal octets _ = ⊥
 
 abbrev pub IsRowsFileFault : ShellFault → Type 0

@@ -19,7 +19,8 @@ TableIsRefusedAs number (Err fault) = number ≡ table_fault_number fault
 
 -- A table file is refused for its first fault or for refused memory.
 abbrev pub IsTableRefusal : Octets → ShellFault → Type 0
-IsTableRefusal octets (Table number) = number ≢ table_out_of_memory → TableIsRefusedAs number (table_in octets)
+IsTableRefusal octets (Table number) =
+    number ≢ table_out_of_memory → TableIsRefusedAs number (table_in octets)
 IsTableRefusal octets _ = ⊥
 
 abbrev pub IsTableFileFault : ShellFault → Type 0

@@ -29,11 +29,13 @@ pub fn check_files<T: Read, K: Read, W: Write>(
 ) -> Result<(), ShellFault>
     ensures ok { OnOk result (AreCounted (T.remaining table.old) (K.remaining keys.old)
         (W.contents writer.old) (W.contents writer.new)) }
-    ensures table { (number : ℕ) → result ≡ Err (ShellFault.Table number) → number ≢ table_out_of_memory
+    ensures table { (number : ℕ) → result ≡ Err (ShellFault.Table number)
+        → number ≢ table_out_of_memory
         → IfSome (T.remaining table.old) (λ octets. TableIsRefusedAs number (table_in octets)) }
     ensures keys_unread { (number : ℕ) → result ≡ Err (ShellFault.Table number)
         → keys.new ≡ keys.old }
-    ensures keys { (number : ℕ) → result ≡ Err (ShellFault.Keys number) → number ≢ keys_out_of_memory
+    ensures keys { (number : ℕ) → result ≡ Err (ShellFault.Keys number)
+        → number ≢ keys_out_of_memory
         → IfSome (K.remaining keys.old) (λ octets. KeysAreRefusedAs number (keys_in octets)) }
     ensures table_first { (number : ℕ) → result ≡ Err (ShellFault.Keys number)
         → IfSome (T.remaining table.old) (λ octets. IsOk (table_in octets)) }

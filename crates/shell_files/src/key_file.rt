@@ -14,7 +14,8 @@ use std::io::Read;
 pub fn read_keys<R: Read>(alloc: Global, reader: &mut R) -> Result<Keys, ShellFault>
     ensures keys { IfOk result
         (λ keys. IfSome (R.remaining reader.old) (λ octets. keys_in octets ≡ Ok keys)) }
-    ensures refused { (number : ℕ) → result ≡ Err (ShellFault.Keys number) → number ≢ keys_out_of_memory
+    ensures refused { (number : ℕ) → result ≡ Err (ShellFault.Keys number)
+        → number ≢ keys_out_of_memory
         → IfSome (R.remaining reader.old) (λ octets. KeysAreRefusedAs number (keys_in octets)) }
     ensures faults { IfErr result IsKeyFileFault }
 {

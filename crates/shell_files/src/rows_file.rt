@@ -13,7 +13,8 @@ use std::io::Read;
 pub fn read_rows<R: Read>(alloc: Global, reader: &mut R) -> Result<Rows, ShellFault>
     ensures rows { IfOk result
         (λ rows. IfSome (R.remaining reader.old) (λ octets. rows_in octets ≡ Ok rows)) }
-    ensures refused { (number : ℕ) → result ≡ Err (ShellFault.Rows number) → number ≢ rows_out_of_memory
+    ensures refused { (number : ℕ) → result ≡ Err (ShellFault.Rows number)
+        → number ≢ rows_out_of_memory
         → IfSome (R.remaining reader.old) (λ octets. RowsAreRefusedAs number (rows_in octets)) }
     ensures faults { IfErr result IsRowsFileFault }
 {

@@ -15,7 +15,8 @@ use std::io::Read;
 pub fn read_table<R: Read>(alloc: Global, reader: &mut R) -> Result<Table, ShellFault>
     ensures table { IfOk result
         (λ table. IfSome (R.remaining reader.old) (λ octets. table_in octets ≡ Ok table)) }
-    ensures refused { (number : ℕ) → result ≡ Err (ShellFault.Table number) → number ≢ table_out_of_memory
+    ensures refused { (number : ℕ) → result ≡ Err (ShellFault.Table number)
+        → number ≢ table_out_of_memory
         → IfSome (R.remaining reader.old) (λ octets. TableIsRefusedAs number (table_in octets)) }
     ensures faults { IfErr result IsTableFileFault }
 {
@@ -33,7 +34,8 @@ pub fn read_next<R: Read>(
     ensures table { IsOk result
         → IfSome reader.old (λ file. IfSome (R.remaining file)
         (λ octets. IsOk (table_in octets))) }
-    ensures refused { (number : ℕ) → result ≡ Err (ShellFault.Next number) → number ≢ table_out_of_memory
+    ensures refused { (number : ℕ) → result ≡ Err (ShellFault.Next number)
+        → number ≢ table_out_of_memory
         → IfSome reader.old (λ file. IfSome (R.remaining file)
         (λ octets. TableIsRefusedAs number (table_in octets))) }
     ensures faults { IfErr result IsNextFileFault }

@@ -38,12 +38,15 @@ pub fn show_files<T: Read, K: Read, R: Read, W: Write>(
     ensures ok { OnOk result (AreShown (T.remaining table.old) (option_map K.remaining keys.old)
         (W.contents writer.old) (W.contents writer.new)) }
     // A file is refused by the number of its first fault, or by that of refused memory.
-    ensures table { (number : ℕ) → result ≡ Err (ShellFault.Table number) → number ≢ table_out_of_memory
+    ensures table { (number : ℕ) → result ≡ Err (ShellFault.Table number)
+        → number ≢ table_out_of_memory
         → IfSome (T.remaining table.old) (λ octets. TableIsRefusedAs number (table_in octets)) }
-    ensures keys { (number : ℕ) → result ≡ Err (ShellFault.Keys number) → number ≢ keys_out_of_memory
+    ensures keys { (number : ℕ) → result ≡ Err (ShellFault.Keys number)
+        → number ≢ keys_out_of_memory
         → IfSome keys.old (λ file. IfSome (K.remaining file)
         (λ octets. KeysAreRefusedAs number (keys_in octets))) }
-    ensures rows { (number : ℕ) → result ≡ Err (ShellFault.Rows number) → number ≢ rows_out_of_memory
+    ensures rows { (number : ℕ) → result ≡ Err (ShellFault.Rows number)
+        → number ≢ rows_out_of_memory
         → IfSome (R.remaining rows.old) (λ octets. RowsAreRefusedAs number (rows_in octets)) }
     // The files are accepted in the order table, keys, rows; only then is the output written.
     ensures table_first { IsPast OfTable result
@@ -79,7 +82,8 @@ fn read_table_at<R: Read>(
 ) -> Result<Table, ShellFault>
     ensures table { IfOk result
         (λ table. IfSome (R.remaining reader.old) (λ octets. table_in octets ≡ Ok table)) }
-    ensures refused { (number : ℕ) → result ≡ Err (ShellFault.Table number) → number ≢ table_out_of_memory
+    ensures refused { (number : ℕ) → result ≡ Err (ShellFault.Table number)
+        → number ≢ table_out_of_memory
         → IfSome (R.remaining reader.old) (λ octets. TableIsRefusedAs number (table_in octets)) }
     ensures place { IsOk result → place.new ≡ place.old }
     ensures faults { IfErr result IsTableFileFault }
@@ -134,7 +138,8 @@ fn add_keys<K: Read>(
         table.now text.old.items text.new.items) }
     ensures accepted { OnOk result
         (IfSome keys.old (λ file. IfSome (K.remaining file) (λ octets. IsOk (keys_in octets)))) }
-    ensures refused { (number : ℕ) → result ≡ Err (ShellFault.Keys number) → number ≢ keys_out_of_memory
+    ensures refused { (number : ℕ) → result ≡ Err (ShellFault.Keys number)
+        → number ≢ keys_out_of_memory
         → IfSome keys.old (λ file. IfSome (K.remaining file)
         (λ octets. KeysAreRefusedAs number (keys_in octets))) }
     ensures place { IsOk result → place.new ≡ place.old }
@@ -157,7 +162,8 @@ fn add_holders<K: Read>(
         table.now text.old.items text.new.items) }
     ensures accepted { OnOk result
         (IfSome (K.remaining reader.old) (λ octets. IsOk (keys_in octets))) }
-    ensures refused { (number : ℕ) → result ≡ Err (ShellFault.Keys number) → number ≢ keys_out_of_memory
+    ensures refused { (number : ℕ) → result ≡ Err (ShellFault.Keys number)
+        → number ≢ keys_out_of_memory
         → IfSome (K.remaining reader.old) (λ octets. KeysAreRefusedAs number (keys_in octets)) }
     ensures place { IsOk result → place.new ≡ place.old }
     ensures faults { IfErr result IsKeyFileFault }
@@ -211,7 +217,8 @@ fn judge_rows_at<R: Read>(
 ) -> Result<(), ShellFault>
     ensures accepted { OnOk result
         (IfSome (R.remaining reader.old) (λ octets. IsOk (rows_in octets))) }
-    ensures refused { (number : ℕ) → result ≡ Err (ShellFault.Rows number) → number ≢ rows_out_of_memory
+    ensures refused { (number : ℕ) → result ≡ Err (ShellFault.Rows number)
+        → number ≢ rows_out_of_memory
         → IfSome (R.remaining reader.old) (λ octets. RowsAreRefusedAs number (rows_in octets)) }
     ensures place { IsOk result → place.new ≡ place.old }
     ensures faults { IfErr result IsRowsFileFault }

@@ -179,7 +179,8 @@ module _ (shared : SharedState) (bond : Row) (owed : Bool) (connection : Connect
     other_channel-there channel None = there
     other_channel-there channel (Some answer) =
         elim (is_full shared connection) as
-        (λ (full : Bool). is_there (if full then after_ending connection remote_user_terminated else with_pdus connection ((channel, answer) ∷ [])).mark ≡ true) [
+        (λ (full : Bool).
+        is_there (if full then after_ending connection remote_user_terminated else with_pdus connection ((channel, answer) ∷ [])).mark ≡ true) [
           | true ↦ refl
           | false ↦ there
         ]

@@ -1,4 +1,4 @@
-use Rattle.std.proofs.Common.{◌≡◌, ◌+◌, List, [], ◌∷◌, Option, None, true, refl, ap, arith}
+use Rattle.std.proofs.Common.{◌≡◌, ◌+◌, List, [], ◌∷◌, Option, None, ap, arith}
 use Rattle.std.proofs.lemmas.Result.{err_from_is_err_and}
 use Rattle.device_loop.proofs.Happened.{Goes, call_comes, ended_recorded, failed_recorded, goes_as, known_as, octets_come, served_more, served_none, serves_all, serves_ended, serves_nothing, serves_stopped}
 use Rattle.device_loop.proofs.serving.serve_turns.Goals as goal

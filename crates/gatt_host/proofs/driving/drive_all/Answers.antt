@@ -1,4 +1,4 @@
-use Rattle.std.proofs.Common.{◌≡◌, ℕ, ◌≤◌, ◌+◌, true, List, [], drop, Option, None, refl, sym, subst, ap, arith, rules, ◌∙◌}
+use Rattle.std.proofs.Common.{◌≡◌, ℕ, ◌≤◌, ◌+◌, List, [], drop, Option, None, sym, subst, ap, arith, ◌∙◌}
 use Rattle.std.proofs.lemmas.List.{drop_all}
 use Rattle.std.specs.Prelude.{if◌then◌else◌}
 use Rattle.gatt_host.proofs.model.Driving.{HasDriven, driven_counts, driven_more, driven_none, driven_stops, past_fault, no_more, one_more}
@@ -36,7 +36,9 @@ returns-in_err-take_input-clause-processes g c = record {
       driven_stops c.args.inputs.now c.loop-input.input-index _ c.loop-input-test.true c.loop-input.refused c.args.host.now c.loop-input.host
       c.take_input.new.host
       (g.W.Sink.contents c.args.out.now) (g.W.Sink.contents c.loop-input.out) (g.W.Sink.contents c.take_input.new.out) c.loop-input.invariant.driven
-      c.in_err-take_input.field-0.0 c.in_err-take_input.ensures.fault (feeding_at c.take_input.new.host.fault c.in_err-take_input.field-0.0 c.in_err-take_input.ensures.fault c.take_input.ensures.processes.feeding) c.take_input.ensures.processes.feeds);
+      c.in_err-take_input.field-0.0 c.in_err-take_input.ensures.fault
+      (feeding_at c.take_input.new.host.fault c.in_err-take_input.field-0.0 c.in_err-take_input.ensures.fault
+      c.take_input.ensures.processes.feeding) c.take_input.ensures.processes.feeds);
   feeding = c.take_input.ensures.processes.feeding;
   settles = settles_then c.take_input.new.host _ _ _ c.loop-input.invariant.failures c.take_input.ensures.processes.settles;
 }
@@ -76,7 +78,8 @@ loop-input-preserved g c =
           (sym counted)
           (driven_more c.args.inputs.now c.loop-input.input-index _ c.loop-input-test.true count c.args.host.now mid new before between after
           c.loop-input.invariant.driven
-          (if refused then 1 else 0) (going_takes _ mid new between after new.fault none c.take_input.ensures.processes.feeds) c.in_ok-take_input.ensures.refused);
+          (if refused then 1 else 0) (going_takes _ mid new between after new.fault none c.take_input.ensures.processes.feeds)
+          c.in_ok-take_input.ensures.refused);
       few = few;
       none = none;
       drained = c.take_input.ensures.processes.settles.out;
@@ -86,7 +89,8 @@ loop-input-preserved g c =
           then_heard) (sym counted)
           (driven_to_more c.args.inputs.now c.loop-input.input-index _ c.loop-input-test.true count c.args.host.now mid new before between after first so_far
           then_heard c.loop-input.invariant.heard
-          (if refused then 1 else 0) (going_takes _ mid new between after new.fault none c.take_input.ensures.processes.feeds) c.in_ok-take_input.ensures.refused
+          (if refused then 1 else 0) (going_takes _ mid new between after new.fault none c.take_input.ensures.processes.feeds)
+          c.in_ok-take_input.ensures.refused
           (going_hears _ mid new so_far then_heard new.fault none c.take_input.ensures.heard));
     }
 
@@ -113,7 +117,9 @@ returns-in_err-take_input-clause-heard g c =
     (g.W.Sink.contents c.args.out.now) (g.W.Sink.contents c.loop-input.out) (g.W.Sink.contents c.take_input.new.out)
     (g.L.Listener.heard c.args.listener.now) (g.L.Listener.heard c.loop-input.listener) (g.L.Listener.heard c.take_input.new.listener)
     c.loop-input.invariant.heard
-    c.in_err-take_input.field-0.0 c.in_err-take_input.ensures.fault (feeding_at c.take_input.new.host.fault c.in_err-take_input.field-0.0 c.in_err-take_input.ensures.fault c.take_input.ensures.processes.feeding) c.take_input.ensures.processes.feeds c.take_input.ensures.heard
+    c.in_err-take_input.field-0.0 c.in_err-take_input.ensures.fault
+    (feeding_at c.take_input.new.host.fault c.in_err-take_input.field-0.0 c.in_err-take_input.ensures.fault
+    c.take_input.ensures.processes.feeding) c.take_input.ensures.processes.feeds c.take_input.ensures.heard
 
 pub returns-clause-heard : goal.returns-clause-heard
 returns-clause-heard g c =

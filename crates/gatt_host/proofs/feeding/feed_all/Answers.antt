@@ -1,4 +1,4 @@
-use Rattle.std.proofs.Common.{◌≡◌, true, List, [], Option, Some, None, refl, sym, subst, ap, drop, ◌∙◌, arith, rules}
+use Rattle.std.proofs.Common.{◌≡◌, List, [], Option, Some, None, refl, sym, subst, ap, drop, ◌∙◌, arith}
 use Rattle.std.proofs.lemmas.Grind.{common_steps}
 use Rattle.gatt_host.proofs.model.Due.{due_where_held, feeding_by_run, feeding_going, feeding_where, out_where_stopped}
 use Rattle.gatt_host.proofs.model.Feeds.{broken_before, counts_where_going, counts_where_written, fault_answered, going_takes, none_answered, settles_going, settles_then, taken_breaks, taken_none, taken_silently, taken_stops, taken_then, written_at, written_by_run, HasTaken}

@@ -93,7 +93,8 @@ returns-then-is_long-clause-stopped c = past_none (the_view c.self.inside) c.arg
 
 pub returns-then-is_long-clause-policy : goal.returns-then-is_long-clause-policy
 returns-then-is_long-clause-policy c =
-    taken_by_the_policy (APacket (packet_of_ref c.args.packet) ∷ []) _ _ (returns-then-is_long-clause-takes c (sym (λ i. (c.self.view_is i).fault) ∙ c.in_default.is))
+    taken_by_the_policy (APacket (packet_of_ref c.args.packet) ∷ []) _ _
+    (returns-then-is_long-clause-takes c (sym (λ i. (c.self.view_is i).fault) ∙ c.in_default.is))
 
 pub returns-then-is_long-clause-apart : goal.returns-then-is_long-clause-apart
 returns-then-is_long-clause-apart c =

@@ -17,14 +17,17 @@ returns c =
     let old : ServerState = the_view c.self.inside in
     asked_then_heard old c.args.place c.args.pdu.now c.serve_slot-brought.new.table c.serve_slot-brought.new.rows c.serve_slot-brought.new.written.items
     c.handle-handle.result c.serve_slot-brought.result c.serve_slot-brought.new.self c.hear.new.self c.hear.new.skipped.items c.serve_slot-brought.ensures.after
-    (c.hear.ensures.heard ∙ ap (λ (handles : List Handle). all_heard c.serve_slot-brought.new.table old.time c.serve_slot-brought.new.rows (Some c.args.place) [] handles
+    (c.hear.ensures.heard
+    ∙ ap (λ (handles : List Handle). all_heard c.serve_slot-brought.new.table old.time c.serve_slot-brought.new.rows
+    (Some c.args.place) [] handles
     c.serve_slot-brought.new.self) c.as_slice.ensures.value)
     (c.hear.ensures.skipped
     ∙ ap (λ (handles : List Handle). all_skipped c.serve_slot-brought.new.table old.time c.serve_slot-brought.new.rows (Some c.args.place) [] handles
     c.serve_slot-brought.new.self) c.as_slice.ensures.value)
     c.args.self.now c.self.view_is c.serve_slot-brought.ensures.table c.serve_slot-brought.ensures.bond c.serve_slot-brought.ensures.written
     (subst (λ (it : Option SlotState). IfSome it (λ slot_state. c.handle-handle.result ≡ slot_state.handle)) c.get.ensures c.handle-handle.ensures)
-    (both_brought c.args.pdu.now c.serve_slot-brought.result (server_slot_at old c.args.place) c.serve_slot-brought.ensures.ended c.serve_slot-brought.ensures.confirmed)
+    (both_brought c.args.pdu.now c.serve_slot-brought.result (server_slot_at old c.args.place) c.serve_slot-brought.ensures.ended
+    c.serve_slot-brought.ensures.confirmed)
 
 pub serve_slot-brought-requires-clause-row : goal.serve_slot-brought-requires-clause-row
 serve_slot-brought-requires-clause-row c =
@@ -38,7 +41,8 @@ hear-requires-clause-handles c =
     let there : IsSome (slot_state_at old.slots c.args.place) =
     subst (λ (server : ServerState). IsSome (slot_state_at server.slots c.args.place)) (sym c.self.view_is) c.requires.there in
     of_table_if_any c.as_slice.result.now c.serve_slot-brought.new.table.attributes c.serve_slot-brought.new.rows c.serve_slot-brought.new.self
-    (subst (λ (slots : SlotStates). AreOfTable c.serve_slot-brought.new.table.attributes c.serve_slot-brought.new.rows slots) (sym c.serve_slot-brought.ensures.after)
+    (subst (λ (slots : SlotStates). AreOfTable c.serve_slot-brought.new.table.attributes c.serve_slot-brought.new.rows slots)
+    (sym c.serve_slot-brought.ensures.after)
     (served_of_table old.table c.serve_slot-brought.new.table old.time old.changer c.args.pdu.now old.rows c.serve_slot-brought.new.rows old.slots c.args.place
     (subst (λ (server : ServerState). IsOfItsTable server) (sym c.self.view_is) c.requires.of_table) there c.serve_slot-brought.ensures.table
     c.serve_slot-brought.ensures.bond))

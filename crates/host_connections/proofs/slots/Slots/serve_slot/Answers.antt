@@ -39,7 +39,8 @@ invariant_of-self c =
           subst (λ (it : Option SlotState). WaitsForNothingNew it c.serve_pdu-brought.new.self)
           (there_at slots slots (λ i. slots) place slot within c.index_mut-slot.ensures.value)
           (subst (λ (it : Option SlotState). WaitsForNothingNew slot it) (sym c.serve_pdu-brought.ensures.after)
-          (served_goes_on c.args.table.now c.args.now c.args.rows.now c.args.pdu.now slot c.serve_pdu-brought.result.ended c.serve_pdu-brought.ensures.ended none)))
+          (served_goes_on c.args.table.now c.args.now c.args.rows.now c.args.pdu.now slot c.serve_pdu-brought.result.ended
+          c.serve_pdu-brought.ensures.ended none)))
           (λ none. OnFalse_at none c.is_below_share-giving.ensures),
       λ other some. changed_noted slots c.self.inside.handles.noted place slot c.serve_pdu-brought.new.self
           (λ (slot_state : SlotState). slot_after_request c.args.table.now c.args.now (row_of c.args.rows.now slot_state.peer) c.args.pdu.now slot_state) within
@@ -84,7 +85,8 @@ returns-clause-written c =
     let within : place < length slots = subst (λ (it : SlotStates). place < length it) (sym c.self.view_is) c.requires.place in
     subst (λ (it : Option SlotState).
     IfSome it
-    (λ slot_state. c.serve_pdu-brought.new.written.items ≡ handles_written_by c.args.table.now c.args.now (row_of c.args.rows.now slot_state.peer) c.args.pdu.now
+    (λ slot_state. c.serve_pdu-brought.new.written.items ≡ handles_written_by c.args.table.now c.args.now (row_of c.args.rows.now slot_state.peer)
+    c.args.pdu.now
     slot_state))
     (there_at slots c.args.self.now c.self.view_is place c.index_mut-slot.result.now within c.index_mut-slot.ensures.value) c.serve_pdu-brought.ensures.written
 
@@ -102,4 +104,5 @@ returns-clause-confirmed c =
     let place = c.args.place in
     let within : place < length slots = subst (λ (it : SlotStates). place < length it) (sym c.self.view_is) c.requires.place in
     subst (λ (it : Option SlotState). IfSome it (λ slot_state. c.serve_pdu-brought.result.confirmed ≡ confirmed_of c.args.pdu.now slot_state))
-    (there_at slots c.args.self.now c.self.view_is place c.index_mut-slot.result.now within c.index_mut-slot.ensures.value) c.serve_pdu-brought.ensures.confirmed
+    (there_at slots c.args.self.now c.self.view_is place c.index_mut-slot.result.now within c.index_mut-slot.ensures.value)
+    c.serve_pdu-brought.ensures.confirmed
