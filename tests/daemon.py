@@ -242,7 +242,7 @@ def main():
         killed(program, room, rounds)
         told, stayed = left.get(timeout=STAY + PATIENCE)
         check(told is None and stranger.reason == HOST_ENDED, "a phone without a key is disconnected")
-        # The lock's clock counts whole milliseconds, so that the time may end a part of one early.
+        # The lock's clock counts whole milliseconds: seen from outside, the stay may end up to one early.
         check(STAY - 0.001 <= stayed < STAY + PATIENCE, f"after {STAY} s, and not after {stayed:.4f} s")
         check(tablet.ask(READ + b"\x03\x00") == FOUND + b"Lock", "a phone with a key stays")
         silent.serving.kill()
