@@ -9,10 +9,14 @@ use Rattle.octet_io.specs.Number.{Octets}
 use Rattle.app_lines.specs.Names.{name_of}
 use Rattle.app_lines.specs.declared.names.Named.{Named}
 use Rattle.app_lines.specs.declared.told.Told.{Told}
-use Rattle.app_lines.specs.declared.told.Told.TheVariants.{Serving, Waiting, Replaced, Stopped, Started, Missed, Subscribed, Unsaved, Saved}
+use Rattle.app_lines.specs.declared.told.Told.TheVariants.{Serving, Waiting, Replaced, Stopped, Started, Missed, Updated, Subscribed, Unsaved, Saved}
 
 abbrev pub words_line : Octets → Octets → Octets
 words_line about words = about ++ words ++ 10 ∷ []
+
+abbrev pub value_line : Octets → ℕ → Octets → Octets
+value_line about handle value =
+    about ++ 32 ∷ decimal handle ++ 32 ∷ value_text value ++ 10 ∷ []
 
 -- An attribute and the bits of a subscription.
 abbrev pub attribute_end : ℕ → ℕ → Octets
@@ -28,8 +32,8 @@ told_line Waiting = codes "+ waiting" ++ 10 ∷ []
 told_line Replaced = codes "+ replaced" ++ 10 ∷ []
 told_line (Stopped words) = words_line (codes "+ stopped: ") words.now
 told_line (Started number) = codes "+ started" ++ 32 ∷ decimal number ++ 10 ∷ []
-told_line (Missed handle value) =
-    codes "+ missed" ++ 32 ∷ decimal handle ++ 32 ∷ value_text value.now ++ 10 ∷ []
+told_line (Missed handle value) = value_line (codes "+ missed") handle value.now
+told_line (Updated handle value) = value_line (codes "+ updated") handle value.now
 told_line (Subscribed name attribute bits) = subscribed_line name attribute bits
 told_line (Unsaved words) = words_line (codes "+ unsaved: ") words.now
 told_line Saved = codes "+ saved" ++ 10 ∷ []

@@ -47,6 +47,8 @@ pub enum Command<'a> {
         characteristic: u128,
         number: u16,
     },
+    /// Become the application at once.
+    Application,
     /// Stop the device.
     Stop,
 }
@@ -89,6 +91,7 @@ fn read_one(first: &str) -> Result<Command<'_>, Wrong>
 {
     match first {
         "connections" => Ok(Command::Connections),
+        "application" => Ok(Command::Application),
         "stop" => Ok(Command::Stop),
         _ => Err(count_fault(first, 1)),
     }
@@ -259,6 +262,7 @@ fn most_words(first: &str) -> Option<usize>
         "connections" => Some(1),
         "subscriptions" => Some(2),
         "find" => Some(4),
+        "application" => Some(1),
         "stop" => Some(1),
         _ => None,
     }

@@ -2,7 +2,7 @@
 
 ghost use Rattle.std.specs.Prelude.{◌≡◌, ◌++◌, OnOk};
 ghost use Rattle.app_lines.specs.Reply.{reply_line, reply_text};
-ghost use Rattle.app_lines.specs.declared.reply.Reply.TheVariants.{Refused, Value, Handle, Bad};
+ghost use Rattle.app_lines.specs.declared.reply.Reply.TheVariants.{Refused, Value, Handle};
 
 use crate::notice_text::{add_number, add_value};
 use host_api::AppFault;
@@ -14,6 +14,8 @@ pub enum Reply<'a> {
     Done,
     /// The command was rejected with this fault and text.
     Refused { fault: AppFault, words: &'a str },
+    /// The device stops and could not save: what is not saved, and the reason.
+    NotSaved(&'a str),
     /// The value at a handle.
     Value { handle: u16, value: &'a [u8] },
     /// The handle found.
@@ -37,9 +39,10 @@ fn add_text(text: &mut Vec<u8>, reply: &Reply<'_>) -> Result<(), AllocError>
     match reply {
         Reply::Done => text.extend_from_slice(b"ok"),
         Reply::Refused { fault, words } => add_refused(text, *fault, words),
+        Reply::NotSaved(words) => add_words(text, b"fault 8: ", words),
         Reply::Value { handle, value } => add_handle_value(text, *handle, value),
         Reply::Handle(handle) => add_handle(text, *handle),
-        Reply::Bad(words) => add_bad(text, words),
+        Reply::Bad(words) => add_words(text, b"bad: ", words),
     }
 }
 
@@ -69,9 +72,9 @@ fn add_handle(text: &mut Vec<u8>, handle: u16) -> Result<(), AllocError>
     add_number(text, u64::from(handle))
 }
 
-fn add_bad(text: &mut Vec<u8>, words: &str) -> Result<(), AllocError>
-    ensures ok { OnOk result (text.new.items ≡ text.old.items ++ reply_text (Bad words.entry)) }
+fn add_words(text: &mut Vec<u8>, about: &[u8], words: &str) -> Result<(), AllocError>
+    ensures ok { OnOk result (text.new.items ≡ text.old.items ++ about.now ++ words.now) }
 {
-    text.extend_from_slice(b"bad: ")?;
+    text.extend_from_slice(about)?;
     text.extend_from_slice(words.as_bytes())
 }

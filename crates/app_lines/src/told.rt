@@ -1,9 +1,9 @@
 //! Unrequested lines to the application.
 
 ghost use Rattle.std.specs.Prelude.{◌≡◌, ◌++◌, OnOk};
-ghost use Rattle.app_lines.specs.Told.{attribute_end, connection_lines, key_line, told_line};
+ghost use Rattle.app_lines.specs.Told.{attribute_end, connection_lines, key_line, told_line, value_line};
 ghost use Rattle.app_lines.specs.Told.{lines_of_connection, subscribed_line, words_line};
-ghost use Rattle.app_lines.specs.declared.told.Told.TheVariants.{Started, Missed};
+ghost use Rattle.app_lines.specs.declared.told.Told.TheVariants.{Started};
 
 use crate::names::Names;
 use crate::notice_text::{add_named_line, add_number, add_value};
@@ -26,6 +26,8 @@ pub enum Told<'a> {
     /// A phone wrote the value at a handle while no application was connected. Holds the current
     /// value.
     Missed { handle: u16, value: &'a [u8] },
+    /// Another connection updated the value at a handle.
+    Updated { handle: u16, value: &'a [u8] },
     /// Subscription of a connection to an attribute, by its configuration bits.
     Subscribed { name: u64, attribute: u16, bits: u8 },
     /// Saving failed for this reason.
@@ -44,7 +46,8 @@ pub fn add_told(text: &mut Vec<u8>, told: &Told<'_>) -> Result<(), AllocError>
         Told::Replaced => text.extend_from_slice(b"+ replaced\n"),
         Told::Stopped(words) => add_words(text, b"+ stopped: ", words),
         Told::Started(number) => add_started(text, *number),
-        Told::Missed { handle, value } => add_missed(text, *handle, value),
+        Told::Missed { handle, value } => add_value_line(text, b"+ missed", *handle, value),
+        Told::Updated { handle, value } => add_value_line(text, b"+ updated", *handle, value),
         Told::Subscribed {
             name,
             attribute,
@@ -72,11 +75,16 @@ fn add_started(text: &mut Vec<u8>, number: u64) -> Result<(), AllocError>
     text.extend_from_slice(b"\n")
 }
 
-fn add_missed(text: &mut Vec<u8>, handle: u16, value: &[u8]) -> Result<(), AllocError>
+fn add_value_line(
+    text: &mut Vec<u8>,
+    about: &[u8],
+    handle: u16,
+    value: &[u8],
+) -> Result<(), AllocError>
     ensures ok { OnOk result (text.new.items
-        ≡ text.old.items ++ told_line (Missed handle value.entry)) }
+        ≡ text.old.items ++ value_line about.now handle value.now) }
 {
-    text.extend_from_slice(b"+ missed")?;
+    text.extend_from_slice(about)?;
     add_number(text, u64::from(handle))?;
     add_value(text, value)?;
     text.extend_from_slice(b"\n")
