@@ -12,11 +12,23 @@ use std::fs::{File, Files};
 use std::net::{Net, TcpListener, TcpStream};
 use std::time::Clock;
 
+/// The event that a device takes next.
+#[derive(Clone, Copy)]
+pub(crate) enum Takes {
+    /// Any event, after a wait if necessary.
+    Any,
+    /// The next line of the sender of the last one.
+    Line,
+    /// None: the changes of the events before are to be saved.
+    Nothing,
+}
+
 #[derive(Drop)]
 pub(crate) struct Device<'a, R> {
     pub(crate) alloc: Global,
     pub(crate) session: Session<'a, R>,
     pub(crate) keeping: Option<Keeping>,
+    pub(crate) takes: Takes,
     /// The connections whose changes are not saved, to be disconnected.
     pub(crate) ending: ArrayVec<u16, MAX_SLOTS>,
     /// When a stopping device ends at the latest, in milliseconds.
@@ -44,11 +56,17 @@ impl<
     ghost history = { λ _. None };
 
     fn next<'b>(&mut self, deadline: Option<u64>, buffer: &'b mut [u8]) -> Next<'b> {
-        if let Some(handle) = self.ending.pop() {
-            return Next::Call(App::Disconnect(handle));
+        match self.takes {
+            Takes::Nothing => Next::Octets(&[]),
+            Takes::Line => call_or_nothing(self.session.next_call_of_asker(buffer)),
+            Takes::Any => {
+                if let Some(handle) = self.ending.pop() {
+                    return Next::Call(App::Disconnect(handle));
+                }
+                let deadline = sooner(sooner(deadline, self.stop), self.retry());
+                next(&mut self.session, deadline, buffer)
+            }
         }
-        let deadline = sooner(sooner(deadline, self.stop), self.retry());
-        next(&mut self.session, deadline, buffer)
     }
 
     fn answered(&mut self, answer: Result<(), AppFault>) {
@@ -66,7 +84,11 @@ fn next<
     if session.is_controller_next() {
         return octets(session, buffer);
     }
-    match session.next_call(buffer) {
+    call_or_nothing(session.next_call(buffer))
+}
+
+fn call_or_nothing(call: Option<App<'_>>) -> Next<'_> {
+    match call {
         Some(call) => Next::Call(call),
         None => Next::Octets(&[]),
     }

@@ -125,12 +125,42 @@ impl Keeping {
         session: &mut Session<'_, R>,
     ) -> bool {
         if self.is_due && self.is_time(session.log().now()) {
-            match self.write(host, session.log().rt) {
-                Ok(()) => self.succeed(session),
-                Err(error) => self.fail(session, &error),
-            }
+            self.save_now(host, session);
         }
         !self.is_due
+    }
+
+    /// Saves a host if necessary, whatever the time of the next attempt. Returns the file and the
+    /// error if that fails.
+    pub(crate) fn save_last<R: Files<File = File> + Clock + Eprint>(
+        &mut self,
+        host: &Host,
+        session: &mut Session<'_, R>,
+    ) -> Option<&str> {
+        if self.is_due {
+            self.save_now(host, session);
+        }
+        if !self.is_due {
+            return None;
+        }
+        match &self.failure {
+            Some(failure) => Some(failure.as_str()),
+            None => Some(self.file.path()),
+        }
+    }
+
+    fn save_now<R: Files<File = File> + Clock + Eprint>(
+        &mut self,
+        host: &Host,
+        session: &mut Session<'_, R>,
+    ) {
+        session.begin_work();
+        let written = self.write(host, session.log().rt);
+        session.end_work();
+        match written {
+            Ok(()) => self.succeed(session),
+            Err(error) => self.fail(session, &error),
+        }
     }
 
     fn is_time(&self, now: u64) -> bool {
@@ -158,13 +188,21 @@ impl Keeping {
     }
 
     fn fail<R: Clock + Eprint>(&mut self, session: &mut Session<'_, R>, error: &io::Error) {
-        let is_first = self.retry.is_none();
         self.retry = Some(session.log().now().saturating_add(RETRY_TIME));
         let path = self.file.path();
-        if is_first && let Ok(line) = format!(in self.alloc; "{path}: {error}") {
+        if let Ok(line) = format!(in self.alloc; "{path}: {error}")
+            && !self.has_failed_as(line.as_str())
+        {
             session.log().say_of("not saved:", line.as_str());
             self.failure = Some(line);
             self.tell_failure(session);
+        }
+    }
+
+    fn has_failed_as(&self, line: &str) -> bool {
+        match &self.failure {
+            Some(failure) => failure.as_str() == line,
+            None => false,
         }
     }
 

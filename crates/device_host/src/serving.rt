@@ -1,21 +1,22 @@
 //! Serves one controller after another.
 
-use crate::device::Device;
-use crate::keeping::Keeping;
+use crate::device::{Device, Takes};
+use crate::keeping::{Contents, Keeping};
 use crate::opening::{open_host, reopen};
 use crate::outgoing::ToController;
 use crate::starting::{begin_capture, reaching};
 use crate::stop::Stop;
 use crate::stopping::{finish, is_stopped};
 use crate::turn_notices::Hearing;
-use app_lines::Told;
+use crate::turn_effects::note_event;
+use app_lines::{Names, Told, add_named_line};
 use device_io::Log;
-use device_loop::{End, Sending, serve_turn};
+use device_loop::{End, Sending, serve_happenings, serve_turn};
 use device_options::{HostOptions, OptionTexts};
-use device_session::{Heard, Session};
-use gatt_host::{Host, HostFault};
+use device_session::{Heard, SavedChanges, Session};
+use gatt_host::{Host, HostFault, Notice};
 use shell_files::ShellFault;
-use std::alloc::Global;
+use std::alloc::{AllocError, Global};
 use std::fs::{File, Files};
 use std::net::{Net, TcpListener, TcpStream};
 use std::random::RandomSource;
@@ -29,12 +30,18 @@ enum Over {
     Stopped(HostFault),
     /// The application has asked the device to stop.
     Asked,
+    /// As `Asked`, and not everything is saved.
+    Unsaved,
 }
+
+/// The most lines of one read, each at least a line feed.
+const MOST_LINES: u32 = 2_048;
 
 impl Over {
     fn outcome(self) -> Result<(), Stop> {
         match self {
             Over::Gone(_) | Over::Asked => Ok(()),
+            Over::Unsaved => Err(Stop::File),
             Over::Stopped(fault) => Err(Stop::Fault(ShellFault::Host(fault.number()))),
         }
     }
@@ -135,8 +142,11 @@ fn serve_each<
 >(device: &mut Device<'_, R>, host: Host, options: &HostOptions<'_>) -> Result<(), Stop> {
     let mut host = host;
     let mut hearing = hearing_of(device, options.log_values);
+    let mut outcome = Ok(());
     for _controller in 0..u64::MAX {
-        if let Over::Asked = serve_one(device, &mut host, &mut hearing) {
+        let over = serve_one(device, &mut host, &mut hearing);
+        if let Over::Asked | Over::Unsaved = over {
+            outcome = over.outcome();
             break;
         }
         host = reopen(device.alloc, host, &options.host)?;
@@ -144,15 +154,18 @@ fn serve_each<
     }
     drop(hearing);
     drop(host);
-    Ok(())
+    outcome
 }
 
 fn hearing_of<R>(device: &Device<'_, R>, logs_values: bool) -> Hearing {
-    let saves_values = match &device.keeping {
-        Some(keeping) => keeping.contents.has_values(),
-        None => false,
+    let saved = match &device.keeping {
+        Some(keeping) => match keeping.contents {
+            Contents::Subscriptions => SavedChanges::Subscriptions,
+            Contents::State(_) => SavedChanges::All,
+        },
+        None => SavedChanges::Nothing,
     };
-    Hearing::new(Heard::new(device.alloc, logs_values), saves_values)
+    Hearing::new(Heard::new(device.alloc, logs_values, saved), saved == SavedChanges::All)
 }
 
 fn serve_one<
@@ -164,10 +177,13 @@ fn serve_one<
     device.ending.clear();
     let over = serve_turns(device, host, hearing);
     if device.stop.is_some() {
-        finish(device);
-        return Over::Asked;
+        return if finish(device, host) {
+            Over::Asked
+        } else {
+            Over::Unsaved
+        };
     }
-    tell_over(device.alloc, &mut device.session, over);
+    tell_over(device.alloc, &mut device.session, host, over);
     over
 }
 
@@ -192,11 +208,14 @@ fn over_in_turn<
     out: &mut ToController,
     heard: &mut Hearing,
 ) -> Option<Over> {
+    let served = serve_events(device, host, out, heard);
+    device.takes = Takes::Nothing;
     let turn = serve_turn(host, device, out, heard);
+    device.takes = Takes::Any;
     if matches!(turn.sending, Sending::Failed) {
         return Some(Over::Gone(device.session.why_lost("gone: it cannot be written")));
     }
-    match turn.served {
+    match served {
         Ok(End::Turns) if device.session.lacks_application() => {
             Some(Over::Gone("released: no application is connected"))
         }
@@ -208,16 +227,57 @@ fn over_in_turn<
     }
 }
 
-fn tell_over<R: Clock + Eprint>(alloc: Global, session: &mut Session<'_, R>, over: Over) {
+/// Serves an event, and then the other lines of the same read: one save covers all of them.
+fn serve_events<
+    R: Files<File = File> + Net<Listener = TcpListener, Stream = TcpStream> + Clock + Eprint,
+>(
+    device: &mut Device<'_, R>,
+    host: &mut Host,
+    out: &mut ToController,
+    heard: &mut Hearing,
+) -> Result<End, HostFault> {
+    let mut served = serve_happenings(host, device, out, heard, 1);
+    note_event(device, host, heard);
+    device.takes = Takes::Line;
+    for _line in 0..MOST_LINES {
+        if !matches!(served, Ok(End::Turns)) || !device.session.has_next_line() {
+            break;
+        }
+        served = serve_happenings(host, device, out, heard, 1);
+        note_event(device, host, heard);
+    }
+    served
+}
+
+fn tell_over<R: Clock + Eprint>(
+    alloc: Global,
+    session: &mut Session<'_, R>,
+    host: &Host,
+    over: Over,
+) {
     match over {
         Over::Gone(how) => session.log().say_of("controller", how),
         Over::Stopped(fault) => tell_stopped(alloc, session, fault),
-        Over::Asked => {}
+        Over::Asked | Over::Unsaved => {}
     }
     if session.is_serving() {
+        let ends = ends_of_connections(alloc, session.names(), host);
+        session.tell_ends(ends);
         session.tell(&Told::Waiting);
     }
     session.flush();
+}
+
+/// Returns a line for each connection that ends because its controller is gone.
+fn ends_of_connections(alloc: Global, names: &Names, host: &Host) -> Result<Vec<u8>, AllocError> {
+    let mut text = Vec::new(alloc);
+    for connection in host.connections() {
+        let handle = connection.handle;
+        if let Some(name) = names.name_of(handle) {
+            add_named_line(&mut text, name, &Notice::Disconnected { handle })?;
+        }
+    }
+    Ok(text)
 }
 
 fn tell_stopped<R: Clock + Eprint>(alloc: Global, session: &mut Session<'_, R>, fault: HostFault) {

@@ -1,6 +1,6 @@
 //! The start of a device.
 
-use crate::device::Device;
+use crate::device::{Device, Takes};
 use crate::keeping::Keeping;
 use crate::stop::{Stop, refuse_socket};
 use arrayvec::ArrayVec;
@@ -48,6 +48,7 @@ pub(crate) fn reaching<
         alloc,
         session,
         keeping,
+        takes: Takes::Any,
         ending: ArrayVec::new(),
         stop: None,
         started,

@@ -1,6 +1,7 @@
 //! The stop of a device that the line `stop` asks for.
 
 use crate::device::Device;
+use app_lines::{Reply, add_reply};
 use arrayvec::ArrayVec;
 use gatt_host::{Host, MAX_SLOTS};
 use std::alloc::{AllocError, Global};
@@ -46,22 +47,50 @@ pub(crate) fn is_stopped<R: Clock + Eprint>(device: &mut Device<'_, R>, host: &H
     is_late || !is_connected || !device.session.has_controller()
 }
 
-/// Resets the controller, so that it stops advertising, and answers `stop`.
+/// Saves once more, resets the controller, so that it stops advertising, and answers `stop`.
+/// Returns true if everything is saved.
 pub(crate) fn finish<
     R: Files<File = File> + Net<Listener = TcpListener, Stream = TcpStream> + Clock + Eprint,
->(device: &mut Device<'_, R>) {
+>(device: &mut Device<'_, R>, host: &Host) -> bool {
+    let failure = save_last(device, host);
     if let Ok(true) = device.session.write(&RESET) {
         wait_for_reset(device);
     }
-    let text = ok_text(device.alloc);
-    device.session.reply(text);
+    let text = last_answer(device.alloc, &failure);
+    device.session.answer_later(text);
+    device.session.reply();
     device.session.flush();
-    device.session.log().say("stopped");
+    match &failure {
+        None => device.session.log().say("stopped"),
+        Some(words) => device.session.log().say_of("stopped:", words.as_str()),
+    }
+    failure.is_none()
 }
 
-fn ok_text(alloc: Global) -> Result<Vec<u8>, AllocError> {
+/// Saves once more. Returns the file and the error if that fails.
+fn save_last<R: Files<File = File> + Clock + Eprint>(
+    device: &mut Device<'_, R>,
+    host: &Host,
+) -> Option<String> {
+    let keeping = device.keeping.as_mut()?;
+    let failure = match keeping.save_last(host, &mut device.session) {
+        Some(words) => Some(
+            format!(in device.alloc; "not saved: {words}").unwrap_or(String::new(device.alloc)),
+        ),
+        None => None,
+    };
+    if failure.is_none() {
+        device.session.tell_pending();
+    }
+    failure
+}
+
+fn last_answer(alloc: Global, failure: &Option<String>) -> Result<Vec<u8>, AllocError> {
     let mut text = Vec::new(alloc);
-    text.extend_from_slice(b"ok\n")?;
+    match failure {
+        None => add_reply(&mut text, &Reply::Done)?,
+        Some(words) => add_reply(&mut text, &Reply::NotSaved(words.as_str()))?,
+    }
     Ok(text)
 }
 

@@ -22,28 +22,44 @@ use std::time::Clock;
 
 const MOST_MISSED: usize = MAX_ATTRIBUTES;
 
+/// Notes what an event changed, and prepares the answer to its line.
+pub(crate) fn note_event<R: Files<File = File> + Clock + Eprint>(
+    device: &mut Device<'_, R>,
+    host: &Host,
+    hearing: &mut Hearing,
+) {
+    let session = &mut device.session;
+    session.know(&hearing.heard);
+    if let Some(keeping) = &mut device.keeping {
+        note_changes(keeping, session, host, hearing);
+    }
+    match session.asked() {
+        Asked::Nothing => {}
+        Asked::Command(Command::Stop) => begin_stop(device),
+        _ => {
+            note_update(session, host);
+            let text = answer_text(device.alloc, session, host, &hearing.heard);
+            session.answer_later(text);
+        }
+    }
+}
+
 /// Saves the changes of a turn, and then answers, notifies and logs.
 pub(crate) fn settle<R: Files<File = File> + Clock + Eprint>(
     device: &mut Device<'_, R>,
     host: &Host,
     hearing: &mut Hearing,
 ) -> Saving {
-    let session = &mut device.session;
-    session.tell_controller(host.is_initialised());
-    if let Some(keeping) = &mut device.keeping {
-        note_changes(keeping, session, host, hearing);
-    }
+    device.session.tell_controller(host.is_initialised());
     let saving = save(device, host, hearing);
+    let is_saved = matches!(saving, Saving::Saved);
     let session = &mut device.session;
-    session.know(&hearing.heard);
-    if matches!(session.asked(), Asked::Command(Command::Stop)) {
-        begin_stop(device);
-    } else {
-        answer(device.alloc, session, host, &hearing.heard);
+    if is_saved {
+        session.tell_pending();
     }
-    let session = &mut device.session;
+    session.reply();
     if !hearing.heard.is_nothing() {
-        session.tell_heard(&hearing.heard);
+        session.tell_heard(&hearing.heard, is_saved);
         tell_subscriptions(device.alloc, session, host, &hearing.heard);
         hearing.heard.clear();
     }
@@ -65,10 +81,29 @@ fn note_changes<R: Clock + Eprint>(
         keeping.note_change();
         hearing.is_change = false;
     }
-    if session.answer().is_ok()
-        && let Asked::Command(Command::Update { handle, .. }) = session.asked()
-    {
+    if let Some(handle) = updated_handle(session) {
         keeping.note_update(host.table(), handle);
+    }
+}
+
+/// Returns the handle of the value that the last line has updated, if any.
+fn updated_handle<R>(session: &Session<'_, R>) -> Option<u16> {
+    match session.asked() {
+        Asked::Command(Command::Update { handle, .. }) if session.answer().is_ok() => Some(handle),
+        _ => None,
+    }
+}
+
+/// Notes a value that the last line has updated. The application is notified if it did not do so.
+fn note_update<R: Clock + Eprint>(session: &mut Session<'_, R>, host: &Host) {
+    let Some(handle) = updated_handle(session) else {
+        return;
+    };
+    session.note_update(handle);
+    if session.is_visited()
+        && let Some(value) = host.table().value_of(handle)
+    {
+        session.tell_later(&Told::Updated { handle, value });
     }
 }
 
@@ -183,19 +218,6 @@ fn standing(host: &Host, handles: &[u16]) -> ArrayVec<u16, MAX_SLOTS> {
     standing
 }
 
-fn answer<R: Clock + Eprint>(
-    alloc: Global,
-    session: &mut Session<'_, R>,
-    host: &Host,
-    heard: &Heard,
-) {
-    if matches!(session.asked(), Asked::Nothing) {
-        return;
-    }
-    let text = answer_text(alloc, session, host, heard);
-    session.reply(text);
-}
-
 fn answer_text<R>(
     alloc: Global,
     session: &Session<'_, R>,
@@ -240,7 +262,7 @@ fn answer_command<R>(
             characteristic,
             number,
         } => add_handle(text, host.table().find(*service, *characteristic, *number)),
-        Command::Stop => add_reply(text, &Reply::Done),
+        Command::Application | Command::Stop => add_reply(text, &Reply::Done),
         _ => add_outcome(alloc, text, session.answer()),
     }
 }

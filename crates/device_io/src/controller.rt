@@ -266,58 +266,58 @@ impl Controller<'_> {
     /// Reaches a controller if one connects or if it is time, unless `is_held`.
     pub fn look<
         R: Files<File = File> + Net<Listener = TcpListener, Stream = TcpStream> + Clock + Eprint,
-    >(&mut self, connects: bool, is_held: bool, poller: &Poller, log: &Log<'_, R>) {
+    >(&mut self, connects: bool, is_held: bool, poller: &Poller, log: &Log<'_, R>, now: u64) {
         self.is_held = is_held;
         self.is_knocking |= connects;
         if is_held {
             self.next = None;
         }
         if self.is_answered {
-            self.finish(poller, log);
+            self.finish(poller, log, now);
         }
         match self.retry() {
-            Some(due) if due <= log.now() => {
+            Some(due) if due <= now => {
                 self.is_knocking = false;
-                self.reach(poller, log);
+                self.reach(poller, log, now);
             }
             _ => {}
         }
     }
 
-    fn finish<R: Clock + Eprint>(&mut self, poller: &Poller, log: &Log<'_, R>) {
+    fn finish<R: Clock + Eprint>(&mut self, poller: &Poller, log: &Log<'_, R>, now: u64) {
         let Some(transport) = self.next.take() else {
             return;
         };
-        self.retry = log.now().saturating_add(RETRY_TIME);
+        self.retry = now.saturating_add(RETRY_TIME);
         if !transport.is_connected() {
             return self.miss("controller: not there", log);
         }
         let watched = poller.again(&transport, Source::Controller);
-        self.take(transport, watched, log);
+        self.take(transport, watched, log, now);
     }
 
     fn reach<
         R: Files<File = File> + Net<Listener = TcpListener, Stream = TcpStream> + Clock + Eprint,
-    >(&mut self, poller: &Poller, log: &Log<'_, R>) {
+    >(&mut self, poller: &Poller, log: &Log<'_, R>, now: u64) {
         if self.next.take().is_some() {
             self.miss("controller: not there", log);
         }
         let Ok(reached) = self.connector.reach(log.rt) else {
             // The controller keeps waiting.
             self.is_knocking = true;
-            self.retry = log.now().saturating_add(ACCEPT_TIME);
+            self.retry = now.saturating_add(ACCEPT_TIME);
             return self.miss("controller: not accepted", log);
         };
         if self.connector.is_tried() {
-            self.retry = log.now().saturating_add(RETRY_TIME);
+            self.retry = now.saturating_add(RETRY_TIME);
         }
         listen_again(&self.connector, poller);
         match reached {
             Reach::There(transport) => {
                 let watched = poller.watch(&transport, Source::Controller);
-                self.take(transport, watched, log);
+                self.take(transport, watched, log, now);
             }
-            Reach::Begun(transport) => self.begin(transport, poller, log),
+            Reach::Begun(transport) => self.begin(transport, poller, log, now),
             Reach::Nobody if self.connector.is_tried() => self.miss("controller: not there", log),
             Reach::Nobody => {}
         }
@@ -328,13 +328,14 @@ impl Controller<'_> {
         transport: Transport,
         poller: &Poller,
         log: &Log<'_, R>,
+        now: u64,
     ) {
         if poller.watch(&transport, Source::NewController).is_err() {
             return self.miss("controller: no line or socket that can be waited for", log);
         }
         self.next = Some(transport);
         self.is_answered = false;
-        self.retry = log.now().saturating_add(CONNECT_TIME);
+        self.retry = now.saturating_add(CONNECT_TIME);
     }
 
     fn take<R: Clock + Eprint>(
@@ -342,6 +343,7 @@ impl Controller<'_> {
         transport: Transport,
         watched: io::Result<()>,
         log: &Log<'_, R>,
+        now: u64,
     ) {
         if watched.is_err() {
             return self.miss("controller: no line or socket that can be waited for", log);
@@ -349,7 +351,7 @@ impl Controller<'_> {
         transport.notice_vanished_peer(self.patience.saturating_mul(2));
         self.is_missed = false;
         self.transport = Some(transport);
-        self.reached_at = log.now();
+        self.reached_at = now;
         self.is_initialised = false;
         self.is_new = true;
         self.is_readable = false;

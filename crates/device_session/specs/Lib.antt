@@ -1,1 +1,2 @@
+pub mod PeerClock
 pub mod Strangers

@@ -2,7 +2,7 @@
 //! milliseconds.
 
 use crate::strangers::sooner;
-use crate::visitor::{Visit, Visitor};
+use crate::visitor::{Input, Visit, Visitor};
 use app_lines::{Found, Inbox, LONGEST, Outbox};
 use arrayvec::ArrayVec;
 use device_io::{Listener, Poller, Retry, Socket, retry_after};
@@ -21,6 +21,9 @@ const MANY: usize = 65_536;
 /// How long it may accept none of them.
 const SLOW_TIME: u64 = 5_000;
 
+/// The most bytes of a write. The system takes more only once it has read a whole write.
+const PIECE: usize = 1_024;
+
 /// The size of a read, in bytes.
 const ROOM: usize = 512;
 
@@ -30,15 +33,42 @@ const LAST_READS: u32 = 128;
 /// The most turns that a visitor waits for an application that keeps sending.
 const MOST_WAITS: u32 = 128;
 
+/// The progress of an application.
+#[derive(Clone, Copy, PartialEq, Eq)]
+enum Stage {
+    /// It lacks the current state.
+    New,
+    /// It has the current state and has sent no line.
+    Silent,
+    Speaks,
+}
+
+/// The sender of the line to be answered.
+#[derive(Clone, Copy, PartialEq, Eq)]
+enum Asker {
+    Application,
+    Visitor,
+}
+
+/// The next line, if any, and whether it is the first of its connection.
+#[derive(Clone, Copy)]
+pub(crate) struct NextLine {
+    pub(crate) found: Found,
+    pub(crate) is_first: bool,
+}
+
+const NO_LINE: NextLine = NextLine {
+    found: Found::Nothing,
+    is_first: false,
+};
+
 /// The application, if any, its input and its output.
 #[derive(Drop)]
 pub(crate) struct Application {
     listener: Option<Listener>,
     socket: Option<Socket>,
-    is_readable: bool,
-    /// Set until it is sent the current state.
-    pub(crate) is_new: bool,
-    is_ended: bool,
+    input: Input,
+    stage: Stage,
     /// Set if it accepts no more.
     is_deaf: bool,
     /// Set if it closed its connection after reading everything.
@@ -50,8 +80,7 @@ pub(crate) struct Application {
     /// The number of reads left until then.
     last_reads: u32,
     visitor: Option<Visitor>,
-    /// Set if the next line to be answered is the visitor's.
-    is_visited: bool,
+    asker: Asker,
     visitor_waits: u32,
     /// Set if no more lines are read.
     is_held: bool,
@@ -68,16 +97,15 @@ impl Application {
         Application {
             listener: None,
             socket: None,
-            is_readable: false,
-            is_new: false,
-            is_ended: false,
+            input: Input::Waits,
+            stage: Stage::Silent,
             is_deaf: false,
             has_read_all: true,
             is_gone: false,
             next: None,
             last_reads: 0,
             visitor: None,
-            is_visited: false,
+            asker: Asker::Application,
             visitor_waits: 0,
             is_held: false,
             is_knocking: false,
@@ -119,10 +147,11 @@ impl Application {
         if self.is_held {
             return false;
         }
+        let is_free = self.is_free();
         let Some(visitor) = &mut self.visitor else {
             return false;
         };
-        match visitor.next(now) {
+        match visitor.next(now, is_free) {
             Visit::Waits | Visit::Asks => {}
             Visit::Reads => visitor.read(),
             Visit::Leaves => self.visitor = None,
@@ -140,7 +169,7 @@ impl Application {
         } else {
             self.next = Some(visitor);
             self.last_reads = LAST_READS;
-            self.is_readable = !self.is_ended;
+            self.reads_again();
         }
         true
     }
@@ -149,9 +178,9 @@ impl Application {
         let (socket, inbox) = visitor.into_parts();
         self.socket = Some(socket);
         self.inbox = inbox;
-        self.is_new = true;
+        self.stage = Stage::New;
         self.has_read_all = false;
-        self.is_readable = true;
+        self.input = Input::Readable;
     }
 
     pub(crate) fn hold(&mut self) {
@@ -178,7 +207,12 @@ impl Application {
     }
 
     /// Cuts off an application that accepts nothing for too long. Returns true if it did.
+    ///
+    /// It may accept a little without an event of the poller, so this tries to write first.
     pub(crate) fn watch(&mut self, now: u64) -> bool {
+        if self.is_full() {
+            self.flush();
+        }
         if !self.is_full() {
             self.stalled_since = None;
             return false;
@@ -193,19 +227,46 @@ impl Application {
     }
 
     fn is_busy(&self) -> bool {
-        let has_input = self.is_new || self.is_readable || self.inbox.has_line();
-        self.next.is_some() || self.socket.is_some() && has_input
+        let has_input = self.is_new() || self.is_readable() || self.inbox.has_line();
+        self.next.is_some() || self.socket.is_some() && (has_input || self.is_done())
     }
 
-    fn is_asked_by_visitor(&self, now: u64) -> bool {
+    fn is_asked_by_visitor(&self) -> bool {
         match &self.visitor {
-            Some(visitor) => matches!(visitor.next(now), Visit::Asks),
+            Some(visitor) => visitor.asks(self.is_free()),
             None => false,
         }
     }
 
+    /// Returns true if no application has the place or waits for it.
+    fn is_free(&self) -> bool {
+        self.socket.is_none() && self.next.is_none()
+    }
+
+    /// Returns true if the last line was the visitor's.
     pub(crate) fn is_visited(&self) -> bool {
-        self.is_visited
+        self.asker == Asker::Visitor
+    }
+
+    /// Returns true if it lacks the current state.
+    pub(crate) fn is_new(&self) -> bool {
+        self.stage == Stage::New
+    }
+
+    /// Notes that it is sent the current state.
+    pub(crate) fn welcome(&mut self) {
+        self.stage = Stage::Silent;
+    }
+
+    fn is_readable(&self) -> bool {
+        self.input == Input::Readable
+    }
+
+    /// Reads it again, unless it sends no more.
+    fn reads_again(&mut self) {
+        if self.input == Input::Waits {
+            self.input = Input::Readable;
+        }
     }
 
     /// Answers the visitor, or closes its connection without an answer.
@@ -224,10 +285,9 @@ impl Application {
 
     pub(crate) fn end(&mut self) {
         self.socket = None;
-        self.is_readable = false;
-        self.is_ended = false;
+        self.input = Input::Waits;
         self.is_deaf = false;
-        self.is_new = false;
+        self.stage = Stage::Silent;
         self.inbox.clear();
         self.outbox.clear();
         self.stalled_since = None;
@@ -250,7 +310,9 @@ impl Application {
     }
 
     pub(crate) fn is_ready(&mut self) {
-        self.is_readable = self.socket.is_some() && !self.is_ended;
+        if self.socket.is_some() {
+            self.reads_again();
+        }
         if let Some(visitor) = &mut self.visitor {
             visitor.is_ready();
         }
@@ -260,10 +322,10 @@ impl Application {
     /// Returns true if there is something to do without waiting.
     pub(crate) fn has_something(&self) -> bool {
         if self.is_held {
-            return self.is_new;
+            return self.is_new();
         }
-        let has_input = !self.is_full() && (self.is_readable || self.inbox.has_line());
-        has_input || self.is_new || self.next.is_some() || self.is_done() || self.has_visit()
+        let has_input = !self.is_full() && (self.is_readable() || self.inbox.has_line());
+        has_input || self.is_new() || self.next.is_some() || self.is_done() || self.has_visit()
     }
 
     fn has_visit(&self) -> bool {
@@ -278,7 +340,7 @@ impl Application {
     }
 
     fn is_done(&self) -> bool {
-        self.is_ended && (self.is_deaf || self.outbox.waiting().is_empty())
+        self.input == Input::Ended && (self.is_deaf || self.outbox.waiting().is_empty())
     }
 
     /// Reads once, unless a whole line is there. Returns true if a visitor replaced the
@@ -289,7 +351,7 @@ impl Application {
         if self.is_held || self.is_full() || self.inbox.has_line() {
             return false;
         }
-        if self.is_readable && !self.is_giving_place() {
+        if self.is_readable() && !self.is_giving_place() {
             self.last_reads = self.last_reads.saturating_sub(1);
             self.read();
             return false;
@@ -306,7 +368,7 @@ impl Application {
 
     /// Returns true if all lines are processed and a visitor waits.
     pub(crate) fn is_giving_place(&self) -> bool {
-        let is_read = !self.is_readable || self.last_reads == 0;
+        let is_read = !self.is_readable() || self.last_reads == 0;
         !self.is_held && self.next.is_some() && is_read && !self.inbox.has_line()
     }
 
@@ -326,31 +388,26 @@ impl Application {
         };
         let mut buffer = [0; ROOM];
         match socket.read(&mut buffer) {
-            Ok(0) => self.end_input(),
+            Ok(0) => self.input = Input::Ended,
             Ok(count) => {
                 // It fits, because no whole line is there.
                 let _ = self.inbox.take(&buffer[..count]);
             }
             Err(error) => match retry_after(&error) {
                 Retry::Now => {}
-                Retry::Later => self.is_readable = false,
+                Retry::Later => self.input = Input::Waits,
                 Retry::Never => {
                     self.deafen();
-                    self.end_input();
+                    self.input = Input::Ended;
                 }
             },
         }
     }
 
-    fn end_input(&mut self) {
-        self.is_ended = true;
-        self.is_readable = false;
-    }
-
     /// Stops writing. Its input is still read to the end, because it may have sent lines before.
     fn deafen(&mut self) {
         self.is_deaf = true;
-        self.is_readable = !self.is_ended;
+        self.reads_again();
         self.outbox.clear();
     }
 
@@ -358,24 +415,59 @@ impl Application {
     ///
     /// The application's lines go first, up to a limit, so that a visitor sees their effects. A new
     /// application receives the current state first.
-    pub(crate) fn next_line(&mut self, line: &mut ArrayVec<u8, LONGEST>, now: u64) -> Found {
+    pub(crate) fn next_line(&mut self, line: &mut ArrayVec<u8, LONGEST>) -> NextLine {
         if self.is_held {
-            return Found::Nothing;
+            return NO_LINE;
         }
-        let may_ask = self.socket.is_some() && !self.is_new && !self.is_full();
-        let has_line = may_ask && self.inbox.has_line();
-        let is_asked = self.is_asked_by_visitor(now);
+        let is_asked = self.is_asked_by_visitor();
         let is_first = self.is_busy() && self.visitor_waits < MOST_WAITS;
-        self.is_visited = is_asked && !is_first;
         self.visitor_waits = if is_asked && is_first {
             self.visitor_waits + 1
         } else {
             0
         };
-        match &mut self.visitor {
-            Some(visitor) if self.is_visited => visitor.next_line(line),
-            _ if has_line => self.inbox.next_line(line),
-            _ => Found::Nothing,
+        self.asker = if is_asked && !is_first {
+            Asker::Visitor
+        } else {
+            Asker::Application
+        };
+        self.next_line_of_asker(line)
+    }
+
+    /// Returns true if the sender of the last line has sent another one.
+    pub(crate) fn has_next_line(&self) -> bool {
+        if self.is_held {
+            return false;
+        }
+        match self.asker {
+            Asker::Application => self.may_ask() && self.inbox.has_line(),
+            Asker::Visitor => self.is_asked_by_visitor(),
+        }
+    }
+
+    fn may_ask(&self) -> bool {
+        self.socket.is_some() && !self.is_new() && !self.is_full()
+    }
+
+    /// Returns the next line of the sender of the last one.
+    pub(crate) fn next_line_of_asker(&mut self, line: &mut ArrayVec<u8, LONGEST>) -> NextLine {
+        if !self.has_next_line() {
+            return NO_LINE;
+        }
+        match (self.asker, &mut self.visitor) {
+            (Asker::Visitor, Some(visitor)) => {
+                let (found, is_first) = visitor.next_line(line);
+                NextLine { found, is_first }
+            }
+            (Asker::Visitor, None) => NO_LINE,
+            (Asker::Application, _) => {
+                let is_first = self.stage == Stage::Silent;
+                self.stage = Stage::Speaks;
+                NextLine {
+                    found: self.inbox.next_line(line),
+                    is_first,
+                }
+            }
         }
     }
 
@@ -393,7 +485,7 @@ impl Application {
 
     /// Returns true if it has the current state and one more line fits.
     pub(crate) fn has_room(&self) -> bool {
-        let takes = self.socket.is_some() && !self.is_new && !self.is_deaf;
+        let takes = self.socket.is_some() && !self.is_new() && !self.is_deaf;
         takes && self.outbox.waiting().len() < MANY
     }
 
@@ -418,7 +510,7 @@ impl Application {
         if waiting.is_empty() {
             return false;
         }
-        match socket.write(waiting) {
+        match socket.write(&waiting[..waiting.len().min(PIECE)]) {
             Ok(0) => self.deafen(),
             Ok(count) => {
                 self.outbox.remove_sent(count);

@@ -31,17 +31,31 @@ pub(crate) fn read_asked(line: &[u8]) -> Asked<'_> {
     }
 }
 
-/// Returns true if a line calls the host, which only the application may do.
-pub(crate) fn is_call(line: &[u8]) -> bool {
+/// The kind of a line.
+#[derive(Clone, Copy)]
+pub(crate) enum LineKind {
+    /// It claims the place of the application.
+    Claim,
+    /// It calls the host.
+    Call,
+    /// Any other command.
+    Question,
+    /// It is no command.
+    Wrong,
+}
+
+/// Returns the kind of a line.
+pub(crate) fn line_kind(line: &[u8]) -> LineKind {
     match read_asked(line) {
-        Asked::Command(command) => matches!(
-            command,
+        Asked::Command(command) => match command {
+            Command::Application => LineKind::Claim,
             Command::Update { .. }
-                | Command::Allow { .. }
-                | Command::Deny { .. }
-                | Command::Disconnect { .. }
-        ),
-        _ => false,
+            | Command::Allow { .. }
+            | Command::Deny { .. }
+            | Command::Disconnect { .. } => LineKind::Call,
+            _ => LineKind::Question,
+        },
+        _ => LineKind::Wrong,
     }
 }
 

@@ -35,13 +35,9 @@ impl ControllerSession<'_> {
         self.controller.lose(poller);
     }
 
-    /// Returns when the next time limit ends, in milliseconds, if any.
-    ///
-    /// The limits are those of phones without a key, of the controller, and of trying again to
-    /// reach one.
+    /// Returns when the next time limit of the controller, or of trying again to reach one, ends.
     pub(crate) fn due(&self) -> Option<u64> {
-        let controller = sooner(self.controller.due(), self.controller.retry());
-        sooner(self.strangers.due(), controller)
+        sooner(self.controller.due(), self.controller.retry())
     }
 
     /// Reads octets and records them. Returns `None` if nothing can be read yet, and no octets at
@@ -69,8 +65,9 @@ impl ControllerSession<'_> {
         octets: &[u8],
         poller: &Poller,
         log: &Log<'_, R>,
+        now: u64,
     ) -> io::Result<bool> {
-        let is_there = self.controller.write(octets, poller, log.now())?;
+        let is_there = self.controller.write(octets, poller, now)?;
         if is_there {
             self.recording.went(octets, log);
         }

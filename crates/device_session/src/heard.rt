@@ -1,15 +1,36 @@
 //! The notices of the host in one turn.
 
+use crate::pending::Subject;
 use crate::subscribed::Subscribed;
 use app_lines::{Names, Told, add_named_line, add_number, add_told, connection_of};
 use host_api::Notice;
 use std::alloc::{AllocError, Global};
+
+/// The changes by phones that a device saves.
+#[derive(Clone, Copy, PartialEq, Eq)]
+pub enum SavedChanges {
+    Nothing,
+    Subscriptions,
+    /// Subscriptions and values.
+    All,
+}
+
+/// The line of a change that is saved, by its place in the text.
+#[derive(Clone, Copy)]
+pub(crate) struct Change {
+    pub(crate) subject: Subject,
+    pub(crate) begin: usize,
+    pub(crate) end: usize,
+}
 
 /// The notices of a turn, as lines, and the names of the connections.
 #[derive(Drop)]
 pub struct Heard {
     /// The lines for the application.
     pub(crate) text: Vec<u8>,
+    saved: SavedChanges,
+    /// The lines that are sent only once their changes are saved.
+    pub(crate) changes: Vec<Change>,
     /// The lines for the log, without written values unless these are logged.
     pub(crate) log: Vec<u8>,
     logs_values: bool,
@@ -17,7 +38,7 @@ pub struct Heard {
     subscribed: Subscribed,
     /// The connections that got a key in the turn.
     secured: Vec<u16>,
-    /// The values that phones wrote in the turn.
+    /// The values that phones wrote in the turn, and that are not saved.
     pub(crate) written: Vec<u16>,
     /// Set if memory was refused.
     pub(crate) is_refused: bool,
@@ -25,9 +46,11 @@ pub struct Heard {
 
 impl Heard {
     /// Returns a record without notices and connections.
-    pub fn new(alloc: Global, logs_values: bool) -> Heard {
+    pub fn new(alloc: Global, logs_values: bool, saved: SavedChanges) -> Heard {
         Heard {
             text: Vec::new(alloc),
+            saved,
+            changes: Vec::new(alloc),
             log: Vec::new(alloc),
             logs_values,
             names: Names::new(),
@@ -53,6 +76,7 @@ impl Heard {
     /// Drops the notices of the turn.
     pub fn clear(&mut self) {
         self.text.clear();
+        self.changes.clear();
         self.log.clear();
         self.written.clear();
         self.secured.clear();
@@ -61,11 +85,6 @@ impl Heard {
 
     /// Adds a notice.
     pub fn hear(&mut self, notice: Notice<'_>) {
-        if let Notice::Written { attribute, .. } = notice
-            && self.written.push(attribute).is_err()
-        {
-            self.is_refused = true;
-        }
         let handle = connection_of(&notice);
         if let Notice::Secured { .. } = notice
             && self.secured.push(handle).is_err()
@@ -80,7 +99,7 @@ impl Heard {
         }
         // A name is never missing: a host has no more connections than there are names.
         if let Some(name) = self.names.name_of(handle)
-            && self.add(name, &notice).is_err()
+            && self.add_change(name, &notice).is_err()
         {
             self.is_refused = true;
         }
@@ -112,6 +131,43 @@ impl Heard {
             }
         }
         Ok(())
+    }
+
+    /// Adds the lines of a notice, and notes the change that it reports.
+    fn add_change(&mut self, name: u64, notice: &Notice<'_>) -> Result<(), AllocError> {
+        let begin = self.text.len();
+        self.add(name, notice)?;
+        match (self.saved_subject(notice), notice) {
+            (Some(subject), _) => {
+                let end = self.text.len();
+                self.changes.push(Change {
+                    subject,
+                    begin,
+                    end,
+                })?;
+            }
+            (None, Notice::Written { attribute, .. }) => self.written.push(*attribute)?,
+            (None, _) => {}
+        }
+        Ok(())
+    }
+
+    /// Returns the subject of a change that is saved.
+    fn saved_subject(&self, notice: &Notice<'_>) -> Option<Subject> {
+        match *notice {
+            Notice::Written { attribute, .. } if self.saved == SavedChanges::All => {
+                Some(Subject::Value(attribute))
+            }
+            Notice::Configured {
+                handle,
+                attribute,
+                ..
+            } if self.saved != SavedChanges::Nothing => {
+                let peer = self.subscribed.peer_with_key(handle)?;
+                Some(Subject::Configuration { peer, attribute })
+            }
+            _ => None,
+        }
     }
 
     fn add(&mut self, name: u64, notice: &Notice<'_>) -> Result<(), AllocError> {

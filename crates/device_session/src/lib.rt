@@ -11,6 +11,8 @@ mod heard;
 mod missed;
 mod opening;
 mod output;
+mod peer_clock;
+mod pending;
 mod session;
 mod strangers;
 mod subscribed;
@@ -19,6 +21,6 @@ mod visitor;
 
 pub use answering::{add_handle, add_outcome, add_value};
 pub use asked::Asked;
-pub use heard::Heard;
+pub use heard::{Heard, SavedChanges};
 pub use session::Session;
 pub use strangers::{Keyless, Limits, sooner};

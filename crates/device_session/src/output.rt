@@ -2,37 +2,44 @@
 
 use crate::acceptance::Acceptance;
 use crate::application::Application;
+use crate::asking::Closing;
 use crate::heard::Heard;
 use crate::missed::Missed;
+use crate::pending::{Pending, Subject};
 use app_lines::{Told, add_told};
 use device_io::{Log, Poller};
 use std::alloc::{AllocError, Global};
 use std::str;
 use std::time::Clock;
 
-/// Answers the application or its visitor. Disconnects it if its line is too long.
+/// Answers the application or its visitor, and then closes its connection if it must.
 pub(crate) fn reply<R: Clock + Eprint>(
     application: &mut Application,
     log: &Log<'_, R>,
-    is_too_long: bool,
+    closing: Closing,
     text: Result<Vec<u8>, AllocError>,
 ) {
     if application.is_visited() {
-        reply_to_visitor(application, log, is_too_long, text);
+        reply_to_visitor(application, log, closing, text);
         return;
     }
     let is_said = say_or_end(application, log, text, "memory: refused for an answer");
-    if is_said && is_too_long {
+    let why = match closing {
+        Closing::No => return,
+        Closing::LineTooLong => "application ended: its line is too long",
+        Closing::FirstLineWrong => "application ended: its first line is no command",
+    };
+    if is_said {
         application.flush();
         application.end();
-        log.say("application ended: its line is too long");
+        log.say(why);
     }
 }
 
 fn reply_to_visitor<R: Clock + Eprint>(
     application: &mut Application,
     log: &Log<'_, R>,
-    is_too_long: bool,
+    closing: Closing,
     text: Result<Vec<u8>, AllocError>,
 ) {
     match text {
@@ -42,7 +49,7 @@ fn reply_to_visitor<R: Clock + Eprint>(
             application.answer_visitor(None);
         }
     }
-    if is_too_long {
+    if closing != Closing::No {
         application.answer_visitor(None);
     }
 }
@@ -75,33 +82,106 @@ pub(crate) fn tell<R: Clock + Eprint>(
     told: &Told<'_>,
 ) {
     let mut text = Vec::new(alloc);
-    if !application.is_new && add_told(&mut text, told).is_ok() {
+    if !application.is_new() && add_told(&mut text, told).is_ok() {
         say(application, log, text.as_slice());
     }
 }
 
 /// Sends the notices of a turn to the application and the log, and notes the values written.
+///
+/// If their changes are not saved, the lines about these changes wait in `pending`.
 pub(crate) fn tell_heard<R: Clock + Eprint>(
     application: &mut Application,
     missed: &mut Missed,
+    pending: &mut Pending,
     log: &Log<'_, R>,
     heard: &Heard,
+    is_saved: bool,
 ) {
     if heard.is_refused {
         log.say("memory: refused for notices");
         application.end();
     }
-    let written = heard.written.as_slice();
-    let noted = if application.is_there() && !application.is_new {
-        say(application, log, heard.text.as_slice());
-        missed.tell(written)
+    if is_saved {
+        tell_lines(application, log, heard.text.as_slice());
+        for change in heard.changes.as_slice() {
+            note_told(application, missed, log, change.subject);
+        }
     } else {
-        missed.add(written)
+        tell_others(application, pending, log, heard);
+    }
+    for attribute in heard.written.as_slice() {
+        note_told(application, missed, log, Subject::Value(*attribute));
+    }
+    log_lines(log, heard.log.as_slice());
+}
+
+/// Sends the lines that wait for no save, and stores the others.
+fn tell_others<R: Clock + Eprint>(
+    application: &mut Application,
+    pending: &mut Pending,
+    log: &Log<'_, R>,
+    heard: &Heard,
+) {
+    let text = heard.text.as_slice();
+    let mut begin = 0;
+    for change in heard.changes.as_slice() {
+        tell_lines(application, log, part(text, begin, change.begin));
+        begin = change.end;
+        let line = part(text, change.begin, change.end);
+        if pending.add(change.subject, line).is_err() {
+            log.say("memory: refused for notices");
+            application.end();
+        }
+    }
+    tell_lines(application, log, part(text, begin, text.len()));
+}
+
+fn part(text: &[u8], begin: usize, end: usize) -> &[u8] {
+    text.get(begin..end).unwrap_or(&[])
+}
+
+/// Sends the lines whose changes are saved now, and notes the values written.
+pub(crate) fn tell_pending<R: Clock + Eprint>(
+    application: &mut Application,
+    missed: &mut Missed,
+    pending: &mut Pending,
+    log: &Log<'_, R>,
+) {
+    for place in 0..pending.count() {
+        if let Some((subject, line)) = pending.line(place) {
+            tell_lines(application, log, line);
+            note_told(application, missed, log, subject);
+        }
+    }
+    pending.clear();
+}
+
+/// Sends lines, unless the application lacks the current state.
+fn tell_lines<R: Clock + Eprint>(application: &mut Application, log: &Log<'_, R>, lines: &[u8]) {
+    if !application.is_new() && !lines.is_empty() {
+        say(application, log, lines);
+    }
+}
+
+/// Notes that a phone wrote a value, and whether an application was notified.
+fn note_told<R: Clock + Eprint>(
+    application: &Application,
+    missed: &mut Missed,
+    log: &Log<'_, R>,
+    subject: Subject,
+) {
+    let Subject::Value(attribute) = subject else {
+        return;
+    };
+    let noted = if application.is_there() && !application.is_new() {
+        missed.tell(&[attribute])
+    } else {
+        missed.add(&[attribute])
     };
     if noted.is_err() {
         log.say("memory: refused for values that an application missed");
     }
-    log_lines(log, heard.log.as_slice());
 }
 
 /// Writes what the application accepts. Once it has disconnected, notes what it may have missed.
@@ -123,8 +203,9 @@ pub(crate) fn fill<R: Clock + Eprint>(
     application: &mut Application,
     missed: &mut Missed,
     log: &Log<'_, R>,
+    now: u64,
 ) {
-    attend(application, missed, log);
+    attend(application, missed, log, now);
     if application.is_giving_place() {
         tell(alloc, application, log, &Told::Replaced);
     }
@@ -151,7 +232,8 @@ fn say<R: Clock + Eprint>(application: &mut Application, log: &Log<'_, R>, text:
     }
 }
 
-fn log_lines<R: Clock + Eprint>(log: &Log<'_, R>, lines: &[u8]) {
+/// Logs lines.
+pub(crate) fn log_lines<R: Clock + Eprint>(log: &Log<'_, R>, lines: &[u8]) {
     let Ok(text) = str::from_utf8(lines) else {
         return;
     };
@@ -162,11 +244,16 @@ fn log_lines<R: Clock + Eprint>(log: &Log<'_, R>, lines: &[u8]) {
     }
 }
 
-fn attend<R: Clock + Eprint>(application: &mut Application, missed: &mut Missed, log: &Log<'_, R>) {
+fn attend<R: Clock + Eprint>(
+    application: &mut Application,
+    missed: &mut Missed,
+    log: &Log<'_, R>,
+    now: u64,
+) {
     tell_gone(application, log);
     let was_there = application.is_there();
     let has_read_all = application.has_read_all();
-    if application.attend(log.now()) {
+    if application.attend(now) {
         if !was_there {
             note_end(missed, has_read_all, log);
         }
@@ -180,11 +267,12 @@ pub(crate) fn accept<R: Clock + Eprint>(
     acceptance: &mut Acceptance,
     poller: &Poller,
     log: &Log<'_, R>,
+    now: u64,
 ) {
-    match application.accept(poller, log.now()) {
+    match application.accept(poller, now) {
         Ok(is_accepted) => acceptance.succeed(is_accepted),
         Err(_) => {
-            if acceptance.fail(log.now()) {
+            if acceptance.fail(now) {
                 log.say("application: not accepted");
             }
         }

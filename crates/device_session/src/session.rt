@@ -10,10 +10,14 @@ use crate::controller_session::ControllerSession;
 use crate::heard::Heard;
 use crate::missed::Missed;
 use crate::opening::{connector_to, listener_at, record_to};
-use crate::output::{accept, fill, flush, reply, say_or_end, tell, tell_heard};
+use crate::output::{
+    accept, fill, flush, log_lines, reply, say_or_end, tell, tell_heard, tell_pending,
+};
+use crate::peer_clock::{LONGEST_WAIT, PeerClock};
+use crate::pending::{Pending, Subject};
 use crate::strangers::{Keyless, Limits, sooner};
 use crate::turns::Turns;
-use app_lines::{Names, Told};
+use app_lines::{Names, Told, add_told};
 use arrayvec::ArrayVec;
 use device_io::{Log, Poller, Ready};
 use device_options::{ApplicationAddress, ControllerAddress};
@@ -36,10 +40,15 @@ pub struct Session<'a, R> {
     acceptance: Acceptance,
     waits_for_application: bool,
     missed: Missed,
+    /// The lines about changes that are not saved yet.
+    pending: Pending,
+    /// The lines about updates of visitors, to be sent after the save.
+    updated: Vec<u8>,
     /// The names of the connections after the last turn.
     names: Names,
     asking: Asking,
     turns: Turns,
+    clock: PeerClock,
 }
 
 impl<'a, R: Net<Listener = TcpListener, Stream = TcpStream> + Clock + Eprint> Session<'a, R> {
@@ -57,6 +66,7 @@ impl<'a, R: Net<Listener = TcpListener, Stream = TcpStream> + Clock + Eprint> Se
     ) -> io::Result<Session<'a, R>> {
         let poller = Poller::new(alloc, log.rt)?;
         let connector = connector_to(alloc, &log, &poller, address)?;
+        let clock = PeerClock::new(log.now());
         Ok(Session {
             alloc,
             log,
@@ -66,9 +76,12 @@ impl<'a, R: Net<Listener = TcpListener, Stream = TcpStream> + Clock + Eprint> Se
             acceptance: Acceptance::new(),
             waits_for_application,
             missed: Missed::new(alloc),
+            pending: Pending::new(alloc),
+            updated: Vec::new(alloc),
             names: Names::new(),
-            asking: Asking::nothing(),
+            asking: Asking::nothing(alloc),
             turns: Turns::new(),
+            clock,
         })
     }
 }
@@ -89,13 +102,39 @@ impl<'a, R> Session<'a, R> {
     /// It disconnects a phone without a key after its time limit, or is what the application asks.
     /// Its value lies in a prefix of `buffer`.
     pub fn next_call<'b>(&mut self, buffer: &'b mut [u8]) -> Option<App<'b>> {
-        let now = self.turns.time();
-        match self.controller.strangers.next_due(now) {
-            Some(handle) => Some(App::Disconnect(handle)),
-            None => self
-                .asking
-                .next_call(&mut self.application, &self.names, now, buffer),
+        let time = self.turns.time();
+        if let Some(handle) = self.controller.strangers.next_due(time) {
+            return Some(App::Disconnect(handle));
         }
+        self.asking
+            .next_call(&mut self.application, &self.names, time, buffer)
+    }
+
+    /// Returns true if the sender of the last line has sent another one that the same save covers.
+    pub fn has_next_line(&self) -> bool {
+        self.asking.may_continue() && self.application.has_next_line()
+    }
+
+    /// Returns the call of the next line of the sender of the last one, if it makes one.
+    pub fn next_call_of_asker<'b>(&mut self, buffer: &'b mut [u8]) -> Option<App<'b>> {
+        let time = self.turns.time();
+        self.asking
+            .next_call_of_asker(&mut self.application, &self.names, time, buffer)
+    }
+
+    /// Returns true if the last line was not the application's.
+    pub fn is_visited(&self) -> bool {
+        self.application.is_visited()
+    }
+
+    /// Stores the answer to the line that waits, until the changes are saved.
+    pub fn answer_later(&mut self, text: Result<Vec<u8>, AllocError>) {
+        self.asking.keep_answer(text);
+    }
+
+    /// Notes that an application has updated a value. This replaces a write that is not saved.
+    pub fn note_update(&mut self, handle: u16) {
+        self.pending.forget(Subject::Value(handle));
     }
 
     /// Stores the names of the connections.
@@ -164,7 +203,7 @@ impl<'a, R> Session<'a, R> {
 
     /// Returns true if an application lacks the current state.
     pub fn has_new_application(&self) -> bool {
-        self.application.is_new
+        self.application.is_new()
     }
 
     /// Returns true if a controller is served.
@@ -191,19 +230,20 @@ impl<R: Clock + Eprint> Session<'_, R> {
     }
 
     fn is_controller_readable(&self) -> bool {
-        !self.application.is_full() && self.controller.controller.is_readable(self.log.now())
+        !self.application.is_full() && self.controller.controller.is_readable(self.clock.time())
     }
 
     /// Reads octets of the controller. Returns `None` if nothing can be read yet, and no octets at
     /// the end.
     pub fn read<'b>(&mut self, buffer: &'b mut [u8]) -> io::Result<Option<&'b [u8]>> {
-        let now = self.log.now();
+        let now = self.clock.time();
         self.controller.read(&self.poller, &self.log, now, buffer)
     }
 
     /// Writes octets to the controller. Returns false if there is none.
     pub fn write(&mut self, octets: &[u8]) -> io::Result<bool> {
-        self.controller.write(octets, &self.poller, &self.log)
+        let now = self.clock.time();
+        self.controller.write(octets, &self.poller, &self.log, now)
     }
 
     /// Logs and notifies that a controller was reached or initialised.
@@ -233,33 +273,87 @@ impl<R: Clock + Eprint> Session<'_, R> {
     }
 
     /// Sends the notices of a turn to the application and the log.
-    pub fn tell_heard(&mut self, heard: &Heard) {
-        tell_heard(&mut self.application, &mut self.missed, &self.log, heard);
+    ///
+    /// If the changes of phones are not saved, the lines about them wait.
+    pub fn tell_heard(&mut self, heard: &Heard, is_saved: bool) {
+        tell_heard(
+            &mut self.application,
+            &mut self.missed,
+            &mut self.pending,
+            &self.log,
+            heard,
+            is_saved,
+        );
+    }
+
+    /// Sends the lines that waited for a save.
+    pub fn tell_pending(&mut self) {
+        if !self.pending.is_empty() {
+            tell_pending(
+                &mut self.application,
+                &mut self.missed,
+                &mut self.pending,
+                &self.log,
+            );
+        }
+    }
+
+    /// Sends the lines of connections that end to the application and the log.
+    pub fn tell_ends(&mut self, ends: Result<Vec<u8>, AllocError>) {
+        if let Ok(text) = &ends {
+            log_lines(&self.log, text.as_slice());
+        }
+        self.tell_lines(ends);
+    }
+
+    /// Stores a line for the application about an update of a visitor, until it is saved.
+    pub fn tell_later(&mut self, told: &Told<'_>) {
+        if add_told(&mut self.updated, told).is_err() {
+            self.log.say("memory: refused for an application");
+            self.application.end();
+        }
+    }
+
+    /// Begins work of the device itself, such as a save: its time counts for no limit of a peer.
+    pub fn begin_work(&mut self) {
+        self.clock.count(self.log.now());
+    }
+
+    /// Ends work of the device itself.
+    pub fn end_work(&mut self) {
+        self.clock.skip(self.log.now());
     }
 
     /// Sends the application lines, unless it lacks the current state.
     pub fn tell_lines(&mut self, text: Result<Vec<u8>, AllocError>) {
-        if !self.application.is_new {
+        if !self.application.is_new() {
             let refused = "memory: refused for an application";
             say_or_end(&mut self.application, &self.log, text, refused);
         }
     }
 
-    /// Answers the line that waits.
-    pub fn reply(&mut self, text: Result<Vec<u8>, AllocError>) {
-        let is_too_long = self.asking.is_too_long();
-        self.asking.forget();
-        reply(&mut self.application, &self.log, is_too_long, text);
+    /// Sends the stored answers, and the stored lines about updates of visitors.
+    pub fn reply(&mut self) {
+        if self.asking.has_answers() {
+            let text = self.asking.take_answers(self.alloc);
+            let closing = self.asking.take_closing();
+            reply(&mut self.application, &self.log, closing, text);
+        }
+        if !self.updated.is_empty() {
+            let text = std::mem::replace(&mut self.updated, Vec::new(self.alloc));
+            self.tell_lines(Ok(text));
+        }
     }
 
     /// Sends a new application the current state.
     pub fn welcome(&mut self, text: Result<Vec<u8>, AllocError>) {
-        self.application.is_new = false;
+        self.application.welcome();
         let refused = "memory: refused for an application";
         say_or_end(&mut self.application, &self.log, text, refused);
     }
 
-    /// Returns how long to wait at most: not at all if there is something to do.
+    /// Returns how long to wait at most: not at all if there is something to do, and not for long
+    /// while a time limit of a peer runs.
     fn timeout(&self, deadline: Option<u64>) -> Option<Duration> {
         if self.is_controller_readable()
             || self.application.has_something()
@@ -269,9 +363,15 @@ impl<R: Clock + Eprint> Session<'_, R> {
             return Some(Duration::from_millis(0));
         }
         let controller = sooner(self.controller.due(), self.acceptance.due());
-        let due = sooner(self.application.due(), controller);
-        let due = sooner(deadline, due)?;
-        Some(Duration::from_millis(due.saturating_sub(self.log.now())))
+        let peers = match sooner(self.application.due(), controller) {
+            Some(due) => Some(due.saturating_sub(self.clock.time()).min(LONGEST_WAIT)),
+            None => None,
+        };
+        let own = match sooner(deadline, self.controller.strangers.due()) {
+            Some(due) => Some(due.saturating_sub(self.log.now())),
+            None => None,
+        };
+        Some(Duration::from_millis(sooner(own, peers)?))
     }
 }
 
@@ -307,45 +407,50 @@ impl<
     }
 
     fn wait(&mut self, deadline: Option<u64>) {
+        self.clock.count(self.log.now());
+        let now = self.clock.time();
         fill(
             self.alloc,
             &mut self.application,
             &mut self.missed,
             &self.log,
+            now,
         );
-        if self.application.watch(self.log.now()) {
+        if self.application.watch(now) {
             self.log.say("application cut off: it does not read");
         }
         let timeout = self.timeout(deadline);
-        if let Ok(ready) = self.poller.wait(timeout) {
+        let waited = self.poller.wait(timeout);
+        self.clock.count(self.log.now());
+        if let Ok(ready) = waited {
             self.take_in(ready);
         }
     }
 
     fn take_in(&mut self, ready: Ready) {
+        let now = self.clock.time();
         if ready.controller {
             self.controller.controller.is_ready(ready.is_ending);
         }
         if ready.takes_more {
-            self.controller
-                .controller
-                .flush(&self.poller, self.log.now());
+            self.controller.controller.flush(&self.poller, now);
         }
         if ready.application {
             self.application.is_ready();
         }
         let connects = ready.applications || self.application.is_knocking();
-        if self.acceptance.is_due(connects, self.log.now()) {
+        if self.acceptance.is_due(connects, now) {
             accept(
                 &mut self.application,
                 &mut self.acceptance,
                 &self.poller,
                 &self.log,
+                now,
             );
         }
         let is_held = self.waits_for_application && !self.application.is_there();
         self.controller
             .controller
-            .look(ready.controllers, is_held, &self.poller, &self.log);
+            .look(ready.controllers, is_held, &self.poller, &self.log, now);
     }
 }

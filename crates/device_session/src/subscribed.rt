@@ -1,8 +1,16 @@
-//! Configurations that connections made without a key. No host saves them, so notices are the
-//! source.
+//! The links of the connections, and the configurations that they made without a key. No host saves
+//! these, so notices are the source.
 
 use host_api::Notice;
+use le_hci::Peer;
 use std::alloc::{AllocError, Global};
+
+#[derive(Clone, Copy)]
+struct Link {
+    handle: u16,
+    peer: Peer,
+    has_key: bool,
+}
 
 #[derive(Clone, Copy)]
 struct Configuration {
@@ -14,49 +22,78 @@ struct Configuration {
 #[derive(Drop)]
 pub(crate) struct Subscribed {
     configurations: Vec<Configuration>,
-    /// The connections whose links have a key.
-    keyed: Vec<u16>,
+    links: Vec<Link>,
 }
 
 impl Subscribed {
     pub(crate) fn new(alloc: Global) -> Subscribed {
         Subscribed {
             configurations: Vec::new(alloc),
-            keyed: Vec::new(alloc),
+            links: Vec::new(alloc),
         }
     }
 
     pub(crate) fn forget(&mut self) {
         self.configurations.clear();
-        self.keyed.clear();
+        self.links.clear();
     }
 
     pub(crate) fn hear(&mut self, notice: &Notice<'_>) -> Result<(), AllocError> {
         match *notice {
-            Notice::Connected { handle, .. } | Notice::Disconnected { handle } => {
-                remove(&mut self.keyed, handle);
-                self.configurations.retain(|it| it.handle != handle);
+            Notice::Connected { handle, peer } => {
+                self.remove(handle);
+                self.links.push(Link {
+                    handle,
+                    peer,
+                    has_key: false,
+                })?;
+                Ok(())
+            }
+            Notice::Disconnected { handle } => {
+                self.remove(handle);
                 Ok(())
             }
             Notice::Secured { handle, .. } => {
-                remove(&mut self.keyed, handle);
-                self.keyed.push(handle)?;
+                self.set_key(handle, true);
                 Ok(())
             }
             Notice::Unsecured { handle } => {
-                remove(&mut self.keyed, handle);
+                self.set_key(handle, false);
                 Ok(())
             }
             Notice::Configured {
                 handle,
                 attribute,
                 bits,
-            } if !self.keyed.as_slice().contains(&handle) => self.configure(Configuration {
+            } if self.peer_with_key(handle).is_none() => self.configure(Configuration {
                 handle,
                 attribute,
                 bits,
             }),
             _ => Ok(()),
+        }
+    }
+
+    /// Returns the peer of a connection whose link has a key.
+    pub(crate) fn peer_with_key(&self, handle: u16) -> Option<Peer> {
+        for link in self.links.as_slice() {
+            if link.handle == handle && link.has_key {
+                return Some(link.peer);
+            }
+        }
+        None
+    }
+
+    fn remove(&mut self, handle: u16) {
+        self.links.retain(|link| link.handle != handle);
+        self.configurations.retain(|it| it.handle != handle);
+    }
+
+    fn set_key(&mut self, handle: u16, has_key: bool) {
+        for link in self.links.as_mut_slice() {
+            if link.handle == handle {
+                link.has_key = has_key;
+            }
         }
     }
 
@@ -81,8 +118,4 @@ impl Subscribed {
     pub(crate) fn count(&self) -> usize {
         self.configurations.len()
     }
-}
-
-fn remove(handles: &mut Vec<u16>, handle: u16) {
-    handles.retain(|it| *it != handle);
 }

@@ -1,34 +1,51 @@
 //! A connection at the application's socket that is not the application. All times are in
 //! milliseconds.
 
-use crate::asked::is_call;
+use crate::asked::{LineKind, line_kind};
 use app_lines::{Found, Inbox, LONGEST};
 use arrayvec::ArrayVec;
 use device_io::{Retry, Socket, retry_after};
 
 const ROOM: usize = 512;
 
-/// Time after which a visitor becomes the application if it asked nothing, or else is closed.
+/// Time after which a visitor becomes the application if it has sent no line, or else is closed.
 const VISIT: u64 = 1_000;
 
-/// A connection that has made no call yet: it may query, or become the application.
+/// The state of a connection's input.
+#[derive(Clone, Copy, PartialEq, Eq)]
+pub(crate) enum Input {
+    /// It may have sent more.
+    Readable,
+    /// It has sent nothing more yet.
+    Waits,
+    /// It sends no more.
+    Ended,
+}
+
+/// The progress of a visitor.
+#[derive(Clone, Copy, PartialEq, Eq)]
+enum Stage {
+    Silent,
+    Speaks,
+}
+
+/// A connection that is not the application: it asks, or becomes the application.
 #[derive(Drop)]
 pub(crate) struct Visitor {
     socket: Socket,
     inbox: Inbox,
     due: u64,
-    is_readable: bool,
-    /// Set if it sends or accepts no more.
-    is_over: bool,
-    has_asked: bool,
+    input: Input,
+    stage: Stage,
 }
 
+/// The next action of a visitor.
 #[derive(Clone, Copy)]
 pub(crate) enum Visit {
     Waits,
     /// It may have sent more.
     Reads,
-    /// It queries, or sent a wrong line.
+    /// It has sent a line that is answered.
     Asks,
     /// It becomes the application.
     Comes,
@@ -41,9 +58,8 @@ impl Visitor {
             socket,
             inbox: Inbox::new(),
             due: now.saturating_add(VISIT),
-            is_readable: true,
-            is_over: false,
-            has_asked: false,
+            input: Input::Readable,
+            stage: Stage::Silent,
         }
     }
 
@@ -52,36 +68,44 @@ impl Visitor {
     }
 
     pub(crate) fn is_ready(&mut self) {
-        self.is_readable = !self.is_over;
+        if self.input == Input::Waits {
+            self.input = Input::Readable;
+        }
     }
 
     pub(crate) fn has_something(&self) -> bool {
-        self.is_readable || self.is_over || self.inbox.has_line()
+        self.input != Input::Waits || self.inbox.has_line()
     }
 
-    pub(crate) fn next(&self, now: u64) -> Visit {
+    /// Returns true if its next line is answered, and does not claim the application's place.
+    pub(crate) fn asks(&self, is_free: bool) -> bool {
+        self.inbox.has_line() && matches!(self.next_by_line(is_free), Visit::Asks)
+    }
+
+    /// Returns what it does next. Its lines claim the application's place only if that `is_free`.
+    ///
+    /// Once its time is over, the lines that were read are answered, and no more are read.
+    pub(crate) fn next(&self, now: u64, is_free: bool) -> Visit {
         if self.inbox.has_line() {
-            return self.next_by_line();
+            return self.next_by_line(is_free);
         }
-        if self.is_readable {
-            return Visit::Reads;
-        }
-        if self.is_over {
-            return Visit::Leaves;
-        }
-        if now < self.due {
-            return Visit::Waits;
-        }
-        if self.has_asked {
-            Visit::Leaves
-        } else {
-            Visit::Comes
+        let is_late = self.due <= now;
+        match (self.stage, self.input) {
+            (_, Input::Ended) => Visit::Leaves,
+            (Stage::Speaks, _) if is_late => Visit::Leaves,
+            (_, Input::Readable) => Visit::Reads,
+            (Stage::Silent, Input::Waits) if is_late => Visit::Comes,
+            (_, Input::Waits) => Visit::Waits,
         }
     }
 
-    fn next_by_line(&self) -> Visit {
-        match self.inbox.first_line() {
-            Some(line) if is_call(line) => Visit::Comes,
+    fn next_by_line(&self, is_free: bool) -> Visit {
+        let Some(line) = self.inbox.first_line() else {
+            return Visit::Asks;
+        };
+        match line_kind(line) {
+            LineKind::Claim => Visit::Comes,
+            LineKind::Call if is_free => Visit::Comes,
             _ => Visit::Asks,
         }
     }
@@ -96,20 +120,21 @@ impl Visitor {
             }
             Err(error) => match retry_after(&error) {
                 Retry::Now => {}
-                Retry::Later => self.is_readable = false,
+                Retry::Later => self.input = Input::Waits,
                 Retry::Never => self.end(),
             },
         }
     }
 
     pub(crate) fn end(&mut self) {
-        self.is_readable = false;
-        self.is_over = true;
+        self.input = Input::Ended;
     }
 
-    pub(crate) fn next_line(&mut self, line: &mut ArrayVec<u8, LONGEST>) -> Found {
-        self.has_asked = true;
-        self.inbox.next_line(line)
+    /// Moves its next line to `line`. Returns true if the line is its first.
+    pub(crate) fn next_line(&mut self, line: &mut ArrayVec<u8, LONGEST>) -> (Found, bool) {
+        let is_first = self.stage == Stage::Silent;
+        self.stage = Stage::Speaks;
+        (self.inbox.next_line(line), is_first)
     }
 
     /// Answers it. Closes it if it does not accept the whole answer at once.
