@@ -64,7 +64,7 @@ def sent_and_closed(folder):
             # Another one takes its place.
             with socket.socket(socket.AF_UNIX) as other:
                 other.connect(path)
-                other.sendall(b"deny 1\n")
+                other.sendall(b"application\n")
             lines = sender.makefile().read().splitlines()
             check("replaced, and each line done", (50, 1), (lines.count("ok"), lines.count("+ replaced")))
     check("each value", [True] * 40, done)
@@ -138,19 +138,180 @@ def looks(folder):
     with socket.socket(socket.AF_UNIX) as first, socket.socket(socket.AF_UNIX) as second:
         for number, it in ((1, first), (2, second)):
             it.connect(path)
-            it.sendall(f"update 21 000{number}\n".encode())
+            it.sendall(f"update 21 000{number}\napplication\n".encode())
         lines = first.makefile().read().splitlines()
-        check("the first of two", (1, "+ replaced"), (lines.count("ok"), lines[-1]))
+        check("the first of two", (2, "+ replaced"), (lines.count("ok"), lines[-1]))
         second.shutdown(socket.SHUT_WR)
-        check("the second", ["ok"], second.makefile().read().splitlines()[-1:])
+        lines = second.makefile().read().splitlines()
+        check("the second", (2, "ok"), (lines.count("ok"), lines[-1]))
     check("both are done", ["value 21 0002"], look(path, "value 21"))
     for line in ("update 21 0003", "allow 9", "deny 9", "disconnect 9"):
-        one, begun = Application(path, "deny 0"), time.monotonic()
-        two = Application(path, line)
-        check(f"{line}: it takes the place at once", True, time.monotonic() - begun < 0.9)
-        check(f"{line}: of the one before", ["+ replaced", "END"], ended(one)[-2:])
-        two.close()
+        begun = time.monotonic()
+        one = Application(path, line)
+        check(f"{line}: an application at once", True, time.monotonic() - begun < 0.9)
+        one.close()
+        check("which goes", True, soon(lambda: look(path, "value 21")) is not None)
+    one, begun = Application(path, "application"), time.monotonic()
+    check("the answer to its claim", True, soon(lambda: one.line() == "ok"))
+    two = Application(path, "application")
+    check("another takes its place at once", True, time.monotonic() - begun < 0.9)
+    check("of the one before", ["+ replaced", "END"], ended(one)[-2:])
+    two.close()
     check("phones are served", "0b01", controller.ask(64, "0a0a00"))
+    device.end()
+    controller.close()
+
+
+def lines_of_others(folder):
+    """A line of another connection displaces no application, and an application reads of its updates."""
+    path = f"{folder}/others.socket"
+    device = Device(*DOOR, "--listen", "127.0.0.1:0", "--application", path)
+    controller = controller_at(device)
+    controller.is_advertised()
+    application = Application(path, "application")
+    check("its state", ["+ serving", "ok"], application.lines(2))
+    refused = "fault 3: the value is longer than its largest length, or a fixed one has another length"
+    for line, answer, told in (
+        ("update 21 0102", "ok", "+ updated 21 0102"), ("update 21 -", "ok", "+ updated 21 -"),
+        ("update 10 0102", refused, None), ("update 99 01", "fault 1: there is no attribute with the handle", None),
+        ("allow 9", "fault 4: no connection with the handle serves", None),
+        ("deny 9", "fault 4: no connection with the handle serves", None),
+        ("disconnect 9", "fault 4: no connection with the handle serves", None),
+        ("value 21", "value 21 -", None), ("vale 21", 'bad: "vale" is no command', None),
+    ):
+        check(f"{line}, of another connection", [answer], look(path, line))
+        if told:
+            check(f"{line}: the application reads of it", told, application.line())
+    check("its own update", "ok", application.ask("update 21 0003"))
+    controller.connect(64, OWNER)
+    check("a phone", "+ connected 1 0 00:11:22:33:44:55", application.line())
+    controller.encrypt(64)
+    check("with a key", "+ secured 1 16 1 0", application.line())
+    check("another allows it", ["ok"], look(path, "allow 1 60000"))
+    check("the code is read", "0b31323334", controller.ask(64, "0a0d00"))
+    check("another denies it", ["ok"], look(path, "deny 1"))
+    check("the code is not read", "010a0d0008", controller.ask(64, "0a0d00"))
+    check("another disconnects it", ["ok"], look(path, "disconnect 1"))
+    controller.until(lambda: any(it[0] == DISCONNECT for it in controller.commands))
+    check("its end", {"+ ending 1 13", "+ disconnected 1"}, set(application.lines(2)))
+    check("many at once", ["ok"] * 40, look(path, *(f"update 21 00{it:02x}" for it in range(40))))
+    check("each is told", [f"+ updated 21 00{it:02x}" for it in range(40)], application.lines(40))
+    check("it is the application still", "value 21 0027", application.ask("value 21"))
+    device.end()
+    controller.close()
+
+
+def a_first_line(folder):
+    """A connection whose first line is no command is answered and closed, and what follows is not read."""
+    request = (
+        b"POST / HTTP/1.1\r\nHost: 127.0.0.1:7000\r\nOrigin: http://example.org\r\nContent-Type: text/plain\r\n"
+        b"Content-Length: 40\r\n\r\nallow 1\nupdate 21 01\nvalue 13\n"
+    )
+    path = f"{folder}/first.socket"
+    by_path = ["--application", path]
+    for words in (by_path, ["--application-port", "127.0.0.1:0"]):
+        device = Device(*DOOR, "--listen", "127.0.0.1:0", *words)
+        device.port()
+        place = device.said("listening for an application: ")
+
+        def reach():
+            if words is by_path:
+                stream = socket.socket(socket.AF_UNIX)
+                stream.connect(place)
+            else:
+                host, port = place.rsplit(":", 1)
+                stream = socket.create_connection((host, int(port)), PATIENCE)
+            stream.settimeout(PATIENCE)
+            return stream
+
+        def answers(octets, wait=None):
+            with reach() as stream:
+                if wait is not None:
+                    # A browser may connect long before it sends something.
+                    device.said("application", wait)
+                stream.sendall(octets)
+                try:
+                    return stream.makefile(errors="replace").read().splitlines()
+                except ConnectionResetError:
+                    return ["reset"]
+
+        # What was not read makes the system reset the connection, perhaps before the answer is read.
+        bad = 'bad: "POST" is no command'
+        for octets in (request, request[:16] + b"\n" + request[17:], b"GET / HTTP/1.1\r\nHost: x\r\n\r\nupdate 21 01\n"):
+            found = answers(octets)
+            check(f"{words[0]}: closed", True, len(found) <= 1 and not any(it[:2] == "ok" for it in found))
+        check("a wrong line alone", ['bad: "vale" is no command'], answers(b"vale 21\n"))
+        check("no text", ["bad: the line is no text"], answers(b"\x16\x03\x01\xff\n"))
+        check("the value stays", ["value 21 -"], answers(b"value 21\n")[:1])
+        found = answers(request, 1)
+        check(f"{words[0]}: of a connection that was silent for long", True, "ok" not in found)
+        check("which is closed", True, device.said("application ended") == ": its first line is no command")
+        check("nothing was done", ["value 21 -"], answers(b"value 21\n")[:1])
+        check("later lines may be wrong", ["value 21 -", bad, "value 21 -"], answers(b"value 21\nPOST x\nvalue 21\n")[:3])
+        device.end()
+
+
+def an_endless_asker(folder):
+    """A connection that asks without a pause is closed after its second, and keeps nobody out."""
+    path = f"{folder}/asker.socket"
+    device = Device(*DOOR, "--listen", "127.0.0.1:0", "--application", path)
+    controller = controller_at(device)
+    controller.is_advertised()
+    for line in (b"value 6\n", b"value 6\nfind 180f 2a19\n"):
+        begun = time.monotonic()
+        with socket.socket(socket.AF_UNIX) as asker:
+            asker.connect(path)
+            asker.settimeout(PATIENCE)
+
+            def ask():
+                try:
+                    while True:
+                        asker.sendall(line * 50)
+                except OSError:
+                    pass
+
+            def listen():
+                try:
+                    while asker.recv(65_536):
+                        pass
+                except OSError:
+                    pass
+
+            threads = [threading.Thread(target=it, daemon=True) for it in (ask, listen)]
+            for thread in threads:
+                thread.start()
+            for thread in threads:
+                thread.join(PATIENCE)
+            check("it is closed", (False, False), tuple(it.is_alive() for it in threads))
+        check("after its second", True, 0.8 < time.monotonic() - begun < 8)
+        check("others are answered", ["value 10 00"], look(path, "value 10"))
+    device.end()
+    controller.close()
+
+
+def ends_with_a_controller(folder):
+    """If a controller goes, its connections end before the device waits for the next one."""
+    path = f"{folder}/ends.socket"
+    device = Device(*DOOR, "--listen", "127.0.0.1:0", "--application", path)
+    device.port()
+    application = Application(path, "application")
+    check("its state", ["+ waiting", "ok"], application.lines(2))
+    for first in (1, 3):
+        controller = controller_at(device)
+        controller.is_advertised()
+        check("serving", "+ serving", application.line())
+        controller.connect(64, STRANGER)
+        controller.connect(65, OWNER)
+        application.lines(2)
+        controller.close()
+        ends = [f"+ disconnected {first}", f"+ disconnected {first + 1}", "+ waiting"]
+        check("the ends", ends, application.lines(3))
+        check("in the log", True, device.said(f"+ disconnected {first + 1}") == "")
+    controller = controller_at(device)
+    controller.is_advertised()
+    check("serving", "+ serving", application.line())
+    controller.close()
+    check("without a phone", "+ waiting", application.line())
     device.end()
     controller.close()
 
@@ -245,7 +406,9 @@ def a_tell(folder):
         check(f"tell {words}", (64, "", wanted), (status, output, lines[0]))
     check("the application hears nothing of that", None, application.line(0.2))
     check("an update", (0, "ok\n", []), tell(path, "update", "21", "-"))
-    check("takes its place", ["+ replaced", "END"], application.lines(2))
+    check("of which the application reads", "+ updated 21 -", application.line())
+    check("a refused one", (1, "fault 3: the value is longer than its largest length, or a fixed one has another length\n", []), tell(path, "update", "10", "0102"))
+    check("of which it does not", None, application.line(0.2))
     check("the value", (0, "value 21 -\n", []), tell(path, "value", "21"))
     check("no socket", (2, "", [f"tell: {gone}: there is no such socket"]), tell(gone, "value", "10"))
     controller.close()
@@ -326,7 +489,8 @@ def a_confirmation(folder):
 
 
 SCENARIOS = (
-    a_second_device, sent_and_closed, looks, commands, a_tell, a_stop, a_confirmation,
+    a_second_device, sent_and_closed, looks, lines_of_others, a_first_line, an_endless_asker, ends_with_a_controller,
+    commands, a_tell, a_stop, a_confirmation,
 )
 
 

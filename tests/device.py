@@ -134,7 +134,7 @@ def a_day(folder):
     garbage = b"\7" * 9
     controller.send(garbage)
     stopped = "+ stopped: the octet 07 stands where a packet begins, and begins none"
-    check("garbage", [stopped, "+ waiting"], three.lines(2))
+    check("garbage", [stopped, "+ disconnected 3", "+ waiting"], three.lines(3))
     check("the stream is closed", True, controller.until(lambda: controller.is_gone))
     controller.close()
     controller = controller_at(device)
@@ -257,7 +257,7 @@ def names(folder):
     check("for this one", "ok", application.ask("allow 2"))
     check("the code", "0b31323334", controller.ask(64, "0a0d00"))
     controller.close()
-    check("the controller goes", "+ waiting", application.line())
+    check("the controller goes", ["+ disconnected 2", "+ waiting"], application.lines(2))
     check("and its phones", gone, application.ask("allow 2"))
     controller = controller_at(device)
     controller.is_advertised()
@@ -310,7 +310,7 @@ def a_serial_line(folder):
         check("and a phone", f"+ connected {name} 1 c0:00:00:00:00:0a", application.line())
         check("which reads", "0b4c6f636b", controller.ask(64, "0a0300"))
         line.close()
-        check("no line any more", "+ waiting", application.line())
+        check("no line any more", [f"+ disconnected {name}", "+ waiting"], application.lines(2))
     device.end()
 
 

@@ -273,7 +273,7 @@ def a_vanished_controller(folder):
             check(f"{what}: a command", "ok", application.ask(f"disconnect {name}"))
             application.line()
         begun = time.monotonic()
-        check(f"{what}: it is gone", "+ waiting", application.line())
+        check(f"{what}: it is gone", "+ waiting", application.up_to("+ waiting")[-1])
         check(f"{what}: soon", True, time.monotonic() - begun < 8)
         real = controller_at(device)
         check(f"{what}: the next one is served", True, real.is_advertised())
@@ -392,7 +392,11 @@ def a_reader_who_stops(folder):
             since = time.monotonic()
             answer = application.ask("value 10")
             if answer != "value 10 00":
-                check(f"{what}: told", "+ waiting", answer)
+                # The phone's end comes first.
+                if answer[:14] != "+ disconnected":
+                    check(f"{what}: told", "+ waiting", answer)
+                    break
+                check(f"{what}: told", "+ waiting", application.line())
                 break
             slowest = max(slowest, time.monotonic() - since)
             time.sleep(0.05)
@@ -423,7 +427,7 @@ def a_reader_for_whom_too_much_waits(folder):
     writer.start()
     device.said("controller given up: too many octets wait for it")
     quiet.is_over = True
-    check("it is told", "+ waiting", application.line())
+    check("it is told", "+ waiting", application.up_to("+ waiting")[-1])
     check("less than 8 MiB of memory", True, memory(device) - before < 8_192)
     application.say("value 10")
     line = application.line()
@@ -516,7 +520,7 @@ def a_hardware_error(folder):
         before = len(controller.commands)
         controller.event(0x10, b"\x42")
         check("it is told", True, application.line().startswith("+ stopped: "))
-        check("none is there", "+ waiting", application.line())
+        check("none is there", "+ waiting", application.up_to("+ waiting")[-1])
         check("it is initialised again", True, controller.until(lambda: (0x200A, b"\1") in controller.commands[before:]))
         check("it begins with Reset", 0x0C03, controller.commands[before][0])
         check("served again", "+ serving", application.line())
@@ -757,7 +761,7 @@ def begun_at(path):
     end = time.monotonic() + PATIENCE
     while time.monotonic() < end:
         try:
-            return Application(path, "deny 0")
+            return Application(path, "application")
         except OSError:
             time.sleep(0.02)
     raise TimeoutError(path)
@@ -767,8 +771,8 @@ def visit(path):
     """An application connects, reads the beginning, and is gone."""
     stream = connected_to(path)
     stream.settimeout(PATIENCE)
-    # Only an application says this, and so it need not wait for a second.
-    stream.sendall(b"deny 0\n")
+    # It need not wait for a second.
+    stream.sendall(b"application\n")
     stream.recv(9)
     stream.close()
 

@@ -6,6 +6,7 @@ usage: tests/loads.py [PROGRAM] [--only SCENARIO]
 PROGRAM stands in place of ./gatt_shell. The last line is 'N passed, M failed'.
 """
 
+import socket
 import sys
 import threading
 import time
@@ -113,6 +114,67 @@ def a_loud_phone(folder):
     controller.close()
 
 
+def slow_applications(folder):
+    """An application that reads anything in five seconds is not cut off, however slow it is."""
+    table = f"{folder}/loud.toml"
+    with open(table, "w") as file:
+        file.write(LOUD)
+    commands = bytes.fromhex("0240200700 03000400 520300") * 8_000
+    seconds, ended = 14, {}
+
+    def pieces(stream):
+        """Reads 2 KiB a second."""
+        return iter(lambda: stream.recv(512), b"")
+
+    def lines(stream):
+        """Reads as a file does, 8 KiB at once, and needs a while for each line."""
+        return iter(stream.makefile().readline, "")
+
+    def play(name, words, read, pause):
+        device = Device(table, DOOR[1], "--listen", "127.0.0.1:0", *words)
+        controller = controller_at(device)
+        controller.is_advertised()
+        controller.connect(64, STRANGER)
+        place = device.said("listening for an application: ")
+        if words[0] == "--application":
+            stream = socket.socket(socket.AF_UNIX)
+            stream.connect(place)
+        else:
+            host, port = place.rsplit(":", 1)
+            stream = socket.create_connection((host, int(port)))
+        stream.sendall(b"application\n")
+        flood = threading.Thread(target=send, args=(controller.stream,), daemon=True)
+        flood.start()
+        begun = time.monotonic()
+        for _ in read(stream):
+            time.sleep(pause)
+            if time.monotonic() > begun + seconds:
+                break
+        ended[name] = (time.monotonic() - begun > seconds, [it for it in device.log if "cut off" in it])
+        device.end()
+        stream.close()
+
+    def send(stream):
+        try:
+            stream.sendall(commands)
+        except OSError:
+            pass
+
+    kinds = {
+        "pieces by a path": (["--application", f"{folder}/pieces.socket"], pieces, 0.25),
+        "lines by a path": (["--application", f"{folder}/lines.socket"], lines, 0.3),
+        "pieces by a port": (["--application-port", "127.0.0.1:0"], pieces, 0.25),
+        "lines by a port": (["--application-port", "127.0.0.1:0"], lines, 0.3),
+    }
+    threads = [threading.Thread(target=play, args=(name, *kind)) for name, kind in kinds.items()]
+    for it in threads:
+        it.start()
+    for it in threads:
+        it.join()
+    for name in kinds:
+        check(name, (True, []), ended.get(name))
+
+
 def a_busy_controller(folder):
     """An application is answered while its controller always has something to say."""
     is_over = threading.Event()
@@ -172,7 +234,7 @@ def idle(folder):
 
 
 SCENARIOS = (
-    floods, a_loud_phone, a_busy_controller, idle,
+    floods, a_loud_phone, slow_applications, a_busy_controller, idle,
 )
 
 

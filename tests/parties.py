@@ -276,6 +276,13 @@ class Visitor:
     def lines(self, count):
         return [self.line() for _ in range(count)]
 
+    def up_to(self, last):
+        """The lines up to this one, or to the end."""
+        lines = [self.line()]
+        while lines[-1] not in (last, "END", None):
+            lines.append(self.line())
+        return lines
+
     def say(self, line):
         self.stream.sendall(line.encode() + b"\n")
 

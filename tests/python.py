@@ -193,8 +193,8 @@ async def pretended(folder, name, serve):
 
     async def play(reader, writer):
         try:
-            check("the first line", b"deny 0\n", await reader.readline())
-            writer.write(b"+ started 7\nfault 4: no connection with the handle serves\n")
+            check("the first line", b"application\n", await reader.readline())
+            writer.write(b"+ started 7\nok\n")
             await serve(reader, writer)
         except ConnectionError:
             pass
@@ -335,6 +335,7 @@ async def forms(folder):
         ("+ ending 2 1f", gihandop.Ending(2, 31)),
         ("+ skipped 2 6", gihandop.Skipped(2, 6)),
         ("+ missed 10 0a0b", gihandop.Missed(10, b"\n\x0b")),
+        ("+ updated 10 -", gihandop.Updated(10, b"")),
         ("+ serving", gihandop.Serving()),
         ("+ waiting", gihandop.Waiting()),
         ("+ stopped: Hardware Error: 42", gihandop.Stopped("Hardware Error: 42")),

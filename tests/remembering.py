@@ -149,10 +149,10 @@ class Home:
 
     def application(self):
         """An application that has read what a new one reads."""
-        # There is no such connection: the answer ends what a new application reads.
-        application = Application(self.socket, "deny 0")
+        # The answer ends what a new application reads.
+        application = Application(self.socket, "application")
         application.welcome = []
-        while (line := application.line()) and line != "END" and not line.startswith("fault 4"):
+        while (line := application.line()) and line not in ("END", "ok"):
             application.welcome.append(line)
         return application
 
@@ -741,11 +741,11 @@ def a_failed_save(folder, saved):
     controller.say(AT_OWNER, f"12{spelled(VALUE_CONFIG)}0100")
     check("the phone is sent away", "410013", controller.command(DISCONNECT))
     check("it is not answered", None, controller.hears(AT_OWNER, 0.2))
-    lines = [application.line(3) for _ in range(4)]
+    lines = [application.line(3) for _ in range(3)]
     unsaved = [it for it in lines if it and it.startswith("+ unsaved: ")]
     check("the application reads it once", 1, len(unsaved))
     check("with the path", True, bool(unsaved) and unsaved[0].startswith(f"+ unsaved: {home.path}: "))
-    check("the others", [f"+ configured 1 {VALUE_CONFIG} 1", "+ ending 1 13", "+ disconnected 1"], [it for it in lines if it not in unsaved])
+    check("the others", ["+ ending 1 13", "+ disconnected 1"], [it for it in lines if it not in unsaved])
     check("another phone reads", "00", read(controller, VALUE, AT_STRANGER))
     if saved == "state":
         controller.say(AT_STRANGER, f"12{spelled(VALUE)}0a")
@@ -760,6 +760,9 @@ def a_failed_save(folder, saved):
     while (line := application.line(2)) not in (None, "END", "+ saved"):
         pass
     check("the application reads that", "+ saved", line)
+    check("and then of the change", f"+ configured 1 {VALUE_CONFIG} 1", application.line())
+    if saved == "state":
+        check("and of the value", f"+ written 2 {VALUE} 0a", application.line())
     owner_comes(controller)
     check("the phone is back", "0100", read(controller, VALUE_CONFIG))
     end(device)

@@ -106,7 +106,7 @@ class Application:
         self.lines = self.link.makefile("r", errors="replace")
         self.heard = []
         # This line makes it the application at once.
-        self.ask("deny 0")
+        self.ask("application")
 
     def is_connected(self, path):
         try:
