@@ -19,8 +19,8 @@ from typing import Any, Callable, Coroutine, Deque, Dict, Iterator, List, Option
 __all__ = [
     "Address", "BlockingDevice", "Configured", "Confirmed", "Connected", "Connection", "Device", "DeviceError",
     "Disconnected", "Ending", "Gone", "Lost", "Missed", "NotUnderstood", "Notice", "Refused", "Replaced", "Saved",
-    "Secured", "Serving", "Skipped", "Started", "Stopped", "Subscribed", "TimedOut", "Unknown", "Unsaved",
-    "Unsecured", "Waiting", "WasReplaced", "Written",
+    "Secured", "Serving", "Skipped", "Started", "Stopped", "Subscribed", "TimedOut", "Unknown",
+    "Unsaved", "Unsecured", "Updated", "Waiting", "WasReplaced", "Written",
 ]
 
 # The path of a Unix socket (`--application`), or a host and a port (`--application-port`).
@@ -31,8 +31,8 @@ Result = TypeVar("Result")
 _LONGEST_LINE = 1_100
 # The most bytes that a line of a device may have. Its lines are far shorter.
 _LONGEST_NOTICE = 65_536
-# A connection becomes the application by this line. The device refuses it, because names begin at 1.
-_CLAIM = "deny 0"
+# A connection becomes the application by this line.
+_CLAIM = "application"
 
 
 class DeviceError(Exception):
@@ -168,6 +168,14 @@ class Missed(Notice):
 
 
 @dataclass(frozen=True)
+class Updated(Notice):
+    """Another connection than this application has given the attribute this value."""
+
+    handle: int
+    value: bytes
+
+
+@dataclass(frozen=True)
 class Started(Notice):
     """The first notice of each connection to the device.
 
@@ -268,6 +276,7 @@ _FORMS: Dict[str, Tuple[Callable[..., Notice], Tuple[Callable[[str], Any], ...]]
     "ending": (Ending, (_number, _reason)),
     "skipped": (Skipped, (_number, _number)),
     "missed": (Missed, (_number, _octets)),
+    "updated": (Updated, (_number, _octets)),
     "serving": (Serving, ()),
     "waiting": (Waiting, ()),
     "replaced": (Replaced, ()),
