@@ -19,11 +19,17 @@ The last line is 'N passed, M failed, K skipped'.
 """
 
 import contextlib
+import errno
+import fcntl
 import importlib.machinery
 import importlib.util
 import io
 import os
 import re
+import resource
+import runpy
+import shutil
+import signal
 import stat
 import subprocess
 import sys
@@ -347,12 +353,197 @@ def try_files(room):
     check("add, a link to a file that others may read", (0, True), (status, f"chmod 600 {os.path.realpath(path)}" in told))
     check("add: the link and the permission stay", (True, 0o640), (os.path.islink(f"{room}/files/link"), mode_of(path)))
     check("add: three keys", 3, text_of(path).count("[[key]]"))
-    check("add: no other file is left", ["keys.toml", "keys.toml.info", "keys.toml.new", "link"], sorted(os.listdir(f"{room}/files")))
+    left = ["keys.toml", "keys.toml.info", "keys.toml.lock", "keys.toml.new", "link"]
+    check("add: no other file is left", left, sorted(os.listdir(f"{room}/files")))
+    check("add: only its owner may use the lock file", 0o600, mode_of(f"{path}.lock"))
     refused("output, no folder", "cannot be written", "new", CENTRAL, "public", "--output", f"{room}/none/keys.toml")
     refused("add and output", "not allowed with", "new", CENTRAL, "public", "--output", "a", "--add", "b", status=64)
     bare = put(f"{room}/files/bare.toml", LEGACY.rstrip("\n"))
     keys("new", DEVICE, "public", "--add", bare)
     check("add, no line feed at the end", (LEGACY + "\n", 2), (text_of(bare)[: len(LEGACY) + 1], text_of(bare).count("[[key]]")))
+
+
+def started(*words, **more):
+    """Starts tools/keys as a process of its own."""
+    return subprocess.Popen([sys.executable, TOOL, *words], stdout=subprocess.DEVNULL, stderr=subprocess.PIPE, text=True, **more)
+
+
+def try_at_once(room):
+    """Adds twelve keys to a file at once: one that is there, and one that is not."""
+    for name, before in (("a new file", None), ("a file", LEGACY)):
+        path = f"{room}/{name}/keys.toml"
+        os.makedirs(os.path.dirname(path))
+        if before:
+            os.chmod(put(path, before), 0o600)
+        addresses = [f"00:00:00:00:00:{it:02x}" for it in range(12)]
+        calls = [started("new", it, "public", "--add", path) for it in addresses]
+        # A note that a call waits is no fault.
+        messages = [it.communicate()[1] for it in calls]
+        # On a slow machine a call may have to wait for too long, and says so.
+        busy = [it for it, call in zip(addresses, calls) if call.returncode == 75]
+        check(f"twelve at once, {name}: the others end well", {0}, {it.returncode for it in calls} - {75})
+        check(f"twelve at once, {name}: no other fault", len(busy), len([it for it in messages if "tools/keys:" in it]))
+        for it in busy:
+            accepted(f"twelve at once, {name}: again", "new", it, "public", "--add", path)
+        found = re.findall(r'(?m)^address = "(.*)"$', text_of(path))
+        check(f"twelve at once, {name}: all keys are there", sorted(addresses + [CENTRAL] * bool(before)), sorted(found))
+        check(f"twelve at once, {name}: what is left", ["keys.toml", "keys.toml.lock"], sorted(os.listdir(os.path.dirname(path))))
+
+
+def try_lock(room):
+    """Has another program hold the lock, and puts other things in the place of the lock file."""
+    path = put(f"{room}/lock/keys.toml", LEGACY)
+    os.chmod(path, 0o600)
+    words = "new", DEVICE, "public", "--add", path
+    lock = os.open(f"{path}.lock", os.O_RDWR | os.O_CREAT, 0o600)
+    fcntl.flock(lock, fcntl.LOCK_EX)
+    call = started(*words)
+    check("lock: says what it waits for", f"note: waiting for another call that has {path}.lock\n", call.stderr.readline())
+    check("lock: waits", (None, LEGACY), (call.poll(), text_of(path)))
+    fcntl.flock(lock, fcntl.LOCK_UN)
+    check("lock: goes on", ("", 0, 2), (call.communicate()[1], call.returncode, text_of(path).count("[[key]]")))
+    fcntl.flock(lock, fcntl.LOCK_EX)
+    before, was = text_of(path), (KEYS.PATIENCE, KEYS.QUIET)
+    KEYS.PATIENCE, KEYS.QUIET = 0.2, 10
+    refused("lock: is held", f"{path}: is not changed: another call has had {path}.lock for", *words, status=75)
+    KEYS.PATIENCE, KEYS.QUIET = was
+    check("lock, is held: nothing is changed", before, text_of(path))
+    os.close(lock)
+    os.unlink(f"{path}.lock")
+    os.symlink("victim", f"{path}.lock")
+    refused("lock, a link", f"{path}.lock: is a link", *words)
+    put(f"{room}/lock/victim", "")
+    refused("lock, a link to a file", f"{path}.lock: is a link", *words)
+    check("lock, a link: nothing is changed", (before, ""), (text_of(path), text_of(f"{room}/lock/victim")))
+    os.unlink(f"{path}.lock")
+    os.mkfifo(f"{path}.lock")
+    refused("lock, a pipe", f"{path}.lock: is no plain file", *words)
+    for name in ("link", "pipe"):
+        place = f"{room}/lock/{name}"
+        os.symlink("nothing", place) if name == "link" else os.mkfifo(place)
+        refused(f"add, a {name}", f"{place}: is no file", *words[:-1], place)
+        check(f"add, a {name}: no lock is made", False, os.path.lexists(f"{place}.lock") or os.path.lexists(f"{room}/lock/nothing.lock"))
+
+
+def try_full_disk(room):
+    """Lets no call write a byte to a file, as a full disk does, and then tries again."""
+    full = {"preexec_fn": lambda: resource.setrlimit(resource.RLIMIT_FSIZE, (0, resource.RLIM_INFINITY))}
+    folder = f"{room}/full"
+    path = put(f"{folder}/keys.toml", LEGACY)
+    os.chmod(path, 0o600)
+    for option, name in (("--output", f"{folder}/new.toml"), ("--add", f"{folder}/other.toml"), ("--add", path)):
+        before = set(os.listdir(folder)) | {f"{os.path.basename(name)}.lock"}
+        call = started("new", DEVICE, "public", option, name, **full)
+        message = call.communicate()[1]
+        text = f"full disk, {option} {os.path.basename(name)}"
+        check(f"{text}: is refused", (1, f"tools/keys: {name}: cannot be written: {os.strerror(errno.EFBIG)}\n"), (call.returncode, message))
+        check(f"{text}: what is left", set(), set(os.listdir(folder)) - before)
+        check(f"{text}: no file is changed", LEGACY, text_of(path))
+        accepted(f"{text}: the next call", "new", DEVICE, "public", option, name)
+        check(f"{text}: the next call", 1 + (name == path), text_of(name).count("[[key]]"))
+
+
+def interrupt(number, line, words):
+    """Runs tools/keys and sends it a signal at this line of those that write a file. Returns its status."""
+    left = None
+
+    def trace(frame, event, _):
+        nonlocal left
+        code = frame.f_code
+        if code.co_filename != TOOL:
+            return None
+        if left is None and code.co_name in ("create_file", "replace_file"):
+            left = line
+        if left is not None and event == "line":
+            left -= 1
+            if left == 0:
+                os.kill(os.getpid(), number)
+        return trace
+
+    child = os.fork()
+    if child == 0:
+        try:
+            os.dup2(os.open(os.devnull, os.O_RDWR), 2)
+            # A shell has a command in the background ignore SIGINT.
+            signal.signal(number, signal.SIG_DFL)
+            sys.argv = [TOOL, *words]
+            sys.settrace(trace)
+            runpy.run_path(TOOL, run_name="__main__")
+        except SystemExit as ended:
+            os._exit(ended.code)
+        finally:
+            os._exit(99)
+    return os.waitstatus_to_exitcode(os.waitpid(child, 0)[1])
+
+
+def try_signals(room):
+    """Ends tools/keys at each line that writes a file, and looks at what is left."""
+    taken = from_info(f"{INFO}/legacy-central.info", "central")
+    for option, before in (("--output", None), ("--add", None), ("--add", SECURE)):
+        name = f"SIGTERM, {option} {'a file' if before else 'a new file'}"
+        after = f"{before}\n{LEGACY}" if before else LEGACY
+        texts, status, line, folder = set(), None, 0, f"{room}/signals"
+        while status != 0 and line < 200:
+            line += 1
+            path = f"{folder}/keys.toml"
+            os.makedirs(folder)
+            if before:
+                put(path, before)
+            status = interrupt(signal.SIGTERM, line, [*taken, option, path])
+            if status not in (0, -signal.SIGTERM):
+                tell("failed", f"{name}, line {line}: the status", str(status))
+            left = set(os.listdir(folder)) - {"keys.toml", "keys.toml.lock"}
+            if left:
+                tell("failed", f"{name}, line {line}: what is left", str(left))
+            texts.add(text_of(path) if os.path.exists(path) else None)
+            shutil.rmtree(folder)
+        tell("passed" if 8 < line < 200 else "failed", f"{name}: lines", str(line))
+        check(f"{name}: the file is whole", {before, after}, texts)
+    for number in (signal.SIGHUP, signal.SIGINT):
+        os.makedirs(folder)
+        check(f"{number.name}: ends it", -number, interrupt(number, 8, [*taken, "--output", f"{folder}/keys.toml"]))
+        check(f"{number.name}: nothing is left", [], os.listdir(folder))
+        shutil.rmtree(folder)
+
+
+def try_no_links(room):
+    """Writes a new file on a file system that has no hard links."""
+    def link(*_):
+        raise PermissionError(errno.EPERM, os.strerror(errno.EPERM))
+
+    path, was = f"{room}/links/keys.toml", os.link
+    os.makedirs(os.path.dirname(path))
+    os.link = link
+    accepted("no hard links", *from_info(f"{INFO}/legacy-central.info", "central"), "--output", path)
+    refused("no hard links, an old file", "is there already", "new", DEVICE, "public", "--output", path)
+    os.link = was
+    check("no hard links: the file", (LEGACY, 0o600, ["keys.toml"]), (text_of(path), mode_of(path), os.listdir(os.path.dirname(path))))
+
+
+def try_order(room):
+    """Looks at the calls that write a file: it has to be on the disk before it gets its name, and its name after."""
+    calls, was = [], (os.fsync, os.link, os.replace)
+    os.fsync = lambda it: calls.append("folder" if stat.S_ISDIR(os.fstat(it).st_mode) else "file")
+    os.link = lambda *paths: (calls.append("link"), was[1](*paths))
+    os.replace = lambda *paths: (calls.append("rename"), was[2](*paths))
+    for option, due in (("--output", "link"), ("--add", "rename")):
+        accepted(f"order, {option}", "new", f"00:00:00:00:00:0{len(calls)}", "public", option, f"{room}/order.toml")
+        check(f"order, {option}", ["file", due, "folder"], calls[-3:])
+    os.fsync, os.link, os.replace = was
+
+
+def try_pasted(room):
+    """Pastes a key in the place of other words and names. `keys` checks that no message has it."""
+    key = "FFeeddccbbaa99887766554433221100"
+    info = f"{INFO}/legacy-central.info"
+    for words in ([key], ["new", key, "public"], ["new", CENTRAL, key], ["new", CENTRAL, "public", key], ["new", CENTRAL, "public", "--size", key]):
+        refused(f"pasted: {words}", "[hexadecimal digits]", *words, status=64)
+    refused("pasted: --entry", "[hexadecimal digits]", "to-bluez", info, CENTRAL, "public", "--entry", key, status=64)
+    refused("pasted: a file", "[hexadecimal digits]: cannot be read", "to-bluez", key, CENTRAL, "public")
+    texts = [f'"{key}" = 1\n', f"[{key}]\na = 1\n[{key}]\n", LEGACY + f"{key} = 1\n", LEGACY + f'"{key[1:]}" = 1\n', LEGACY.replace("5904", key)]
+    for number, text in enumerate(texts):
+        status, printed, _ = keys("to-bluez", put(f"{room}/pasted.toml", text), CENTRAL, "public")
+        check(f"pasted: file {number}", (1, ""), (status, printed))
 
 
 def try_plain():
@@ -430,6 +621,13 @@ def main():
         try_refused_info(room)
         try_refused_keys(room, program)
         try_files(room)
+        try_at_once(room)
+        try_lock(room)
+        try_full_disk(room)
+        try_signals(room)
+        try_no_links(room)
+        try_order(room)
+        try_pasted(room)
         try_plain()
         if program:
             try_program(room, program)
