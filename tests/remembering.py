@@ -8,12 +8,14 @@ is given. The last line is 'N passed, M failed'.
 """
 
 import argparse
+import ctypes
 import hashlib
 import os
 import random
 import re
 import shutil
 import socket
+import subprocess
 import sys
 import tempfile
 import threading
@@ -21,7 +23,7 @@ import time
 
 sys.dont_write_bytecode = True
 from parties import (
-    COUNT, DISCONNECT, GUEST, GUEST_KEY, KEY, OWNER, PATIENCE, ROOT, STRANGER, Application, Controller, Device, check,
+    COUNT, DISCONNECT, GUEST, GUEST_KEY, KEY, OWNER, PATIENCE, PROGRAM, ROOT, STRANGER, Application, Controller, Device, check,
     controller_at, end_all,
 )
 
@@ -393,6 +395,147 @@ def a_linked_rows_file(folder):
     second = Device(home.table, KEYS, "--listen", "127.0.0.1:0", "--rows", f"{folder}/link")
     is_refused("a link", home, second, ["lock"])
     end(device, controller)
+
+
+def command(words, rows, **more):
+    """The status of a command of the program with this rows file, and what it prints."""
+    words = [PROGRAM, *words, "--rows", rows]
+    ran = subprocess.run(words, stdin=subprocess.DEVNULL, capture_output=True, text=True, timeout=2 * PATIENCE, **more)
+    return ran.returncode, ran.stdout, ran.stderr
+
+
+def configuring(folder, value):
+    """A script in which the owner configures a value."""
+    lines = [f"connect Q {OWNER_NAME}", "encrypt Q 0202020202020202 514", f"Q < 12{spelled(VALUE_CONFIG)}{value}"]
+    return write_text(f"{folder}/{value}.script", "".join(it + "\n" for it in lines))
+
+
+LOCKED = (1, "", "rows: locked\n")
+
+
+def commands_beside_a_device(folder):
+    """`run` and `serve` end at once while a device has their rows file, and change nothing."""
+    home = Home(folder, saved="rows")
+    device, controller = home.start()
+    line = f"{OWNER_NAME} {VALUE_CONFIG} 1\n"
+    check("a subscription", ("13", line), (write(controller, VALUE_CONFIG, "0100"), home.state()))
+    forgets = ["run", home.table, KEYS, configuring(folder, "0000")]
+    before, files = os.stat(home.path).st_ino, sorted(os.listdir(home.place))
+    os.symlink(home.path, f"{folder}/link")
+    os.symlink(home.place, f"{folder}/other")
+    for path in (home.path, f"{folder}/link", f"{folder}/other/state", os.path.relpath(home.path)):
+        for words in (forgets, ["serve", home.table, KEYS, "nowhere"]):
+            check(f"{words[0]} with {path}", LOCKED, command(words, path))
+    # No file is read before the lock is taken.
+    check("run without files", LOCKED, command(["run", "none", "none", "none"], home.path))
+    check("serve without files", LOCKED, command(["serve", "none", "none", "none"], home.path))
+    check("the rows stay", (line, before, files), (home.state(), os.stat(home.path).st_ino, sorted(os.listdir(home.place))))
+    check("the phone is answered", "13", write(controller, VALUE_CONFIG, "0100"))
+    end(device, controller)
+    device, controller = home.start()
+    check("the subscription is there after a kill", "0100", read(controller, VALUE_CONFIG))
+    end(device, controller)
+    check("run after the device", (0, "Q > 13\n", ""), command(forgets, f"{folder}/link"))
+    check("the rows are the run's", "", home.state())
+
+
+def two_runs(folder):
+    """A run has the lock until it ends: another one ends, and so does a device."""
+    home = Home(folder, saved="rows")
+    remembers = ["run", home.table, KEYS, configuring(folder, "0100")]
+    script = f"{folder}/script"
+    os.mkfifo(script)
+    words = [PROGRAM, "run", home.table, KEYS, script, "--rows", home.path]
+    first = subprocess.Popen(words, stdout=subprocess.PIPE, stderr=subprocess.PIPE, text=True)
+    Device.started.append(first)
+
+    def opened():
+        try:
+            return os.open(script, os.O_WRONLY | os.O_NONBLOCK)
+        except OSError:
+            return None
+
+    # The first run reads its script last.
+    ends, pipe = time.monotonic() + PATIENCE, None
+    while pipe is None and time.monotonic() < ends:
+        time.sleep(0.01)
+        pipe = opened()
+    check("a second run", LOCKED, command(remembers, home.path))
+    is_refused("a device", home, home.device(), ["lock"])
+    os.close(pipe)
+    check("the first run", ("", "", 0), (*first.communicate(timeout=PATIENCE), first.returncode))
+    check("a run after it", (0, "Q > 13\n", ""), command(remembers, home.path))
+
+
+def a_device_beside_serve(folder):
+    """While `serve` has a rows file, a device and `run` with it end. When it has ended, they start."""
+    home = Home(folder, saved="rows")
+    remembers = ["run", home.table, KEYS, configuring(folder, "0100")]
+    line = f"{OWNER_NAME} {VALUE_CONFIG} 1\n"
+    with socket.create_server(("127.0.0.1", 0)) as taken:
+        port = taken.getsockname()[1]
+    words = [PROGRAM, "serve", home.table, KEYS, f"127.0.0.1:{port}", "--rows", home.path]
+    serving = subprocess.Popen(words, stderr=subprocess.PIPE, text=True)
+    Device.started.append(serving)
+    check("the lock is made", True, soon(lambda: os.path.exists(f"{home.path}.lock")))
+    check("only its owner may use it", 0o600, os.stat(f"{home.path}.lock").st_mode & 0o777)
+
+    def connected():
+        try:
+            return socket.create_connection(("127.0.0.1", port))
+        except ConnectionRefusedError:
+            return None
+
+    # It listens once it has read its files, and has the lock before and after.
+    end_of_wait, stream = time.monotonic() + PATIENCE, None
+    while not stream and time.monotonic() < end_of_wait:
+        check("run beside serve", LOCKED, command(remembers, home.path))
+        stream = connected()
+    is_refused("a device", home, home.device(), ["lock"])
+    check("run while a controller is served", LOCKED, command(remembers, home.path))
+    stream.close()
+    serving.communicate(timeout=PATIENCE)
+    check("run after serve", (0, "Q > 13\n", ""), command(remembers, home.path))
+    check("its rows", line, home.state())
+    device, controller = home.start()
+    check("a device after them", "0100", read(controller, VALUE_CONFIG))
+    end(device, controller)
+
+
+def bound_by_permissions():
+    """Has a program of root refused by the permission of a folder, as any other user's."""
+    DROP, OVERRIDE = 24, 1
+    ctypes.CDLL(None).prctl(DROP, OVERRIDE, 0, 0, 0)
+
+
+def no_lock(folder):
+    """`run` needs no lock: it works if none can be made, and makes none for what is no file."""
+    table = write_text(f"{folder}/table.toml", TABLE)
+    remembers = ["run", table, KEYS, configuring(folder, "0100")]
+    line, done = f"{OWNER_NAME} {VALUE_CONFIG} 1\n", (0, "Q > 13\n", "")
+    closed = f"{folder}/closed"
+    os.mkdir(closed)
+    path = write_text(f"{closed}/rows", "")
+    os.chmod(closed, 0o555)
+    check("a folder that may not be written", done, command(remembers, path, preexec_fn=bound_by_permissions))
+    check("its rows", (line, ["rows"]), (text_of(path), os.listdir(closed)))
+    os.chmod(closed, 0o755)
+    for name, make in (("folder", os.mkdir), ("pipe", os.mkfifo), ("link", lambda it: os.symlink("nothing", it))):
+        path = f"{folder}/{name}"
+        make(f"{path}.lock")
+        check(f"a {name} as lock", (done, line), (command(remembers, path), text_of(path)))
+    check("a link as lock is not followed", False, os.path.exists(f"{folder}/nothing"))
+    long = f"{folder}/{'r' * 255}"
+    check("a long name", (done, line), (command(remembers, long), text_of(long)))
+    check("no folder", (1, "Q > 13\n", "file: unwritten\n"), command(remembers, f"{folder}/none/rows"))
+    check("a device", done, command(remembers, "/dev/null"))
+    check("a device has no lock", False, os.path.lexists("/dev/null.lock"))
+    check("a folder", (1, "", "file: unreadable\n"), command(remembers, f"{closed}/."))
+    check("no name", (1, "Q > 13\n", "file: unwritten\n"), command(remembers, "", cwd=closed))
+    check("neither has a lock", ["rows"], os.listdir(closed))
+    os.symlink("target", f"{closed}/link")
+    check("a link to no file", (done, line), (command(remembers, f"{closed}/link"), text_of(f"{closed}/target")))
+    check("the lock is the target's", ["link", "rows", "target", "target.lock"], sorted(os.listdir(closed)))
 
 
 def no_place_to_listen(folder):
@@ -897,7 +1040,8 @@ def killed(folder, times):
 
 SCENARIOS = [
     writable_values, all_values, commands, a_stranger, starts, nobody_there, gone_with_a_line, gone_with_many_lines,
-    replaced_with_a_line, replaced_with_many_lines, a_locked_state, a_locked_rows_file, a_linked_rows_file, no_place_to_listen, faulty_states,
+    replaced_with_a_line, replaced_with_many_lines, a_locked_state, a_locked_rows_file, a_linked_rows_file,
+    commands_beside_a_device, two_runs, a_device_beside_serve, no_lock, no_place_to_listen, faulty_states,
     a_file_beside_the_state, a_file_beside_the_rows, a_linked_state, a_linked_rows_path, no_folder, refused_words, permission,
     a_service_in_front, a_second_restart, a_larger_value, a_smaller_value, no_service_changed, another_value_in_its_place, rows_of_another_table,
     waits_for_an_application, a_state_that_is_not_saved, rows_that_are_not_saved, updates_that_are_not_saved,

@@ -4,6 +4,7 @@
 //! of it.
 #![tactic(auto)]
 
+mod locking;
 mod telling;
 
 ghost use Rattle.std.specs.Prelude.{◌≡◌, Ok, Err, IfErr, true, false};
@@ -16,6 +17,7 @@ use gatt_commands::{
     Address, KeysPath, NextPath, RowsPath, RunPaths, ScriptPath, ServePaths, ShellFault, Shows,
     TablePath,
 };
+use locking::{Unlocked, lock_rows};
 use shell_args::{Choice, Refusal};
 use show_command::ShowPaths;
 use std::fs::File;
@@ -139,6 +141,50 @@ fn unreadable(rt: &HostRuntime, paths: ShowPaths<'_>) -> Option<String> {
     None
 }
 
+/// Returns the exit status of a command without its lock, after printing why.
+fn unlocked_status(rt: &HostRuntime, unlocked: Unlocked) -> u8
+    ensures taken { unlocked ≡ Unlocked.Taken → result ≡ 1 }
+    ensures memory { unlocked ≡ Unlocked.Memory → result ≡ 2 }
+{
+    match unlocked {
+        Unlocked::Taken => {
+            // If this fails, the error cannot be reported at all.
+            let _ = rt.eprintln("rows: locked");
+            gatt_commands::status(&ShellFault::Unwritten)
+        }
+        Unlocked::Memory => {
+            tell(rt, &ShellFault::Memory);
+            gatt_commands::status(&ShellFault::Memory)
+        }
+    }
+}
+
+/// Runs a script while no other program uses its subscriptions file, and returns the exit status.
+fn run_locked(rt: &HostRuntime, paths: RunPaths<'_>) -> u8 {
+    match lock_rows(rt, paths.rows) {
+        Ok(lock) => {
+            let status = exit_status(rt, run_script(rt, paths));
+            drop(lock);
+            status
+        }
+        Err(unlocked) => unlocked_status(rt, unlocked),
+    }
+}
+
+/// Serves a controller while no other program uses the subscriptions file, and returns the exit
+/// status.
+fn serve_locked(rt: &HostRuntime, paths: ServePaths<'_>, address: Address<'_>) -> u8 {
+    match lock_rows(rt, paths.rows) {
+        Ok(lock) => {
+            let served = gatt_commands::serve_paths(rt.alloc(), rt, paths, address);
+            let status = exit_status(rt, served);
+            drop(lock);
+            status
+        }
+        Err(unlocked) => unlocked_status(rt, unlocked),
+    }
+}
+
 /// Runs a script and prints its output, also if it fails. No file is opened before its turn.
 fn run_script(rt: &HostRuntime, paths: RunPaths<'_>) -> Result<(), ShellFault> {
     let Ok(mut writer) = BufWriter::new(rt.alloc(), io::writer(rt)) else {
@@ -230,7 +276,7 @@ fn carry_out(rt: &HostRuntime, choice: &Choice<'_>) -> u8 {
                     lines: echo,
                 },
             };
-            exit_status(rt, run_script(rt, paths))
+            run_locked(rt, paths)
         }
         Choice::Serve {
             table,
@@ -243,8 +289,7 @@ fn carry_out(rt: &HostRuntime, choice: &Choice<'_>) -> u8 {
                 keys: KeysPath(keys),
                 rows: RowsPath(rows),
             };
-            let served = gatt_commands::serve_paths(rt.alloc(), rt, paths, Address(address));
-            exit_status(rt, served)
+            serve_locked(rt, paths, Address(address))
         }
     }
 }
