@@ -300,7 +300,7 @@ def a_serial_line(folder):
     device.said("ready")
     application = Application(socket_path)
     check("no line yet", "+ waiting", application.line())
-    check("which is logged", "", device.said("controller: not there"))
+    device.said(f"controller: {path}: No such file or directory")
     for name in (1, 2):
         line = SerialLine(path)
         controller = Controller(line)

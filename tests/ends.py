@@ -135,7 +135,8 @@ def silent_controllers_listen(folder):
     path, server = socket_of(folder), socket.socket()
     server.bind(("127.0.0.1", 0))
     server.settimeout(PATIENCE)
-    device = Device(*DOOR, "--connect", "127.0.0.1:%d" % server.getsockname()[1], *SHORT, "--application", path)
+    address = "127.0.0.1:%d" % server.getsockname()[1]
+    device = Device(*DOOR, "--connect", address, *SHORT, "--application", path)
     device.said("ready")
     application = Application(path)
     check("none is initialised", "+ waiting", application.line())
@@ -153,7 +154,7 @@ def silent_controllers_listen(folder):
     real.close()
     check("it is gone", "+ waiting", application.line())
     server.close()
-    device.said("controller: not there")
+    device.said(f"controller: {address}: Connection refused")
     is_idle("no controller that listens", device)
     device.end()
 
@@ -179,7 +180,7 @@ def a_connection_that_is_never_made(folder):
         slowest = max(slowest, time.monotonic() - since)
         time.sleep(0.02)
     check("an application waits for less than 200 ms", True, slowest < 0.2)
-    check("it is logged once", 1, count_of(device, "controller: not there"))
+    check("it is logged once", 1, count_of(device, "controller: %s:%d: no answer" % address))
     is_idle("a connection that is never made", device)
     for one in waiting:
         one.close()
@@ -607,7 +608,7 @@ def no_descriptors(folder):
         limit(device, highest(device) + 1)
         if who == "controllers":
             streams = [socket.create_connection(device.port(), PATIENCE) for _ in range(5)]
-            line = "controller: not accepted"
+            line = "controller: not accepted: Too many open files"
         else:
             streams = [connected_to(path) for _ in range(5)]
             line = "application: not accepted"

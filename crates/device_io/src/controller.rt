@@ -2,6 +2,7 @@
 
 use crate::connector::{CONNECT_TIME, Connector, RETRY_TIME, Reach};
 use crate::log::Log;
+use crate::missed::Missed;
 use crate::patience::given_up_at;
 use crate::poller::{Poller, Source};
 use crate::transport::Transport;
@@ -33,8 +34,8 @@ pub struct Controller<'a> {
     is_readable: bool,
     /// Set if nothing arrives after the bytes that can be read now.
     is_ending: bool,
-    /// Set once the log says that no controller is reached.
-    is_missed: bool,
+    /// Why no controller is reached, as the log says.
+    missed: Option<Missed>,
     /// When to try again.
     retry: u64,
     /// Set while no controller may be served.
@@ -70,7 +71,7 @@ impl<'a> Controller<'a> {
             is_new: false,
             is_readable: false,
             is_ending: false,
-            is_missed: false,
+            missed: None,
             retry: 0,
             is_held: false,
             is_knocking: false,
@@ -289,8 +290,8 @@ impl Controller<'_> {
             return;
         };
         self.retry = now.saturating_add(RETRY_TIME);
-        if !transport.is_connected() {
-            return self.miss("controller: not there", log);
+        if let Some(error) = transport.connect_error() {
+            return self.miss(Missed::of(&error), log);
         }
         let watched = poller.again(&transport, Source::Controller);
         self.take(transport, watched, log, now);
@@ -300,14 +301,26 @@ impl Controller<'_> {
         R: Files<File = File> + Net<Listener = TcpListener, Stream = TcpStream> + Clock + Eprint,
     >(&mut self, poller: &Poller, log: &Log<'_, R>, now: u64) {
         if self.next.take().is_some() {
-            self.miss("controller: not there", log);
+            self.miss(Missed::Silent, log);
         }
-        let Ok(reached) = self.connector.reach(log.rt) else {
-            // The controller keeps waiting.
-            self.is_knocking = true;
-            self.retry = now.saturating_add(ACCEPT_TIME);
-            return self.miss("controller: not accepted", log);
-        };
+        match self.connector.reach(log.rt) {
+            Reach::Missed(missed) if !self.connector.is_tried() => {
+                // The controller keeps waiting.
+                self.is_knocking = true;
+                self.retry = now.saturating_add(ACCEPT_TIME);
+                self.miss(missed, log);
+            }
+            reached => self.take_reached(reached, poller, log, now),
+        }
+    }
+
+    fn take_reached<R: Clock + Eprint>(
+        &mut self,
+        reached: Reach,
+        poller: &Poller,
+        log: &Log<'_, R>,
+        now: u64,
+    ) {
         if self.connector.is_tried() {
             self.retry = now.saturating_add(RETRY_TIME);
         }
@@ -318,7 +331,7 @@ impl Controller<'_> {
                 self.take(transport, watched, log, now);
             }
             Reach::Begun(transport) => self.begin(transport, poller, log, now),
-            Reach::Nobody if self.connector.is_tried() => self.miss("controller: not there", log),
+            Reach::Missed(missed) => self.miss(missed, log),
             Reach::Nobody => {}
         }
     }
@@ -331,7 +344,7 @@ impl Controller<'_> {
         now: u64,
     ) {
         if poller.watch(&transport, Source::NewController).is_err() {
-            return self.miss("controller: no line or socket that can be waited for", log);
+            return self.miss(Missed::Unwatched, log);
         }
         self.next = Some(transport);
         self.is_answered = false;
@@ -346,10 +359,10 @@ impl Controller<'_> {
         now: u64,
     ) {
         if watched.is_err() {
-            return self.miss("controller: no line or socket that can be waited for", log);
+            return self.miss(Missed::Unwatched, log);
         }
         transport.notice_vanished_peer(self.patience.saturating_mul(2));
-        self.is_missed = false;
+        self.missed = None;
         self.transport = Some(transport);
         self.reached_at = now;
         self.is_initialised = false;
@@ -358,10 +371,11 @@ impl Controller<'_> {
         self.is_ending = false;
     }
 
-    fn miss<R: Clock + Eprint>(&mut self, words: &str, log: &Log<'_, R>) {
-        if !self.is_missed {
-            self.is_missed = true;
-            log.say(words);
+    /// Logs why no controller is reached, unless the log says so already.
+    fn miss<R: Clock + Eprint>(&mut self, missed: Missed, log: &Log<'_, R>) {
+        if self.missed != Some(missed) {
+            self.missed = Some(missed);
+            missed.say(&self.connector, log);
         }
     }
 }

@@ -6,6 +6,7 @@ mod connector;
 mod controller;
 mod lock;
 mod log;
+mod missed;
 mod patience;
 mod poller;
 mod recording;

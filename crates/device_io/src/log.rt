@@ -32,7 +32,7 @@ const LONGEST: usize = 4_096;
 #[derive(Drop)]
 pub struct Log<'a, R> {
     pub rt: &'a R,
-    alloc: Global,
+    pub(crate) alloc: Global,
     /// When the program began, in milliseconds since the machine started.
     begun: u64,
     dropped: Cell<u64>,

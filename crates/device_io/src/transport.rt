@@ -39,13 +39,14 @@ impl Transport {
         Ok(Transport::Serial(line))
     }
 
-    /// Returns true if a connection is made. Call it once the socket is writable.
-    pub fn is_connected(&self) -> bool {
-        match self {
-            Transport::Socket(socket) => {
-                matches!(socket.take_error(), Ok(None)) && socket.peer_addr().is_ok()
-            }
-            Transport::Serial(_) => true,
+    /// Returns why a connection is not made, if so. Call it once the socket is writable.
+    pub fn connect_error(&self) -> Option<io::Error> {
+        let Transport::Socket(socket) = self else {
+            return None;
+        };
+        match socket.take_error() {
+            Ok(None) => socket.peer_addr().err(),
+            Ok(Some(error)) | Err(error) => Some(error),
         }
     }
 
