@@ -1,5 +1,5 @@
 #!/usr/bin/env -S python3 -B
-"""Tries what `gatt_shell host` opens: serial lines, and what it says of a controller that it cannot reach.
+"""Tries what `gatt_shell host` opens: serial lines, descriptors, and files that may not grow.
 
 usage: tests/lines.py [PROGRAM] [--only SCENARIO]
 
@@ -9,15 +9,20 @@ machine offers neither, that scenario is reported, and skipped. The last line is
 
 import fcntl
 import os
+import resource
 import select
 import socket
 import subprocess
 import sys
 import time
 
-from parties import DOOR, STRANGER, Controller, Device, SerialLine, check, play_all
+from parties import (
+    DISCONNECT, DOOR, OWNER, PATIENCE, STRANGER, Controller, Device, SerialLine, check, controller_at, look, play_all, soon,
+    text_of,
+)
 
 NAME_READ, NAME = "0a0300", "0b4c6f636b"
+RESET = bytes.fromhex("01030c00")
 # A user that no machine gives to a person.
 NOBODY = 65534
 AS_NOBODY = ["setpriv", f"--reuid={NOBODY}", f"--regid={NOBODY}", "--clear-groups"]
@@ -219,9 +224,106 @@ def reasons_of_an_address(_folder):
     device.end()
 
 
+def closed_descriptors(folder):
+    """A device whose standard descriptors are closed writes its log into no file and no line."""
+    for closed in ("2>&-", "1>&- 2>&-", "0<&- 2>&-", "0<&- 1>&- 2>&-"):
+        place = f"{folder}/{len(os.listdir(folder))}"
+        os.makedirs(f"{place}/state")
+        line = SerialLine(f"{place}/line")
+        application = f"{place}/application"
+        words = ["--serial", f"{place}/line", "--state", f"{place}/state", "--application", application]
+        device = Device(*DOOR, *words, through=["sh", "-c", f'exec "$@" {closed}', "sh"])
+        controller = Controller(line)
+        check(f"{closed}: a controller is served", True, controller.is_advertised())
+        check(f"{closed}: it gets a Reset first", RESET, controller.received[:4])
+        check(f"{closed}: the application too", ["value 6 64"], look(application, "value 6"))
+        check(f"{closed}: the lock is empty", "", text_of(f"{place}/state/lock"))
+        standard = [os.readlink(f"/proc/{device.process.pid}/fd/{it}") for it in range(3)]
+        for number, name in enumerate(standard):
+            if f"{number}>&-" in closed or f"{number}<&-" in closed:
+                check(f"{closed}: {number}", "/dev/null", name)
+        device.end()
+        line.close()
+
+
+def limited(size):
+    """The words that run a program which may write no file beyond a size."""
+    return ["prlimit", f"--fsize={size}:unlimited"]
+
+
+def allow_any_size(device):
+    resource.prlimit(device.process.pid, resource.RLIMIT_FSIZE, (resource.RLIM_INFINITY, resource.RLIM_INFINITY))
+
+
+def a_limited_capture(folder):
+    """A capture ends where no file may be longer, and phones are served."""
+    for size in (10, 1024, 1400, 2048):
+        path = f"{folder}/{size}"
+        device = Device(*DOOR, "--listen", "127.0.0.1:0", "--capture", path, through=limited(size))
+        controller = controller_at(device)
+        check(f"{size}: it is initialised", True, controller.is_advertised())
+        controller.connect(64, STRANGER)
+        found = [controller.ask(64, NAME_READ) for _ in range(60)]
+        check(f"{size}: each read is answered", 60, found.count(NAME))
+        device.said("capture: full: no more packets are recorded")
+        check(f"{size}: the capture is not longer", True, os.path.getsize(path) <= size)
+        device.end()
+        controller.close()
+
+
+def a_limited_state(folder):
+    """A state that may not be so long is not saved, as on a full disk, and is saved once it may."""
+    words = ["--listen", "127.0.0.1:0", "--state", folder]
+    device = Device(*DOOR, *words)
+    device.said("ready")
+    size = os.path.getsize(f"{folder}/state")
+    device.end()
+    device = Device(*DOOR, *words, through=limited(size + 4))
+    controller = controller_at(device)
+    check("it is initialised", True, controller.is_advertised())
+    before = text_of(f"{folder}/state")
+    controller.connect(64, OWNER)
+    controller.encrypt(64)
+    controller.say(64, "120a0001")
+    check("the phone is disconnected", "400013", controller.command(DISCONNECT))
+    device.said(f"not saved: {folder}/state: File too large")
+    check("the state is the old one", before, text_of(f"{folder}/state"))
+    controller.connect(65, STRANGER)
+    check("another phone is served", NAME, controller.ask(65, NAME_READ))
+    allow_any_size(device)
+    device.said("saved again:")
+    check("it is saved", True, "10 fff1 01\n" in text_of(f"{folder}/state"))
+    device.end()
+
+
+def a_limited_log(folder):
+    """A log that may not grow loses lines, and the device serves; it says how many once it may."""
+    for how in (">", ">>"):
+        log, path, size = f"{folder}/log{len(how)}", f"{folder}/socket{len(how)}", 1400
+        words = ["--listen", "127.0.0.1:0", "--application", path]
+        through = [*limited(size), "sh", "-c", f'exec "$@" 2{how}"$0"', log]
+        device = Device(*DOOR, *words, through=through)
+        port = soon(lambda: os.path.exists(log) and " ready" in text_of(log) and text_of(log))
+        port = int(port.split("controller: 127.0.0.1:")[1].split()[0])
+        for _ in range(40):
+            socket.create_connection(("127.0.0.1", port), PATIENCE).close()
+            check("it is there", ["value 6 64"], look(path, "value 6"))
+        check("the log is full", True, size - 100 < os.path.getsize(log) <= size)
+        controller = Controller(socket.create_connection(("127.0.0.1", port), PATIENCE))
+        check("a controller is served", True, controller.is_advertised())
+        os.truncate(log, 0)
+        controller.connect(64, STRANGER)
+        controller.ask(64, NAME_READ)
+        found = soon(lambda: text_of(log))
+        check("what was dropped is told", True, "lines of the log dropped\n" in found)
+        check("the log begins anew", False, "\0" in found)
+        device.end()
+        controller.close()
+
+
 SCENARIOS = [
     another_users_line, a_line_of_root, a_moved_link, a_taken_line, a_locked_line, reasons_of_a_line, no_permission,
-    reasons_of_an_address,
+    reasons_of_an_address, closed_descriptors, a_limited_capture, a_limited_state, a_limited_log,
 ]
 
 if __name__ == "__main__":

@@ -4,6 +4,7 @@
 mod bounded;
 mod connector;
 mod controller;
+mod file_size;
 mod lock;
 mod log;
 mod missed;
@@ -12,6 +13,7 @@ mod poller;
 mod recording;
 mod saved_file;
 mod socket;
+mod standard;
 mod terminal;
 mod transport;
 mod unknown;

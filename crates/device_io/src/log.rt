@@ -8,6 +8,8 @@ ghost use Rattle.jiff_core.specs.DateTime.{civil_nanos};
 ghost use Rattle.jiff_core.specs.declared.civil.datetime.DateTime.{DateTime};
 ghost use Rattle.jiff_fmt.specs.Text.{datetime_text, zulu_text};
 
+use crate::file_size::fits_standard_error;
+use crate::standard::Standard;
 use crate::terminal::{STANDARD_ERROR, Terminal};
 use arrayvec::ArrayString;
 use jiff::Timestamp;
@@ -38,11 +40,15 @@ pub struct Log<'a, R> {
     dropped: Cell<u64>,
     terminal: Option<Terminal>,
     is_journal: bool,
+    _standard: Standard,
 }
 
 impl<'a, R: Files<File = File> + Env> Log<'a, R> {
-    /// Starts the log and its clock.
+    /// Starts the log and its clock. Call it before any file is opened.
+    ///
+    /// As long as the log lives, no other file gets a standard descriptor that was closed.
     pub fn new(rt: &'a R, alloc: Global) -> io::Result<Log<'a, R>> {
+        let standard = Standard::open(rt);
         Ok(Log {
             rt,
             alloc,
@@ -50,6 +56,7 @@ impl<'a, R: Files<File = File> + Env> Log<'a, R> {
             dropped: Cell::new(0),
             terminal: Terminal::open(rt),
             is_journal: is_journal(rt, alloc),
+            _standard: standard,
         })
     }
 }
@@ -112,6 +119,9 @@ impl<R: Clock + Eprint> Log<'_, R> {
     }
 
     fn write_line(&self, line: &str) -> bool {
+        if !fits_standard_error(line.len().saturating_add(1)) {
+            return false;
+        }
         let Some(terminal) = &self.terminal else {
             return self.rt.eprintln(line).is_ok();
         };

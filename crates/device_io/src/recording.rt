@@ -1,6 +1,7 @@
 //! The capture of the packets to and from the controller.
 
 use crate::bounded::Bounded;
+use crate::file_size::largest_file;
 use crate::log::Log;
 use btsnoop::{Capture, CaptureFault};
 use std::fs::{File, Files};
@@ -29,6 +30,7 @@ impl Recording {
 
     /// Begins a capture of at most `most` bytes, which replaces the file at a path.
     ///
+    /// A file is also bounded by the limit that the system sets for files, a pipe is not.
     /// Only the owner may read a new file, because the packets contain keys.
     pub fn begin<R: Files<File = File>>(rt: &R, path: &str, most: u64) -> io::Result<Recording> {
         let file = File::options()
@@ -39,6 +41,11 @@ impl Recording {
             .open(rt, path)?;
         // Never waits for a pipe that is not read.
         os::set_nonblocking(file.as_raw_fd(), true);
+        let most = if file.metadata()?.is_file() {
+            most.min(largest_file())
+        } else {
+            most
+        };
         Ok(Recording {
             capture: Some(Capture::begin(Bounded::new(file, most))),
             is_told: false,

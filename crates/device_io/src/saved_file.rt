@@ -1,5 +1,6 @@
 //! A text file that is replaced as a whole.
 
+use crate::file_size::refuse_size;
 use std::alloc::Global;
 use std::fs::{File, Files, OpenFile};
 use std::io::{ErrorKind, Write};
@@ -65,6 +66,7 @@ impl SavedFile {
     }
 
     fn replace<R: Files>(&self, files: &R, text: &[u8]) -> io::Result<()> {
+        refuse_size(text.len())?;
         remove_left_file(files, self.beside.as_str())?;
         self.write_beside(files, text)?;
         fs::rename(files, self.beside.as_str(), self.path.as_str())?;
