@@ -538,6 +538,150 @@ def no_lock(folder):
     check("the lock is the target's", ["link", "rows", "target", "target.lock"], sorted(os.listdir(closed)))
 
 
+def linked_to(home, target):
+    """A folder whose state is a link."""
+    place = tempfile.mkdtemp(dir=home.folder)
+    os.symlink(target, f"{place}/state")
+    return place
+
+
+def a_state_of_two_folders(folder):
+    """A second device whose folder has a link to the same state is refused, whatever the first one has."""
+    for is_there in (True, False):
+        for name in ("state", "other"):
+            home = Home(tempfile.mkdtemp(dir=folder))
+            real = f"{home.folder}/real"
+            os.mkdir(real)
+            if is_there:
+                write_text(f"{real}/{name}", state_text())
+            one, two = (linked_to(home, f"../real/{name}") for _ in range(2))
+            home.saved, home.path = ["--state", one], f"{real}/{name}"
+            device, controller = home.start()
+            check("a write", "13", write(controller, VALUE, "01"))
+            second = Device(home.table, KEYS, "--listen", "127.0.0.1:0", "--state", two)
+            is_refused(f"two links to {name}", home, second, ["/real/", "locked: another device uses"])
+            if name == "state":
+                second = Device(home.table, KEYS, "--listen", "127.0.0.1:0", "--state", real)
+                is_refused("its own folder", home, second, ["locked: another device uses"])
+            check("the first one saves", "13", write(controller, VALUE, "02"))
+            check("its value", True, f"{VALUE} fff1 02\n" in home.state())
+            end(device, controller)
+    home = Home(tempfile.mkdtemp(dir=folder))
+    device, controller = home.start()
+    second = Device(home.table, KEYS, "--listen", "127.0.0.1:0", "--state", linked_to(home, home.path))
+    is_refused("a link to the first one's", home, second, ["locked: another device uses"])
+    end(device, controller)
+
+
+def mounted(place, *words):
+    """Whether a small file system is at a place."""
+    os.makedirs(place, exist_ok=True)
+    return subprocess.run(["mount", *words, place], stderr=subprocess.DEVNULL).returncode == 0
+
+
+def a_start_without_a_lock(folder):
+    """Of two devices that started on a read-only disk, one saves once the disk can be written."""
+    home = Home(folder)
+    if not mounted(home.place, "-t", "tmpfs", "-o", "size=256k", "none"):
+        print("a_start_without_a_lock: skipped: no file system can be mounted")
+        return
+    try:
+        subprocess.run(["mount", "-o", "remount,ro", home.place], check=True)
+        devices = []
+        for name in "ab":
+            home.socket = f"{folder}/{name}"
+            devices.append(home.device())
+            devices[-1].said(f"not saved: {home.path}: Read-only file system")
+            devices[-1].said("ready")
+        subprocess.run(["mount", "-o", "remount,rw", home.place], check=True)
+        is_saved = lambda it: bool(lines_of(it, "saved again:"))
+        check("one saves", True, soon(lambda: any(map(is_saved, devices))))
+        one, two = sorted(devices, key=is_saved, reverse=True)
+        two.said(f"not saved: {home.path}: locked: another device uses it")
+        controllers = [controller_at(it) for it in (one, two)]
+        for controller in controllers:
+            controller.is_advertised()
+            owner_comes(controller)
+        check("its phone is answered", "13", write(controllers[0], VALUE, "01"))
+        controllers[1].say(AT_OWNER, f"12{spelled(VALUE)}02")
+        check("the other's is disconnected", "410013", controllers[1].command(DISCONNECT))
+        has_saved("the first one's value", home, values=[f"{VALUE} fff1 01"])
+        time.sleep(2.3)
+        has_saved("is still there", home, values=[f"{VALUE} fff1 01"])
+        check("the other says it once", 1, len(lines_of(two, f"not saved: {home.path}: locked")))
+        end(one)
+        two.said("saved again:")
+        end(two, *controllers)
+    finally:
+        end_all()
+        subprocess.run(["umount", home.place])
+
+
+def a_folder_made_anew(folder):
+    """A folder that was removed and made again is locked again, unless another device is faster."""
+    for is_faster in (False, True):
+        home = Home(tempfile.mkdtemp(dir=folder))
+        device, controller = home.start()
+        check("a write", "13", write(controller, VALUE, "01"))
+        shutil.rmtree(home.place)
+        os.mkdir(home.place)
+        if is_faster:
+            home.socket += "2"
+            other = home.device()
+            other.said("ready")
+            controller.say(AT_OWNER, f"12{spelled(VALUE)}02")
+            check("the phone is disconnected", "410013", controller.command(DISCONNECT))
+            device.said(f"not saved: {home.path}: locked: another device uses it")
+            has_saved("the other's state", home)
+            end(other)
+            device.said("saved again:")
+        else:
+            check("another write", "13", write(controller, VALUE, "02"))
+            second = Device(home.table, KEYS, "--listen", "127.0.0.1:0", *home.saved)
+            is_refused("a second device", home, second, ["lock: locked: another device uses"])
+        has_saved("the value", home, values=[f"{VALUE} fff1 02"])
+        end(device, controller)
+
+
+def a_lock_that_is_removed(folder):
+    """A device whose lock was removed saves no more if a second one has taken its place."""
+    home = Home(folder)
+    device, controller = home.start()
+    os.remove(f"{home.place}/lock")
+    home.socket += "2"
+    other = home.device()
+    other.said("ready")
+    controller.say(AT_OWNER, f"12{spelled(VALUE)}02")
+    check("the phone is disconnected", "410013", controller.command(DISCONNECT))
+    device.said(f"not saved: {home.path}: locked: another device uses it")
+    has_saved("the other's state", home)
+    end(device, other, controller)
+
+
+def a_changed_file(folder):
+    """A file that another program changed is written again at the next change, also back to the same text."""
+    for saved in ("state", "rows"):
+        home = Home(tempfile.mkdtemp(dir=folder), saved=saved)
+        device, controller = home.start()
+        check("a subscription", "13", write(controller, VALUE_CONFIG, "0100"))
+        text = home.state()
+        for what, change in (
+            ("emptied", lambda: write_text(home.path, "")),
+            ("of the same length", lambda: write_text(home.path, "x" * len(text))),
+            ("replaced", lambda: os.replace(write_text(f"{home.folder}/new", "y" * len(text)), home.path)),
+            ("removed", lambda: os.remove(home.path)),
+        ):
+            # The time of the last change differs: file systems count in steps of some milliseconds.
+            time.sleep(0.1)
+            change()
+            check(f"{what}: the same again", "13", write(controller, VALUE_CONFIG, "0100"))
+            check(f"{what}: it is saved", text, home.state())
+        before = os.stat(home.path)
+        check("the same again", "13", write(controller, VALUE_CONFIG, "0100"))
+        check("is not written", before.st_ino, os.stat(home.path).st_ino)
+        end(device, controller)
+
+
 def no_place_to_listen(folder):
     """A start that cannot listen changes no file."""
     lines = f"{GUEST_NAME} {VALUE_CONFIG} 1\n1 c0:00:00:00:00:09 {VALUE_CONFIG} 1\n"
@@ -1041,7 +1185,8 @@ def killed(folder, times):
 SCENARIOS = [
     writable_values, all_values, commands, a_stranger, starts, nobody_there, gone_with_a_line, gone_with_many_lines,
     replaced_with_a_line, replaced_with_many_lines, a_locked_state, a_locked_rows_file, a_linked_rows_file,
-    commands_beside_a_device, two_runs, a_device_beside_serve, no_lock, no_place_to_listen, faulty_states,
+    commands_beside_a_device, two_runs, a_device_beside_serve, no_lock, a_state_of_two_folders,
+    a_start_without_a_lock, a_folder_made_anew, a_lock_that_is_removed, a_changed_file, no_place_to_listen, faulty_states,
     a_file_beside_the_state, a_file_beside_the_rows, a_linked_state, a_linked_rows_path, no_folder, refused_words, permission,
     a_service_in_front, a_second_restart, a_larger_value, a_smaller_value, no_service_changed, another_value_in_its_place, rows_of_another_table,
     waits_for_an_application, a_state_that_is_not_saved, rows_that_are_not_saved, updates_that_are_not_saved,

@@ -1,7 +1,7 @@
 //! The saved data of a host.
 
 use app_lines::Told;
-use device_io::{Lock, SavedFile};
+use device_io::{Lock, LockFault, SavedFile};
 use device_session::Session;
 use device_state::{Saves, may_be_saved, state_text};
 use gatt_host::{Host, Rows, Table};
@@ -74,7 +74,8 @@ pub(crate) fn subscriptions_text(alloc: Global, rows: &Rows) -> io::Result<Vec<u
 #[derive(Drop)]
 pub(crate) struct Keeping {
     alloc: Global,
-    _lock: Option<Lock>,
+    /// The locks without which nothing is saved.
+    locks: Vec<Lock>,
     file: SavedFile,
     pub(crate) contents: Contents,
     /// Set if something has changed since the last save.
@@ -88,13 +89,13 @@ pub(crate) struct Keeping {
 impl Keeping {
     pub(crate) fn new(
         alloc: Global,
-        lock: Option<Lock>,
+        locks: Vec<Lock>,
         file: SavedFile,
         contents: Contents,
     ) -> Keeping {
         Keeping {
             alloc,
-            _lock: lock,
+            locks,
             file,
             contents,
             is_due: true,
@@ -191,7 +192,7 @@ impl Keeping {
         self.retry = Some(session.log().now().saturating_add(RETRY_TIME));
         let path = self.file.path();
         if let Ok(line) = format!(in self.alloc; "{path}: {error}")
-            && !self.has_failed_as(line.as_str())
+            && !is_told(&self.failure, line.as_str())
         {
             session.log().say_of("not saved:", line.as_str());
             self.failure = Some(line);
@@ -199,15 +200,27 @@ impl Keeping {
         }
     }
 
-    fn has_failed_as(&self, line: &str) -> bool {
-        match &self.failure {
-            Some(failure) => failure.as_str() == line,
-            None => false,
+    /// Saves a host, unless another device has one of the locks.
+    fn write<R: Files<File = File>>(&mut self, host: &Host, files: &R) -> io::Result<()> {
+        if let Err(fault) = hold(self.locks.as_mut_slice(), files) {
+            return Err(fault.error());
         }
-    }
-
-    fn write<R: Files>(&mut self, host: &Host, files: &R) -> io::Result<()> {
         let text = self.contents.text(self.alloc, host)?;
         self.file.save(files, text)
     }
+}
+
+fn is_told(failure: &Option<String>, line: &str) -> bool {
+    match failure {
+        Some(failure) => failure.as_str() == line,
+        None => false,
+    }
+}
+
+/// Takes all locks that are not held.
+fn hold<R: Files<File = File>>(locks: &mut [Lock], files: &R) -> Result<(), LockFault> {
+    for lock in locks.iter_mut() {
+        lock.hold(files)?;
+    }
+    Ok(())
 }

@@ -66,10 +66,11 @@ fn open_with_subscriptions<R: Files<File = File> + Clock + Eprint>(
     keys: Keys,
 ) -> Result<(Host, Option<Keeping>), Stop> {
     let file = find_file(alloc, log, path, FOR_ALL)?;
-    let lock = lock_file(alloc, log, file.path(), ".lock")?;
+    let mut locks = Vec::new(alloc);
+    add_lock(alloc, log, &mut locks, file.path(), ".lock")?;
     let rows = read_subscriptions(alloc, log.rt, file.path())?;
     let host = open_with(alloc, log, options, table, keys, rows)?;
-    let keeping = Keeping::new(alloc, lock, file, Contents::Subscriptions);
+    let keeping = Keeping::new(alloc, locks, file, Contents::Subscriptions);
     Ok((host, Some(keeping)))
 }
 
@@ -81,12 +82,16 @@ fn open_with_state<R: Files<File = File> + Clock + Eprint>(
     served: Served,
     keys: Keys,
 ) -> Result<(Host, Option<Keeping>), Stop> {
-    let lock = lock_file(alloc, log, folder, "/lock")?;
+    let mut locks = Vec::new(alloc);
+    add_lock(alloc, log, &mut locks, folder, "/lock")?;
     let path = match format!(in alloc; "{folder}/state") {
         Ok(path) => path,
         Err(_) => return Err(Stop::Fault(ShellFault::Memory)),
     };
     let file = find_file(alloc, log, path.as_str(), OWNER_ALONE)?;
+    if file.path() != path.as_str() {
+        lock_target(alloc, log, &mut locks, file.path())?;
+    }
     let table = judged_table(alloc, served.text.as_slice())?;
     let host = match find_state(alloc, log, file.path())? {
         Some(state) => resume(alloc, log, options, state, &served, table, keys)?,
@@ -95,7 +100,7 @@ fn open_with_state<R: Files<File = File> + Clock + Eprint>(
             open(alloc, table, keys, rows, &options.host)?
         }
     };
-    let keeping = Keeping::new(alloc, lock, file, Contents::State(served));
+    let keeping = Keeping::new(alloc, locks, file, Contents::State(served));
     Ok((host, Some(keeping)))
 }
 
@@ -115,37 +120,75 @@ fn find_file<R: Files<File = File> + Clock + Eprint>(
     }
 }
 
-/// Locks the file at `path` followed by `end`.
-///
-/// A full or read-only disk does not stop the device: it logs that there is no lock.
-fn lock_file<R: Files<File = File> + Clock + Eprint>(
+/// Locks the state to which a link leads, against devices with another link to it, and against one
+/// whose folder has it.
+fn lock_target<R: Files<File = File> + Clock + Eprint>(
     alloc: Global,
     log: &Log<'_, R>,
+    locks: &mut Vec<Lock>,
+    target: &str,
+) -> Result<(), Stop> {
+    add_lock(alloc, log, locks, target, ".lock")?;
+    match target.strip_suffix("/state") {
+        Some(folder) => add_lock(alloc, log, locks, folder, "/lock"),
+        None => Ok(()),
+    }
+}
+
+/// Locks the file at `path` followed by `end`, and adds the lock.
+///
+/// A full or read-only disk does not stop the device: it logs that there is no lock, and takes it
+/// before it saves.
+fn add_lock<R: Files<File = File> + Clock + Eprint>(
+    alloc: Global,
+    log: &Log<'_, R>,
+    locks: &mut Vec<Lock>,
     path: &str,
     end: &str,
-) -> Result<Option<Lock>, Stop> {
+) -> Result<(), Stop> {
     let Ok(place) = format!(in alloc; "{path}{end}") else {
         return Err(Stop::Fault(ShellFault::Memory));
     };
-    let place = place.as_str();
-    match Lock::take(log.rt, place) {
-        Ok(lock) => Ok(Some(lock)),
-        Err(LockFault::Taken) => Err(refuse(
-            log.rt,
-            format!(in alloc; "{place}: locked: another device uses {path}").ok(),
-        )),
-        Err(LockFault::NotAFile) => {
-            Err(refuse(log.rt, format!(in alloc; "{place}: not a file").ok()))
-        }
-        Err(LockFault::Failed(error)) => match error.kind() {
-            ErrorKind::StorageFull | ErrorKind::QuotaExceeded | ErrorKind::ReadOnlyFilesystem => {
-                if let Ok(line) = format!(in alloc; "{place}: {error}") {
-                    log.say_of("not locked:", line.as_str());
-                }
-                Ok(None)
-            }
-            _ => Err(refuse(log.rt, format!(in alloc; "{place}: {error}").ok())),
-        },
+    let mut lock = Lock::at(place);
+    if let Err(fault) = lock.hold(log.rt) {
+        tell_unlocked(alloc, log, lock.path(), path, &fault)?;
+    }
+    match locks.push(lock) {
+        Ok(()) => Ok(()),
+        Err(_) => Err(Stop::Fault(ShellFault::Memory)),
+    }
+}
+
+/// Refuses a start without a lock, or logs that there is none if the device can serve without.
+fn tell_unlocked<R: Files<File = File> + Clock + Eprint>(
+    alloc: Global,
+    log: &Log<'_, R>,
+    place: &str,
+    path: &str,
+    fault: &LockFault,
+) -> Result<(), Stop> {
+    let line = match fault {
+        LockFault::Taken => format!(in alloc; "{place}: locked: another device uses {path}"),
+        LockFault::NotAFile => format!(in alloc; "{place}: not a file"),
+        LockFault::Failed(error) => format!(in alloc; "{place}: {error}"),
+    };
+    if !is_disk_closed(fault) {
+        return Err(refuse(log.rt, line.ok()));
+    }
+    if let Ok(line) = line {
+        log.say_of("not locked:", line.as_str());
+    }
+    Ok(())
+}
+
+/// Returns true if a disk is full or read-only.
+fn is_disk_closed(fault: &LockFault) -> bool {
+    match fault {
+        LockFault::Failed(error) => matches!(
+            error.kind(),
+            ErrorKind::StorageFull | ErrorKind::QuotaExceeded | ErrorKind::ReadOnlyFilesystem
+        ),
+        _ => false,
     }
 }
 

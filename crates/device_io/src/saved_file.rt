@@ -2,9 +2,9 @@
 
 use crate::file_size::refuse_size;
 use std::alloc::Global;
-use std::fs::{File, Files, OpenFile};
+use std::fs::{File, Files, Metadata, OpenFile};
 use std::io::{ErrorKind, Write};
-use std::os::unix::fs::OpenOptionsExt;
+use std::os::unix::fs::{MetadataExt, OpenOptionsExt};
 use std::{fs, io};
 
 /// A text file that readers always find complete, old or new.
@@ -14,7 +14,37 @@ pub struct SavedFile {
     /// The path that is written first.
     beside: String,
     mode: u32,
-    saved: Option<Vec<u8>>,
+    saved: Option<Saved>,
+}
+
+/// The text that was saved last, and the file that has it.
+#[derive(Drop)]
+struct Saved {
+    text: Vec<u8>,
+    version: Version,
+}
+
+/// The identity of a file and of its contents.
+#[derive(Clone, Copy, PartialEq, Eq)]
+struct Version {
+    device: u64,
+    inode: u64,
+    size: u64,
+    /// The time of its last change: seconds, and nanoseconds.
+    seconds: i64,
+    nanoseconds: i64,
+}
+
+impl Version {
+    fn of(found: &Metadata) -> Version {
+        Version {
+            device: found.dev(),
+            inode: found.ino(),
+            size: found.size(),
+            seconds: found.mtime(),
+            nanoseconds: found.mtime_nsec(),
+        }
+    }
 }
 
 impl SavedFile {
@@ -45,35 +75,44 @@ impl SavedFile {
         self.path.as_str()
     }
 
-    /// Saves a text. Writes nothing if the file exists and is known to have it.
+    /// Saves a text. Writes nothing if the file has it, and no other program has changed the file
+    /// since it was saved.
     ///
     /// After an error the file has either the old text or the new one.
     pub fn save<R: Files>(&mut self, files: &R, text: Vec<u8>) -> io::Result<()> {
-        if self.has(text.as_slice()) && fs::metadata(files, self.path.as_str()).is_ok() {
+        if self.has(files, text.as_slice()) {
             return Ok(());
         }
         self.saved = None;
-        self.replace(files, text.as_slice())?;
-        self.saved = Some(text);
+        let version = self.replace(files, text.as_slice())?;
+        self.saved = Some(Saved { text, version });
         Ok(())
     }
 
-    fn has(&self, text: &[u8]) -> bool {
+    fn has<R: Files>(&self, files: &R, text: &[u8]) -> bool {
         match &self.saved {
-            Some(saved) => saved.as_slice() == text,
-            None => false,
+            Some(saved) if saved.text.as_slice() == text => {
+                self.version(files) == Some(saved.version)
+            }
+            _ => false,
         }
     }
 
-    fn replace<R: Files>(&self, files: &R, text: &[u8]) -> io::Result<()> {
-        refuse_size(text.len())?;
-        remove_left_file(files, self.beside.as_str())?;
-        self.write_beside(files, text)?;
-        fs::rename(files, self.beside.as_str(), self.path.as_str())?;
-        sync_folder(files, self.path.as_str())
+    fn version<R: Files>(&self, files: &R) -> Option<Version> {
+        let found = fs::metadata(files, self.path.as_str()).ok()?;
+        Some(Version::of(&found))
     }
 
-    fn write_beside<R: Files>(&self, files: &R, text: &[u8]) -> io::Result<()> {
+    fn replace<R: Files>(&self, files: &R, text: &[u8]) -> io::Result<Version> {
+        refuse_size(text.len())?;
+        remove_left_file(files, self.beside.as_str())?;
+        let version = self.write_beside(files, text)?;
+        fs::rename(files, self.beside.as_str(), self.path.as_str())?;
+        sync_folder(files, self.path.as_str())?;
+        Ok(version)
+    }
+
+    fn write_beside<R: Files>(&self, files: &R, text: &[u8]) -> io::Result<Version> {
         let mut file = File::options()
             .write(true)
             .create_new(true)
@@ -83,7 +122,8 @@ impl SavedFile {
             file.set_permissions(old.permissions())?;
         }
         file.write_all(text)?;
-        file.sync_all()
+        file.sync_all()?;
+        Ok(Version::of(&file.metadata()?))
     }
 }
 
