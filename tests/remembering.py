@@ -70,6 +70,9 @@ TABLE = HEAD + CHANGED + SERVICE % 8
 # only the application changes, and a long one.
 INDICATED_CONFIG, VALUE, VALUE_CONFIG, SENSOR, SENSOR_CONFIG, LONG = 4, 7, 8, 10, 11, 13
 UUID = "6e400002-b5a3-f393-e0a9-e50e24dcca9e"
+# A user that no machine gives to a person.
+NOBODY = 65534
+AS_NOBODY = ["setpriv", f"--reuid={NOBODY}", f"--regid={NOBODY}", "--clear-groups"]
 # The peers of the phones, as the subscriptions have them.
 OWNER_NAME, GUEST_NAME = "0 00:11:22:33:44:55", "1 c0:00:00:00:00:01"
 # The connections of the phones.
@@ -697,6 +700,7 @@ def no_place_to_listen(folder):
             second = Device(home.table, KEYS, "--listen", address, *home.saved, "--drop-unknown")
             is_refused(f"listen, {saved}", home, second, [], 2)
             check("the file is the same one", before, os.stat(home.path).st_ino if home.state() else None)
+            check("no old state is kept", False, os.path.exists(f"{home.path}.before"))
 
 
 def faulty_states(folder):
@@ -870,6 +874,7 @@ def lines_of(device, *begins):
     return [it for it in device.log if it.startswith(begins)]
 
 
+CHANGED_TO = "the table has changed: the old state is kept as {}.before"
 DROPPED = ("the table has changed", "subscription dropped", "value dropped", "phones are not told")
 
 
@@ -886,7 +891,7 @@ def a_service_in_front(folder):
 
     def judge(home, device, controller):
         told = lines_of(device, *DROPPED)
-        check("the log", "the table has changed", ([it for it in told if "changed" in it] or [None])[0])
+        check("the log", [CHANGED_TO.format(home.path)], [it for it in told if "changed" in it])
         check("values", 2, len([it for it in told if it.startswith("value dropped: ")]))
         dropped = [f"subscription dropped: {it} {VALUE_CONFIG} 1" for it in (OWNER_NAME, GUEST_NAME)]
         check("subscriptions", [], [it for it in dropped if it not in told])
@@ -906,7 +911,7 @@ def a_larger_value(folder):
 
     def judge(home, device, controller):
         told = lines_of(device, *DROPPED)
-        check("the log", ["the table has changed"], told)
+        check("the log", [CHANGED_TO.format(home.path)], told)
         check("the value", "0102030405060708", read(controller, VALUE))
         check("the other one", "aabb", read(controller, LONG, AT_GUEST))
         for at in (AT_OWNER, AT_GUEST):
@@ -975,6 +980,129 @@ def another_value_in_its_place(folder):
 
     other = (OTHER + SERVICE % 8).replace("fff", "fee").replace('"read"]\n', '"read", "indicate"]\n', 1)
     play_changed(folder, HEAD + other, judge)
+
+
+def a_kept_state(folder):
+    """A start with a wrong table keeps the old state, which then serves the right one again."""
+    home, kept = Home(folder), f"{folder}/saved/state.before"
+    device, controller = home.start()
+    check("a write", "13", write(controller, VALUE, "0102"))
+    check("a subscription", "13", write(controller, VALUE_CONFIG, "0100"))
+    check("nothing is kept", None, text_of(kept))
+    os.chmod(home.path, 0o640)
+    end(device, controller)
+    before = home.state()
+    # What a device left that was killed while it kept a state.
+    write_text(f"{kept}.new", "half of a st")
+    write_text(kept, "an older one")
+    write_text(home.table, HEAD + OTHER)
+    for _ in range(2):
+        device = home.device()
+        device.said("ready")
+        check("the old state", before, text_of(kept))
+        check("its permission", 0o640, os.stat(kept).st_mode & 0o777)
+        check("the files", ["lock", "state", "state.before"], sorted(os.listdir(home.place)))
+        end(device)
+    check("it is told once", 0, len(lines_of(device, "the table has changed")))
+    write_text(home.table, TABLE)
+    shutil.copy(kept, home.path)
+    device, controller = home.start()
+    check("the value", "0102", read(controller, VALUE))
+    check("the subscription", "0100", read(controller, VALUE_CONFIG))
+    check("no other table", 0, len(lines_of(device, "the table has changed")))
+    end(device, controller)
+
+
+def a_kept_state_behind_a_link(folder):
+    """The old state is kept beside the file to which the link leads."""
+    home, real = Home(folder), f"{folder}/real"
+    os.mkdir(real)
+    text = state_text(values=[f"{VALUE} fff1 01"])
+    write_text(f"{real}/other", text)
+    os.symlink("../real/other", home.path)
+    write_text(home.table, HEAD + OTHER)
+    device = home.device()
+    device.said(CHANGED_TO.format(f"{real}/other"))
+    device.said("ready")
+    check("the old state", text, text_of(f"{real}/other.before"))
+    check("the new one", True, "|uuid = \"180a\"\n" in text_of(f"{real}/other"))
+    end(device)
+
+
+def a_state_that_cannot_be_kept(folder):
+    """If the old state cannot be kept, the device does not start, and the state stays."""
+    home, kept = Home(folder), f"{folder}/saved/state.before"
+    text = write_text(home.path, state_text(values=[f"{VALUE} fff1 01"])) and home.state()
+    os.mkdir(kept)
+    write_text(f"{kept}/full", "")
+    write_text(home.table, HEAD + OTHER)
+    is_refused("a folder in its place", home, home.device(), [f"{kept}: "])
+    check("the state", text, home.state())
+    write_text(home.table, TABLE)
+    device, controller = home.start()
+    check("the right table starts", "01", read(controller, VALUE))
+    end(device, controller)
+
+
+def for_nobody(home):
+    """The words that run a program as another user, to whom a folder then belongs."""
+    tried = subprocess.run([*AS_NOBODY, "test", "-r", KEYS], stderr=subprocess.DEVNULL) if os.geteuid() == 0 else None
+    if tried is None or tried.returncode != 0:
+        print("skipped: not root, or another user cannot read the examples")
+        return None
+    place = home.folder
+    while place != tempfile.gettempdir() and place != "/":
+        os.chmod(place, 0o755)
+        place = os.path.dirname(place)
+    for it in (home.folder, home.place):
+        os.chown(it, NOBODY, NOBODY)
+    return AS_NOBODY
+
+
+def a_state_without_links(folder):
+    """The old state is copied if no link to it can be made."""
+    home = Home(folder)
+    through = for_nobody(home)
+    if through is None:
+        return
+    text = write_text(home.path, state_text(values=[f"{VALUE} fff1 01"])) and home.state()
+    os.chmod(home.path, 0o644)
+    write_text(home.table, HEAD + OTHER)
+    device = home.device(through=through)
+    device.said(CHANGED_TO.format(home.path))
+    device.said("ready")
+    check("the old state", text, text_of(f"{home.path}.before"))
+    check("its permission", 0o644, os.stat(f"{home.path}.before").st_mode & 0o777)
+    # Linux lets a user link only files that are its own or that it may write, unless told otherwise.
+    if (text_of("/proc/sys/fs/protected_hardlinks") or "").strip() == "1":
+        check("it is a copy", NOBODY, os.stat(f"{home.path}.before").st_uid)
+    check("nothing else is left", [], [it for it in os.listdir(home.place) if it.endswith(".new")])
+    end(device)
+
+
+def started_by_root(folder):
+    """A state of another user stays that user's if root runs the device once."""
+    home = Home(folder)
+    through = for_nobody(home)
+    if through is None:
+        return
+    for number, words in enumerate((through, (), through)):
+        home.socket = f"{folder}/{number}"
+        device = home.device(through=words)
+        controller = controller_at(device)
+        controller.is_advertised()
+        owner_comes(controller)
+        check(f"start {number}: a write", "13", write(controller, VALUE, f"0{number}"))
+        found = os.stat(home.path)
+        check(f"start {number}: the owner", (NOBODY, NOBODY), (found.st_uid, found.st_gid))
+        check(f"start {number}: the permission", 0o600, found.st_mode & 0o777)
+        end(device, controller)
+    os.chown(home.path, NOBODY, 1)
+    home.socket = f"{folder}/last"
+    device, controller = home.start()
+    check("a write", "13", write(controller, VALUE, "05"))
+    check("the group", (NOBODY, 1), (os.stat(home.path).st_uid, os.stat(home.path).st_gid))
+    end(device, controller)
 
 
 def rows_of_another_table(folder):
@@ -1189,6 +1317,7 @@ SCENARIOS = [
     a_start_without_a_lock, a_folder_made_anew, a_lock_that_is_removed, a_changed_file, no_place_to_listen, faulty_states,
     a_file_beside_the_state, a_file_beside_the_rows, a_linked_state, a_linked_rows_path, no_folder, refused_words, permission,
     a_service_in_front, a_second_restart, a_larger_value, a_smaller_value, no_service_changed, another_value_in_its_place, rows_of_another_table,
+    a_kept_state, a_kept_state_behind_a_link, a_state_that_cannot_be_kept, a_state_without_links, started_by_root,
     waits_for_an_application, a_state_that_is_not_saved, rows_that_are_not_saved, updates_that_are_not_saved,
 ]
 

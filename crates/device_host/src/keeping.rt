@@ -1,7 +1,8 @@
 //! The saved data of a host.
 
+use crate::stop::{Stop, refuse};
 use app_lines::Told;
-use device_io::{Lock, LockFault, SavedFile};
+use device_io::{Lock, LockFault, Log, SavedFile};
 use device_session::Session;
 use device_state::{Saves, may_be_saved, state_text};
 use gatt_host::{Host, Rows, Table};
@@ -27,12 +28,22 @@ pub(crate) struct Served {
     /// The table with the values of its file.
     pub(crate) initial: Table,
     pub(crate) saves: Saves,
+    /// Set if the saved state belongs to another table.
+    pub(crate) is_changed: bool,
 }
 
 impl Contents {
     /// Returns true if values that phones write are saved.
     pub(crate) fn has_values(&self) -> bool {
         matches!(self, Contents::State(_))
+    }
+
+    /// Returns true if a save replaces the state of another table.
+    fn is_changed(&self) -> bool {
+        match self {
+            Contents::State(served) => served.is_changed,
+            Contents::Subscriptions => false,
+        }
     }
 
     fn has(&self, table: &Table, handle: u16) -> bool {
@@ -101,6 +112,32 @@ impl Keeping {
             is_due: true,
             retry: None,
             failure: None,
+        }
+    }
+
+    /// Saves a copy of the state if it belongs to another table. Call it before the first save.
+    pub(crate) fn keep_before<R: Files<File = File> + Clock + Eprint>(
+        &self,
+        log: &Log<'_, R>,
+    ) -> Result<(), Stop> {
+        if !self.contents.is_changed() {
+            return Ok(());
+        }
+        match self.file.keep_before(log.rt, self.alloc) {
+            Ok(path) => {
+                log.say_of(
+                    "the table has changed: the old state is kept as",
+                    path.as_str(),
+                );
+                Ok(())
+            }
+            Err(error) => {
+                let path = self.file.path();
+                Err(refuse(
+                    log.rt,
+                    format!(in self.alloc; "{path}.before: {error}").ok(),
+                ))
+            }
         }
     }
 

@@ -51,6 +51,7 @@ pub(crate) fn open_host<R: Files<File = File> + Clock + Eprint>(
                 } else {
                     Saves::Writable
                 },
+                is_changed: false,
             };
             open_with_state(alloc, log, options, folder, served, keys)
         }
@@ -93,7 +94,10 @@ fn open_with_state<R: Files<File = File> + Clock + Eprint>(
         lock_target(alloc, log, &mut locks, file.path())?;
     }
     let table = judged_table(alloc, served.text.as_slice())?;
-    let host = match find_state(alloc, log, file.path())? {
+    let state = find_state(alloc, log, file.path())?;
+    let mut served = served;
+    served.is_changed = is_of_another_table(&state, served.text.as_slice());
+    let host = match state {
         Some(state) => resume(alloc, log, options, state, &served, table, keys)?,
         None => {
             let rows = no_rows(alloc)?;
@@ -192,6 +196,14 @@ fn is_disk_closed(fault: &LockFault) -> bool {
     }
 }
 
+/// Returns true for a state of a table with another text.
+fn is_of_another_table(state: &Option<State>, text: &[u8]) -> bool {
+    match state {
+        Some(state) => state.table_text().as_bytes() != text,
+        None => false,
+    }
+}
+
 fn no_rows(alloc: Global) -> Result<Rows, ShellFault> {
     judged_rows(alloc, &[])
 }
@@ -223,7 +235,7 @@ fn resume<R: Files<File = File> + Clock + Eprint>(
     let mut table = table;
     restore_values(alloc, log, &mut table, &state);
     let (before, rows, _) = state.into_parts();
-    if before.as_bytes() == served.text.as_slice() {
+    if !served.is_changed {
         return open_with(alloc, log, options, table, keys, rows);
     }
     match judged_table(alloc, before.as_bytes()) {
@@ -271,7 +283,6 @@ fn open_changed<R: Files<File = File> + Clock + Eprint>(
     rows: Rows,
 ) -> Result<Host, Stop> {
     let Replacement { before, table } = replacement;
-    log.say("the table has changed");
     refuse_unknown(alloc, log.rt, options, &rows, &keys)?;
     let saved = saved_lines(alloc, &rows)?;
     let mut host = open(alloc, before, keys, rows, &options.host)?;

@@ -107,10 +107,16 @@ fn listen_and_serve<
 }
 
 /// Serves a host after a first save, which is retried later if it fails.
+///
+/// If the save replaces the state of another table, that state is kept first.
 fn save_and_serve<
     R: Files<File = File> + Net<Listener = TcpListener, Stream = TcpStream> + Clock + Eprint,
 >(options: &HostOptions<'_>, host: Host, device: &mut Device<'_, R>) -> Result<(), Stop> {
     if let Some(keeping) = &mut device.keeping {
+        if let Err(stop) = keeping.keep_before(device.session.log()) {
+            drop(host);
+            return Err(stop);
+        }
         keeping.save(&host, &mut device.session);
     }
     if let Err(stop) = begin_capture(&mut device.session, options) {

@@ -3,9 +3,11 @@
 use crate::file_size::refuse_size;
 use std::alloc::Global;
 use std::fs::{File, Files, Metadata, OpenFile};
-use std::io::{ErrorKind, Write};
-use std::os::unix::fs::{MetadataExt, OpenOptionsExt};
+use std::io::{ErrorKind, Read, Write};
+use std::os::unix::fs::{MetadataExt, OpenOptionsExt, fchown};
 use std::{fs, io};
+
+const OWNER_ALONE: u32 = 0o600;
 
 /// A text file that readers always find complete, old or new.
 #[derive(Drop)]
@@ -79,7 +81,7 @@ impl SavedFile {
     /// since it was saved.
     ///
     /// After an error the file has either the old text or the new one.
-    pub fn save<R: Files>(&mut self, files: &R, text: Vec<u8>) -> io::Result<()> {
+    pub fn save<R: Files<File = File>>(&mut self, files: &R, text: Vec<u8>) -> io::Result<()> {
         if self.has(files, text.as_slice()) {
             return Ok(());
         }
@@ -103,28 +105,81 @@ impl SavedFile {
         Some(Version::of(&found))
     }
 
-    fn replace<R: Files>(&self, files: &R, text: &[u8]) -> io::Result<Version> {
-        refuse_size(text.len())?;
-        remove_left_file(files, self.beside.as_str())?;
-        let version = self.write_beside(files, text)?;
-        fs::rename(files, self.beside.as_str(), self.path.as_str())?;
-        sync_folder(files, self.path.as_str())?;
+    fn replace<R: Files<File = File>>(&self, files: &R, text: &[u8]) -> io::Result<Version> {
+        let (path, beside) = (self.path.as_str(), self.beside.as_str());
+        remove_left_file(files, beside)?;
+        let version = write_new(files, beside, self.mode, path, text)?;
+        fs::rename(files, beside, path)?;
+        sync_folder(files, path)?;
         Ok(version)
     }
 
-    fn write_beside<R: Files>(&self, files: &R, text: &[u8]) -> io::Result<Version> {
-        let mut file = File::options()
-            .write(true)
-            .create_new(true)
-            .mode(self.mode)
-            .open(files, self.beside.as_str())?;
-        if let Ok(old) = fs::metadata(files, self.path.as_str()) {
-            file.set_permissions(old.permissions())?;
-        }
-        file.write_all(text)?;
-        file.sync_all()?;
-        Ok(Version::of(&file.metadata()?))
+    /// Links or copies the file to its path and `.before`. Returns that path.
+    ///
+    /// Replaces an older file there. If this fails, the older one stays.
+    pub fn keep_before<R: Files<File = File>>(
+        &self,
+        files: &R,
+        alloc: Global,
+    ) -> io::Result<String> {
+        let path = self.path.as_str();
+        let kept = format!(in alloc; "{path}.before")?;
+        let beside = format!(in alloc; "{path}.before.new")?;
+        remove_left_file(files, beside.as_str())?;
+        let moved = move_copy(files, alloc, path, beside.as_str(), kept.as_str());
+        // A rename leaves the file if the other path has the same one already.
+        remove_left_file(files, beside.as_str())?;
+        moved?;
+        sync_folder(files, path)?;
+        Ok(kept)
     }
+}
+
+/// Links or copies a file to `beside`, and renames that to `kept`.
+fn move_copy<R: Files<File = File>>(
+    files: &R,
+    alloc: Global,
+    path: &str,
+    beside: &str,
+    kept: &str,
+) -> io::Result<()> {
+    if files.hard_link(path, beside).is_err() {
+        copy(files, alloc, path, beside)?;
+    }
+    fs::rename(files, beside, kept)
+}
+
+fn copy<R: Files<File = File>>(files: &R, alloc: Global, from: &str, to: &str) -> io::Result<()> {
+    let mut text = Vec::new(alloc);
+    File::open(files, from)?.read_to_end(&mut text)?;
+    write_new(files, to, OWNER_ALONE, from, text.as_slice())?;
+    Ok(())
+}
+
+/// Writes and syncs a new file. It has the permission of the file at `old` if that exists, and as
+/// far as allowed its owner and group, or else the permission `mode`.
+fn write_new<R: Files<File = File>>(
+    files: &R,
+    path: &str,
+    mode: u32,
+    old: &str,
+    text: &[u8],
+) -> io::Result<Version> {
+    refuse_size(text.len())?;
+    let mut file = File::options()
+        .write(true)
+        .create_new(true)
+        .mode(mode)
+        .open(files, path)?;
+    if let Ok(old) = fs::metadata(files, old) {
+        // Only root may change the owner; others may choose among their groups.
+        let _ = fchown(&file, None, Some(old.gid()));
+        let _ = fchown(&file, Some(old.uid()), None);
+        file.set_permissions(old.permissions())?;
+    }
+    file.write_all(text)?;
+    file.sync_all()?;
+    Ok(Version::of(&file.metadata()?))
 }
 
 fn resolve<R: Files>(files: &R, alloc: Global, path: &str) -> io::Result<String> {
