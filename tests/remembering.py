@@ -1105,6 +1105,38 @@ def started_by_root(folder):
     end(device, controller)
 
 
+def a_value_that_is_read_only_now(folder):
+    """A saved value that phones may not write any more is dropped at once, unless all values are saved."""
+    read_only = TABLE.replace('properties = ["read", "write", "notify"]', 'properties = ["read", "notify"]').replace('value = "00"', 'value = "05"', 1)
+    for words, value in (([], "05"), (["--save-updates"], "0102")):
+        home = Home(tempfile.mkdtemp(dir=folder))
+        device, controller = home.start(*words)
+        check("a write", "13", write(controller, VALUE, "0102"))
+        end(device, controller)
+        write_text(home.table, read_only)
+        for number in range(2):
+            device, controller = home.start(*words)
+            check(f"start {number}, {words}", value, read(controller, VALUE))
+            dropped = [f"value dropped: {VALUE}: phones may not write it"] if not words and number == 0 else []
+            check(f"start {number}, {words}: the log", dropped, lines_of(device, "value dropped"))
+            end(device, controller)
+
+
+def without_saved_updates(folder):
+    """A start without `--save-updates` has no values that only the application changes."""
+    home = Home(folder)
+    device, controller = home.start("--save-updates")
+    application = home.application()
+    check("an update", "ok", application.ask(f"update {SENSOR} 0a"))
+    check("a write", "13", write(controller, VALUE, "01"))
+    end(device, controller)
+    device, controller = home.start()
+    check("the sensor", "00", read(controller, SENSOR))
+    check("is told", [f"value dropped: {SENSOR}: phones may not write it"], lines_of(device, "value dropped"))
+    check("the value", "01", read(controller, VALUE))
+    end(device, controller)
+
+
 def rows_of_another_table(folder):
     """With a rows file alone the log names each subscription that it drops."""
     home = Home(folder, saved="rows")
@@ -1318,6 +1350,7 @@ SCENARIOS = [
     a_file_beside_the_state, a_file_beside_the_rows, a_linked_state, a_linked_rows_path, no_folder, refused_words, permission,
     a_service_in_front, a_second_restart, a_larger_value, a_smaller_value, no_service_changed, another_value_in_its_place, rows_of_another_table,
     a_kept_state, a_kept_state_behind_a_link, a_state_that_cannot_be_kept, a_state_without_links, started_by_root,
+    a_value_that_is_read_only_now, without_saved_updates,
     waits_for_an_application, a_state_that_is_not_saved, rows_that_are_not_saved, updates_that_are_not_saved,
 ]
 

@@ -7,7 +7,7 @@ use arrayvec::ArrayVec;
 use att_numbers::attribute_type::SERVICE_CHANGED;
 use device_io::{Lock, LockFault, Log, SavedFile, unknown_peer};
 use device_options::{HostOptions, HostSettings, Saved};
-use device_state::{Saves, State, restore};
+use device_state::{SavedValue, Saves, State, may_be_saved, restore};
 use gatt_host::{Config, Host, Keys, PacketOctets, RX_MTU, Rows, Table};
 use shell_files::{ShellFault, judged_rows, judged_table};
 use std::alloc::Global;
@@ -233,7 +233,7 @@ fn resume<R: Files<File = File> + Clock + Eprint>(
     keys: Keys,
 ) -> Result<Host, Stop> {
     let mut table = table;
-    restore_values(alloc, log, &mut table, &state);
+    restore_values(alloc, log, &mut table, &state, served.saves);
     let (before, rows, _) = state.into_parts();
     if !served.is_changed {
         return open_with(alloc, log, options, table, keys, rows);
@@ -250,20 +250,39 @@ fn resume<R: Files<File = File> + Clock + Eprint>(
     }
 }
 
-/// Puts the values of a state into a table, and logs those that do not fit.
+/// Puts the values of a state into a table, and logs those that are dropped.
 fn restore_values<R: Clock + Eprint>(
     alloc: Global,
     log: &Log<'_, R>,
     table: &mut Table,
     state: &State,
+    saves: Saves,
 ) {
     for value in state.values() {
         let handle = value.handle();
-        if !restore(table, handle, value.kind(), value.octets())
-            && let Ok(line) = format!(in alloc; "{handle}: the table has no such value here")
+        if let Some(reason) = drop_reason(table, value, saves)
+            && let Ok(line) = format!(in alloc; "{handle}: {reason}")
         {
             log.say_of("value dropped:", line.as_str());
         }
+    }
+}
+
+/// Puts a value into a table. Returns why it is dropped, if so.
+///
+/// A value that would not be saved again is dropped now, not at the next start.
+fn drop_reason(table: &mut Table, value: &SavedValue, saves: Saves) -> Option<&'static str> {
+    let handle = value.handle();
+    if let Some(attr) = table.get(handle)
+        && attr.kind == value.kind()
+        && !may_be_saved(attr, saves)
+    {
+        return Some("phones may not write it");
+    }
+    if restore(table, handle, value.kind(), value.octets()) {
+        None
+    } else {
+        Some("the table has no such value here")
     }
 }
 
