@@ -3,10 +3,15 @@
  *
  *     hci_bridge [--down] hciN PATH
  *
- * PATH becomes a link to a pseudo-terminal that nobody but this user can open. While a host has it open, the
- * HCI user channel of hciN is open, so that no other program uses the controller, and packets go by in both
- * directions. When the host closes it or dies, the controller is reset and free again, and the next host may
- * come. If the controller goes away, the host's line ends, and a new one takes its place behind PATH.
+ * PATH becomes a link to a pseudo-terminal, the line, that nobody but this user can open. While a host has it
+ * open, the HCI user channel of hciN is open, so that no other program uses the controller, and packets go by
+ * in both directions. When the host closes it or dies, the controller is reset and free again, and the next
+ * host may come. If the controller goes away, the host's line ends.
+ *
+ * Each host gets a new line. The bridge closes the old line after it has moved PATH to the new one, so that no
+ * other program gets the number of a terminal to which PATH leads. If PATH cannot be moved, the bridge logs the
+ * reason once, leaves the old line open, and tries again each half second. It locks PATH.lock, a file that
+ * stays: a second bridge with the same PATH ends at once and changes nothing.
  *
  * --down takes the controller from the kernel's own host (bluetoothd) first. Without it the bridge waits
  * until the controller is down.
@@ -14,7 +19,8 @@
  * It needs CAP_NET_ADMIN, and the network namespace of the machine. It takes no more memory once it runs.
  * SIGTERM and SIGINT end it: the controller is reset, and PATH is removed.
  *
- * Exit status: 0 after a signal, 64 for unknown words, 71 if a pseudo-terminal, PATH or the socket fails.
+ * Exit status: 0 after a signal, 64 for unknown words, 71 if the line or PATH cannot be made at the start, 75
+ * if another bridge uses PATH.
  */
 #define _GNU_SOURCE
 #include "channel.h"
@@ -28,6 +34,7 @@
 #include <stdio.h>
 #include <stdlib.h>
 #include <string.h>
+#include <sys/file.h>
 #include <sys/inotify.h>
 #include <sys/signalfd.h>
 #include <sys/stat.h>
@@ -40,13 +47,13 @@ enum { COMMAND = 1, ACL = 2 };
 /* An ACL data packet is the longest one: indicator, header and 65,535 octets. */
 enum { LONGEST = 5 + 65535 };
 
-/* How long it takes until a controller that cannot be opened is tried again, in milliseconds. */
+/* How long it takes until a controller that cannot be opened, or PATH, is tried again, in milliseconds. */
 enum { RETRY = 500 };
 
 /* How long a controller may take to be reset when its host is gone, in milliseconds. */
 enum { RESET_TIME = 1000 };
 
-enum { USAGE = 64, OS_ERROR = 71 };
+enum { USAGE = 64, OS_ERROR = 71, IN_USE = 75 };
 
 static const uint8_t RESET[] = {COMMAND, 0x03, 0x0c, 0x00};
 
@@ -56,15 +63,27 @@ struct way {
     size_t count;
 };
 
+/* A pseudo-terminal. */
+struct line {
+    int master;
+    /* What tells that its other end is opened. */
+    int events;
+    /* The path of the other end. */
+    char terminal[64];
+};
+
 /* What the bridge holds. */
 struct bridge {
     const char *controller;
     const char *path;
+    /* PATH.lock, and PATH.new, which becomes PATH. */
+    char lock_path[PATH_MAX];
+    char new_path[PATH_MAX];
     bool down;
     int signals;
-    /* The master of the pseudo-terminal, and what tells that its other end is opened. */
-    int line;
-    int opened;
+    /* The open lock, or -1. */
+    int lock;
+    struct line line;
     /* The user channel, or -1. */
     int channel;
     /* errno of the last try to open the channel, which is logged once. */
@@ -73,75 +92,149 @@ struct bridge {
     struct way to_host;
 };
 
+static void say_of(const char *about, const char *what)
+{
+    fprintf(stderr, "hci_bridge: %s: %s\n", about, what);
+}
+
 static void say(const struct bridge *bridge, const char *what)
 {
-    fprintf(stderr, "hci_bridge: %s: %s\n", bridge->controller, what);
+    say_of(bridge->controller, what);
+}
+
+/* Returns why PATH or the line failed, from errno. Only the lock would have to wait. */
+static const char *reason(void)
+{
+    return errno == EWOULDBLOCK ? "another bridge uses it" : strerror(errno);
+}
+
+/* Removes PATH if it leads to the bridge's line. */
+static void remove_link(const struct bridge *bridge)
+{
+    char found[sizeof bridge->line.terminal];
+    ssize_t length = readlink(bridge->path, found, sizeof found);
+
+    if (length > 0 && (size_t)length == strlen(bridge->line.terminal) &&
+        memcmp(found, bridge->line.terminal, (size_t)length) == 0)
+        unlink(bridge->path);
 }
 
 /* Ends the program since `what` failed, for the reason in errno. */
-static void fail(const char *what)
+static void fail(const struct bridge *bridge, const char *what)
 {
-    fprintf(stderr, "hci_bridge: %s: %s\n", what, strerror(errno));
-    exit(OS_ERROR);
+    int status = errno == EWOULDBLOCK ? IN_USE : OS_ERROR;
+
+    say_of(what, reason());
+    remove_link(bridge);
+    exit(status);
 }
 
-/* Puts a link to the terminal at the path. What is there is replaced only if it is a link. */
-static void put_link(const struct bridge *bridge, const char *terminal)
+/* Locks PATH.lock, unless the bridge holds it. Returns whether it holds it now, or else the reason in errno. */
+static bool take_lock(struct bridge *bridge)
+{
+    int lock = open(bridge->lock_path, O_RDWR | O_CREAT | O_NOFOLLOW | O_CLOEXEC, S_IRUSR | S_IWUSR);
+    struct stat found, held;
+    int error;
+
+    if (lock < 0)
+        return false;
+    /* The folder may have been made anew, and has another file then. */
+    if (bridge->lock >= 0 && fstat(lock, &found) == 0 && fstat(bridge->lock, &held) == 0 &&
+        found.st_dev == held.st_dev && found.st_ino == held.st_ino) {
+        close(lock);
+        return true;
+    }
+    if (flock(lock, LOCK_EX | LOCK_NB) < 0) {
+        error = errno;
+        close(lock);
+        errno = error;
+        return false;
+    }
+    if (bridge->lock >= 0)
+        close(bridge->lock);
+    bridge->lock = lock;
+    return true;
+}
+
+/* Moves PATH to a terminal. Replaces what is there only if it is a link. Returns whether PATH leads to the
+   terminal, or else the reason in errno. */
+static bool move_link(const struct bridge *bridge, const char *terminal)
 {
     struct stat found;
-    char made[PATH_MAX];
 
     if (lstat(bridge->path, &found) == 0 && !S_ISLNK(found.st_mode)) {
         errno = EEXIST;
-        fail(bridge->path);
+        return false;
     }
-    if (snprintf(made, sizeof made, "%s.new", bridge->path) >= (int)sizeof made) {
-        errno = ENAMETOOLONG;
-        fail(bridge->path);
-    }
-    if (lstat(made, &found) == 0 && S_ISLNK(found.st_mode))
-        unlink(made);
-    if (symlink(terminal, made) < 0 || rename(made, bridge->path) < 0)
-        fail(bridge->path);
+    if (lstat(bridge->new_path, &found) == 0 && S_ISLNK(found.st_mode))
+        unlink(bridge->new_path);
+    return symlink(terminal, bridge->new_path) == 0 && rename(bridge->new_path, bridge->path) == 0;
 }
 
-/* Makes a raw pseudo-terminal that only this user can open, and the link to it. */
-static void open_line(struct bridge *bridge)
+/* Closes what is open of a line. The reason in errno stays. */
+static void close_line(const struct line *line)
+{
+    int error = errno;
+
+    if (line->master >= 0)
+        close(line->master);
+    if (line->events >= 0)
+        close(line->events);
+    errno = error;
+}
+
+/* Makes a raw pseudo-terminal that only this user can open. Returns whether that worked, or else the reason in
+   errno, and what is open of it. */
+static bool open_line(struct line *line)
 {
     struct termios raw;
-    char terminal[64];
     int other;
 
-    bridge->line = posix_openpt(O_RDWR | O_NOCTTY | O_CLOEXEC | O_NONBLOCK);
-    if (bridge->line < 0 || grantpt(bridge->line) < 0 || unlockpt(bridge->line) < 0 ||
-        ptsname_r(bridge->line, terminal, sizeof terminal) != 0)
-        fail("pseudo-terminal");
-    other = open(terminal, O_RDWR | O_NOCTTY | O_CLOEXEC);
-    if (other < 0 || tcgetattr(other, &raw) < 0)
-        fail("pseudo-terminal");
+    line->events = -1;
+    line->master = posix_openpt(O_RDWR | O_NOCTTY | O_CLOEXEC | O_NONBLOCK);
+    if (line->master < 0 || grantpt(line->master) < 0 ||
+        ptsname_r(line->master, line->terminal, sizeof line->terminal) != 0 ||
+        chmod(line->terminal, S_IRUSR | S_IWUSR) < 0 || unlockpt(line->master) < 0)
+        return false;
+    /* Linux gives the master the settings of the other end. */
+    if (tcgetattr(line->master, &raw) < 0)
+        return false;
     cfmakeraw(&raw);
-    if (tcsetattr(other, TCSANOW, &raw) < 0 || fchmod(other, S_IRUSR | S_IWUSR) < 0)
-        fail("pseudo-terminal");
-    bridge->opened = inotify_init1(IN_CLOEXEC | IN_NONBLOCK);
-    if (bridge->opened < 0 || inotify_add_watch(bridge->opened, terminal, IN_OPEN) < 0)
-        fail("pseudo-terminal");
+    if (tcsetattr(line->master, TCSANOW, &raw) < 0)
+        return false;
+    other = open(line->terminal, O_RDWR | O_NOCTTY | O_CLOEXEC);
+    if (other < 0)
+        return false;
     /* From now on the line is hung up until a host opens it. */
     close(other);
-    put_link(bridge, terminal);
+    line->events = inotify_init1(IN_CLOEXEC | IN_NONBLOCK);
+    return line->events >= 0 && inotify_add_watch(line->events, line->terminal, IN_OPEN) >= 0;
 }
 
-static void close_line(struct bridge *bridge)
+/* Makes a line and moves PATH to it. Returns NULL, or else what failed, for the reason in errno. */
+static const char *offer_line(struct bridge *bridge, struct line *line)
 {
-    close(bridge->line);
-    close(bridge->opened);
+    const char *failed = bridge->path;
+
+    if (!take_lock(bridge))
+        return errno == EWOULDBLOCK ? bridge->path : bridge->lock_path;
+    if (!open_line(line))
+        failed = "pseudo-terminal";
+    else if (move_link(bridge, line->terminal))
+        return NULL;
+    close_line(line);
+    return failed;
 }
 
 /* Returns whether a host has the line open. */
 static bool has_host(const struct bridge *bridge)
 {
-    struct pollfd line = {bridge->line, 0, 0};
+    struct pollfd line = {bridge->line.master, 0, 0};
 
-    return poll(&line, 1, 0) >= 0 && !(line.revents & POLLHUP);
+    while (poll(&line, 1, 0) < 0)
+        if (errno != EINTR)
+            fail(bridge, "poll");
+    return !(line.revents & POLLHUP);
 }
 
 /* Returns whether a signal asks the program to end, once one of these is ready or the time is up. */
@@ -150,8 +243,30 @@ static bool waited(const struct bridge *bridge, struct pollfd *ready, nfds_t cou
     ready[0] = (struct pollfd){bridge->signals, POLLIN, 0};
     while (poll(ready, count, timeout) < 0)
         if (errno != EINTR)
-            fail("poll");
+            fail(bridge, "poll");
     return ready[0].revents != 0;
+}
+
+/* Has a new line take the place of the bridge's line, which ends. Returns whether a signal came first. */
+static bool change_line(struct bridge *bridge)
+{
+    const char *failed;
+    struct line line;
+    int logged = 0;
+
+    while ((failed = offer_line(bridge, &line)) != NULL) {
+        struct pollfd ready[1];
+
+        if (logged != errno) {
+            logged = errno;
+            say_of(failed, reason());
+        }
+        if (waited(bridge, ready, 1, RETRY))
+            return true;
+    }
+    close_line(&bridge->line);
+    bridge->line = line;
+    return false;
 }
 
 /* Returns the length of the packet that begins so, 0 if it is not whole, or -1 if no packet begins so. A host
@@ -203,7 +318,7 @@ static enum outcome send_packets(struct bridge *bridge)
 static bool hear_host(struct bridge *bridge)
 {
     struct way *way = &bridge->from_host;
-    ssize_t got = read(bridge->line, way->octets + way->count, sizeof way->octets - way->count);
+    ssize_t got = read(bridge->line.master, way->octets + way->count, sizeof way->octets - way->count);
 
     if (got > 0)
         way->count += (size_t)got;
@@ -228,7 +343,7 @@ static bool hear_controller(struct bridge *bridge)
 static bool tell_host(struct bridge *bridge)
 {
     struct way *way = &bridge->to_host;
-    ssize_t sent = write(bridge->line, way->octets, way->count);
+    ssize_t sent = write(bridge->line.master, way->octets, way->count);
 
     if (sent < 0)
         return errno == EAGAIN || errno == EINTR;
@@ -251,7 +366,7 @@ static enum end serve_host(struct bridge *bridge)
         bool tells = bridge->to_host.count > 0;
         struct pollfd ready[] = {
             {0},
-            {bridge->line, (short)((tells ? POLLOUT : 0) | (sent == GONE ? POLLIN : 0)), 0},
+            {bridge->line.master, (short)((tells ? POLLOUT : 0) | (sent == GONE ? POLLIN : 0)), 0},
             {bridge->channel, (short)((tells ? 0 : POLLIN) | (sent == GONE ? 0 : POLLOUT)), 0},
         };
 
@@ -302,21 +417,22 @@ static bool await_host(struct bridge *bridge)
 {
     for (;;) {
         bool asked = has_host(bridge);
-        struct pollfd ready[] = {{0}, {bridge->opened, POLLIN, 0}};
+        struct pollfd ready[] = {{0}, {bridge->line.events, POLLIN, 0}};
         char events[4096];
 
         if (asked) {
             bridge->channel = open_channel(bridge->controller, bridge->down);
             if (bridge->channel >= 0)
                 break;
-            if (bridge->logged != errno)
-                say(bridge, strerror(errno));
-            bridge->logged = errno;
+            if (bridge->logged != errno) {
+                bridge->logged = errno;
+                say(bridge, strerror(bridge->logged));
+            }
         }
         if (waited(bridge, ready, 2, asked ? RETRY : -1))
             return true;
         /* What was opened may be closed again: it is looked for above. */
-        while (read(bridge->opened, events, sizeof events) > 0)
+        while (read(bridge->line.events, events, sizeof events) > 0)
             ;
     }
     bridge->logged = 0;
@@ -327,7 +443,10 @@ static bool await_host(struct bridge *bridge)
 /* Serves one host after another until a signal comes. */
 static void serve(struct bridge *bridge)
 {
-    open_line(bridge);
+    const char *failed = offer_line(bridge, &bridge->line);
+
+    if (failed != NULL)
+        fail(bridge, failed);
     say(bridge, "ready");
     while (!await_host(bridge)) {
         enum end end = serve_host(bridge);
@@ -339,17 +458,16 @@ static void serve(struct bridge *bridge)
             free_controller(bridge);
             say(bridge, "free");
         }
-        if (end == SIGNALLED)
+        /* A new line has nothing of the old one, whose end hangs up a host that is still there. */
+        if (end == SIGNALLED || change_line(bridge))
             break;
-        /* A new line has nothing of the old one, and hangs up a host that is still there. */
-        close_line(bridge);
-        open_line(bridge);
     }
-    unlink(bridge->path);
+    /* The line is open until the program ends. */
+    remove_link(bridge);
 }
 
 /* Returns a descriptor that is ready once a signal asks the program to end. */
-static int ending_signals(void)
+static int ending_signals(const struct bridge *bridge)
 {
     sigset_t signals;
     int descriptor;
@@ -358,16 +476,16 @@ static int ending_signals(void)
     sigaddset(&signals, SIGTERM);
     sigaddset(&signals, SIGINT);
     if (sigprocmask(SIG_BLOCK, &signals, NULL) < 0)
-        fail("signals");
+        fail(bridge, "signals");
     descriptor = signalfd(-1, &signals, SFD_CLOEXEC);
     if (descriptor < 0)
-        fail("signals");
+        fail(bridge, "signals");
     return descriptor;
 }
 
 int main(int argc, char **argv)
 {
-    static struct bridge bridge;
+    static struct bridge bridge = {.lock = -1, .channel = -1, .path = ""};
     int word = 1;
 
     if (word < argc && strcmp(argv[word], "--down") == 0) {
@@ -380,8 +498,12 @@ int main(int argc, char **argv)
     }
     bridge.controller = argv[word];
     bridge.path = argv[word + 1];
-    bridge.channel = -1;
-    bridge.signals = ending_signals();
+    if (snprintf(bridge.lock_path, sizeof bridge.lock_path, "%s.lock", bridge.path) >= PATH_MAX ||
+        snprintf(bridge.new_path, sizeof bridge.new_path, "%s.new", bridge.path) >= PATH_MAX) {
+        errno = ENAMETOOLONG;
+        fail(&bridge, bridge.path);
+    }
+    bridge.signals = ending_signals(&bridge);
     signal(SIGPIPE, SIG_IGN);
     serve(&bridge);
     return 0;

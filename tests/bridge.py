@@ -61,9 +61,11 @@ class Bridge:
         self.listener = None
         self.process = None
 
-    def begin(self):
+    def begin(self, *through, log=None):
+        """Starts it, by a program that runs it if one does, with its log in a file or elsewhere."""
         self.process = subprocess.Popen(
-            [*BRIDGE, "hci0", self.line], stderr=self.log, env={**os.environ, "CONTROLLER": self.path}
+            [*through, *BRIDGE, "hci0", self.line], stderr=self.log if log is None else log,
+            env={**os.environ, "CONTROLLER": self.path},
         )
         Device.started.append(self.process)
         check("the line is there", True, soon(lambda: os.path.islink(self.line)))
@@ -83,6 +85,18 @@ class Bridge:
     def controller(self):
         """The controller that the bridge opens next."""
         return Controller(Channel(self.listener.accept()[0]))
+
+    def host(self):
+        """A program that has the line open, and nothing else of a host."""
+        return os.open(self.line, os.O_RDWR | os.O_NOCTTY)
+
+    def logs(self, words):
+        """Whether the log says so at last."""
+        return bool(soon(lambda: f"hci_bridge: {words}" in self.said()))
+
+    def moved(self, since):
+        """Whether there is another line at last."""
+        return bool(soon(lambda: os.path.lexists(self.line) and os.readlink(self.line) != since))
 
     def is_opened(self):
         return bool(select.select([self.listener], [], [], 0.3)[0])
@@ -168,6 +182,86 @@ def a_controller_that_goes(folder):
     bridge.end()
 
 
+def a_new_line_for_each_host(folder):
+    """PATH leads to the next line before the old one is closed: no other program may get the old one's number
+    while PATH leads to it."""
+    bridge = Bridge(folder)
+    bridge.plug_in()
+    bridge.begin()
+    for times in range(1, 6):
+        old = os.readlink(bridge.line)
+        host = bridge.host()
+        controller = bridge.controller()
+        os.close(host)
+        check("the controller is reset", RESET, gone(controller))
+        check("there is a line", True, bool(soon(lambda: bridge.said().count("hci_bridge: hci0: free") == times)))
+        check("it is a new one", True, bridge.moved(old))
+    bridge.end()
+
+
+def two_bridges(folder):
+    """A second bridge with the same path ends and changes nothing. What a killed one left is replaced."""
+    bridge = Bridge(folder).begin()
+    line, lock = os.readlink(bridge.line), f"{bridge.line}.lock"
+    check("the lock is its user's alone", "0o600", oct(stat.S_IMODE(os.stat(lock).st_mode)))
+    for _times in range(3):
+        ended = subprocess.run([*BRIDGE, "hci0", bridge.line], capture_output=True, text=True, timeout=PATIENCE)
+        said = f"hci_bridge: {bridge.line}: another bridge uses it\n"
+        check("the second one", (75, said), (ended.returncode, ended.stderr))
+        check("the link stays", line, os.readlink(bridge.line))
+    bridge.process.kill()
+    bridge.process.wait(PATIENCE)
+    check("a killed one leaves its link", True, os.path.islink(bridge.line))
+    os.remove(bridge.line)
+    os.symlink("/dev/null", bridge.line)
+    bridge.begin()
+    check("the next one replaces it", True, bridge.moved("/dev/null"))
+    os.remove(bridge.line)
+    os.symlink("/dev/null", bridge.line)
+    check("it ends", 0, bridge.end())
+    check("another's link stays", "/dev/null", os.readlink(bridge.line))
+    check("the lock stays", True, os.path.exists(lock))
+    os.remove(lock)
+    os.symlink(f"{folder}/made", lock)
+    ended = subprocess.run([*BRIDGE, "hci0", bridge.line], capture_output=True, text=True, timeout=PATIENCE)
+    check("a lock that is a link", 71, ended.returncode)
+    check("it is not followed", False, os.path.exists(f"{folder}/made"))
+
+
+def a_folder_that_is_gone(folder):
+    """If the folder of the path is gone, the bridge goes on, and its line is at the path again once it is back."""
+    bridge = Bridge(folder)
+    os.mkdir(f"{folder}/run")
+    bridge.line = f"{folder}/run/line"
+    bridge.plug_in()
+    bridge.begin()
+    missing = f"hci_bridge: {bridge.line}.lock: No such file or directory"
+    for times, is_made_anew in enumerate((False, True), 1):
+        old = os.readlink(bridge.line)
+        host = bridge.host()
+        controller = bridge.controller()
+        os.rename(f"{folder}/run", f"{folder}/away{times}")
+        controller.close()
+        check("the log says so", True, bool(soon(lambda: bridge.said().count(missing) == times)))
+        time.sleep(1.2)
+        check("once", times, bridge.said().count(missing))
+        check("the old line is there", False, is_hung_up(host))
+        if is_made_anew:
+            os.mkdir(f"{folder}/run")
+        else:
+            os.rename(f"{folder}/away{times}", f"{folder}/run")
+        check("the line is there again", True, bridge.moved(old))
+        check("the old one ends", True, bool(soon(lambda: is_hung_up(host))))
+        os.close(host)
+    ended = subprocess.run([*BRIDGE, "hci0", bridge.line], capture_output=True, timeout=PATIENCE)
+    check("it is locked again", 75, ended.returncode)
+    device = Device(*DOOR, "--serial", bridge.line)
+    check("a host is served", True, bridge.controller().is_advertised())
+    device.end()
+    check("it ends", 0, bridge.end())
+    check("its line is gone", False, os.path.lexists(bridge.line))
+
+
 def a_busy_controller(folder):
     """A host waits for a controller that cannot be opened yet."""
     bridge = Bridge(folder)
@@ -195,6 +289,13 @@ def garbage(folder):
     check("the next host is served", True, bridge.controller().is_advertised())
     device.end()
     bridge.end()
+
+
+def is_hung_up(host):
+    """Whether a line has ended."""
+    line = select.poll()
+    line.register(host, 0)
+    return any(events & select.POLLHUP for _, events in line.poll(0))
 
 
 def read_end(host):
@@ -264,8 +365,11 @@ def a_file_in_the_way(folder):
 def an_idle_bridge(folder):
     """A bridge takes no processor time while no host is there, or while nothing goes by."""
     bridge, device, controller = bridged(folder)
+    old = os.readlink(bridge.line)
     device.end()
     gone(controller)
+    check("there is a new line", True, bridge.moved(old))
+    time.sleep(0.3)
     before = taken(bridge.process.pid)
     time.sleep(2)
     check("without a host", 0, taken(bridge.process.pid) - before)
@@ -287,14 +391,14 @@ def main():
     with tempfile.TemporaryDirectory() as folder:
         bridge = f"{folder}/hci_bridge"
         subprocess.run(
-            [compiler, "-std=c11", "-O1", "-g", "-Wall", "-Wextra", "-Werror", "-fsanitize=address,undefined",
-             f"-I{ROOT}/bridge", f"{ROOT}/bridge/hci_bridge.c", f"{ROOT}/tests/c/test_channel.c", "-o", bridge],
+            [compiler, "-std=c11", "-O1", "-g", "-Wall", "-Wextra", "-Wpedantic", "-Wconversion", "-Werror",
+             "-fsanitize=address,undefined", f"-I{ROOT}/bridge", f"{ROOT}/bridge/hci_bridge.c", f"{ROOT}/tests/c/test_channel.c", "-o", bridge],
             check=True,
         )
         BRIDGE.append(bridge)
         return play_all([
-            a_host, hosts_in_turn, a_controller_that_goes, a_busy_controller, garbage, pieces, a_file_in_the_way,
-            an_idle_bridge,
+            a_host, hosts_in_turn, a_controller_that_goes, a_new_line_for_each_host, two_bridges, a_folder_that_is_gone,
+            a_busy_controller, garbage, pieces, a_file_in_the_way, an_idle_bridge,
         ])
 
 
