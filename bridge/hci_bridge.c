@@ -17,7 +17,8 @@
  * until the controller is down.
  *
  * It needs CAP_NET_ADMIN, and the network namespace of the machine. It takes no more memory once it runs.
- * SIGTERM and SIGINT end it: the controller is reset, and PATH is removed.
+ * SIGTERM, SIGINT and SIGHUP end it: the controller is reset, and PATH is removed. Under nohup it goes on after
+ * SIGHUP.
  *
  * Exit status: 0 after a signal, 64 for unknown words, 71 if the line or PATH cannot be made at the start, 75
  * if another bridge uses PATH.
@@ -469,12 +470,15 @@ static void serve(struct bridge *bridge)
 /* Returns a descriptor that is ready once a signal asks the program to end. */
 static int ending_signals(const struct bridge *bridge)
 {
+    struct sigaction hangup;
     sigset_t signals;
     int descriptor;
 
     sigemptyset(&signals);
     sigaddset(&signals, SIGTERM);
     sigaddset(&signals, SIGINT);
+    if (sigaction(SIGHUP, NULL, &hangup) == 0 && hangup.sa_handler != SIG_IGN)
+        sigaddset(&signals, SIGHUP);
     if (sigprocmask(SIG_BLOCK, &signals, NULL) < 0)
         fail(bridge, "signals");
     descriptor = signalfd(-1, &signals, SFD_CLOEXEC);

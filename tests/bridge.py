@@ -228,6 +228,30 @@ def two_bridges(folder):
     check("it is not followed", False, os.path.exists(f"{folder}/made"))
 
 
+def signals(folder):
+    """SIGTERM, SIGINT and SIGHUP end it: the controller is reset, and the line is gone. Under nohup it goes on."""
+    signal.signal(signal.SIGHUP, signal.SIG_DFL)
+    bridge = Bridge(folder)
+    bridge.plug_in()
+    for how in (signal.SIGTERM, signal.SIGINT, signal.SIGHUP):
+        bridge.begin()
+        host = bridge.host()
+        controller = bridge.controller()
+        bridge.process.send_signal(how)
+        check(f"{how.name}: a reset", RESET, gone(controller))
+        check(f"{how.name}: the status", 0, bridge.process.wait(PATIENCE))
+        check(f"{how.name}: the line", False, os.path.lexists(bridge.line))
+        os.close(host)
+    bridge.begin("nohup")
+    bridge.process.send_signal(signal.SIGHUP)
+    host = bridge.host()
+    controller = bridge.controller()
+    os.write(host, bytes.fromhex(RESET))
+    check("nohup: it serves", RESET, controller.stream.recv(0).hex())
+    os.close(host)
+    check("nohup: it ends", 0, bridge.end())
+
+
 def a_folder_that_is_gone(folder):
     """If the folder of the path is gone, the bridge goes on, and its line is at the path again once it is back."""
     bridge = Bridge(folder)
@@ -397,8 +421,8 @@ def main():
         )
         BRIDGE.append(bridge)
         return play_all([
-            a_host, hosts_in_turn, a_controller_that_goes, a_new_line_for_each_host, two_bridges, a_folder_that_is_gone,
-            a_busy_controller, garbage, pieces, a_file_in_the_way, an_idle_bridge,
+            a_host, hosts_in_turn, a_controller_that_goes, a_new_line_for_each_host, two_bridges, signals,
+            a_folder_that_is_gone, a_busy_controller, garbage, pieces, a_file_in_the_way, an_idle_bridge,
         ])
 
 
