@@ -67,7 +67,7 @@ struct way {
 /* A pseudo-terminal. */
 struct line {
     int master;
-    /* What tells that its other end is opened. */
+    /* What has the events of the other end, which hosts open and close. */
     int events;
     /* The path of the other end. */
     char terminal[64];
@@ -209,7 +209,7 @@ static bool open_line(struct line *line)
     /* From now on the line is hung up until a host opens it. */
     close(other);
     line->events = inotify_init1(IN_CLOEXEC | IN_NONBLOCK);
-    return line->events >= 0 && inotify_add_watch(line->events, line->terminal, IN_OPEN) >= 0;
+    return line->events >= 0 && inotify_add_watch(line->events, line->terminal, IN_OPEN | IN_CLOSE) >= 0;
 }
 
 /* Makes a line and moves PATH to it. Returns NULL, or else what failed, for the reason in errno. */
@@ -236,6 +236,22 @@ static bool has_host(const struct bridge *bridge)
         if (errno != EINTR)
             fail(bridge, "poll");
     return !(line.revents & POLLHUP);
+}
+
+/* Returns whether a host has closed the line. It may have left octets and settings. */
+static bool was_closed(const struct bridge *bridge)
+{
+    _Alignas(struct inotify_event) char events[4096];
+    const struct inotify_event *event;
+    uint32_t all = 0;
+    ssize_t got;
+
+    while ((got = read(bridge->line.events, events, sizeof events)) > 0)
+        for (const char *at = events; at < events + got; at += sizeof *event + event->len) {
+            event = (const void *)at;
+            all |= event->mask;
+        }
+    return all & (IN_CLOSE | IN_Q_OVERFLOW);
 }
 
 /* Returns whether a signal asks the program to end, once one of these is ready or the time is up. */
@@ -419,7 +435,6 @@ static bool await_host(struct bridge *bridge)
     for (;;) {
         bool asked = has_host(bridge);
         struct pollfd ready[] = {{0}, {bridge->line.events, POLLIN, 0}};
-        char events[4096];
 
         if (asked) {
             bridge->channel = open_channel(bridge->controller, bridge->down);
@@ -432,9 +447,8 @@ static bool await_host(struct bridge *bridge)
         }
         if (waited(bridge, ready, 2, asked ? RETRY : -1))
             return true;
-        /* What was opened may be closed again: it is looked for above. */
-        while (read(bridge->line.events, events, sizeof events) > 0)
-            ;
+        if (was_closed(bridge) && change_line(bridge))
+            return true;
     }
     bridge->logged = 0;
     say(bridge, "open for a host");

@@ -199,6 +199,25 @@ def a_new_line_for_each_host(folder):
     bridge.end()
 
 
+def a_host_that_leaves_early(folder):
+    """What a host has sent before there is a controller is not for the next host."""
+    bridge = Bridge(folder)
+    bridge.begin()
+    old = os.readlink(bridge.line)
+    host = bridge.host()
+    check("no controller", True, bridge.logs("hci0: No such file or directory"))
+    os.write(host, bytes.fromhex(RESET)[:3])
+    os.close(host)
+    check("there is a new line", True, bridge.moved(old))
+    bridge.plug_in()
+    host = bridge.host()
+    stream = bridge.controller().stream
+    os.write(host, bytes.fromhex(RESET))
+    check("only the next one's packet goes", RESET, stream.recv(0).hex())
+    os.close(host)
+    bridge.end()
+
+
 def two_bridges(folder):
     """A second bridge with the same path ends and changes nothing. What a killed one left is replaced."""
     bridge = Bridge(folder).begin()
@@ -421,8 +440,9 @@ def main():
         )
         BRIDGE.append(bridge)
         return play_all([
-            a_host, hosts_in_turn, a_controller_that_goes, a_new_line_for_each_host, two_bridges, signals,
-            a_folder_that_is_gone, a_busy_controller, garbage, pieces, a_file_in_the_way, an_idle_bridge,
+            a_host, hosts_in_turn, a_controller_that_goes, a_new_line_for_each_host, a_host_that_leaves_early,
+            two_bridges, signals, a_folder_that_is_gone, a_busy_controller, garbage, pieces, a_file_in_the_way,
+            an_idle_bridge,
         ])
 
 
