@@ -395,6 +395,10 @@ static enum end serve_host(struct bridge *bridge)
             return HOST_GONE;
         if (ready[1].revents & POLLIN && !hear_host(bridge))
             return HOST_GONE;
+        if (tells && ready[2].revents & (POLLERR | POLLHUP)) {
+            say(bridge, "gone: it cannot be read");
+            return CONTROLLER_GONE;
+        }
         if (!tells && ready[2].revents & (POLLIN | POLLERR | POLLHUP) && !hear_controller(bridge))
             return CONTROLLER_GONE;
         sent = send_packets(bridge);

@@ -218,6 +218,29 @@ def a_host_that_leaves_early(folder):
     bridge.end()
 
 
+def a_host_that_reads_nothing(folder):
+    """A controller that goes away while a host reads nothing is gone at once, and takes no processor time."""
+    bridge = Bridge(folder)
+    bridge.plug_in()
+    bridge.begin()
+    old = os.readlink(bridge.line)
+    host = bridge.host()
+    stream = bridge.controller().stream.stream
+    stream.setblocking(False)
+    while select.select([], [stream], [], 0.3)[1]:
+        stream.send(bytes([4, 0xFF, 200]) + bytes(200))
+    bridge.unplug()
+    stream.close()
+    before = taken(bridge.process.pid)
+    check("the log says so", True, bridge.logs("hci0: gone: it cannot be read"))
+    check("there is a new line", True, bridge.moved(old))
+    check("the host's line ends", True, bool(soon(lambda: is_hung_up(host))))
+    time.sleep(1)
+    check("it takes no processor time", True, taken(bridge.process.pid) - before < 30)
+    os.close(host)
+    bridge.end()
+
+
 def two_bridges(folder):
     """A second bridge with the same path ends and changes nothing. What a killed one left is replaced."""
     bridge = Bridge(folder).begin()
@@ -441,8 +464,8 @@ def main():
         BRIDGE.append(bridge)
         return play_all([
             a_host, hosts_in_turn, a_controller_that_goes, a_new_line_for_each_host, a_host_that_leaves_early,
-            two_bridges, signals, a_folder_that_is_gone, a_busy_controller, garbage, pieces, a_file_in_the_way,
-            an_idle_bridge,
+            a_host_that_reads_nothing, two_bridges, signals, a_folder_that_is_gone, a_busy_controller, garbage, pieces,
+            a_file_in_the_way, an_idle_bridge,
         ])
 
 
