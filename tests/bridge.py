@@ -115,7 +115,7 @@ def bridged(folder):
     bridge = Bridge(folder)
     bridge.plug_in()
     bridge.begin()
-    device = Device(*DOOR, "--serial", bridge.line)
+    device = Device(*DOOR, "--serial", bridge.line, "--patience", "30")
     controller = bridge.controller()
     check("it is advertised", True, controller.is_advertised())
     return bridge, device, controller
