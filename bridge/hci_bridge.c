@@ -505,11 +505,25 @@ static int ending_signals(const struct bridge *bridge)
     return descriptor;
 }
 
+/* Opens the standard descriptors that are closed, so that none of them becomes the line or the channel. */
+static void open_standard(const struct bridge *bridge)
+{
+    int descriptor;
+
+    do {
+        descriptor = open("/dev/null", O_RDWR | O_CLOEXEC);
+        if (descriptor < 0)
+            fail(bridge, "/dev/null");
+    } while (descriptor <= STDERR_FILENO);
+    close(descriptor);
+}
+
 int main(int argc, char **argv)
 {
     static struct bridge bridge = {.lock = -1, .channel = -1, .path = ""};
     int word = 1;
 
+    open_standard(&bridge);
     if (word < argc && strcmp(argv[word], "--down") == 0) {
         bridge.down = true;
         word++;

@@ -328,6 +328,24 @@ def a_folder_that_is_gone(folder):
     check("its line is gone", False, os.path.lexists(bridge.line))
 
 
+def closed_descriptors(folder):
+    """Started without standard descriptors, it has none of them for the line or the controller."""
+    for number, closed in enumerate(("2>&-", "0<&- 2>&-", "0<&- 1>&- 2>&-")):
+        os.mkdir(f"{folder}/{number}")
+        bridge = Bridge(f"{folder}/{number}")
+        bridge.plug_in()
+        bridge.begin("sh", "-c", f'exec "$@" {closed}', "sh")
+        device = Device(*DOOR, "--serial", bridge.line)
+        controller = bridge.controller()
+        check(f"{closed}: it is advertised", True, controller.is_advertised())
+        has = [os.readlink(f"/proc/{bridge.process.pid}/fd/{it}") for it in (0, 1, 2)]
+        check(f"{closed}: what they are", [], [it for it in has if it == "/dev/ptmx" or it.startswith("socket:")])
+        strange = [it.hex() for it in controller.stream.packets if not is_one_packet(it)]
+        check(f"{closed}: each packet is one", [], strange)
+        device.end()
+        bridge.end()
+
+
 def a_busy_controller(folder):
     """A host waits for a controller that cannot be opened yet."""
     bridge = Bridge(folder)
@@ -464,8 +482,8 @@ def main():
         BRIDGE.append(bridge)
         return play_all([
             a_host, hosts_in_turn, a_controller_that_goes, a_new_line_for_each_host, a_host_that_leaves_early,
-            a_host_that_reads_nothing, two_bridges, signals, a_folder_that_is_gone, a_busy_controller, garbage, pieces,
-            a_file_in_the_way, an_idle_bridge,
+            a_host_that_reads_nothing, two_bridges, signals, a_folder_that_is_gone, closed_descriptors,
+            a_busy_controller, garbage, pieces, a_file_in_the_way, an_idle_bridge,
         ])
 
 
