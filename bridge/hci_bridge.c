@@ -16,9 +16,9 @@
  * --down takes the controller from the kernel's own host (bluetoothd) first. Without it the bridge waits
  * until the controller is down.
  *
- * It needs CAP_NET_ADMIN, and the network namespace of the machine. It takes no more memory once it runs.
- * SIGTERM, SIGINT and SIGHUP end it: the controller is reset, and PATH is removed. Under nohup it goes on after
- * SIGHUP.
+ * It needs CAP_NET_ADMIN, and the network namespace of the machine. It takes no more memory once it runs, and
+ * does not wait for the reader of its log, which is standard error: it drops lines and counts them. SIGTERM,
+ * SIGINT and SIGHUP end it: the controller is reset, and PATH is removed. Under nohup it goes on after SIGHUP.
  *
  * Exit status: 0 after a signal, 64 for unknown words, 71 if the line or PATH cannot be made at the start, 75
  * if another bridge uses PATH.
@@ -39,6 +39,7 @@
 #include <sys/inotify.h>
 #include <sys/signalfd.h>
 #include <sys/stat.h>
+#include <sys/time.h>
 #include <termios.h>
 #include <unistd.h>
 
@@ -53,6 +54,9 @@ enum { RETRY = 500 };
 
 /* How long a controller may take to be reset when its host is gone, in milliseconds. */
 enum { RESET_TIME = 1000 };
+
+/* How long the bridge waits for a reader of its log that accepts a part of a line, in microseconds. */
+enum { LOG_TIME = 50000 };
 
 enum { USAGE = 64, OS_ERROR = 71, IN_USE = 75 };
 
@@ -93,9 +97,58 @@ struct bridge {
     struct way to_host;
 };
 
+/* Writes to the log as much as its reader takes now. Returns how much that is, or -1. */
+static ssize_t write_now(const char *text, size_t length)
+{
+    static const struct itimerval limit = {{0, LOG_TIME}, {0, LOG_TIME}}, none = {{0, 0}, {0, 0}};
+    struct pollfd log = {STDERR_FILENO, POLLOUT, 0};
+    ssize_t written;
+
+    if (poll(&log, 1, 0) <= 0)
+        return -1;
+    /* A pipe that is ready accepts a whole line. A terminal may accept a part, until the timer interrupts. */
+    setitimer(ITIMER_REAL, &limit, NULL);
+    written = write(STDERR_FILENO, text, length);
+    setitimer(ITIMER_REAL, &none, NULL);
+    return written;
+}
+
+/* Writes a line to the log, and ends the one before it if that was cut. Returns whether it was written, at least
+   up to its end. */
+static bool write_line(const char *line, size_t length)
+{
+    static bool is_cut;
+    ssize_t written;
+
+    if (is_cut && write_now("\n", 1) != 1)
+        return false;
+    written = write_now(line, length);
+    is_cut = written > 0 && (size_t)written < length;
+    return written >= (ssize_t)length - 1;
+}
+
+/* Writes a line to the log, after the number of dropped lines if any. Drops it if the reader takes nothing. */
 static void say_of(const char *about, const char *what)
 {
-    fprintf(stderr, "hci_bridge: %s: %s\n", about, what);
+    static unsigned long dropped;
+    char line[PIPE_BUF];
+    int length;
+
+    if (dropped > 0) {
+        length = snprintf(line, sizeof line, "hci_bridge: %lu lines of the log dropped\n", dropped);
+        if (!write_line(line, (size_t)length)) {
+            dropped++;
+            return;
+        }
+        dropped = 0;
+    }
+    length = snprintf(line, sizeof line, "hci_bridge: %s: %s\n", about, what);
+    if (length >= (int)sizeof line) {
+        length = (int)sizeof line - 1;
+        line[length - 1] = '\n';
+    }
+    if (!write_line(line, (size_t)length))
+        dropped++;
 }
 
 static void say(const struct bridge *bridge, const char *what)
@@ -497,12 +550,28 @@ static int ending_signals(const struct bridge *bridge)
     sigaddset(&signals, SIGINT);
     if (sigaction(SIGHUP, NULL, &hangup) == 0 && hangup.sa_handler != SIG_IGN)
         sigaddset(&signals, SIGHUP);
-    if (sigprocmask(SIG_BLOCK, &signals, NULL) < 0)
+    if (sigprocmask(SIG_SETMASK, &signals, NULL) < 0)
         fail(bridge, "signals");
     descriptor = signalfd(-1, &signals, SFD_CLOEXEC);
     if (descriptor < 0)
         fail(bridge, "signals");
     return descriptor;
+}
+
+/* Interrupts a write to the log. */
+static void interrupt(int signal)
+{
+    (void)signal;
+}
+
+/* Has a write fail instead of ending the program, and has the timer of the log interrupt it. */
+static void set_signals(void)
+{
+    const struct sigaction action = {.sa_handler = interrupt};
+
+    signal(SIGPIPE, SIG_IGN);
+    signal(SIGXFSZ, SIG_IGN);
+    sigaction(SIGALRM, &action, NULL);
 }
 
 /* Opens the standard descriptors that are closed, so that none of them becomes the line or the channel. */
@@ -523,6 +592,7 @@ int main(int argc, char **argv)
     static struct bridge bridge = {.lock = -1, .channel = -1, .path = ""};
     int word = 1;
 
+    set_signals();
     open_standard(&bridge);
     if (word < argc && strcmp(argv[word], "--down") == 0) {
         bridge.down = true;
@@ -540,7 +610,6 @@ int main(int argc, char **argv)
         fail(&bridge, bridge.path);
     }
     bridge.signals = ending_signals(&bridge);
-    signal(SIGPIPE, SIG_IGN);
     serve(&bridge);
     return 0;
 }

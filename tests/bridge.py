@@ -8,7 +8,9 @@ with a controller has: interop/kernel.py tries that one. Without a C compiler no
 so. The last line is 'N passed, M failed'.
 """
 
+import fcntl
 import os
+import pty
 import select
 import shutil
 import signal
@@ -346,6 +348,69 @@ def closed_descriptors(folder):
         bridge.end()
 
 
+def filled(descriptor):
+    """Writes to what nobody reads until it takes no more."""
+    os.set_blocking(descriptor, False)
+    try:
+        while True:
+            os.write(descriptor, b"x")
+    except BlockingIOError:
+        os.set_blocking(descriptor, True)
+
+
+def read_all(descriptor):
+    """What can be read, until nothing more comes for a while."""
+    octets = b""
+    while select.select([descriptor], [], [], 0.5)[0]:
+        octets += os.read(descriptor, 4096)
+    return octets.decode()
+
+
+def a_log_that_nobody_reads(folder):
+    """A log that takes nothing, or a part of a line, stops neither a host nor the end. The lines that it lacks are
+    counted."""
+    for name, ends in (("pipe", os.pipe), ("terminal", pty.openpty)):
+        os.mkdir(f"{folder}/{name}")
+        bridge = Bridge(f"{folder}/{name}")
+        bridge.plug_in()
+        reader, writer = ends()
+        filled(writer)
+        if name == "terminal":
+            os.read(reader, 2000)
+        bridge.begin(log=writer)
+        for host in range(61):
+            if host == 60:
+                said = read_all(reader)
+            old = os.readlink(bridge.line)
+            line = bridge.host()
+            controller = bridge.controller()
+            os.close(line)
+            gone(controller)
+            bridge.moved(old)
+        said = (said + read_all(reader)).replace("\r", "").lstrip("x")
+        said = [it.removeprefix("hci_bridge: ") for it in said.splitlines()]
+        counted = [int(it.split()[0]) for it in said if it.endswith(" lines of the log dropped")]
+        check(f"{name}: the lines are counted", 1, len(counted))
+        whole = [it for it in said if it in ("hci0: ready", "hci0: open for a host", "hci0: free")]
+        check(f"{name}: as many as are missing", 1 + 61 * 2, len(whole) + sum(counted))
+        check(f"{name}: at most one is cut", True, len(said) - len(whole) - len(counted) < 2)
+        filled(writer)
+        check(f"{name}: it ends", 0, bridge.end())
+        check(f"{name}: its line is gone", False, os.path.lexists(bridge.line))
+
+
+def a_log_that_may_not_grow(folder):
+    """A log in a file that may not grow stops neither a host nor the end."""
+    bridge = Bridge(folder)
+    bridge.plug_in()
+    bridge.begin("sh", "-c", 'ulimit -f 0; exec "$@"', "sh")
+    device = Device(*DOOR, "--serial", bridge.line)
+    check("it is advertised", True, bridge.controller().is_advertised())
+    device.end()
+    check("it ends", 0, bridge.end())
+    check("the log is empty", [], bridge.said())
+
+
 def a_busy_controller(folder):
     """A host waits for a controller that cannot be opened yet."""
     bridge = Bridge(folder)
@@ -483,7 +548,8 @@ def main():
         return play_all([
             a_host, hosts_in_turn, a_controller_that_goes, a_new_line_for_each_host, a_host_that_leaves_early,
             a_host_that_reads_nothing, two_bridges, signals, a_folder_that_is_gone, closed_descriptors,
-            a_busy_controller, garbage, pieces, a_file_in_the_way, an_idle_bridge,
+            a_log_that_nobody_reads, a_log_that_may_not_grow, a_busy_controller, garbage, pieces, a_file_in_the_way,
+            an_idle_bridge,
         ])
 
 
