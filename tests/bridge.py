@@ -107,6 +107,10 @@ class Bridge:
         with open(self.log.name) as file:
             return file.read().splitlines()
 
+    def descriptors(self):
+        """How many descriptors it has open."""
+        return len(os.listdir(f"/proc/{self.process.pid}/fd"))
+
     def end(self):
         self.process.send_signal(signal.SIGTERM)
         return self.process.wait(PATIENCE)
@@ -260,10 +264,11 @@ def two_bridges(folder):
     os.symlink("/dev/null", bridge.line)
     bridge.begin()
     check("the next one replaces it", True, bridge.moved("/dev/null"))
+    other = os.readlink(bridge.line)[:-1] + "x"
     os.remove(bridge.line)
-    os.symlink("/dev/null", bridge.line)
+    os.symlink(other, bridge.line)
     check("it ends", 0, bridge.end())
-    check("another's link stays", "/dev/null", os.readlink(bridge.line))
+    check("another's link stays", other, os.readlink(bridge.line))
     check("the lock stays", True, os.path.exists(lock))
     os.remove(lock)
     os.symlink(f"{folder}/made", lock)
@@ -304,6 +309,7 @@ def a_folder_that_is_gone(folder):
     bridge.plug_in()
     bridge.begin()
     missing = f"hci_bridge: {bridge.line}.lock: No such file or directory"
+    descriptors = bridge.descriptors()
     for times, is_made_anew in enumerate((False, True), 1):
         old = os.readlink(bridge.line)
         host = bridge.host()
@@ -320,28 +326,32 @@ def a_folder_that_is_gone(folder):
             os.rename(f"{folder}/away{times}", f"{folder}/run")
         check("the line is there again", True, bridge.moved(old))
         check("the old one ends", True, bool(soon(lambda: is_hung_up(host))))
+        check("no descriptor is left", True, bool(soon(lambda: descriptors == bridge.descriptors())))
         os.close(host)
     ended = subprocess.run([*BRIDGE, "hci0", bridge.line], capture_output=True, timeout=PATIENCE)
     check("it is locked again", 75, ended.returncode)
     device = Device(*DOOR, "--serial", bridge.line)
-    check("a host is served", True, bridge.controller().is_advertised())
+    controller = bridge.controller()
+    check("a host is served", True, controller.is_advertised())
+    os.rename(f"{folder}/run", f"{folder}/away3")
+    controller.close()
+    check("the log says so again", True, bool(soon(lambda: bridge.said().count(missing) == 3)))
+    check("it ends while the folder is away", 0, bridge.end())
     device.end()
-    check("it ends", 0, bridge.end())
-    check("its line is gone", False, os.path.lexists(bridge.line))
 
 
 def closed_descriptors(folder):
     """Started without standard descriptors, it has none of them for the line or the controller."""
-    for number, closed in enumerate(("2>&-", "0<&- 2>&-", "0<&- 1>&- 2>&-")):
-        os.mkdir(f"{folder}/{number}")
-        bridge = Bridge(f"{folder}/{number}")
+    for closed in ("2>&-", "0<&- 2>&-", "0<&- 1>&- 2>&-"):
+        bridge = Bridge(tempfile.mkdtemp(dir=folder))
         bridge.plug_in()
         bridge.begin("sh", "-c", f'exec "$@" {closed}', "sh")
         device = Device(*DOOR, "--serial", bridge.line)
         controller = bridge.controller()
         check(f"{closed}: it is advertised", True, controller.is_advertised())
-        has = [os.readlink(f"/proc/{bridge.process.pid}/fd/{it}") for it in (0, 1, 2)]
-        check(f"{closed}: what they are", [], [it for it in has if it == "/dev/ptmx" or it.startswith("socket:")])
+        numbers = [it[0] for it in closed.split()]
+        has = {os.readlink(f"/proc/{bridge.process.pid}/fd/{it}") for it in numbers}
+        check(f"{closed}: what they are", {"/dev/null"}, has)
         strange = [it.hex() for it in controller.stream.packets if not is_one_packet(it)]
         check(f"{closed}: each packet is one", [], strange)
         device.end()
