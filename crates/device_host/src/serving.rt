@@ -7,8 +7,8 @@ use crate::outgoing::ToController;
 use crate::starting::{begin_capture, reaching};
 use crate::stop::Stop;
 use crate::stopping::{finish, is_stopped};
-use crate::turn_notices::Hearing;
 use crate::turn_effects::note_event;
+use crate::turn_notices::Hearing;
 use app_lines::{Names, Told, add_named_line};
 use device_io::Log;
 use device_loop::{End, Sending, serve_happenings, serve_turn};
@@ -171,7 +171,10 @@ fn hearing_of<R>(device: &Device<'_, R>, logs_values: bool) -> Hearing {
         },
         None => SavedChanges::Nothing,
     };
-    Hearing::new(Heard::new(device.alloc, logs_values, saved), saved == SavedChanges::All)
+    Hearing::new(
+        Heard::new(device.alloc, logs_values, saved),
+        saved == SavedChanges::All,
+    )
 }
 
 fn serve_one<

@@ -74,9 +74,9 @@ fn save_last<R: Files<File = File> + Clock + Eprint>(
 ) -> Option<String> {
     let keeping = device.keeping.as_mut()?;
     let failure = match keeping.save_last(host, &mut device.session) {
-        Some(words) => Some(
-            format!(in device.alloc; "not saved: {words}").unwrap_or(String::new(device.alloc)),
-        ),
+        Some(words) => Some(format!(in device.alloc; "not saved: {words}").unwrap_or(String::new(
+            device.alloc,
+        ))),
         None => None,
     };
     if failure.is_none() {

@@ -43,8 +43,9 @@ fn lock_file(rt: &HostRuntime, path: &str) -> Result<Option<Lock>, Unlocked> {
     let Ok(place) = format!(in rt.alloc(); "{}.lock", file.path()) else {
         return Err(Unlocked::Memory);
     };
-    match Lock::take(rt, place.as_str()) {
-        Ok(lock) => Ok(Some(lock)),
+    let mut lock = Lock::at(place);
+    match lock.hold(rt) {
+        Ok(()) => Ok(Some(lock)),
         Err(LockFault::Taken) => Err(Unlocked::Taken),
         Err(LockFault::NotAFile) => Ok(None),
         Err(LockFault::Failed(error)) => without(&error),
