@@ -144,6 +144,9 @@ def garbage_of_applications(folder, sessions):
     for number in range(sessions):
         lines = "\n".join(random.choices(LINES, k=random.choice([1, 5, 20]))).encode() + b"\n"
         said = changed(lines) if number % 10 else lines
+        if number % 4:
+            # A connection whose first line is wrong is closed.
+            said = b"value 10\n" + said
         application = Visitor(path)
         try:
             application.stream.sendall(said)
@@ -159,7 +162,8 @@ def garbage_of_applications(folder, sessions):
             wrong.append((said, heard))
         whole = said.split(b"\n")[:-1]
         is_too_long = any(len(it) > 1_100 for it in said.split(b"\n"))
-        if not is_too_long and len(answers) != len(whole):
+        is_closed = bool(answers) and answers[0].startswith("bad: ")
+        if not is_too_long and len(answers) != (1 if is_closed else len(whole)):
             wrong.append((said, heard))
         read = controller.ask(3_000, "0a0d00")
         if read is None:

@@ -260,7 +260,7 @@ def lines_of_one_read(folder):
     if through is None:
         return
     home = Home(folder)
-    device = home.device("--patience", "1", through=through(300))
+    device = home.device("--patience", "3", through=through(300))
     device.said("ready")
     application = home.application()
     begun = time.monotonic()
@@ -281,7 +281,7 @@ def lines_of_one_read(folder):
 def a_device_that_was_stopped(folder):
     """A device that was stopped for longer than its patience gives nobody up for that."""
     home = Home(folder)
-    device = home.device("--patience", "1")
+    device = home.device("--patience", "2")
     device.said("ready")
     application = home.application()
     for moment in ("before it says anything", "within its initialisation"):
@@ -289,7 +289,7 @@ def a_device_that_was_stopped(folder):
         if moment != "before it says anything":
             controller.until(lambda: controller.commands)
         device.process.send_signal(signal.SIGSTOP)
-        time.sleep(2.5)
+        time.sleep(4)
         device.process.send_signal(signal.SIGCONT)
         check(f"{moment}: it is served", True, controller.is_advertised())
         check(f"{moment}: its application", True, application.up_to("+ serving")[-1] == "+ serving")
