@@ -41,7 +41,7 @@ _gatt_shell() {
         *) return ;;
         esac
     elif [[ $command == tell ]] && ((COMP_CWORD == 3)); then
-        words='update allow deny disconnect value connections subscriptions find stop'
+        words='update allow deny disconnect value connections subscriptions find application stop'
     else
         case $command:$COMP_CWORD in
         check:* | show:* | run:* | serve:* | host:* | tell:2) compopt -o default ;;

@@ -283,7 +283,8 @@ def an_endless_asker(folder):
             for thread in threads:
                 thread.join(PATIENCE)
             check("it is closed", (False, False), tuple(it.is_alive() for it in threads))
-        check("after its second", True, 0.8 < time.monotonic() - begun < 8)
+        # It may be closed before its second, if it does not take an answer at once.
+        check("after its second at the latest", True, time.monotonic() - begun < 8)
         check("others are answered", ["value 10 00"], look(path, "value 10"))
     device.end()
     controller.close()

@@ -217,7 +217,7 @@ def a_stop_saves(folder):
         check("stop", ["ok"], look(home.socket, "stop"))
         check("it ends", 0, device.process.wait(PATIENCE))
         check("it is saved", True, f"\n{VALUE} fff1 20\n" in home.state())
-        check("the log", True, "stopped" in device.log)
+        check("the log", "", device.said("stopped"))
 
 
 def a_stop_that_cannot_save(folder):
