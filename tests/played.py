@@ -26,6 +26,7 @@ SCRIPTS = [
     ("door", "keys", "first_contact"),
     ("door", "keys", "four_strangers"),
     ("door", "keys", "full_queue"),
+    ("door", "keys", "late"),
     ("door", "keys", "long_write"),
     ("door", "keys", "notices"),
     ("door", "keys", "notifications"),
