@@ -34,6 +34,7 @@ SCRIPTS = [
     ("door", "secure_key", "secure_connections"),
     ("bell", "keys", "indications"),
     ("post", "keys", "authorization"),
+    ("lamps", "keys", "skipped"),
     ("porch", "keys", "owed"),
     ("porch", "keys", "replacement"),
     ("conformance/server", "keys", "conformance/discovery"),
@@ -269,5 +270,5 @@ def compare_scripts(tell, program, obey, room):
         with open(path, "w", encoding="ascii") as file:
             file.write(script)
         compare(tell, f"day {number} in C", program, obey, room, table, "examples/keys.toml", path, due.splitlines())
-    wanted = {"connected", "disconnected", "secured", "unsecured", "written", "configured", "confirmed", "timed-out", "ending"}
+    wanted = {"connected", "disconnected", "secured", "unsecured", "written", "configured", "confirmed", "timed-out", "ending", "skipped"}
     tell("passed" if told == wanted else "failed", "each notice is told in C", f"only {sorted(told)}")
