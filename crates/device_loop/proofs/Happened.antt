@@ -5,6 +5,7 @@ use Rattle.std.proofs.lemmas.List.{length-append}
 use Rattle.std.proofs.lemmas.List.Concat.{flat_map-append}
 use Rattle.std.specs.Io.KnownBytes.{Consumes}
 use Rattle.std.specs.List.{flat_map}
+use Rattle.gatt_host.proofs.Promises.{fed_apart, fed_by_the_policy}
 use Rattle.gatt_host.proofs.model.Feeds.{feeds_then, takes_none, takes_then}
 use Rattle.gatt_host.proofs.model.Hearing.{hears_more, hears_nothing, listens_going, listens_then}
 use Rattle.gatt_host.proofs.model.HearingTurns.{nothing_heard}
@@ -189,12 +190,16 @@ module _ (count : ℕ) (old mid : HostModel) (come between : Known) (before writ
       → ServesDevice (Err fault) turns old new come comes before after heard hears
   stops-at turns fault more new comes after hears few none next feeds listens =
       let all : HasCome (count + 1) (so_far.happened ++ more ∷ []) old come comes = come-more more comes next in
+      let fed : Feeds (items_in (so_far.happened ++ more ∷ [])) old new before after new.fault =
+      subst (λ (items : List Item). Feeds items old new before after new.fault) (joined-more input_items_of so_far.happened more)
+      (feeds_then (items_in so_far.happened) (input_items_of more) old mid new before written after new.fault so_far.takes feeds) in
       record {
         happened = so_far.happened ++ more ∷ [];
         octets = all.octets;
         calls = all.calls;
-        feeds = subst (λ (items : List Item). Feeds items old new before after new.fault) (joined-more input_items_of so_far.happened more)
-            (feeds_then (items_in so_far.happened) (input_items_of more) old mid new before written after new.fault so_far.takes feeds);
+        feeds = fed;
+        policy = fed_by_the_policy (items_in (so_far.happened ++ more ∷ [])) old new before after fed;
+        apart = fed_apart (items_in (so_far.happened ++ more ∷ [])) old new before after fed;
         listens = subst (λ (items : List Item). Listens items old new new.fault heard hears) (joined-more input_items_of so_far.happened more)
             (listens_then (items_in so_far.happened) (input_items_of more) so_far.takes.packets old mid new heard known hears new.fault so_far.takes.refines
             so_far.hearing listens);
@@ -239,18 +244,23 @@ module _ (count : ℕ) (old mid : HostModel) (come between : Known) (before writ
   pub serves_ended : (turns : ℕ) (last : End) (comes : Known) → mid.fault ≡ None → IsOver (Ok last) turns count → Consumes between.octets comes.octets []
       → Hands between.calls comes.calls []
       → RecordsLast (Ok last) mid between.history comes.history → ServesDevice (Ok last) turns old mid come comes before written heard known
-  serves_ended turns last comes none over octets calls records = record {
-    happened = so_far.happened;
-    octets = subst (Consumes come.octets comes.octets) (append-nil (octets_that_came so_far.happened))
-        (Consumes-trans come.octets between.octets comes.octets (octets_that_came so_far.happened) [] so_far.has_come.octets octets);
-    calls = subst (Hands come.calls comes.calls) (append-nil (calls_in so_far.happened))
-        (hands-then come.calls between.calls comes.calls (calls_in so_far.happened) [] so_far.has_come.calls calls);
-    feeds = subst (λ (found : Option HostFault). Feeds (items_in so_far.happened) old mid before written found) (sym none) so_far.takes;
-    listens = listens_going (items_in so_far.happened) old mid heard known mid.fault none so_far.hearing;
-    records = records-last last comes.history records;
-    over = subst (IsOver (Ok last) turns) (sym so_far.has_come.many) over;
-    stops = tt;
-  }
+  serves_ended turns last comes none over octets calls records =
+      let fed : Feeds (items_in so_far.happened) old mid before written mid.fault =
+      subst (λ (found : Option HostFault). Feeds (items_in so_far.happened) old mid before written found) (sym none) so_far.takes in
+      record {
+        happened = so_far.happened;
+        octets = subst (Consumes come.octets comes.octets) (append-nil (octets_that_came so_far.happened))
+            (Consumes-trans come.octets between.octets comes.octets (octets_that_came so_far.happened) [] so_far.has_come.octets octets);
+        calls = subst (Hands come.calls comes.calls) (append-nil (calls_in so_far.happened))
+            (hands-then come.calls between.calls comes.calls (calls_in so_far.happened) [] so_far.has_come.calls calls);
+        feeds = fed;
+        policy = fed_by_the_policy (items_in so_far.happened) old mid before written fed;
+        apart = fed_apart (items_in so_far.happened) old mid before written fed;
+        listens = listens_going (items_in so_far.happened) old mid heard known mid.fault none so_far.hearing;
+        records = records-last last comes.history records;
+        over = subst (IsOver (Ok last) turns) (sym so_far.has_come.many) over;
+        stops = tt;
+      }
 
   pub serves_all : (turns : ℕ) → mid.fault ≡ None → count ≡ turns → ServesDevice (Ok end.Turns) turns old mid come between before written heard known
   serves_all turns none over =
@@ -266,6 +276,8 @@ nothing-happens turns fault old new come before after heard none feeds = record 
   octets = Consumes-nil come.octets;
   calls = hands-none come.calls;
   feeds = feeds;
+  policy = fed_by_the_policy [] old new before after feeds;
+  apart = fed_apart [] old new before after feeds;
   listens = nothing_heard old new before after heard new.fault feeds;
   records = λ start input sent is. records_none come.history;
   over = omega arith;

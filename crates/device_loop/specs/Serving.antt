@@ -5,6 +5,7 @@ use Rattle.gatt_host.specs.declared.host_fault.HostFault.{HostFault}
 use Rattle.gatt_host.specs.Feeding.{Feeds, TakesAll}
 use Rattle.gatt_host.specs.Listening.{Listens}
 use Rattle.gatt_host.specs.HostModel.{RefinesRun, HostModel}
+use Rattle.gatt_host.specs.Promises.{ContinuesWriting, KeepsConnectionsApartIn, KeepsThePolicyIn}
 use Rattle.gatt_laws.specs.machine.Calls.{Call}
 use Rattle.gatt_laws.specs.laws.Deadline.{deadline}
 use Rattle.gatt_laws.specs.machine.Input.{Run, Item, after_items, call_refusal, run}
@@ -83,7 +84,8 @@ pub record StopsAtTheLast (happened : List DeviceInput) (old new : HostModel)
   pub stops : Feeds (items_in last) between new written after new.fault
 
 -- The events have the octets and calls that arrived, in their order. The output and the notices are
--- those of the state machine; the history has the events and answers.
+-- those of the state machine; the history has the events and answers. Each run in which the host
+-- was continues by these events and keeps the laws.
 pub record ServesDevice (result : Result End HostFault) (turns : ℕ) (old new : HostModel)
     (come comes : Known) (before after : Option Octets) (heard hears : Option (List Received)) :
     Type 0 where
@@ -91,6 +93,8 @@ pub record ServesDevice (result : Result End HostFault) (turns : ℕ) (old new :
   pub octets : Consumes come.octets comes.octets (octets_that_came happened)
   pub calls : Hands come.calls comes.calls (calls_in happened)
   pub feeds : Feeds (items_in happened) old new before after new.fault
+  pub policy : ContinuesWriting KeepsThePolicyIn (items_in happened) old new before after
+  pub apart : ContinuesWriting KeepsConnectionsApartIn (items_in happened) old new before after
   pub listens : Listens (items_in happened) old new new.fault heard hears
   pub records : RecordsAll happened result old come.history comes.history
   pub over : IsOver result turns (length happened)

@@ -5,7 +5,6 @@ ghost use Rattle.std.specs.Result.{result_err};
 ghost use Rattle.gatt_host.specs.Calls.{call_of};
 ghost use Rattle.gatt_host.specs.Feeding.{is_of_feeding, Processes, Settles};
 ghost use Rattle.gatt_host.specs.Listening.{Listens};
-ghost use Rattle.gatt_host.specs.Promises.{ContinuesApart, ContinuesByThePolicy};
 ghost use Rattle.gatt_host.specs.HostModel.{all_out, fault_outcome};
 ghost use Rattle.gatt_laws.specs.machine.Input.{ACall};
 ghost use Rattle.device_loop.specs.Serving.{known, RecordsTheAnswer, ServesDevice};
@@ -55,10 +54,6 @@ pub fn serve_happenings<H: Happenings, W: Sink, L: Listener>(
     ensures happenings_stopped { IsSome host.old.fault → happenings.new ≡ happenings.old }
     ensures sink_stopped { IsSome host.old.fault → out.new ≡ out.old }
     ensures listener_stopped { IsSome host.old.fault → listener.new ≡ listener.old }
-    ensures policy { ContinuesByThePolicy host.old host.new (W.contents out.old)
-        (W.contents out.new) }
-    ensures apart { ContinuesApart host.old host.new (W.contents out.old)
-        (W.contents out.new) }
     // For every start and input:
     ensures time { KeepsTheTime }
 {

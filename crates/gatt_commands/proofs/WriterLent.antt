@@ -3,8 +3,8 @@ use Rattle.std.proofs.Common.{◌≡◌, Option, Result, subst}
 use Rattle.std.specs.Result.{result_err}
 use Rattle.gatt_host.specs.declared.host_fault.HostFault.{HostFault}
 use Rattle.gatt_host.specs.declared.serving.End.{End}
-use Rattle.gatt_host.specs.Feeding.{Serves}
 use Rattle.gatt_host.specs.HostModel.{HostModel}
+use Rattle.gatt_host.specs.Serving.{Serves}
 use Rattle.octet_io.specs.Number.{Octets}
 use Rattle.gatt_commands.specs.declared.serve.TheConstants.{TURNS}
 use Rattle.gatt_commands.specs.Serving.{ServesBy}

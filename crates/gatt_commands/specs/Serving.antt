@@ -3,9 +3,9 @@ use Rattle.std.specs.Prelude.{◌≡◌, Bool, true, false, IfErr, List, Option,
 use Rattle.std.specs.Result.{result_err}
 use Rattle.gatt_host.specs.declared.host_fault.HostFault.{HostFault}
 use Rattle.gatt_host.specs.declared.serving.End.{End}
-use Rattle.gatt_host.specs.Feeding.{Serves}
 use Rattle.gatt_host.specs.Numbers.{number_of_fault}
 use Rattle.gatt_host.specs.HostModel.{HostModel}
+use Rattle.gatt_host.specs.Serving.{Serves}
 use Rattle.octet_io.specs.Number.{Octets}
 use Rattle.shell_files.specs.declared.fault.ShellFault.{ShellFault}
 use Rattle.shell_files.specs.declared.fault.ShellFault.TheVariants.{Table, Keys, Rows, Host, Unreadable, Unwritten, Listen, Memory}

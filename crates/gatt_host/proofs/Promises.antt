@@ -1,13 +1,14 @@
 -- The laws that hold of all that a host takes in, and what goes out from its opening on.
 use Rattle.std.proofs.Common.{◌≡◌, List, [], ◌++◌, Option, Some, None, refl, sym, subst, append-nil}
+use Rattle.std.proofs.KnownBytes.{Appends-nil}
 use Rattle.std.specs.Prelude.{IsSome}
+use Rattle.std.specs.Io.KnownBytes.{Appends}
 use Rattle.gatt_host.proofs.meaning.Drained.{all_sent}
-use Rattle.gatt_host.proofs.model.Feeds.{takes_silently}
 use Rattle.gatt_host.proofs.model.Items.{drained_where, leads_nowhere}
 use Rattle.gatt_host.specs.declared.host_fault.HostFault.{HostFault}
 use Rattle.gatt_host.specs.declared.host_fault.HostFault.TheVariants as stop
 use Rattle.gatt_host.specs.Feeding.{BreaksOff, Feeds, TakesAll, joined}
-use Rattle.gatt_host.specs.Promises.{ContinuesApart, ContinuesByThePolicy, ContinuesRuns, GivesWhatIsDue, KeepsConnectionsApartIn, KeepsThePolicyIn}
+use Rattle.gatt_host.specs.Promises.{AreProcessed, ContinuesApart, ContinuesByThePolicy, ContinuesRuns, ContinuesWriting, GivesWhatIsDue, KeepsConnectionsApartIn, KeepsThePolicyIn, WritesApart, WritesByThePolicy, items_unless_stopped}
 use Rattle.gatt_host.specs.HostModel.{Refines, RefinesRun, HostModel}
 use Rattle.gatt_laws.specs.machine.Input.{Item, run}
 use Rattle.gatt_laws.specs.machine.Start.{Start}
@@ -24,100 +25,108 @@ tells_the_application = laws.tells_the_application
 pub keeps_its_promise : Promise
 keeps_its_promise = promise.keeps_its_promise
 
+-- a writer that does not fail leaves no item
+all-of : (items : List Item) (fault : Option HostFault) → AreProcessed fault items items
+all-of items None = refl
+all-of items (Some (stop.Desync indicator)) = refl
+all-of items (Some (stop.BadEvent code)) = refl
+all-of items (Some (stop.Init why)) = refl
+all-of items (Some (stop.Hardware code)) = refl
+all-of items (Some stop.Read) = refl
+all-of items (Some stop.Turns) = refl
+all-of items (Some stop.Write) = ([], sym (append-nil items))
+
 -- a law of every run holds in the one that a call continues
-module _ (Law : Start → List Item → Type 0) (keeps : (start : Start) (input : List Item) → Law start input) (items : List Item) (old new : HostModel)
-    (before after : Option Octets) where
-  taking : TakesAll items old new before after → ContinuesRuns Law old new before after
-  taking takes start input sent is =
-      let reached : RefinesRun (run start (input ++ items)) (sent ++ takes.packets) new = takes.refines start input sent is in
-      record {
-        items = items;
-        law = keeps start (input ++ items);
-        packets = takes.packets;
-        reached = reached;
-        rest = reached.refines.owed;
-        front = reached.refines.all;
-        written = record {
-          written = joined takes.packets;
-          appended = takes.written;
-          left = [];
-          parts = sym (append-nil (joined takes.packets));
-        };
-      }
+module _ (Law : Start → List Item → Type 0) (keeps : (start : Start) (input : List Item) → Law start input) where
+  keeps-on : (items : List Item) (packets : List Octets) (old new : HostModel) → Refines items packets old new → ContinuesRuns Law items packets old new
+  keeps-on items packets old new refines start input sent is =
+      let reached : RefinesRun (run start (input ++ items)) (sent ++ packets) new = refines start input sent is in
+      record { law = keeps start (input ++ items); reached = reached; rest = reached.refines.owed; front = reached.refines.all }
 
-  breaking : BreaksOff items old new before after → ContinuesRuns Law old new before after
-  breaking breaks start input sent is =
-      let reached : RefinesRun (run start (input ++ breaks.taken)) (sent ++ breaks.packets) new = breaks.refines start input sent is in
-      record {
-        items = breaks.taken;
-        law = keeps start (input ++ breaks.taken);
-        packets = breaks.packets;
-        reached = reached;
-        rest = reached.refines.owed;
-        front = reached.refines.all;
-        written = breaks.written;
-      }
+  module _ (items : List Item) (old new : HostModel) (before after : Option Octets) where
+    taking : TakesAll items old new before after → ContinuesWriting Law items old new before after
+    taking takes = record {
+      processed = items;
+      all = all-of items new.fault;
+      packets = takes.packets;
+      runs = keeps-on items takes.packets old new takes.refines;
+      written = record {
+        written = joined takes.packets;
+        appended = takes.written;
+        left = [];
+        parts = sym (append-nil (joined takes.packets));
+      };
+    }
 
-  feeding : (fault : Option HostFault) → Feeds items old new before after fault → ContinuesRuns Law old new before after
-  feeding None feeds = taking feeds
-  feeding (Some (stop.Desync indicator)) feeds = taking feeds
-  feeding (Some (stop.BadEvent code)) feeds = taking feeds
-  feeding (Some (stop.Init why)) feeds = taking feeds
-  feeding (Some (stop.Hardware code)) feeds = taking feeds
-  feeding (Some stop.Read) feeds = taking feeds
-  feeding (Some stop.Turns) feeds = taking feeds
-  feeding (Some stop.Write) feeds = breaking feeds
+    breaking : new.fault ≡ Some stop.Write → BreaksOff items old new before after → ContinuesWriting Law items old new before after
+    breaking fails breaks = record {
+      processed = breaks.taken;
+      all = subst (λ (fault : Option HostFault). AreProcessed fault items breaks.taken) (sym fails) (breaks.left, breaks.parts);
+      packets = breaks.packets;
+      runs = keeps-on breaks.taken breaks.packets old new breaks.refines;
+      written = breaks.written;
+    }
+
+    feeding : (fault : Option HostFault) → new.fault ≡ fault → Feeds items old new before after fault → ContinuesWriting Law items old new before after
+    feeding None is feeds = taking feeds
+    feeding (Some (stop.Desync indicator)) is feeds = taking feeds
+    feeding (Some (stop.BadEvent code)) is feeds = taking feeds
+    feeding (Some (stop.Init why)) is feeds = taking feeds
+    feeding (Some (stop.Hardware code)) is feeds = taking feeds
+    feeding (Some stop.Read) is feeds = taking feeds
+    feeding (Some stop.Turns) is feeds = taking feeds
+    feeding (Some stop.Write) is feeds = breaking is feeds
+
+  -- a host that had stopped does not change
+  module _ (items : List Item) (old new : HostModel) (stopped : IsSome old.fault → new ≡ old) where
+    stays : (fault : HostFault) → old.fault ≡ Some fault → ContinuesRuns Law [] [] old new
+    stays fault is = keeps-on [] [] old new (leads_nowhere old new (stopped (subst (λ (found : Option HostFault). IsSome found) (sym is) refl)))
+
+    continuing : (old.fault ≡ None → Refines items [] old new) → (fault : Option HostFault) → old.fault ≡ fault
+        → ContinuesRuns Law (items_unless_stopped fault items) [] old new
+    continuing takes None none = keeps-on items [] old new (takes none)
+    continuing takes (Some fault) is = stays fault is
+
+    writing : (before after : Option Octets) → (IsSome old.fault → after ≡ before) → (old.fault ≡ None → Feeds items old new before after new.fault)
+        → (fault : Option HostFault) → old.fault ≡ fault → ContinuesWriting Law (items_unless_stopped fault items) old new before after
+    writing before after silent feeds None none = feeding items old new before after new.fault refl (feeds none)
+    writing before after silent feeds (Some fault) is = record {
+      processed = [];
+      all = all-of [] new.fault;
+      packets = [];
+      runs = stays fault is;
+      written = record {
+        written = [];
+        appended = subst (λ (written : Option Octets). Appends before written []) (sym (silent (subst (λ (found : Option HostFault). IsSome found) (sym is) refl)))
+            (Appends-nil before);
+        left = [];
+        parts = refl;
+      };
+    }
 
 -- by what a call feeds
-pub fed_by_the_policy : (items : List Item) (old new : HostModel) (before after : Option Octets) → Feeds items old new before after new.fault
-    → ContinuesByThePolicy old new before after
-fed_by_the_policy items old new before after feeds = feeding KeepsThePolicyIn keeps_the_policy_in items old new before after new.fault feeds
+module _ (items : List Item) (old new : HostModel) (before after : Option Octets) where
+  pub fed_by_the_policy : Feeds items old new before after new.fault → ContinuesWriting KeepsThePolicyIn items old new before after
+  fed_by_the_policy feeds = feeding KeepsThePolicyIn keeps_the_policy_in items old new before after new.fault refl feeds
 
-pub fed_apart : (items : List Item) (old new : HostModel) (before after : Option Octets) → Feeds items old new before after new.fault
-    → ContinuesApart old new before after
-fed_apart items old new before after feeds = feeding KeepsConnectionsApartIn keeps_connections_apart_in items old new before after new.fault feeds
+  pub fed_apart : Feeds items old new before after new.fault → ContinuesWriting KeepsConnectionsApartIn items old new before after
+  fed_apart feeds = feeding KeepsConnectionsApartIn keeps_connections_apart_in items old new before after new.fault refl feeds
 
--- by what it takes in, where nothing is written
-pub taken_by_the_policy : (items : List Item) (old new : HostModel) → Refines items [] old new → ContinuesByThePolicy old new None None
-taken_by_the_policy items old new refines =
-    taking KeepsThePolicyIn keeps_the_policy_in items old new None None (takes_silently items old new None refines)
+-- so each call does, unless the host had stopped
+module _ (items : List Item) (old new : HostModel) (stopped : IsSome old.fault → new ≡ old) where
+  pub continues_by_the_policy : (old.fault ≡ None → Refines items [] old new) → ContinuesByThePolicy items old new
+  continues_by_the_policy takes = continuing KeepsThePolicyIn keeps_the_policy_in items old new stopped takes old.fault refl
 
-pub taken_apart : (items : List Item) (old new : HostModel) → Refines items [] old new → ContinuesApart old new None None
-taken_apart items old new refines =
-    taking KeepsConnectionsApartIn keeps_connections_apart_in items old new None None (takes_silently items old new None refines)
+  pub continues_apart : (old.fault ≡ None → Refines items [] old new) → ContinuesApart items old new
+  continues_apart takes = continuing KeepsConnectionsApartIn keeps_connections_apart_in items old new stopped takes old.fault refl
 
--- by nothing
-pub stays_by_the_policy : (host : HostModel) (written : Option Octets) → ContinuesByThePolicy host host written written
-stays_by_the_policy host written =
-    taking KeepsThePolicyIn keeps_the_policy_in [] host host written written (takes_silently [] host host written (leads_nowhere host host refl))
+  module _ (before after : Option Octets) (silent : IsSome old.fault → after ≡ before) (feeds : old.fault ≡ None → Feeds items old new before after new.fault)
+    where
+      pub writes_by_the_policy : WritesByThePolicy items old new before after
+      writes_by_the_policy = writing KeepsThePolicyIn keeps_the_policy_in items old new stopped before after silent feeds old.fault refl
 
-pub stays_apart : (host : HostModel) (written : Option Octets) → ContinuesApart host host written written
-stays_apart host written =
-    taking KeepsConnectionsApartIn keeps_connections_apart_in [] host host written written (takes_silently [] host host written (leads_nowhere host host refl))
-
--- unless the host had stopped, which changes nothing
-module _ (old new : HostModel) (before after : Option Octets) (feeds : old.fault ≡ None → (items : List Item) × Feeds items old new before after new.fault)
-    (stopped : IsSome old.fault → new ≡ old) (silent : IsSome old.fault → after ≡ before) where
-  same-by : (Law : Start → List Item → Type 0) → ContinuesRuns Law old old before before → IsSome old.fault → ContinuesRuns Law old new before after
-  same-by Law stays some =
-      subst (λ (host : HostModel). ContinuesRuns Law old host before after) (sym (stopped some))
-      (subst (λ (written : Option Octets). ContinuesRuns Law old old before written) (sym (silent some)) stays)
-
-  by-policy : (fault : Option HostFault) → old.fault ≡ fault → ContinuesByThePolicy old new before after
-  by-policy None none = fed_by_the_policy (feeds none).0 old new before after (feeds none).1
-  by-policy (Some fault) is =
-      same-by KeepsThePolicyIn (stays_by_the_policy old before) (subst (λ (fault : Option HostFault). IsSome fault) (sym is) refl)
-
-  by-apart : (fault : Option HostFault) → old.fault ≡ fault → ContinuesApart old new before after
-  by-apart None none = fed_apart (feeds none).0 old new before after (feeds none).1
-  by-apart (Some fault) is =
-      same-by KeepsConnectionsApartIn (stays_apart old before) (subst (λ (fault : Option HostFault). IsSome fault) (sym is) refl)
-
-  pub unless_stopped_by_the_policy : ContinuesByThePolicy old new before after
-  unless_stopped_by_the_policy = by-policy old.fault refl
-
-  pub unless_stopped_apart : ContinuesApart old new before after
-  unless_stopped_apart = by-apart old.fault refl
+      pub writes_apart : WritesApart items old new before after
+      writes_apart = writing KeepsConnectionsApartIn keeps_connections_apart_in items old new stopped before after silent feeds old.fault refl
 
 pub gives_what_is_due : (start : Start) (opened : HostModel) → RefinesRun (run start []) [] opened → GivesWhatIsDue start opened
 gives_what_is_due start opened refines items packets later leads =

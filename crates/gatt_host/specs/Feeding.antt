@@ -1,22 +1,19 @@
 -- The input that a call processes, and the output that it writes.
-use Rattle.std.specs.Prelude.{◌≡◌, ℕ, ◌+◌, ◌-◌, ◌*◌, ◌<◌, ◌≤◌, length, is_ok, IsOk, IfOk, IfSome, Bool, true, false, is_some, List, [], ◌∷◌, ◌++◌, map, take, if◌then◌else◌, Option, Some, None, Result, Ok, Err}
-use Rattle.std.specs.Io.KnownBytes.{Appends, Consumes, IsAtEnd}
+use Rattle.std.specs.Prelude.{◌≡◌, ℕ, ◌+◌, length, IfSome, Bool, true, false, is_some, List, [], ◌∷◌, ◌++◌, map, take, if◌then◌else◌, Option, Some, None, Result, Ok, Err}
+use Rattle.std.specs.Io.KnownBytes.{Appends}
 use Rattle.std.specs.List.{flat_map}
-use Rattle.std.specs.Result.{result_err}
 use Rattle.gatt_host.specs.Calls.{call_of}
 use Rattle.gatt_host.specs.declared.driving.Input.{Input}
 use Rattle.gatt_host.specs.declared.driving.Input.TheVariants as input
 use Rattle.gatt_host.specs.declared.host_fault.HostFault.{HostFault}
 use Rattle.gatt_host.specs.declared.host_fault.HostFault.TheVariants as stop
-use Rattle.gatt_host.specs.declared.serving.End.{End}
 use Rattle.gatt_host.specs.HostModel.{Refines, RefinesRun, HostModel, all_out}
-use Rattle.gatt_laws.specs.machine.Input.{Run, Item, AnOctet, ACall, TheEnd, after_item, call_refusal, run}
+use Rattle.gatt_laws.specs.machine.Input.{Run, Item, AnOctet, ACall, after_item, call_refusal, run}
 use Rattle.gatt_laws.specs.machine.Start.{Start}
 use Rattle.le_h4.specs.Division.{division}
 use Rattle.le_h4.specs.Packet.{Packet}
 use Rattle.octet_io.specs.Number.{Octets}
-use Rattle.octet_io.specs.Stream.{CountsIf, CountsMany, WritesFront}
-use Rattle.gatt_host.specs.declared.serving.TheConstants.{TURN}
+use Rattle.octet_io.specs.Stream.{CountsIf, WritesFront}
 
 abbrev pub joined : List Octets → Octets
 joined packets = flat_map (λ packet. packet) packets
@@ -123,35 +120,3 @@ CountsRefused count items host =
     (start : Start) (input : List Item) (sent : List Octets)
     → RefinesRun (run start input) sent host
     → count ≡ refused_in (run start input) items
-
--- The octets that were read, and the end of the input if it was reached.
-abbrev pub items_read : {A : Type 0} → Result A HostFault → Octets → List Item
-items_read (Ok ended) read = octet_items read ++ TheEnd ∷ []
-items_read (Err fault) read = octet_items read
-
--- Each read returned at least one octet and at most `TURN`.
-pub record IsReadIn (turns : ℕ) (read : Octets) : Type 0 where
-  pub some : turns ≤ length read
-  pub most : length read ≤ TURN * turns
-
--- The octets that were read are processed, and their output is written.
-pub record Serves (result : Result End HostFault) (turns : ℕ) (old new : HostModel)
-    (remaining left before after : Option Octets) : Type 0 where
-  pub read : Octets
-  pub consumed : Consumes remaining left read
-  pub feeds : Feeds (items_read result read) old new before after new.fault
-  pub at_end : IsOk result → IsAtEnd left
-  pub ended : IfOk result (λ (end : End). (0 < end.turns) × IsReadIn (end.turns - 1) read)
-  pub over : result ≡ Err stop.Turns → IsReadIn turns read
-
--- A call makes at most `turns` reads, and exactly that many if it returns `Turns`. It finds the end
--- once if it returns `Ok`, and a read fails exactly if it returns `Read`.
-pub record Reads (result : Result End HostFault) (turns : ℕ)
-    (reads reads' found found' failed failed' : Option ℕ) : Type 0 where
-  pub made : ℕ
-  pub counted : CountsMany made reads reads'
-  pub most : made ≤ turns
-  pub told : IfOk result (λ (end : End). end.turns ≡ made)
-  pub over : result ≡ Err stop.Turns → made ≡ turns
-  pub ends : CountsIf (is_ok result) found found'
-  pub failures : CountsIf (is_read_fault (result_err result)) failed failed'

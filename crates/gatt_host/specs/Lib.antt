@@ -15,6 +15,7 @@ pub mod Feeding
 pub mod Credits
 pub mod Numbers
 pub mod Promises
+pub mod Serving
 pub mod Notices
 pub mod Telling
 pub mod Listening

@@ -6,7 +6,7 @@ ghost use Rattle.gatt_host.specs.Calls.{call_of};
 ghost use Rattle.gatt_host.specs.Calling.{fault_told, Answers, IsCallRefusedAs};
 ghost use Rattle.gatt_host.specs.Feeding.{Processes};
 ghost use Rattle.gatt_host.specs.Listening.{Listens};
-ghost use Rattle.gatt_host.specs.Promises.{ContinuesApart, ContinuesByThePolicy};
+ghost use Rattle.gatt_host.specs.Promises.{WritesApart, WritesByThePolicy};
 ghost use Rattle.gatt_host.specs.HostModel.{all_out};
 ghost use Rattle.gatt_laws.specs.machine.Input.{ACall};
 
@@ -32,10 +32,10 @@ pub fn call<W: Sink>(host: &mut Host, call: App<'_>, out: &mut W) -> Result<(), 
     ensures outcome { fault_told result ≡ host.new.fault }
     ensures stopped { IsSome host.old.fault → host.new ≡ host.old }
     ensures sink_stopped { IsSome host.old.fault → out.new ≡ out.old }
-    ensures policy { ContinuesByThePolicy host.old host.new (W.contents out.old)
-        (W.contents out.new) }
-    ensures apart { ContinuesApart host.old host.new (W.contents out.old)
-        (W.contents out.new) }
+    ensures policy { WritesByThePolicy (ACall (call_of call.entry) ∷ []) host.old host.new
+        (W.contents out.old) (W.contents out.new) }
+    ensures apart { WritesApart (ACall (call_of call.entry) ∷ []) host.old host.new
+        (W.contents out.old) (W.contents out.new) }
 {
     call_to(host, call, out, &mut Nobody)
 }
@@ -60,10 +60,10 @@ pub fn call_to<W: Sink, L: Listener>(
     ensures stopped { IsSome host.old.fault → host.new ≡ host.old }
     ensures sink_stopped { IsSome host.old.fault → out.new ≡ out.old }
     ensures listener_stopped { IsSome host.old.fault → listener.new ≡ listener.old }
-    ensures policy { ContinuesByThePolicy host.old host.new (W.contents out.old)
-        (W.contents out.new) }
-    ensures apart { ContinuesApart host.old host.new (W.contents out.old)
-        (W.contents out.new) }
+    ensures policy { WritesByThePolicy (ACall (call_of call.entry) ∷ []) host.old host.new
+        (W.contents out.old) (W.contents out.new) }
+    ensures apart { WritesApart (ACall (call_of call.entry) ∷ []) host.old host.new
+        (W.contents out.old) (W.contents out.new) }
 {
     feed(host, &[], out)?;
     do_call(host, call, out, listener)?.map_err(Fault::Call)

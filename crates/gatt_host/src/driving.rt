@@ -4,7 +4,7 @@ ghost use Rattle.std.specs.Prelude.{◌≡◌, None, IsSome, IfOk, Some, true, i
 ghost use Rattle.std.specs.Result.{result_err};
 ghost use Rattle.gatt_host.specs.Feeding.{input_items, items_of, CountsRefused, Processes};
 ghost use Rattle.gatt_host.specs.Listening.{Listens};
-ghost use Rattle.gatt_host.specs.Promises.{ContinuesApart, ContinuesByThePolicy};
+ghost use Rattle.gatt_host.specs.Promises.{WritesApart, WritesByThePolicy};
 ghost use Rattle.gatt_host.specs.HostModel.{all_out};
 
 use crate::calling::do_call;
@@ -40,9 +40,9 @@ pub fn drive<W: Sink>(
     ensures refused { IfOk result (λ count. CountsRefused count (items_of inputs.now) host.old) }
     ensures stopped { IsSome host.old.fault → host.new ≡ host.old }
     ensures sink_stopped { IsSome host.old.fault → out.new ≡ out.old }
-    ensures policy { ContinuesByThePolicy host.old host.new (W.contents out.old)
+    ensures policy { WritesByThePolicy (items_of inputs.now) host.old host.new (W.contents out.old)
         (W.contents out.new) }
-    ensures apart { ContinuesApart host.old host.new (W.contents out.old)
+    ensures apart { WritesApart (items_of inputs.now) host.old host.new (W.contents out.old)
         (W.contents out.new) }
 {
     drive_to(host, inputs, out, &mut Nobody)
@@ -67,9 +67,9 @@ pub fn drive_to<W: Sink, L: Listener>(
     ensures stopped { IsSome host.old.fault → host.new ≡ host.old }
     ensures sink_stopped { IsSome host.old.fault → out.new ≡ out.old }
     ensures listener_stopped { IsSome host.old.fault → listener.new ≡ listener.old }
-    ensures policy { ContinuesByThePolicy host.old host.new (W.contents out.old)
+    ensures policy { WritesByThePolicy (items_of inputs.now) host.old host.new (W.contents out.old)
         (W.contents out.new) }
-    ensures apart { ContinuesApart host.old host.new (W.contents out.old)
+    ensures apart { WritesApart (items_of inputs.now) host.old host.new (W.contents out.old)
         (W.contents out.new) }
 {
     match host.fault {

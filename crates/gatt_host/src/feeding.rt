@@ -7,7 +7,7 @@ ghost use Rattle.gatt_host.specs.GoingOut.{is_drained};
 ghost use Rattle.gatt_host.specs.ServerState.{OwesPacketsAlone, open_slots};
 ghost use Rattle.gatt_host.specs.Meaning.{Frames};
 ghost use Rattle.gatt_host.specs.Listening.{Listens};
-ghost use Rattle.gatt_host.specs.Promises.{ContinuesApart, ContinuesByThePolicy};
+ghost use Rattle.gatt_host.specs.Promises.{WritesApart, WritesByThePolicy};
 ghost use Rattle.gatt_host.specs.HostModel.{going, is_own_fault, fault_outcome, write_outcome, IsStateOfOne};
 ghost use Rattle.le_h4.specs.Deframer.{Deframing};
 ghost use Rattle.octet_io.specs.Stream.{CountsIf};
@@ -30,9 +30,9 @@ pub fn feed<W: Sink>(host: &mut Host, octets: &[u8], out: &mut W) -> Result<(), 
     ensures outcome { result ≡ fault_outcome host.new.fault }
     ensures stopped { IsSome host.old.fault → host.new ≡ host.old }
     ensures sink_stopped { IsSome host.old.fault → out.new ≡ out.old }
-    ensures policy { ContinuesByThePolicy host.old host.new (W.contents out.old)
-        (W.contents out.new) }
-    ensures apart { ContinuesApart host.old host.new (W.contents out.old)
+    ensures policy { WritesByThePolicy (octet_items octets.now) host.old host.new
+        (W.contents out.old) (W.contents out.new) }
+    ensures apart { WritesApart (octet_items octets.now) host.old host.new (W.contents out.old)
         (W.contents out.new) }
 {
     feed_to(host, octets, out, &mut Nobody)
@@ -56,9 +56,9 @@ pub fn feed_to<W: Sink, L: Listener>(
     ensures stopped { IsSome host.old.fault → host.new ≡ host.old }
     ensures sink_stopped { IsSome host.old.fault → out.new ≡ out.old }
     ensures listener_stopped { IsSome host.old.fault → listener.new ≡ listener.old }
-    ensures policy { ContinuesByThePolicy host.old host.new (W.contents out.old)
-        (W.contents out.new) }
-    ensures apart { ContinuesApart host.old host.new (W.contents out.old)
+    ensures policy { WritesByThePolicy (octet_items octets.now) host.old host.new
+        (W.contents out.old) (W.contents out.new) }
+    ensures apart { WritesApart (octet_items octets.now) host.old host.new (W.contents out.old)
         (W.contents out.new) }
 {
     if let Some(fault) = host.fault {

@@ -150,8 +150,10 @@ impl Host {
         ensures not_own { self.old.fault ≡ None
             → IfErr result (λ fault. is_own_fault fault ≡ false) }
         ensures stopped { IsSome self.old.fault → self.new ≡ self.old }
-        ensures policy { ContinuesByThePolicy self.old self.new None None }
-        ensures apart { ContinuesApart self.old self.new None None }
+        ensures policy { ContinuesByThePolicy (APacket (packet_of_ref packet.entry) ∷ []) self.old
+            self.new }
+        ensures apart { ContinuesApart (APacket (packet_of_ref packet.entry) ∷ []) self.old
+            self.new }
     {
         if let Some(fault) = self.fault {
             return Err(fault);
@@ -184,8 +186,8 @@ impl Host {
             → IfErr result (λ fault. is_own_fault fault ≡ false) }
         ensures server { OnErr result (self.new.server ≡ self.old.server) }
         ensures stopped { IsSome self.old.fault → self.new ≡ self.old }
-        ensures policy { ContinuesByThePolicy self.old self.new None None }
-        ensures apart { ContinuesApart self.old self.new None None }
+        ensures policy { ContinuesByThePolicy (items_taken octets.now result) self.old self.new }
+        ensures apart { ContinuesApart (items_taken octets.now result) self.old self.new }
     {
         if let Some(fault) = self.fault {
             return Err(fault);
@@ -208,8 +210,8 @@ impl Host {
         ensures frames { self.new.frames ≡ self.old.frames }
         ensures fault { self.new.fault ≡ self.old.fault }
         ensures unchanged { OnErr result (self.new ≡ silent self.old) }
-        ensures policy { ContinuesByThePolicy self.old self.new None None }
-        ensures apart { ContinuesApart self.old self.new None None }
+        ensures policy { ContinuesByThePolicy (ACall (call_of call.entry) ∷ []) self.old self.new }
+        ensures apart { ContinuesApart (ACall (call_of call.entry) ∷ []) self.old self.new }
     {
         if self.fault.is_some() {
             return Err(AppFault::Stopped);
@@ -232,8 +234,8 @@ impl Host {
         ensures frames { self.new.frames ≡ self.old.frames }
         ensures fault { self.new.fault ≡ self.old.fault }
         ensures unchanged { OnErr result (self.new ≡ silent self.old) }
-        ensures policy { ContinuesByThePolicy self.old self.new None None }
-        ensures apart { ContinuesApart self.old self.new None None }
+        ensures policy { ContinuesByThePolicy (ATable table ∷ []) self.old self.new }
+        ensures apart { ContinuesApart (ATable table ∷ []) self.old self.new }
     {
         if self.fault.is_some() {
             return Err((AppFault::Stopped, table));

@@ -3,11 +3,11 @@
 ghost use Rattle.std.specs.Prelude.{◌≡◌, ◌≤◌, ◌==◌, [], length, None, Some, IsSome, IfOk, OnErr};
 ghost use Rattle.std.specs.Result.{result_err};
 ghost use Rattle.std.specs.Io.KnownBytes.{Consumes, IsAtEnd, Keeps};
-ghost use Rattle.gatt_host.specs.Feeding.{Reads, Serves, Settles};
+ghost use Rattle.gatt_host.specs.Feeding.{Settles};
 ghost use Rattle.gatt_host.specs.ServerState.{without_notices};
 ghost use Rattle.gatt_host.specs.Listening.{ListensServing};
-ghost use Rattle.gatt_host.specs.Promises.{ContinuesApart, ContinuesByThePolicy};
 ghost use Rattle.gatt_host.specs.HostModel.{Takes};
+ghost use Rattle.gatt_host.specs.Serving.{Reads, Serves};
 ghost use Rattle.gatt_laws.specs.machine.Input.{TheEnd};
 ghost use Rattle.octet_io.specs.Stream.{CountsFailure, CountsIf, CountsNone, CountsOne};
 
@@ -52,10 +52,6 @@ pub fn serve<R: Source, W: Sink>(
     ensures stopped { IsSome host.old.fault → host.new ≡ host.old }
     ensures reader_stopped { IsSome host.old.fault → reader.new ≡ reader.old }
     ensures writer_stopped { IsSome host.old.fault → writer.new ≡ writer.old }
-    ensures policy { ContinuesByThePolicy host.old host.new (W.contents writer.old)
-        (W.contents writer.new) }
-    ensures apart { ContinuesApart host.old host.new (W.contents writer.old)
-        (W.contents writer.new) }
 {
     serve_to(host, reader, writer, turns, &mut Nobody)
 }
@@ -85,10 +81,6 @@ pub fn serve_to<R: Source, W: Sink, L: Listener>(
     ensures reader_stopped { IsSome host.old.fault → reader.new ≡ reader.old }
     ensures writer_stopped { IsSome host.old.fault → writer.new ≡ writer.old }
     ensures listener_stopped { IsSome host.old.fault → listener.new ≡ listener.old }
-    ensures policy { ContinuesByThePolicy host.old host.new (W.contents writer.old)
-        (W.contents writer.new) }
-    ensures apart { ContinuesApart host.old host.new (W.contents writer.old)
-        (W.contents writer.new) }
 {
     match host.fault {
         Some(fault) => Err(fault),

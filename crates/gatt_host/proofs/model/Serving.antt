@@ -1,10 +1,11 @@
 -- What a reader gives is taken in turn by turn, up to the end of its stream.
-use Rattle.std.proofs.Common.{◌≡◌, ℕ, ◌+◌, ◌≤◌, Bool, true, false, Result, Ok, Err, List, [], ◌∷◌, ◌++◌, length, Option, Some, None, refl, sym, ap, subst, ◌∙◌, inl, inr, arith, append-nil}
+use Rattle.std.proofs.Common.{◌≡◌, ℕ, ◌+◌, ◌-◌, ◌≤◌, ◌<◌, Bool, true, false, Result, Ok, Err, List, [], ◌∷◌, ◌++◌, length, Option, Some, None, refl, sym, ap, subst, ◌∙◌, inl, inr, arith, append-nil}
 use Rattle.std.proofs.KnownBytes.{Consumes-kept, Consumes-nil, Consumes-trans}
 use Rattle.std.proofs.lemmas.Bool.{cases_Bool, eqb-true, leb-false}
 use Rattle.std.proofs.lemmas.List.{length-append}
-use Rattle.std.specs.Prelude.{◌==◌, nat_le, OnErr}
+use Rattle.std.specs.Prelude.{◌==◌, nat_le, IfOk, IsOk, OnErr}
 use Rattle.std.specs.Io.KnownBytes.{Consumes, IsAtEnd, Keeps}
+use Rattle.gatt_host.proofs.Promises.{fed_apart, fed_by_the_policy}
 use Rattle.gatt_host.proofs.model.Feeds.{all_items, feeds_then, takes_silently, takes_then}
 use Rattle.gatt_host.proofs.model.Items.{leads_stopped, takes_item}
 use Rattle.gatt_host.proofs.model.Silence.{stands_at_in_silence}
@@ -12,9 +13,10 @@ use Rattle.gatt_host.specs.declared.host_fault.HostFault.{HostFault}
 use Rattle.gatt_host.proofs.owing.Nexts.{clash}
 use Rattle.gatt_host.specs.declared.host_fault.HostFault.TheVariants as stop
 use Rattle.gatt_host.specs.declared.serving.End.{End}
-use Rattle.gatt_host.specs.Feeding.{Feeds, IsReadIn, Reads, Serves, TakesAll, is_of_feeding, is_read_fault, is_write_fault, octet_items}
+use Rattle.gatt_host.specs.Feeding.{Feeds, TakesAll, is_of_feeding, is_read_fault, is_write_fault, octet_items}
 use Rattle.gatt_host.specs.ServerState.{without_notices}
 use Rattle.gatt_host.specs.HostModel.{RefinesRun, Takes, HostModel, is_own_fault}
+use Rattle.gatt_host.specs.Serving.{IsReadIn, Reads, Serves, items_read}
 use Rattle.gatt_laws.specs.machine.Input.{Run, Item, TheEnd, run}
 use Rattle.le_h4.specs.Deframer.{deframing_at_start, still}
 use Rattle.le_h4.specs.Division.{division}
@@ -110,6 +112,22 @@ own_feeds items old new before after stop.Read other takes = takes
 own_feeds items old new before after stop.Write other takes = absurd (clash (sym other))
 own_feeds items old new before after stop.Turns other takes = takes
 
+-- what is read, by what it feeds
+serves_by : (result : Result End HostFault) (turns : ℕ) (read : Octets) (old new : HostModel) (remaining left before after : Option Octets)
+    → Consumes remaining left read → Feeds (items_read result read) old new before after new.fault → (IsOk result → IsAtEnd left)
+    → IfOk result (λ (end : End). (0 < end.turns) × IsReadIn (end.turns - 1) read) → (result ≡ Err stop.Turns → IsReadIn turns read)
+    → Serves result turns old new remaining left before after
+serves_by result turns read old new remaining left before after consumed feeds at_end ended over = record {
+  read = read;
+  consumed = consumed;
+  feeds = feeds;
+  policy = fed_by_the_policy (items_read result read) old new before after feeds;
+  apart = fed_apart (items_read result read) old new before after feeds;
+  at_end = at_end;
+  ended = ended;
+  over = over;
+}
+
 -- by what a call answers: the reader fails, or the turns are over
 pub serves_stopped : (result : Result End HostFault) (fault : HostFault) (turns given : ℕ) (old mid new : HostModel)
     (remaining between left before after : Option Octets)
@@ -118,31 +136,26 @@ pub serves_stopped : (result : Result End HostFault) (fault : HostFault) (turns 
     → HasServed given old mid remaining between before after → (fault ≡ stop.Turns → given ≡ turns) → Serves result turns old new remaining left before after
 serves_stopped result fault turns given old mid new remaining between left before after answers none is own other keeps served over =
     subst (λ (result : Result End HostFault). Serves result turns old new remaining left before after) (sym answers)
-    (subst (λ (host : HostModel). Serves (failed fault) turns old host remaining left before after) (sym is) (record {
-      read = served.read;
-      consumed = Consumes-kept remaining between left served.read served.consumed keeps;
-      feeds = own_feeds (octet_items served.read) old (record mid { fault = Some fault }) before after fault other
-          (subst (λ (items : List Item). TakesAll items old (record mid { fault = Some fault }) before after) (append-nil (octet_items served.read))
-          (takes_then (octet_items served.read) [] old mid (record mid { fault = Some fault }) before after after served.takes
-          (takes_silently [] mid (record mid { fault = Some fault }) after (leads_stopped mid fault none own))));
-      at_end = λ ended. cc ended;
-      ended = tt;
-      over = λ is_over. subst (λ (count : ℕ). IsReadIn count served.read) (over (err-is is_over)) served.read_in;
-    }))
+    (subst (λ (host : HostModel). Serves (failed fault) turns old host remaining left before after) (sym is)
+    (serves_by (failed fault) turns served.read old (record mid { fault = Some fault }) remaining left before after
+    (Consumes-kept remaining between left served.read served.consumed keeps)
+    (own_feeds (octet_items served.read) old (record mid { fault = Some fault }) before after fault other
+    (subst (λ (items : List Item). TakesAll items old (record mid { fault = Some fault }) before after) (append-nil (octet_items served.read))
+    (takes_then (octet_items served.read) [] old mid (record mid { fault = Some fault }) before after after served.takes
+    (takes_silently [] mid (record mid { fault = Some fault }) after (leads_stopped mid fault none own)))))
+    (λ ended. cc ended) tt
+    (λ is_over. subst (λ (count : ℕ). IsReadIn count served.read) (over (err-is is_over)) served.read_in)))
 
 -- the input ends
 pub serves_ended : (turns given : ℕ) (old mid new : HostModel) (remaining between left before after : Option Octets) → new.fault ≡ None
     → Consumes between left [] → IsAtEnd left
     → Takes TheEnd mid new → HasServed given old mid remaining between before after → Serves (ended_in (given + 1)) turns old new remaining left before after
-serves_ended turns given old mid new remaining between left before after none nothing at_end takes served = record {
-  read = served.read;
-  consumed = subst (Consumes remaining left) (append-nil served.read) (Consumes-trans remaining between left served.read [] served.consumed nothing);
-  feeds = subst (λ (found : Option HostFault). Feeds (octet_items served.read ++ TheEnd ∷ []) old new before after found) (sym none)
-      (takes_then (octet_items served.read) (TheEnd ∷ []) old mid new before after after served.takes (takes_silently (TheEnd ∷ []) mid new after takes));
-  at_end = λ ended. at_end;
-  ended = (omega arith, subst (λ (count : ℕ). IsReadIn count served.read) (omega arith) served.read_in);
-  over = λ is_over. cc is_over;
-}
+serves_ended turns given old mid new remaining between left before after none nothing at_end takes served =
+    serves_by (ended_in (given + 1)) turns served.read old new remaining left before after
+    (subst (Consumes remaining left) (append-nil served.read) (Consumes-trans remaining between left served.read [] served.consumed nothing))
+    (subst (λ (found : Option HostFault). Feeds (octet_items served.read ++ TheEnd ∷ []) old new before after found) (sym none)
+    (takes_then (octet_items served.read) (TheEnd ∷ []) old mid new before after after served.takes (takes_silently (TheEnd ∷ []) mid new after takes)))
+    (λ ended. at_end) (omega arith, subst (λ (count : ℕ). IsReadIn count served.read) (omega arith) served.read_in) (λ is_over. cc is_over)
 
 -- or the host stops at what is read
 pub serves_broken : (result : Result End HostFault) (fault : HostFault) (turns given : ℕ) (octets : Octets) (old mid new : HostModel)
@@ -150,14 +163,11 @@ pub serves_broken : (result : Result End HostFault) (fault : HostFault) (turns g
     → result ≡ Err fault → is_of_feeding fault ≡ true → Consumes between left octets → (served : HasServed given old mid remaining between before server)
     → Feeds (octet_items octets) mid new server after new.fault → Serves result turns old new remaining left before after
 serves_broken result fault turns given octets old mid new remaining between left before server after answers comes consumed served feeds =
-    subst (λ (result : Result End HostFault). Serves result turns old new remaining left before after) (sym answers) (record {
-      read = served.read ++ octets;
-      consumed = Consumes-trans remaining between left served.read octets served.consumed consumed;
-      feeds = served_feeds given octets old mid new remaining between before server after new.fault served feeds;
-      at_end = λ ended. cc ended;
-      ended = tt;
-      over = λ is_over. absurd (no-turns fault (err-is is_over) comes);
-    })
+    subst (λ (result : Result End HostFault). Serves result turns old new remaining left before after) (sym answers)
+    (serves_by (failed fault) turns (served.read ++ octets) old new remaining left before after
+    (Consumes-trans remaining between left served.read octets served.consumed consumed)
+    (served_feeds given octets old mid new remaining between before server after new.fault served feeds)
+    (λ ended. cc ended) tt (λ is_over. absurd (no-turns fault (err-is is_over) comes)))
 
 -- the reads that were made where the host stops
 pub reads_stopped : (result : Result End HostFault) (fault : HostFault) (made turns : ℕ) (reads reads' ends ends' failed failed' : Option ℕ)

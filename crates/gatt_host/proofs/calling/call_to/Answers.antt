@@ -3,11 +3,11 @@ use Rattle.gatt_host.proofs.calling.call_to.Goals as goal
 use Rattle.gatt_host.proofs.model.Calling.{answer_as, call_behind, call_listens, call_refused, error_told, stopped_answers}
 use Rattle.gatt_host.proofs.model.Driving.{past_fault}
 use Rattle.gatt_host.proofs.model.Due.{feeding_at}
-use Rattle.gatt_host.proofs.model.Feeds.{counts_where_going, fault_answered, none_answered, none_before, settles_then}
+use Rattle.gatt_host.proofs.model.Feeds.{counts_where_going, fault_answered, none_answered, settles_then}
 use Rattle.gatt_host.proofs.model.Hearing.{past_heard}
 use Rattle.gatt_host.proofs.model.HearingTurns.{nothing_heard}
 use Rattle.gatt_host.proofs.model.Stands.{past_going}
-use Rattle.gatt_host.proofs.Promises.{fed_apart, fed_by_the_policy}
+use Rattle.gatt_host.proofs.Promises.{writes_apart, writes_by_the_policy}
 use Rattle.gatt_host.specs.Calls.{call_of}
 use Rattle.gatt_host.specs.Calling.{answer_told}
 use Rattle.gatt_host.specs.declared.fault.Fault.TheVariants as told
@@ -103,38 +103,6 @@ returns-clause-answers g c = λ none. record {
       c.in_ok-do_call.ensures.refused;
 }
 
-pub returns-in_err-feed-clause-policy : goal.returns-in_err-feed-clause-policy
-returns-in_err-feed-clause-policy g c =
-    c.feed.ensures.policy
-
-pub returns-in_err-feed-clause-apart : goal.returns-in_err-feed-clause-apart
-returns-in_err-feed-clause-apart g c =
-    c.feed.ensures.apart
-
-pub returns-in_err-do_call-clause-policy : goal.returns-in_err-do_call-clause-policy
-returns-in_err-do_call-clause-policy g c =
-    fed_by_the_policy (ACall (call_of c.args.call) ∷ []) _ _ _ _
-    (returns-in_err-do_call-clause-processes g c
-    (none_before c.args.host.now c.feed.new.host c.feed.ensures.stopped (none_answered c.feed.new.host.fault c.in_ok-feed.ensures.outcome))).feeds
-
-pub returns-in_err-do_call-clause-apart : goal.returns-in_err-do_call-clause-apart
-returns-in_err-do_call-clause-apart g c =
-    fed_apart (ACall (call_of c.args.call) ∷ []) _ _ _ _
-    (returns-in_err-do_call-clause-processes g c
-    (none_before c.args.host.now c.feed.new.host c.feed.ensures.stopped (none_answered c.feed.new.host.fault c.in_ok-feed.ensures.outcome))).feeds
-
-pub returns-clause-policy : goal.returns-clause-policy
-returns-clause-policy g c =
-    fed_by_the_policy (ACall (call_of c.args.call) ∷ []) _ _ _ _
-    (returns-clause-processes g c
-    (none_before c.args.host.now c.feed.new.host c.feed.ensures.stopped (none_answered c.feed.new.host.fault c.in_ok-feed.ensures.outcome))).feeds
-
-pub returns-clause-apart : goal.returns-clause-apart
-returns-clause-apart g c =
-    fed_apart (ACall (call_of c.args.call) ∷ []) _ _ _ _
-    (returns-clause-processes g c
-    (none_before c.args.host.now c.feed.new.host c.feed.ensures.stopped (none_answered c.feed.new.host.fault c.in_ok-feed.ensures.outcome))).feeds
-
 pub returns-in_err-do_call-clause-stopped : goal.returns-in_err-do_call-clause-stopped
 returns-in_err-do_call-clause-stopped g c =
     past_going c.args.host.now c.feed.new.host (none_answered c.feed.new.host.fault c.in_ok-feed.ensures.outcome) c.feed.ensures.stopped
@@ -158,3 +126,33 @@ returns-clause-sink_stopped g c =
 pub returns-clause-listener_stopped : goal.returns-clause-listener_stopped
 returns-clause-listener_stopped g c =
     past_going c.args.host.now c.feed.new.host (none_answered c.feed.new.host.fault c.in_ok-feed.ensures.outcome) c.feed.ensures.stopped
+
+pub returns-in_err-feed-clause-policy : goal.returns-in_err-feed-clause-policy
+returns-in_err-feed-clause-policy g c =
+    writes_by_the_policy (ACall (call_of c.args.call) ∷ []) c.args.host.now c.feed.new.host c.feed.ensures.stopped _ _
+    (λ some. ap g.W.Sink.contents (c.feed.ensures.sink_stopped some)) (λ none. (returns-in_err-feed-clause-processes g c none).feeds)
+
+pub returns-in_err-feed-clause-apart : goal.returns-in_err-feed-clause-apart
+returns-in_err-feed-clause-apart g c =
+    writes_apart (ACall (call_of c.args.call) ∷ []) c.args.host.now c.feed.new.host c.feed.ensures.stopped _ _
+    (λ some. ap g.W.Sink.contents (c.feed.ensures.sink_stopped some)) (λ none. (returns-in_err-feed-clause-processes g c none).feeds)
+
+pub returns-in_err-do_call-clause-policy : goal.returns-in_err-do_call-clause-policy
+returns-in_err-do_call-clause-policy g c =
+    writes_by_the_policy (ACall (call_of c.args.call) ∷ []) c.args.host.now c.do_call.new.host (returns-in_err-do_call-clause-stopped g c) _ _
+    (λ some. ap g.W.Sink.contents (returns-in_err-do_call-clause-sink_stopped g c some)) (λ none. (returns-in_err-do_call-clause-processes g c none).feeds)
+
+pub returns-in_err-do_call-clause-apart : goal.returns-in_err-do_call-clause-apart
+returns-in_err-do_call-clause-apart g c =
+    writes_apart (ACall (call_of c.args.call) ∷ []) c.args.host.now c.do_call.new.host (returns-in_err-do_call-clause-stopped g c) _ _
+    (λ some. ap g.W.Sink.contents (returns-in_err-do_call-clause-sink_stopped g c some)) (λ none. (returns-in_err-do_call-clause-processes g c none).feeds)
+
+pub returns-clause-policy : goal.returns-clause-policy
+returns-clause-policy g c =
+    writes_by_the_policy (ACall (call_of c.args.call) ∷ []) c.args.host.now c.do_call.new.host (returns-clause-stopped g c) _ _
+    (λ some. ap g.W.Sink.contents (returns-clause-sink_stopped g c some)) (λ none. (returns-clause-processes g c none).feeds)
+
+pub returns-clause-apart : goal.returns-clause-apart
+returns-clause-apart g c =
+    writes_apart (ACall (call_of c.args.call) ∷ []) c.args.host.now c.do_call.new.host (returns-clause-stopped g c) _ _
+    (λ some. ap g.W.Sink.contents (returns-clause-sink_stopped g c some)) (λ none. (returns-clause-processes g c none).feeds)

@@ -1,7 +1,5 @@
 use Rattle.gatt_host.proofs.model.Stands.{past_none, past_stop}
-use Rattle.gatt_host.proofs.Promises.{fed_apart, fed_by_the_policy, stays_apart, stays_by_the_policy}
 use Rattle.gatt_host.specs.contracts.host.Host.{the_view}
-use Rattle.gatt_host.specs.Feeding.{items_read}
 use Rattle.gatt_host.proofs.serving.serve_to.Goals as goal
 
 pub returns-in-Some-clause-serves : goal.returns-in-Some-clause-serves
@@ -16,14 +14,6 @@ returns-in-Some-clause-settles g c = past_stop (the_view c.host.inside) c.args.h
 pub returns-in-Some-clause-reads : goal.returns-in-Some-clause-reads
 returns-in-Some-clause-reads g c = past_stop (the_view c.host.inside) c.args.host.now c.host.view_is c.in-Some.fault c.in-Some.is
 
-pub returns-in-Some-clause-policy : goal.returns-in-Some-clause-policy
-returns-in-Some-clause-policy g c =
-    stays_by_the_policy c.args.host.now (g.W.Sink.contents c.args.writer.now)
-
-pub returns-in-Some-clause-apart : goal.returns-in-Some-clause-apart
-returns-in-Some-clause-apart g c =
-    stays_apart c.args.host.now (g.W.Sink.contents c.args.writer.now)
-
 pub returns-in-None-clause-stopped : goal.returns-in-None-clause-stopped
 returns-in-None-clause-stopped g c = past_none (the_view c.host.inside) c.args.host.now c.host.view_is c.in-None.is
 
@@ -35,11 +25,3 @@ returns-in-None-clause-writer_stopped g c = past_none (the_view c.host.inside) c
 
 pub returns-in-None-clause-listener_stopped : goal.returns-in-None-clause-listener_stopped
 returns-in-None-clause-listener_stopped g c = past_none (the_view c.host.inside) c.args.host.now c.host.view_is c.in-None.is
-
-pub returns-in-None-clause-policy : goal.returns-in-None-clause-policy
-returns-in-None-clause-policy g c =
-    fed_by_the_policy (items_read c.serve_all.result c.serve_all.ensures.serves.read) _ _ _ _ c.serve_all.ensures.serves.feeds
-
-pub returns-in-None-clause-apart : goal.returns-in-None-clause-apart
-returns-in-None-clause-apart g c =
-    fed_apart (items_read c.serve_all.result c.serve_all.ensures.serves.read) _ _ _ _ c.serve_all.ensures.serves.feeds

@@ -4,7 +4,7 @@ use Rattle.gatt_host.proofs.model.Items.{drained_where, none_unless, reached_by,
 use Rattle.gatt_host.proofs.model.Packets.{passes_long, takes_packet}
 use Rattle.gatt_host.proofs.model.Told.{long_told, not_long, ok_where, told_in_run}
 use Rattle.gatt_host.proofs.model.Stands.{past_none, past_stop}
-use Rattle.gatt_host.proofs.Promises.{stays_apart, stays_by_the_policy, taken_apart, taken_by_the_policy}
+use Rattle.gatt_host.proofs.Promises.{continues_apart, continues_by_the_policy}
 use Rattle.gatt_host.specs.contracts.host.Host.{the_view}
 use Rattle.gatt_host.specs.HostModel.{RefinesPacket, RefinesRun, Takes, HostModel, all_out}
 use Rattle.gatt_laws.specs.machine.Input.{APacket, run}
@@ -82,31 +82,30 @@ returns-in-Some-clause-not_own c = past_stop (the_view c.self.inside) c.args.sel
 
 pub returns-in-Some-clause-policy : goal.returns-in-Some-clause-policy
 returns-in-Some-clause-policy c =
-    stays_by_the_policy c.args.self.now None
+    continues_by_the_policy (APacket (packet_of_ref c.args.packet) ∷ []) c.args.self.now c.args.self.now (λ some. refl) (returns-in-Some-clause-takes c)
 
 pub returns-in-Some-clause-apart : goal.returns-in-Some-clause-apart
 returns-in-Some-clause-apart c =
-    stays_apart c.args.self.now None
+    continues_apart (APacket (packet_of_ref c.args.packet) ∷ []) c.args.self.now c.args.self.now (λ some. refl) (returns-in-Some-clause-takes c)
 
 pub returns-then-is_long-clause-stopped : goal.returns-then-is_long-clause-stopped
 returns-then-is_long-clause-stopped c = past_none (the_view c.self.inside) c.args.self.now c.self.view_is c.in_default.is
 
 pub returns-then-is_long-clause-policy : goal.returns-then-is_long-clause-policy
 returns-then-is_long-clause-policy c =
-    taken_by_the_policy (APacket (packet_of_ref c.args.packet) ∷ []) _ _
-    (returns-then-is_long-clause-takes c (sym (λ i. (c.self.view_is i).fault) ∙ c.in_default.is))
+    continues_by_the_policy (APacket (packet_of_ref c.args.packet) ∷ []) _ _ (returns-then-is_long-clause-stopped c) (returns-then-is_long-clause-takes c)
 
 pub returns-then-is_long-clause-apart : goal.returns-then-is_long-clause-apart
 returns-then-is_long-clause-apart c =
-    taken_apart (APacket (packet_of_ref c.args.packet) ∷ []) _ _ (returns-then-is_long-clause-takes c (sym (λ i. (c.self.view_is i).fault) ∙ c.in_default.is))
+    continues_apart (APacket (packet_of_ref c.args.packet) ∷ []) _ _ (returns-then-is_long-clause-stopped c) (returns-then-is_long-clause-takes c)
 
 pub returns-clause-stopped : goal.returns-clause-stopped
 returns-clause-stopped c = past_none (the_view c.self.inside) c.args.self.now c.self.view_is c.in_default.is
 
 pub returns-clause-policy : goal.returns-clause-policy
 returns-clause-policy c =
-    taken_by_the_policy (APacket (packet_of_ref c.args.packet) ∷ []) _ _ (returns-clause-takes c (sym (λ i. (c.self.view_is i).fault) ∙ c.in_default.is))
+    continues_by_the_policy (APacket (packet_of_ref c.args.packet) ∷ []) _ _ (returns-clause-stopped c) (returns-clause-takes c)
 
 pub returns-clause-apart : goal.returns-clause-apart
 returns-clause-apart c =
-    taken_apart (APacket (packet_of_ref c.args.packet) ∷ []) _ _ (returns-clause-takes c (sym (λ i. (c.self.view_is i).fault) ∙ c.in_default.is))
+    continues_apart (APacket (packet_of_ref c.args.packet) ∷ []) _ _ (returns-clause-stopped c) (returns-clause-takes c)

@@ -4,7 +4,7 @@ use Rattle.gatt_host.proofs.model.Calls.{replaced_after, table_told, takes_table
 use Rattle.gatt_host.proofs.model.Told.{told_in_run}
 use Rattle.gatt_host.proofs.model.Items.{reached_by}
 use Rattle.gatt_host.proofs.model.Stands.{past_none, past_some}
-use Rattle.gatt_host.proofs.Promises.{stays_apart, stays_by_the_policy, taken_apart, taken_by_the_policy}
+use Rattle.gatt_host.proofs.Promises.{continues_apart, continues_by_the_policy}
 use Rattle.gatt_host.specs.contracts.host.Host.{the_view}
 use Rattle.gatt_host.specs.HostModel.{RefinesRun, Takes, HostModel, all_out}
 use Rattle.gatt_laws.specs.machine.Calls.{replacement_event}
@@ -59,11 +59,11 @@ returns-then-is_some-clause-refused c =
 
 pub returns-then-is_some-clause-policy : goal.returns-then-is_some-clause-policy
 returns-then-is_some-clause-policy c =
-    stays_by_the_policy c.args.self.now None
+    continues_by_the_policy (ATable c.args.table ∷ []) c.args.self.now c.args.self.now (λ some. refl) (returns-then-is_some-clause-takes c)
 
 pub returns-then-is_some-clause-apart : goal.returns-then-is_some-clause-apart
 returns-then-is_some-clause-apart c =
-    stays_apart c.args.self.now None
+    continues_apart (ATable c.args.table ∷ []) c.args.self.now c.args.self.now (λ some. refl) (returns-then-is_some-clause-takes c)
 
 pub returns-clause-stopped : goal.returns-clause-stopped
 returns-clause-stopped c =
@@ -72,10 +72,10 @@ returns-clause-stopped c =
 
 pub returns-clause-policy : goal.returns-clause-policy
 returns-clause-policy c =
-    taken_by_the_policy (ATable c.args.table ∷ []) _ _
-    (returns-clause-takes c (sym (λ i. (c.self.view_is i).fault) ∙ is_none_where (the_view c.self.inside).fault (sym c.is_some.ensures ∙ c.if-is_some.false)))
+    continues_by_the_policy (ATable c.args.table ∷ []) _ _ (past_none (the_view c.self.inside) c.args.self.now c.self.view_is
+    (is_none_where (the_view c.self.inside).fault (sym c.is_some.ensures ∙ c.if-is_some.false))) (returns-clause-takes c)
 
 pub returns-clause-apart : goal.returns-clause-apart
 returns-clause-apart c =
-    taken_apart (ATable c.args.table ∷ []) _ _
-    (returns-clause-takes c (sym (λ i. (c.self.view_is i).fault) ∙ is_none_where (the_view c.self.inside).fault (sym c.is_some.ensures ∙ c.if-is_some.false)))
+    continues_apart (ATable c.args.table ∷ []) _ _ (past_none (the_view c.self.inside) c.args.self.now c.self.view_is
+    (is_none_where (the_view c.self.inside).fault (sym c.is_some.ensures ∙ c.if-is_some.false))) (returns-clause-takes c)

@@ -1,6 +1,6 @@
-use Rattle.std.proofs.Common.{None}
+use Rattle.std.proofs.Common.{Err, refl}
 use Rattle.gatt_host.proofs.model.Stands.{past_none, past_stop}
-use Rattle.gatt_host.proofs.Promises.{stays_apart, stays_by_the_policy, taken_apart, taken_by_the_policy}
+use Rattle.gatt_host.proofs.Promises.{continues_apart, continues_by_the_policy}
 use Rattle.gatt_host.specs.contracts.host.Host.{the_view}
 use Rattle.gatt_host.specs.Feeding.{items_taken}
 use Rattle.gatt_host.proofs.host.Host.take.Goals as goal
@@ -13,19 +13,19 @@ returns-in-Some-clause-not_own c = past_stop (the_view c.self.inside) c.args.sel
 
 pub returns-in-Some-clause-policy : goal.returns-in-Some-clause-policy
 returns-in-Some-clause-policy c =
-    stays_by_the_policy c.args.self.now None
+    continues_by_the_policy (items_taken c.args.octets.now (Err c.in-Some.fault)) c.args.self.now c.args.self.now (λ some. refl) (returns-in-Some-clause-takes c)
 
 pub returns-in-Some-clause-apart : goal.returns-in-Some-clause-apart
 returns-in-Some-clause-apart c =
-    stays_apart c.args.self.now None
+    continues_apart (items_taken c.args.octets.now (Err c.in-Some.fault)) c.args.self.now c.args.self.now (λ some. refl) (returns-in-Some-clause-takes c)
 
 pub returns-clause-stopped : goal.returns-clause-stopped
 returns-clause-stopped c = past_none (the_view c.self.inside) c.args.self.now c.self.view_is c.in_default.is
 
 pub returns-clause-policy : goal.returns-clause-policy
 returns-clause-policy c =
-    taken_by_the_policy (items_taken c.args.octets.now c.take.result) _ _ c.take.ensures.refines
+    continues_by_the_policy (items_taken c.args.octets.now c.take.result) _ _ (returns-clause-stopped c) (λ none. c.take.ensures.refines)
 
 pub returns-clause-apart : goal.returns-clause-apart
 returns-clause-apart c =
-    taken_apart (items_taken c.args.octets.now c.take.result) _ _ c.take.ensures.refines
+    continues_apart (items_taken c.args.octets.now c.take.result) _ _ (returns-clause-stopped c) (λ none. c.take.ensures.refines)
