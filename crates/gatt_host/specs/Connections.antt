@@ -1,8 +1,9 @@
 -- The connections of a host that the application can see.
-use Rattle.std.specs.Prelude.{◌≡◌, ℕ, ◌==◌, not, List, [], ◌∷◌, find, get_or, Option, Some, None}
+use Rattle.std.specs.Prelude.{◌≡◌, ℕ, ◌==◌, not, List, [], ◌∷◌, find, Option, Some, None}
 use Rattle.gatt_host.specs.HostModel.{HostModel}
 use Rattle.gatt_laws.specs.machine.Event.{Ordinal}
 use Rattle.gatt_laws.specs.machine.ConnectionState.{ConnectionState, is_live, key_of, connection_mtu}
+use Rattle.gatt_laws.specs.machine.Packets.{Heard}
 use Rattle.gatt_laws.specs.machine.SharedState.{SharedState}
 use Rattle.gatt_laws.specs.machine.State.{State}
 use Rattle.host_api.specs.declared.connection.Connection.{Connection}
@@ -26,14 +27,13 @@ connection_seen shared ordinal place heard connection = record {
   heard = heard;
 }
 
-abbrev pub ordinal_seen : List ℕ → State → ℕ → Option Ordinal → Option Connection
+abbrev pub ordinal_seen : Heard → State → ℕ → Option Ordinal → Option Connection
 ordinal_seen heard state place None = None
 ordinal_seen heard state place (Some ordinal) =
-    Some (connection_seen state.shared ordinal place (get_or heard place 0)
-    (state.connections ordinal))
+    Some (connection_seen state.shared ordinal place (heard ordinal) (state.connections ordinal))
 
 -- The connections of a state in slot order, with the time of each one's last packet.
-abbrev pub connections_of : List ℕ → State → List Connection
+abbrev pub connections_of : Heard → State → List Connection
 connections_of heard state = read_from (ordinal_seen heard state) 0 state.slots
 
 -- The connection with a handle, which is unique.

@@ -8,7 +8,7 @@ use Rattle.gatt_host.specs.Packet.{packet_stop}
 use Rattle.gatt_host.specs.StateRefinement.{RefinesState, IsSound}
 use Rattle.gatt_laws.specs.machine.Event.{Ordinal}
 use Rattle.gatt_laws.specs.machine.Input.{Run}
-use Rattle.gatt_laws.specs.machine.Packets.{Fault, Fragments, packet_event}
+use Rattle.gatt_laws.specs.machine.Packets.{Fault, Fragments, Heard, packet_event}
 use Rattle.gatt_laws.specs.laws.RowsOfTheTable.{HasRowsOfItsTable}
 use Rattle.gatt_laws.specs.laws.WaitingOfTheTable.{HasWaitingOfItsTable}
 use Rattle.gatt_laws.specs.machine.State.{State}
@@ -30,14 +30,22 @@ pub record AreNumbered (state : State) (arrivals : Arrivals) : Type 0 where
   pub accepted : arrivals.accepted ≡ accepted_before state.next
   pub enough : state.shared.slots ≤ length arrivals.ordinals
 
+-- The host has the time of the last packet of each connection.
+pub record HasTimes (state : State) (heard : Heard) (times : List ℕ) : Type 0 where
+  pub there : (place : ℕ) (ordinal : Ordinal) → slice_get state.slots place ≡ Some (Some ordinal)
+      → get_or times place 0 ≡ heard ordinal
+  pub enough : state.shared.slots ≤ length times
+
 -- The frame of each slot is assembled from its connection's fragments; a future connection has
 -- none. Each slot that may be opened has a frame.
-pub record IsPutTogether (state : State) (fragments : Fragments) (frames : Frames) : Type 0 where
+pub record IsPutTogether (state : State) (fragments : Fragments) (heard : Heard) (frames : Frames)
+    : Type 0 where
   pub there : (place : ℕ) (ordinal : Ordinal) → slice_get state.slots place ≡ Some (Some ordinal)
       → get_or frames.assembled place no_assembly ≡ once_heard (assembly_after (fragments ordinal))
   pub fresh : (ordinal : Ordinal) → state.next ≤ ordinal → fragments ordinal ≡ []
   pub enough : state.shared.slots ≤ length frames.assembled
   pub numbered : AreNumbered state frames.arrivals
+  pub timed : HasTimes state heard frames.arrivals.heard
 
 -- These packets have been sent, and the rest of the run's output is pending.
 pub record ServerRefinesRun (run : Run) (sent : List Octets) (server : ServerState)
@@ -46,13 +54,13 @@ pub record ServerRefinesRun (run : Run) (sent : List Octets) (server : ServerSta
   pub all : run.sent ≡ sent ++ owed
   pub sound : IsSound run.intake.state
   pub refines : RefinesState run.intake.state owed server
-  pub together : IsPutTogether run.intake.state run.intake.fragments frames
+  pub together : IsPutTogether run.intake.state run.intake.fragments run.intake.heard frames
 
 -- All output of the run has been sent.
 pub record IsDrainedIn (run : Run) (server : ServerState) (frames : Frames) : Type 0 where
   pub sound : IsSound run.intake.state
   pub refines : RefinesState run.intake.state [] server
-  pub together : IsPutTogether run.intake.state run.intake.fragments frames
+  pub together : IsPutTogether run.intake.state run.intake.fragments run.intake.heard frames
 
 -- A drained host stops when the run does, for the same fault.
 pub record StopsForFault (result : Fault) (fault : HostFault) : Type 0 where

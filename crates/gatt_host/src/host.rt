@@ -325,10 +325,9 @@ impl Host {
     /// Returns the connections, in slot order.
     pub fn connections(&self) -> Connections<'_>
         ensures server { result ≡ connections_in self.now }
-        // The run determines all except the time of each one's last packet.
         ensures run { (start : Start) (input : List Item) (sent : List Octets)
             → RefinesRun (run start input) sent self.now
-            → result ≡ connections_of self.now.frames.arrivals.heard
+            → result ≡ connections_of (run start input).intake.heard
             (run start input).intake.state }
     {
         Connections {
@@ -343,7 +342,7 @@ impl Host {
         ensures server { result ≡ connection_with handle (connections_in self.now) }
         ensures run { (start : Start) (input : List Item) (sent : List Octets)
             → RefinesRun (run start input) sent self.now
-            → result ≡ connection_with handle (connections_of self.now.frames.arrivals.heard
+            → result ≡ connection_with handle (connections_of (run start input).intake.heard
             (run start input).intake.state) }
     {
         for connection in self.connections() {

@@ -8,18 +8,20 @@ use Rattle.att_attributes.specs.declared.attr.Attr.{Attr}
 use Rattle.att_attributes.specs.Attributes.{attribute_at, is_value}
 use Rattle.att_table.specs.Changer.{changer_of}
 use Rattle.att_table.specs.Table.{Contents}
-use Rattle.gatt_host.proofs.meaning.Refining.{IsAny, event_led}
+use Rattle.gatt_host.proofs.meaning.Refining.{IsAny, event_led, heard_coming}
+use Rattle.gatt_host.proofs.meaning.Together.{is_coming}
+use Rattle.gatt_host.proofs.owing.Nexts.{clash}
 use Rattle.gatt_host.proofs.refinement.Names.{knows_the_same}
 use Rattle.gatt_host.specs.Asked.{call_happening, replacement_happening}
 use Rattle.gatt_host.specs.ServerState.{ServerState}
 use Rattle.gatt_host.specs.Meaning.{Frames, context_in, frames_after, IsAfter}
 use Rattle.gatt_host.specs.Notices.{last_notices}
-use Rattle.gatt_host.specs.RunRefinement.{IsDrainedIn, ServerRefinesRun}
+use Rattle.gatt_host.specs.RunRefinement.{IsDrainedIn, IsPutTogether, ServerRefinesRun}
 use Rattle.gatt_host.specs.StateRefinement.{place_of_connection}
 use Rattle.gatt_host.specs.Telling.{noticed_in}
 use Rattle.gatt_laws.proofs.runs.Meant.{MeantIfAny, call_meant, replacement_meant}
 use Rattle.gatt_laws.proofs.isolation.Renaming.{calls_mean_the_same, replacements_mean_the_same}
-use Rattle.gatt_laws.specs.laws.Renaming.{renamed_if}
+use Rattle.gatt_laws.specs.laws.Renaming.{renamed, renamed_if}
 use Rattle.gatt_laws.specs.machine.Calls.{Call, UpdateCall, AuthorizeCall, DisconnectCall, TickCall}
 use Rattle.gatt_laws.specs.machine.Calls.{Refused, NotAValue, BadLength, TimeWentBack}
 use Rattle.gatt_laws.specs.machine.Calls.{NoServiceChanged, has_length, update_event}
@@ -27,16 +29,27 @@ use Rattle.gatt_laws.specs.machine.Calls.{authorize_event, disconnect_event, cal
 use Rattle.gatt_laws.specs.machine.Calls.{call_meaning, same_changer, replacement_event}
 use Rattle.gatt_laws.specs.machine.Calls.{replacement_meaning}
 use Rattle.gatt_laws.specs.machine.Context.{Context, context_of}
-use Rattle.gatt_laws.specs.machine.Event.{Ordinal, Event, Happening, Update, Tick, Replaced}
+use Rattle.gatt_laws.specs.machine.Event.{Connected, Ordinal, Event, Happening, Of, Update, Tick, Replaced}
 use Rattle.gatt_laws.specs.machine.Input.{Run, after_result, refusal_in}
-use Rattle.gatt_laws.specs.machine.State.{State, out}
+use Rattle.gatt_laws.specs.machine.Packets.{Heard}
+use Rattle.gatt_laws.specs.machine.State.{State, out, step}
 use Rattle.host_connections.specs.Slots.{Place}
 use Rattle.octet_io.specs.Number.{Octets}
 
--- nothing that is put together is changed by what is asked
+-- no connection comes by what is asked
 abbrev LeavesFrames : Result (Happening Place) Refused → Type 0
-LeavesFrames (Ok happening) = (time : ℕ) (frames : Frames) → frames ≡ frames_after time happening frames
+LeavesFrames (Ok happening) = is_coming happening ≡ false
 LeavesFrames (Err refused) = Unit
+
+-- so nothing that is put together is changed
+frames-left : (time : ℕ) (happening : Happening Place) (frames : Frames) → is_coming happening ≡ false → frames ≡ frames_after time happening frames
+frames-left time (Of place (Connected handle peer)) frames comes = absurd (clash (sym comes))
+frames-left time happening frames comes = refl
+
+heard-left : (names : Ordinal → Place) (time : ℕ) (heard : Heard) (event : Event) → is_coming (renamed names event) ≡ false
+    → heard_coming time heard event ≡ heard
+heard-left names time heard (Of ordinal (Connected handle peer)) comes = absurd (clash (sym comes))
+heard-left names time heard event comes = refl
 
 update-leaves : (handle : Handle) (value : Octets) (found : Option Attr)
     → LeavesFrames (update_event handle value found)
@@ -53,17 +66,17 @@ update-leaves handle value (Some attr) =
           (if not has then Err BadLength else Ok (Update handle value))) [
             | false ↦ tt
             | true ↦
-                λ time frames. refl
+                refl
           ]
     ]
 
 authorize-leaves : (until : ℕ) (found : Option Place) → LeavesFrames (authorize_event until found)
 authorize-leaves until None = tt
-authorize-leaves until (Some place) = λ time frames. refl
+authorize-leaves until (Some place) = refl
 
 disconnect-leaves : (found : Option Place) → LeavesFrames (disconnect_event found)
 disconnect-leaves None = tt
-disconnect-leaves (Some place) = λ time frames. refl
+disconnect-leaves (Some place) = refl
 
 call-leaves : (context : Context Place) (call : Call) → LeavesFrames (call_meaning context call)
 call-leaves context (UpdateCall handle value) =
@@ -75,7 +88,7 @@ call-leaves context (TickCall time) =
     (λ (back : Bool). LeavesFrames (if back then Err TimeWentBack else Ok (Tick time))) [
       | true ↦
           tt
-      | false ↦ λ time frames. refl
+      | false ↦ refl
     ]
 
 replacement-leaves : (context : Context Place) (table : Contents)
@@ -83,7 +96,7 @@ replacement-leaves : (context : Context Place) (table : Contents)
 replacement-leaves context table =
     elim (same_changer context.changer (changer_of table)) as
     (λ (same : Bool). LeavesFrames (if same then Ok (Replaced table) else Err NoServiceChanged))
-    [ true ↦ λ time frames. refl | false ↦ tt ]
+    [ true ↦ refl | false ↦ tt ]
 
 -- where what is asked leads a host, and what is told of it
 pub record Led (run : Run) (new : ServerState) (frames : Frames) (result : Result Event Refused) :
@@ -104,8 +117,8 @@ module _ (run : Run) (server new : ServerState) (frames : Frames) (is : IsDraine
         → Holds (renamed_if (place_of_connection state) result) → Led run new frames result
     by-result (Ok event) meant leaves after =
         let led =
-        event_led state server new run.intake.fragments frames frames event is.sound is.refines
-        is.together meant after (leaves server.time frames) in
+        event_led state server new run.intake.fragments run.intake.heard frames frames event is.sound is.refines
+        is.together meant after (frames-left server.time (renamed (place_of_connection state) event) frames leaves) in
         record {
           refines = record {
             owed = out state event;
@@ -113,7 +126,8 @@ module _ (run : Run) (server new : ServerState) (frames : Frames) (is : IsDraine
             sound = led.sound;
             refines =
                 led.refines;
-            together = led.together;
+            together = subst (λ (heard : Heard). IsPutTogether (step state event) run.intake.fragments heard frames)
+                (heard-left (place_of_connection state) server.time run.intake.heard event leaves) led.together;
           };
           told = led.told;
         }

@@ -33,5 +33,9 @@ stands_in_at_the_start start server frames opened enough none few = record {
       accepted = ap (λ (arrivals : Arrivals). arrivals.accepted) none;
       enough = subst (λ (arrivals : Arrivals). start.slots ≤ length arrivals.ordinals) (sym none) few;
     };
+    timed = record {
+      there = λ place ordinal there. absurd (none-there place ordinal (state_at start).slots refl there);
+      enough = subst (λ (arrivals : Arrivals). start.slots ≤ length arrivals.heard) (sym none) few;
+    };
   };
 }

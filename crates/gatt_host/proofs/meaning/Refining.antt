@@ -6,7 +6,7 @@ use Rattle.std.specs.Prelude.{IsOkAnd, ◌==◌, ◌||◌, if◌then◌else◌}
 use Rattle.std.proofs.lemmas.List.{length-set}
 use Rattle.gatt_host.proofs.meaning.Staying.{stays_sound}
 use Rattle.gatt_host.proofs.meaning.Together.{few_slots, next_place, together_coming, together_then}
-use Rattle.gatt_host.proofs.refinement.Arrivals.{frames_follow, recombine_alike}
+use Rattle.gatt_host.proofs.refinement.Arrivals.{frames_follow, recombine_alike, times_follow}
 use Rattle.gatt_host.proofs.refinement.Happenings.{events_lead_on}
 use Rattle.gatt_host.proofs.refinement.Holding.{has_slot_there, some-is}
 use Rattle.gatt_host.proofs.refinement.Names.{finds, knows_the_same}
@@ -34,11 +34,11 @@ use Rattle.gatt_laws.specs.machine.Event.{Asks, OtherChannel, Happening}
 use Rattle.gatt_laws.specs.machine.Event.{Of, Nothing}
 use Rattle.gatt_laws.specs.machine.Input.{Run, packet_taken}
 use Rattle.gatt_laws.specs.machine.Notice.{noticed}
-use Rattle.gatt_laws.specs.machine.Packets.{Fault, Fragments, answered, arrival, arrival_of}
+use Rattle.gatt_laws.specs.machine.Packets.{Fault, Fragments, Heard, answered, arrival, arrival_of, connection_heard}
 use Rattle.gatt_laws.specs.machine.Packets.{data_event, event_or_bad, following_of, frame_event}
 use Rattle.gatt_laws.specs.machine.Packets.{is_awaited}
 use Rattle.gatt_laws.specs.machine.Packets.{Recombination, recombinations_of, of_frame, of_octets}
-use Rattle.gatt_laws.specs.machine.Packets.{packet_event, status_of, with_arrival}
+use Rattle.gatt_laws.specs.machine.Packets.{packet_event, status_of, with_arrival, with_heard}
 use Rattle.gatt_laws.specs.machine.State.{State, out, step}
 use Rattle.host_connections.proofs.states.Places.{Finds}
 use Rattle.host_connections.specs.declared.arrivals.Arrivals.{Arrivals}
@@ -62,13 +62,18 @@ IsAny x = Unit
 ok-is : {A E : Type 0} {x y : A} → ◌≡◌ {A = Result A E} (Ok x) (Ok y) → x ≡ y
 ok-is e = cc e
 
+-- what an event leaves of the times: only a connection that comes is heard by it
+abbrev pub heard_coming : ℕ → Heard → Event → Heard
+heard_coming time heard (Of ordinal (Connected handle peer)) = with_heard time heard (Some ordinal)
+heard_coming time heard event = heard
+
 -- An event leads on, with what is put together.
 module _ (state : State) (server : ServerState) (sound : IsSound state) (refines : RefinesState state [] server)
-    (fragments : Fragments) (frames : Frames)
-    (is : IsPutTogether state fragments frames) where
+    (fragments : Fragments) (heard : Heard) (frames : Frames)
+    (is : IsPutTogether state fragments heard frames) where
   abbrev JoinsAt : Event → Type 0
   JoinsAt event =
-      IsPutTogether (step state event) fragments
+      IsPutTogether (step state event) fragments (heard_coming server.time heard event)
       (frames_after server.time (renamed (place_of_connection state) event) frames)
 
   came-joined : (ordinal : Ordinal) (handle : ℕ) (peer : Peer)
@@ -77,30 +82,30 @@ module _ (state : State) (server : ServerState) (sound : IsSound state) (refines
   came-joined ordinal handle peer meant =
       subst (λ (one : Ordinal). JoinsAt (Of one (Connected handle peer))) (sym meant.may.next)
       (subst (λ (place : Place). IsPutTogether (step state (Of state.next (Connected handle peer)))
-      fragments (frames_after server.time (Of place (Connected handle peer)) frames))
+      fragments (with_heard server.time heard (Some state.next)) (frames_after server.time (Of place (Connected handle peer)) frames))
       (sym (next_place state.next state.slots meant.may.free
       (none_next state.next state.next state.slots (omega arith) sound.settled.slots)))
-      (together_coming state server fragments frames server.time handle peer sound refines meant.may.free is))
+      (together_coming state server fragments heard frames server.time handle peer sound refines meant.may.free is))
 
   pub joined : (event : Event) → IsMeant IsAny state event → JoinsAt event
   joined (Of ordinal (Connected handle peer)) meant = came-joined ordinal handle peer meant
-  joined event meant = together_then state event fragments frames refl is
+  joined event meant = together_then state event fragments heard frames refl is
 
 -- where an event leads a host, and what is told of it
-pub record EventLed (state : State) (event : Event) (fragments : Fragments) (new : ServerState)
-    (after : Frames) : Type 0 where
+pub record EventLed (state : State) (event : Event) (fragments : Fragments) (heard : Heard)
+    (new : ServerState) (after : Frames) : Type 0 where
   pub sound : IsSound (step state event)
   pub refines : RefinesState (step state event) (out state event) new
-  pub together : IsPutTogether (step state event) fragments after
+  pub together : IsPutTogether (step state event) fragments heard after
   pub told : last_notices new ≡ noticed state event
 
-pub event_led : (state : State) (server new : ServerState) (fragments : Fragments) (frames after : Frames)
+pub event_led : (state : State) (server new : ServerState) (fragments : Fragments) (heard : Heard) (frames after : Frames)
     (event : Event) → IsSound state → RefinesState state [] server
-    → IsPutTogether state fragments frames → IsMeant IsAny state event
+    → IsPutTogether state fragments heard frames → IsMeant IsAny state event
     → IsAfter (renamed (place_of_connection state) event) server new
     → after ≡ frames_after server.time (renamed (place_of_connection state) event) frames
-    → EventLed state event fragments new after
-event_led state server new fragments frames after event sound refines together meant then_held
+    → EventLed state event fragments (heard_coming server.time heard event) new after
+event_led state server new fragments heard frames after event sound refines together meant then_held
     then_frames =
     let leads : RefinesStep state event new =
     events_lead_on state server new event sound refines meant then_held in
@@ -108,40 +113,51 @@ event_led state server new fragments frames after event sound refines together m
       sound = stays_sound state event (possible_where_meant IsAny state event meant) sound;
       refines = leads.refines;
       together =
-          subst (λ (after : Frames). IsPutTogether (step state event) fragments after)
+          subst (λ (after : Frames). IsPutTogether (step state event) fragments (heard_coming server.time heard event) after)
           (sym then_frames)
-          (joined state server sound refines fragments frames together event meant);
+          (joined state server sound refines fragments heard frames together event meant);
       told = leads.told;
     }
 
--- No data of a connection means that one comes.
-frame-frames : (time : ℕ) (place : Place) (frame : Result BasicFrame Skip) (frames : Frames)
-    → frames ≡ frames_after time (frame_event place (of_frame frame)) frames
-frame-frames time place (Ok frame) frames =
-    elim (frame.cid == ATT) as (λ (asks : Bool). frames
-    ≡ frames_after time (frame_event place (if asks then Some (Asks frame.payload)
-    else if frame.cid == LE_SIGNALLING || frame.cid == SECURITY_MANAGER then Some (OtherChannel frame.cid frame.payload) else None)) frames) [
-      | true ↦ refl
-      | false ↦
-          elim (frame.cid == LE_SIGNALLING || frame.cid == SECURITY_MANAGER) as (λ (signals : Bool).
-          frames ≡ frames_after time
-          (frame_event place (if signals then Some (OtherChannel frame.cid frame.payload) else None))
-          frames) [ true ↦ refl | false ↦ refl ]
-    ]
-frame-frames time place (Err skip) frames = refl
+-- No data of a connection means that one comes: what holds of nothing and of data holds of what a fragment means.
+module _ {C : Type 0} (Holds : Happening C → Type 0) (nothing : Holds Nothing) (asks : (connection : C) (pdu : Octets) → Holds (Of connection (Asks pdu)))
+    (signals : (connection : C) (channel : ℕ) (payload : Octets) → Holds (Of connection (OtherChannel channel payload))) where
+  of-frame : (connection : C) (frame : Result BasicFrame Skip) → Holds (frame_event connection (of_frame frame))
+  of-frame connection (Ok frame) =
+      elim (frame.cid == ATT) as (λ (is : Bool). Holds
+      (frame_event connection (if is then Some (Asks frame.payload)
+      else if frame.cid == LE_SIGNALLING || frame.cid == SECURITY_MANAGER then Some (OtherChannel frame.cid frame.payload) else None))) [
+        | true ↦ asks connection frame.payload
+        | false ↦
+            elim (frame.cid == LE_SIGNALLING || frame.cid == SECURITY_MANAGER) as
+            (λ (is : Bool). Holds (frame_event connection (if is then Some (OtherChannel frame.cid frame.payload) else None))) [
+              | true ↦ signals connection frame.cid frame.payload
+              | false ↦ nothing
+            ]
+      ]
+  of-frame connection (Err skip) = nothing
 
-octets-frames : (time : ℕ) (place : Place) (octets : Option Octets) (frames : Frames)
-    → frames ≡ frames_after time (frame_event place (of_octets octets)) frames
-octets-frames time place None frames = refl
-octets-frames time place (Some octets) frames = frame-frames time place (frame_of octets) frames
+  of-octets : (connection : C) (octets : Option Octets) → Holds (frame_event connection (of_octets octets))
+  of-octets connection None = nothing
+  of-octets connection (Some octets) = of-frame connection (frame_of octets)
+
+  of-data : (recombinations : C → Recombination) (found : Option C) (fragment : Option Fragment) → Holds (data_event recombinations found fragment)
+  of-data recombinations None fragment = nothing
+  of-data recombinations (Some connection) None = nothing
+  of-data recombinations (Some connection) (Some fragment) = of-octets connection (recombinations connection fragment)
 
 data-frames : (time : ℕ) (recombinations : Place → Recombination) (found : Option Place)
     (fragment : Option Fragment) (frames : Frames)
     → frames ≡ frames_after time (data_event recombinations found fragment) frames
-data-frames time recombinations None fragment frames = refl
-data-frames time recombinations (Some place) None frames = refl
-data-frames time recombinations (Some place) (Some fragment) frames =
-    octets-frames time place (recombinations place fragment) frames
+data-frames time recombinations found fragment frames =
+    of-data (λ (happening : Happening Place). frames ≡ frames_after time happening frames) refl (λ place pdu. refl) (λ place channel payload. refl)
+    recombinations found fragment
+
+data-heard : (time : ℕ) (heard : Heard) (recombinations : Ordinal → Recombination) (found : Option Ordinal) (fragment : Option Fragment)
+    → heard_coming time heard (data_event recombinations found fragment) ≡ heard
+data-heard time heard recombinations found fragment =
+    of-data (λ (event : Event). heard_coming time heard event ≡ heard) refl (λ ordinal pdu. refl) (λ ordinal channel payload. refl)
+    recombinations found fragment
 
 -- What an event leaves of the frames.
 answered-frames : (time allowed opcode : ℕ) (status : Option ℕ) (following : Result (Option Init) Fault)
@@ -209,6 +225,29 @@ frames_joined server (AclPacket handle boundary broadcast octets) frames =
 frames_joined server (EventPacket octets) frames = frames
 frames_joined server ScoPacket frames = frames
 
+-- so with the times
+abbrev pub heard_joined : State → ℕ → Heard → Packet → Heard
+heard_joined state time heard (AclPacket handle boundary broadcast octets) = with_heard time heard (serving state handle)
+heard_joined state time heard (EventPacket octets) = heard
+heard_joined state time heard ScoPacket = heard
+
+event-heard : (state : State) (time : ℕ) (heard : Heard) (octets : Octets) (event : Event)
+    → heard_coming time heard event ≡ with_heard time heard (connection_heard state (EventPacket octets) event)
+event-heard state time heard octets (Of ordinal (Connected handle peer)) = refl
+event-heard state time heard octets event = refl
+
+packet-heard : (state : State) (fragments : Fragments) (time : ℕ) (heard : Heard) (packet : Packet) (event : Event)
+    → packet_event state fragments packet ≡ Ok event
+    → heard_coming time (heard_joined state time heard packet) event ≡ with_heard time heard (connection_heard state packet event)
+unfolding packet_event
+packet-heard state fragments time heard (AclPacket handle boundary broadcast octets) event is =
+    let joined : Heard = with_heard time heard (serving state handle) in
+    ap (λ (event : Event). heard_coming time joined event) (sym (ok-is is))
+    ∙ data-heard time joined (recombinations_of fragments) (serving state handle) (fragment_of boundary broadcast octets)
+packet-heard state fragments time heard (EventPacket octets) event is = event-heard state time heard octets event
+packet-heard state fragments time heard ScoPacket event is = ap (λ (event : Event). heard_coming time heard event) (sym (ok-is is))
+    ∙ ap (λ (event : Event). with_heard time heard (connection_heard state ScoPacket event)) (ok-is is)
+
 packet-frames : (server : ServerState) (frames : Frames) (packet : Packet) (happening : Happening Place)
     → packet_happening server frames packet ≡ Ok happening
     → frames_after_packet server packet frames
@@ -231,6 +270,9 @@ module _ (run : Run) (server : ServerState) (frames : Frames) (is : IsDrainedIn 
     abbrev fragments : Fragments
     fragments = run.intake.fragments
 
+    abbrev heard : Heard
+    heard = run.intake.heard
+
     same-packet : (packet : Packet) → packet_happening server frames packet
         ≡ renamed_if (place_of_connection state) (packet_event state fragments packet)
     unfolding packet_event
@@ -241,7 +283,7 @@ module _ (run : Run) (server : ServerState) (frames : Frames) (is : IsDrainedIn 
         (recombine_alike state server is.sound is.refines fragments frames.assembled is.together.there) packet
 
     packet-joined : (packet : Packet)
-        → IsPutTogether state (with_arrival fragments (arrival state packet))
+        → IsPutTogether state (with_arrival fragments (arrival state packet)) (heard_joined state server.time heard packet)
         (frames_joined server packet frames)
     packet-joined (AclPacket handle boundary broadcast octets) =
         let found : Finds state.slots (serving state handle) (place_serving server.slots handle) =
@@ -260,6 +302,8 @@ module _ (run : Run) (server : ServerState) (frames : Frames) (is : IsDrainedIn 
               frames.assembled)) is.together.enough;
           numbered = numbered-still state server.time (place_serving server.slots handle)
               frames.arrivals is.together.numbered;
+          timed = times_follow state is.sound server.time heard (serving state handle) (place_serving server.slots handle) frames.arrivals
+              (omega (arith, few_slots state server is.sound is.refines, is.together.timed.enough)) found is.together.timed;
         }
     packet-joined (EventPacket octets) = is.together
     packet-joined ScoPacket = is.together
@@ -275,10 +319,13 @@ module _ (run : Run) (server : ServerState) (frames : Frames) (is : IsDrainedIn 
           → IsOkAnd (renamed_if (place_of_connection state) result) (λ happening. IsAfter happening server new)
           → ((event : Event) → result ≡ Ok event
           → after ≡ frames_after server.time (renamed (place_of_connection state) event) (frames_joined server packet frames))
+          → ((event : Event) → result ≡ Ok event
+          → heard_coming server.time (heard_joined state server.time heard packet) event
+          ≡ with_heard server.time heard (connection_heard state packet event))
           → PacketLed result
-      by-result (Ok event) meant takes then_frames =
+      by-result (Ok event) meant takes then_frames then_heard =
           let led =
-          event_led state server new (with_arrival fragments (arrival state packet))
+          event_led state server new (with_arrival fragments (arrival state packet)) (heard_joined state server.time heard packet)
           (frames_joined server packet frames) after event is.sound is.refines
           (packet-joined packet) meant takes (then_frames event refl) in
           record {
@@ -288,12 +335,14 @@ module _ (run : Run) (server : ServerState) (frames : Frames) (is : IsDrainedIn 
               sound = led.sound;
               refines =
                   led.refines;
-              together = led.together;
+              together = subst (λ (heard : Heard). IsPutTogether (step state event) (with_arrival fragments (arrival state packet)) heard after)
+                  (then_heard event refl ∙ ap (λ (time : ℕ). with_heard time heard (connection_heard state packet event)) is.refines.time)
+                  led.together;
             };
             told = led.told;
             goes = refl;
           }
-      by-result (Err why) meant takes then_frames = absurd takes
+      by-result (Err why) meant takes then_frames then_heard = absurd takes
 
       pub packet_led : TakesPacket packet server frames new after
           → PacketLed (packet_event state fragments packet)
@@ -305,6 +354,7 @@ module _ (run : Run) (server : ServerState) (frames : Frames) (is : IsDrainedIn 
           (λ event means. takes.frames_then
           ∙ packet-frames server frames packet (renamed (place_of_connection state) event) (same
           ∙ ap (λ (result : Result Event Fault). renamed_if (place_of_connection state) result) means))
+          (packet-heard state fragments server.time heard packet)
 
 -- or the host stops
 stops-where : (names : Ordinal → Place) (result : Result Event Fault) (fault : HostFault)

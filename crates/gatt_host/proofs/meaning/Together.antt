@@ -2,20 +2,21 @@
 use Rattle.std.proofs.Common.{◌≡◌, ◌≢◌, ◌⊎◌, inl, inr, ℕ, zero, suc, ◌+◌, ◌≤◌, ◌<◌, Bool, true, false, List, [], ◌∷◌, length, map, set, get_or, slice_get, Option, Some, None, refl, sym, ap, subst, ◌∙◌, arith}
 use Rattle.std.specs.Prelude.{is_some, is_none, replicate, ◌==◌, ◌||◌, if◌then◌else◌}
 use Rattle.std.specs.Option.{option_map}
-use Rattle.std.proofs.lemmas.Bool.{eq-eqb, or_right}
+use Rattle.std.proofs.lemmas.Bool.{eq-eqb, ne_eqb, or_right}
 use Rattle.std.proofs.lemmas.List.{get_or-set_same, get_or-set_other, length-set}
 use Rattle.gatt_host.proofs.meaning.Staying.{rooms_stay}
 use Rattle.gatt_host.proofs.owing.Nexts.{clash}
 use Rattle.gatt_host.proofs.refinement.ForAll.{each_length}
-use Rattle.gatt_host.proofs.refinement.Holding.{Holds, holds, some-is, were_open}
+use Rattle.gatt_host.proofs.refinement.Holding.{Holds, has_slot_there, holds, some-is, were_open}
 use Rattle.gatt_host.specs.ServerState.{ServerState}
 use Rattle.gatt_host.specs.Meaning.{Frames, frames_after, once_heard}
 use Rattle.gatt_host.specs.Owing.{all_given, slot_state_handed}
 use Rattle.gatt_host.specs.RunRefinement.{IsPutTogether, accepted_before}
 use Rattle.gatt_host.specs.StateRefinement.{IsSound, RefinesState, place_among, slots_with_buffers}
+use Rattle.gatt_laws.proofs.invariants.Settled.{none_next}
 use Rattle.gatt_laws.specs.machine.Controller.{Slots, has_free, is_ready, with_freed, with_taken}
-use Rattle.gatt_laws.specs.machine.Event.{Ordinal, Own, Event, Connected, Disconnected, Of, Credit}
-use Rattle.gatt_laws.specs.machine.Packets.{Fragments}
+use Rattle.gatt_laws.specs.machine.Event.{Ordinal, Own, Event, Happening, Connected, Disconnected, Of, Credit}
+use Rattle.gatt_laws.specs.machine.Packets.{Fragments, Heard, with_heard}
 use Rattle.gatt_laws.specs.laws.Settled.{has_slot}
 use Rattle.gatt_laws.specs.machine.State.{State, change_of, slots_when_ready, step}
 use Rattle.host_connections.proofs.states.Places.{position_step}
@@ -56,8 +57,8 @@ abbrev pub is_coming_own : Own → Bool
 is_coming_own (Connected handle peer) = true
 is_coming_own own = false
 
-abbrev pub is_coming : Event → Bool
-is_coming (Of ordinal own) = is_coming_own own
+abbrev pub is_coming : {C : Type 0} → Happening C → Bool
+is_coming (Of connection own) = is_coming_own own
 is_coming event = false
 
 -- at any other event each slot keeps its connection, or none
@@ -100,9 +101,9 @@ keeps_or_frees state (Credit allowed opcode status (Some init)) other =
 keeps_or_frees state (Credit allowed opcode status None) other = record { there = λ place ordinal is. is; next = refl }
 keeps_or_frees state event other = record { there = λ place ordinal is. is; next = refl }
 
-pub together_then : (state : State) (event : Event) (fragments : Fragments) (frames : Frames) → is_coming event ≡ false
-    → IsPutTogether state fragments frames → IsPutTogether (step state event) fragments frames
-together_then state event fragments frames other is =
+pub together_then : (state : State) (event : Event) (fragments : Fragments) (heard : Heard) (frames : Frames) → is_coming event ≡ false
+    → IsPutTogether state fragments heard frames → IsPutTogether (step state event) fragments heard frames
+together_then state event fragments heard frames other is =
     let keeps : KeepsOrFrees state (step state event) = keeps_or_frees state event other in
     let slots : (count : ℕ) → state.shared.slots ≤ count → (step state event).shared.slots ≤ count =
     λ count enough. subst (λ (slots : ℕ). slots ≤ count) (sym (rooms_stay state event)) enough in
@@ -114,6 +115,10 @@ together_then state event fragments frames other is =
         there = λ place ordinal at. is.numbered.there place ordinal (keeps.there place ordinal at);
         accepted = is.numbered.accepted ∙ sym (ap accepted_before keeps.next);
         enough = slots (length frames.arrivals.ordinals) is.numbered.enough;
+      };
+      timed = record {
+        there = λ place ordinal at. is.timed.there place ordinal (keeps.there place ordinal at);
+        enough = slots (length frames.arrivals.heard) is.timed.enough;
       };
     }
 
@@ -182,13 +187,13 @@ counted next = omega arith
 counted-as : (next : Ordinal) → accepted_before (next + 1) ≡ counted_on next
 counted-as next = omega arith
 
--- a connection comes, begins with nothing, and has the next ordinal
-pub together_coming : (state : State) (server : ServerState) (fragments : Fragments) (frames : Frames) (time handle : ℕ) (peer : Peer)
-    → IsSound state → RefinesState state [] server → has_free state.slots ≡ true → IsPutTogether state fragments frames
-    → IsPutTogether (step state (Of state.next (Connected handle peer))) fragments
+-- a connection comes, begins with nothing, has the next ordinal and is heard
+pub together_coming : (state : State) (server : ServerState) (fragments : Fragments) (heard : Heard) (frames : Frames) (time handle : ℕ) (peer : Peer)
+    → IsSound state → RefinesState state [] server → has_free state.slots ≡ true → IsPutTogether state fragments heard frames
+    → IsPutTogether (step state (Of state.next (Connected handle peer))) fragments (with_heard time heard (Some state.next))
     (frames_after time (Of (first_free state.slots) (Connected handle peer)) frames)
 unfolding step change_of
-together_coming state server fragments frames time handle peer sound refines free is = record {
+together_coming state server fragments heard frames time handle peer sound refines free is = record {
   there = λ place ordinal there. read place ordinal (came-or-was state.next state.slots place ordinal there);
   fresh = λ ordinal later. is.fresh ordinal (omega (arith, later));
   enough = omega (arith, is.enough, length-set frames.assembled taken no_assembly);
@@ -196,6 +201,10 @@ together_coming state server fragments frames time handle peer sound refines fre
     there = λ place ordinal there. number place ordinal (came-or-was state.next state.slots place ordinal there);
     accepted = ap counted_on is.numbered.accepted ∙ counted state.next;
     enough = omega (arith, is.numbered.enough, length-set frames.arrivals.ordinals taken (counted_on frames.arrivals.accepted));
+  };
+  timed = record {
+    there = λ place ordinal there. times place ordinal (came-or-was state.next state.slots place ordinal there);
+    enough = omega (arith, is.timed.enough, length-set frames.arrivals.heard taken time);
   };
 }
   where
@@ -225,3 +234,21 @@ together_coming state server fragments frames time handle peer sound refines fre
         ∙ ap counted_on is.numbered.accepted ∙ counted state.next ∙ counted-as state.next
         ∙ sym (ap counted_on came.1)
     number place ordinal (inr was) = get_or-set_other frames.arrivals.ordinals taken place own 0 was.0 ∙ is.numbered.there place ordinal was.1
+
+    heard_by : Ordinal → Bool → ℕ
+    heard_by ordinal comes = if comes then time else heard ordinal
+
+    next-lacks : has_slot state.next state.slots ≡ false
+    next-lacks = none_next state.next state.next state.slots (omega arith) sound.settled.slots
+
+    times : (place : ℕ) (ordinal : Ordinal) → CameOrWas state.next state.slots place ordinal
+        → get_or (set frames.arrivals.heard taken time) place 0 ≡ heard_by ordinal (ordinal == state.next)
+    times place ordinal (inl came) =
+        ap (λ (at : ℕ). get_or (set frames.arrivals.heard taken time) at 0) came.0
+        ∙ get_or-set_same frames.arrivals.heard taken time 0 (inside (length frames.arrivals.heard) is.timed.enough)
+        ∙ ap (heard_by ordinal) (sym (eq-eqb ordinal state.next came.1))
+    times place ordinal (inr was) =
+        let differs : ordinal ≢ state.next = λ same.
+        clash (sym next-lacks ∙ ap (λ (one : Ordinal). has_slot one state.slots) (sym same) ∙ has_slot_there ordinal state.slots place was.1) in
+        get_or-set_other frames.arrivals.heard taken place time 0 was.0 ∙ is.timed.there place ordinal was.1
+        ∙ ap (heard_by ordinal) (sym (ne_eqb ordinal state.next differs))

@@ -9,6 +9,7 @@ use Rattle.gatt_host.specs.HostModel.{RefinesRun, HostModel}
 use Rattle.gatt_laws.specs.machine.Controller.{command_of_init, count_before}
 use Rattle.gatt_laws.specs.machine.Event.{Ordinal}
 use Rattle.gatt_laws.specs.machine.Input.{Run, Item, run}
+use Rattle.gatt_laws.specs.machine.Packets.{Heard}
 use Rattle.gatt_laws.specs.machine.ConnectionState.{ConnectionState, is_live, is_there, connection_mtu}
 use Rattle.gatt_laws.specs.machine.SharedState.{SharedState}
 use Rattle.gatt_laws.specs.machine.Start.{Start}
@@ -30,16 +31,19 @@ module _ (ordinal : Ordinal) (place heard : ℕ) where
   sent-seen shared part true false = refl
   sent-seen shared part false reasoned = refl
 
-module _ (arrivals : Arrivals) where
+module _ (arrivals : Arrivals) (heard : Heard) where
+  -- its number and its time are those of the run
+  abbrev IsArrived : ℕ → Ordinal → Type 0
+  IsArrived place ordinal = (get_or arrivals.ordinals place 0 ≡ counted_on ordinal) × (get_or arrivals.heard place 0 ≡ heard ordinal)
+
   same-seen : (state : State) (handed : Handed) (place : ℕ) (ordinal : Ordinal) → is_there (state.connections ordinal).mark ≡ true
-      → get_or arrivals.ordinals place 0 ≡ counted_on ordinal
-      → slot_seen arrivals place (slot_state_handed state handed (Some ordinal)) ≡ ordinal_seen arrivals.heard (with_commands_sent state) place (Some ordinal)
-  same-seen state handed place ordinal there numbered =
+      → IsArrived place ordinal
+      → slot_seen arrivals place (slot_state_handed state handed (Some ordinal)) ≡ ordinal_seen heard (with_commands_sent state) place (Some ordinal)
+  same-seen state handed place ordinal there arrived =
       let part : ConnectionState = state.connections ordinal in
-      let heard : ℕ = get_or arrivals.heard place 0 in
       ap (λ (is : Bool). slot_seen arrivals place (if is then Some (slot_state_of state.shared part (handed ordinal)) else None)) there
       ∙ (λ i. Some (record {
-        ordinal = numbered i;
+        ordinal = arrived.0 i;
         slot = place;
         handle = part.handle;
         peer = part.peer;
@@ -47,18 +51,19 @@ module _ (arrivals : Arrivals) where
         key = key_of_steps part.steps i;
         authorized_until = part.until;
         ending = not (is_live part.mark);
-        heard = heard;
+        heard = arrived.1 i;
       }))
-      ∙ ap (λ (it : Connection). Some it) (sym (sent-seen ordinal place heard state.shared part
+      ∙ ap (λ (it : Connection). Some it) (sym (sent-seen ordinal place (heard ordinal) state.shared part
       (nat_lt (length (command_of_init state.controller) + count_before ordinal state.connections state.slots) state.controller.credit) (is_some part.reason)))
 
 pub seen_where : (run : Run) (gone : List Octets) (host : HostModel) → RefinesRun run gone host
-    → connections_in host ≡ connections_of host.frames.arrivals.heard run.intake.state
+    → connections_in host ≡ connections_of run.intake.heard run.intake.state
 seen_where run gone host is =
     let arrivals : Arrivals = host.frames.arrivals in
-    placed_read (slot_seen arrivals) (ordinal_seen arrivals.heard) (λ place ordinal. get_or arrivals.ordinals place 0 ≡ counted_on ordinal)
-    (record { free = λ place. refl; none = λ state place. refl; same = same-seen arrivals })
-    run.intake.state is.refines.owed host.server is.refines.refines is.refines.together.numbered.there
+    placed_read (slot_seen arrivals) (ordinal_seen run.intake.heard) (IsArrived arrivals run.intake.heard)
+    (record { free = λ place. refl; none = λ state place. refl; same = same-seen arrivals run.intake.heard })
+    run.intake.state is.refines.owed host.server is.refines.refines
+    (λ place ordinal there. (is.refines.together.numbered.there place ordinal there, is.refines.together.timed.there place ordinal there))
 
 -- the one with a handle, and one without it
 pub found_here : (handle : ℕ) (connection : Connection) (all rest : List Connection) → all ≡ connection ∷ rest → connection.handle ≡ handle
@@ -76,5 +81,5 @@ found_later handle connection all rest is other =
 -- as the run has it
 pub found_where : (handle : ℕ) (host : HostModel) (found : Option Connection) → found ≡ connection_with handle (connections_in host)
     → (start : Start) (input : List Item) (gone : List Octets) → RefinesRun (run start input) gone host
-    → found ≡ connection_with handle (connections_of host.frames.arrivals.heard (run start input).intake.state)
+    → found ≡ connection_with handle (connections_of (run start input).intake.heard (run start input).intake.state)
 found_where handle host found is start input gone refines = is ∙ ap (connection_with handle) (seen_where (run start input) gone host refines)

@@ -4,7 +4,7 @@ use Rattle.std.specs.Prelude.{ℕ, if◌then◌else◌, List, [], ◌∷◌, ◌
 use Rattle.att_table.specs.Table.{Contents}
 use Rattle.gatt_laws.specs.machine.Calls.{Call, Refused, Stopped, call_event, replacement_event}
 use Rattle.gatt_laws.specs.machine.Event.{Event}
-use Rattle.gatt_laws.specs.machine.Packets.{Fault, Desync, Fragments, arrival, with_arrival, packet_event}
+use Rattle.gatt_laws.specs.machine.Packets.{Fault, Desync, Fragments, Heard, arrival, with_arrival, packet_event, connection_heard, with_heard}
 use Rattle.gatt_laws.specs.machine.Start.{Start, state_at, first_out}
 use Rattle.gatt_laws.specs.machine.State.{State, step, out}
 use Rattle.le_h4.specs.Division.{is_long}
@@ -19,11 +19,13 @@ pub data Item : Type 0 where
   ATable : (table : Contents) → Item
   TheEnd : Item
 
--- `unfinished` has the octets of a packet that is not whole yet.
+-- `unfinished` has the octets of a packet that is not whole yet, and `heard` the time of each
+-- connection's last packet.
 pub record Intake : Type 0 where
   pub state : State
   pub unfinished : Octets
   pub fragments : Fragments
+  pub heard : Heard
   pub fault : Option Fault
 
 pub record Run : Type 0 where
@@ -48,8 +50,11 @@ packet_taken run packet (Err fault) = stopped run fault
 packet_taken run packet (Ok event) =
     let intake = run.intake in
     after_event (record run {
-      intake =
-          record intake { fragments = with_arrival intake.fragments (arrival intake.state packet) };
+      intake = record intake {
+        fragments = with_arrival intake.fragments (arrival intake.state packet);
+        heard = with_heard intake.state.shared.time intake.heard
+            (connection_heard intake.state packet event);
+      };
     }) event
 
 abbrev pub after_packet : Run → Packet → Run
@@ -103,8 +108,13 @@ after_items run (item ∷ items) = after_items (after_item run item) items
 
 abbrev pub run_at_start : Start → Run
 run_at_start start = record {
-  intake =
-      record { state = state_at start; unfinished = []; fragments = λ ordinal. []; fault = None };
+  intake = record {
+    state = state_at start;
+    unfinished = [];
+    fragments = λ ordinal. [];
+    heard = λ ordinal. 0;
+    fault = None;
+  };
   sent = first_out start;
 }
 

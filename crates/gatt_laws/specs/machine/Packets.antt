@@ -209,3 +209,18 @@ abbrev pub with_arrival : Fragments → Arrival → Fragments
 with_arrival fragments None = fragments
 with_arrival fragments (Some arrived) =
     λ ordinal. if ordinal == arrived.0 then arrived.1 ∷ fragments ordinal else fragments ordinal
+
+-- When each connection was last heard.
+abbrev pub Heard : Type 0
+Heard = Ordinal → ℕ
+
+-- The connection that a packet comes from: the one that serves by its handle, whatever it contains,
+-- or the one that its event makes (this profile's own).
+abbrev pub connection_heard : State → Packet → Event → Option Ordinal
+connection_heard state (AclPacket handle boundary broadcast octets) event = serving state handle
+connection_heard state packet (Of ordinal (Connected handle peer)) = Some ordinal
+connection_heard state packet event = None
+
+abbrev pub with_heard : ℕ → Heard → Option Ordinal → Heard
+with_heard time heard None = heard
+with_heard time heard (Some own) = λ ordinal. if ordinal == own then time else heard ordinal
