@@ -1,6 +1,6 @@
 -- Whatever is recorded of a turn, the state was saved right before anything was sent, or nothing was sent that has to be withheld.
 use Rattle.std.specs.Prelude.{◌||◌, IsSome}
-use Rattle.std.proofs.Common.{◌≡◌, Bool, true, false, List, [], ◌∷◌, ◌++◌, Option, Some, None, Result, Ok, Err, refl, sym, ap, subst, ◌∙◌, ◌⊎◌, inl, inr, append-nil, append_assoc}
+use Rattle.std.proofs.Common.{◌≡◌, ℕ, Bool, true, false, List, [], ◌∷◌, ◌++◌, Option, Some, None, Result, Ok, Err, refl, sym, ap, subst, ◌∙◌, ◌⊎◌, inl, inr, append-nil, append_assoc}
 use Rattle.std.proofs.lemmas.Bool.{false≢true, or_right}
 use Rattle.device_loop.proofs.Happened.{records_none, records_then}
 use Rattle.device_loop.proofs.Packets.{no_data_left}
@@ -13,7 +13,7 @@ use Rattle.device_loop.specs.declared.serving.End.TheVariants as end
 use Rattle.device_loop.specs.declared.turn.Turn.{Turn}
 use Rattle.device_loop.specs.Happenings.{DeviceInput, Came, Asked, HistoryEntry, Waited, Happened, Answered, Ended, Failed, Saved, Unsaved, SavedState, Sent, Unsent, Broken, Records, items_in, input_items_of, saved_state}
 use Rattle.device_loop.specs.Outside.{Sends, octets_to_send, saving_entry, sent_entries}
-use Rattle.device_loop.specs.Serving.{Known, all_entries, entries_recorded, entries_recorded_of, last_entries}
+use Rattle.device_loop.specs.Serving.{Known, ServesDevice, all_entries, entries_recorded, entries_recorded_of, last_entries}
 use Rattle.device_loop.specs.Turn.{AllowsSending, EndsSaved, KeepsTheOrder, SavedBeforeSent, StaysInOrder, TakesATurn}
 use Rattle.gatt_host.specs.declared.host_fault.HostFault.{HostFault}
 use Rattle.gatt_host.specs.HostModel.{RefinesRun, HostModel}
@@ -147,6 +147,39 @@ stays_in_order turn saving state sent tail None after none silent allowed record
 stays_in_order turn saving state sent tail (Some before) None none silent allowed records = records
 stays_in_order turn saving state sent tail (Some before) (Some after) none silent allowed records = λ order.
     subst SavedBeforeSent (sym records) (stays before turn saving state sent tail none silent allowed order)
+
+-- where nothing is sent, the order stays
+unsent_there : (before entries : List HistoryEntry) → has_sent entries ≡ false → SavedBeforeSent before → (first rest : List HistoryEntry) (octets : Octets)
+    → SplitsAt before entries first (Sent octets) rest → EndsSaved first octets
+unsent_there before entries none order first rest octets (inl found) = order first found.0 octets found.1
+unsent_there before entries none order first rest octets (inr found) = absurd (never_there entries found.0 octets rest none found.2)
+
+unsent_in_order : (entries : List HistoryEntry) (before after : Option (List HistoryEntry)) → has_sent entries ≡ false → Records entries before after
+    → KeepsTheOrder before after
+unsent_in_order entries None after none records = tt
+unsent_in_order entries (Some before) None none records = records
+unsent_in_order entries (Some before) (Some after) none records = λ order.
+    subst SavedBeforeSent (sym records)
+    (λ first rest octets is. unsent_there before entries none order first rest octets (splits_at before entries first (Sent octets) rest is))
+
+-- events keep the order, whether the host had stopped or not
+events_in_order : (result : Result End HostFault) (turns : ℕ) (old new : HostModel) (come comes : Known) (before after : Option Octets)
+    (heard hears : Option (List Received)) (start : Start) (input : List Item) (gone : List Octets)
+    → RefinesRun (run start input) gone old → (old.fault ≡ None → ServesDevice result turns old new come comes before after heard hears)
+    → (IsSome old.fault → comes.history ≡ come.history) → (found : Option HostFault) → old.fault ≡ found → KeepsTheOrder come.history comes.history
+events_in_order result turns old new come comes before after heard hears start input gone is serves stopped None refines =
+    let served = serves refines in
+    unsent_in_order (all_entries (run start input) served.happened result) come.history comes.history (all_unsent (run start input) served.happened result)
+    (served.records start input gone is)
+events_in_order result turns old new come comes before after heard hears start input gone is serves stopped (Some fault) refines =
+    unsent_in_order [] come.history comes.history refl
+    (subst (λ (it : Option (List HistoryEntry)). Records [] come.history it) (sym (stopped (subst IsSome (sym refines) refl))) (records_none come.history))
+
+pub events_ordered : (result : Result End HostFault) (turns : ℕ) (old new : HostModel) (come comes : Known) (before after : Option Octets)
+    (heard hears : Option (List Received)) → (old.fault ≡ None → ServesDevice result turns old new come comes before after heard hears)
+    → (IsSome old.fault → comes.history ≡ come.history) → StaysInOrder old come.history comes.history
+events_ordered result turns old new come comes before after heard hears serves stopped start input gone is =
+    events_in_order result turns old new come comes before after heard hears start input gone is serves stopped old.fault refl
 
 -- a front of what is to be sent has no data that has to be withheld
 allows_front : (saving : Saving) (state : SavedState) (waiting sent left : Octets) → octets_to_send saving waiting ≡ sent ++ left

@@ -68,7 +68,7 @@ SavedBeforeSent entries =
     (first rest : List HistoryEntry) (octets : Octets) → entries ≡ first ++ Sent octets ∷ rest
     → EndsSaved first octets
 
--- A turn preserves `SavedBeforeSent`.
+-- A call preserves `SavedBeforeSent`.
 abbrev pub KeepsTheOrder : Option (List HistoryEntry) → Option (List HistoryEntry) → Type 0
 KeepsTheOrder None after = Unit
 KeepsTheOrder (Some before) None = ⊥

@@ -9,6 +9,7 @@ ghost use Rattle.gatt_host.specs.HostModel.{all_out, fault_outcome};
 ghost use Rattle.gatt_laws.specs.machine.Input.{ACall};
 ghost use Rattle.device_loop.specs.Serving.{known, RecordsTheAnswer, ServesDevice};
 ghost use Rattle.device_loop.specs.Time.{KeepsTheTime};
+ghost use Rattle.device_loop.specs.Turn.{StaysInOrder};
 
 use crate::happenings::{Happenings, Next};
 use gatt_host::{App, Host, HostFault, Listener, deliver_notices, feed, feed_to};
@@ -33,7 +34,8 @@ pub enum End {
 /// are delivered, then its packets are written.
 ///
 /// A refused call changes nothing, for example a tick that goes back (`AppFault::TimeWentBack`).
-/// After a fault of the host it returns that fault and waits for nothing.
+/// After a fault of the host it returns that fault and waits for nothing. It sends nothing: a
+/// device may serve many events, and then save and send by one `serve_turn`.
 pub fn serve_happenings<H: Happenings, W: Sink, L: Listener>(
     host: &mut Host,
     happenings: &mut H,
@@ -54,6 +56,7 @@ pub fn serve_happenings<H: Happenings, W: Sink, L: Listener>(
     ensures happenings_stopped { IsSome host.old.fault → happenings.new ≡ happenings.old }
     ensures sink_stopped { IsSome host.old.fault → out.new ≡ out.old }
     ensures listener_stopped { IsSome host.old.fault → listener.new ≡ listener.old }
+    ensures order { StaysInOrder host.old (H.history happenings.old) (H.history happenings.new) }
     // For every start and input:
     ensures time { KeepsTheTime }
 {
