@@ -1,7 +1,8 @@
 -- The names of connections (this profile's own).
-use Rattle.std.specs.Prelude.{ℕ, ◌<◌, ◌==◌, not, List, [], ◌∷◌, ◌++◌, filter, find, All, Option}
+use Rattle.std.specs.Prelude.{ℕ, ◌-◌, ◌^◌, ◌<◌, ◌==◌, ◌&&◌, Bool, not, nat_lt, List, [], ◌∷◌, ◌++◌, length, filter, find, All, Option}
 use Rattle.std.specs.Option.{option_map}
 use Rattle.app_lines.specs.declared.names.Named.{Named}
+use Rattle.app_lines.specs.declared.names.TheConstants.{MOST_NAMES}
 
 -- The connections in order, and the name of the next one.
 pub record Names : Type 0 where
@@ -10,6 +11,12 @@ pub record Names : Type 0 where
 
 abbrev pub without_handle : ℕ → List Named → List Named
 without_handle handle named = filter (λ (one : Named). not (one.handle == handle)) named
+
+-- A number is left for a new connection, and it is not one too many.
+abbrev pub may_name : ℕ → Names → Bool
+may_name handle names =
+    nat_lt names.next (2 ^ 64 - 1)
+    && nat_lt (length (without_handle handle names.named)) MOST_NAMES
 
 -- The connection has this name, and no other has its handle.
 abbrev pub with_name : ℕ → ℕ → List Named → List Named

@@ -1,6 +1,6 @@
 //! Input from the application, line by line.
 
-ghost use Rattle.std.specs.Prelude.{◌≡◌, ◌+◌, ◌++◌, [], length, take, IfSome, IfNone};
+ghost use Rattle.std.specs.Prelude.{◌≡◌, ◌+◌, ◌++◌, [], length, take, nat_le, IfSome, IfNone};
 ghost use Rattle.memchr.specs.Find.{IsFirstByte, is_byte};
 ghost use Rattle.std.specs.Bool.{OnTrue, OnFalse};
 ghost use Rattle.app_lines.specs.Inbox.{NextLine};
@@ -60,6 +60,7 @@ impl Inbox {
     /// Returns true if there is a line, or one that is too long.
     pub fn has_line(&self) -> bool
         ensures nothing { OnFalse result (NextLine Found.Nothing self.now [] self.now) }
+        ensures something { OnTrue result (¬ NextLine Found.Nothing self.now [] self.now) }
     {
         memchr(b'\n', self.octets.as_slice()).is_some() || self.octets.len() > LONGEST
     }
@@ -78,6 +79,7 @@ impl Inbox {
 
     /// Appends bytes. Returns false and changes nothing if they do not fit.
     pub fn take(&mut self, octets: &[u8]) -> bool
+        ensures fits { result ≡ nat_le (length self.old + length octets.now) ROOM }
         ensures taken { OnTrue result (self.new ≡ self.old ++ octets.now) }
         ensures unchanged { OnFalse result (self.new ≡ self.old) }
     {

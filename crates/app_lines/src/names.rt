@@ -1,7 +1,7 @@
 //! Names of connections, for the device and its application.
 
-ghost use Rattle.std.specs.Prelude.{◌≡◌, ◌+◌, ◌<◌, ℕ, [], IfSome, IfNone};
-ghost use Rattle.app_lines.specs.Names.{AreBelow, handle_of, name_of, with_name, without_handle};
+ghost use Rattle.std.specs.Prelude.{◌≡◌, ◌+◌, ◌<◌, ℕ, [], is_some, IfSome, IfNone};
+ghost use Rattle.app_lines.specs.Names.{AreBelow, handle_of, may_name, name_of, with_name, without_handle};
 
 use arrayvec::ArrayVec;
 use std::marker::Model;
@@ -64,6 +64,7 @@ impl Names {
     /// Names a new connection. An earlier connection with its handle loses its name. Returns `None`
     /// if all numbers were used, or if there are more connections than a host has.
     pub fn connect(&mut self, handle: u16) -> Option<u64>
+        ensures given { is_some result ≡ may_name handle self.old }
         ensures name { IfSome result (λ name. name ≡ self.old.next) }
         ensures named { IfSome result (λ name. self.new.named
             ≡ with_name name handle self.old.named) }

@@ -1,10 +1,10 @@
 //! Output that waits to be sent.
 
-ghost use Rattle.std.specs.Prelude.{◌≡◌, ◌+◌, ◌≤◌, ◌++◌, [], length, drop, None, Some};
+ghost use Rattle.std.specs.Prelude.{◌≡◌, ◌+◌, ◌≤◌, ◌++◌, [], length, drop, nat_le, None, Some, IfErr, IfOk, OnOk};
 ghost use Rattle.std.specs.Bool.{OnTrue, OnFalse};
 
 use octet_io::{Failed, Sink};
-use std::alloc::Global;
+use std::alloc::{AllocError, Global};
 use std::marker::Model;
 
 /// A queue of bytes to send, with a limit.
@@ -52,14 +52,24 @@ impl Outbox {
         self.limit - self.octets.len()
     }
 
-    /// Queues a text. Returns false and changes nothing if it does not fit or memory is refused.
-    pub fn push(&mut self, text: &[u8]) -> bool
-        ensures pushed { OnTrue result (self.new.octets ≡ self.old.octets ++ text.now) }
-        ensures unchanged { OnFalse result (self.new.octets ≡ self.old.octets) }
+    /// Queues a text. Returns false and changes nothing if it does not fit.
+    ///
+    /// An error changes nothing either: memory was refused.
+    pub fn push(&mut self, text: &[u8]) -> Result<bool, AllocError>
+        ensures fits { IfOk result
+            (λ fits. fits ≡ nat_le (length self.old.octets + length text.now) self.old.limit) }
+        ensures pushed { IfOk result
+            (λ fits. OnTrue fits (self.new.octets ≡ self.old.octets ++ text.now)) }
+        ensures unchanged { IfOk result
+            (λ fits. OnFalse fits (self.new.octets ≡ self.old.octets)) }
+        ensures refused { IfErr result (λ _. self.new.octets ≡ self.old.octets) }
         ensures limit { self.new.limit ≡ self.old.limit }
-        ensures fits { OnTrue result (length self.old.octets + length text.now ≤ self.old.limit) }
     {
-        text.len() <= self.room() && self.octets.extend_from_slice(text).is_ok()
+        if text.len() > self.room() {
+            return Ok(false);
+        }
+        self.octets.extend_from_slice(text)?;
+        Ok(true)
     }
 
     /// Removes the first `count` bytes, which were sent.
@@ -88,10 +98,9 @@ impl Sink for Outbox {
     ghost failures = { λ _. None };
 
     fn write(&mut self, buf: &[u8]) -> Result<usize, Failed> {
-        if self.push(buf) {
-            Ok(buf.len())
-        } else {
-            Err(Failed)
+        match self.push(buf) {
+            Ok(true) => Ok(buf.len()),
+            _ => Err(Failed),
         }
     }
 }

@@ -216,7 +216,7 @@ impl Controller<'_> {
 
     /// Queues bytes and writes what the controller accepts. Returns false if none is there.
     ///
-    /// Fails if the controller cannot be written or too many bytes wait.
+    /// Fails if the controller cannot be written, too many bytes wait, or memory is refused.
     pub fn write(&mut self, octets: &[u8], poller: &Poller, now: u64) -> io::Result<bool> {
         if self.transport.is_none() {
             return Ok(false);
@@ -224,12 +224,16 @@ impl Controller<'_> {
         if self.outbox.waiting().is_empty() {
             self.stalled_since = now;
         }
-        if !self.outbox.push(octets) {
-            self.fault = Some("given up: too many octets wait for it");
-            return Err(io::Error::from(ErrorKind::OutOfMemory));
-        }
-        self.write_waiting(poller, now)?;
-        Ok(true)
+        let fault = match self.outbox.push(octets) {
+            Ok(true) => {
+                self.write_waiting(poller, now)?;
+                return Ok(true);
+            }
+            Ok(false) => "given up: too many octets wait for it",
+            Err(_) => "given up: memory was refused",
+        };
+        self.fault = Some(fault);
+        Err(io::Error::from(ErrorKind::OutOfMemory))
     }
 
     /// Writes waiting bytes as far as the controller accepts them.

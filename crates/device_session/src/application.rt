@@ -6,7 +6,7 @@ use crate::visitor::{Input, Visit, Visitor};
 use app_lines::{Found, Inbox, LONGEST, Outbox};
 use arrayvec::ArrayVec;
 use device_io::{Listener, Poller, Retry, Socket, retry_after};
-use std::alloc::Global;
+use std::alloc::{AllocError, Global};
 use std::io;
 
 /// The most bytes that may wait for an application.
@@ -471,16 +471,17 @@ impl Application {
         }
     }
 
-    /// Queues a text. Returns false if too much waits: the application is then cut off.
-    pub(crate) fn tell(&mut self, text: &[u8]) -> bool {
+    /// Queues a text. Returns false if too much waits: the application is then cut off, as after
+    /// an error.
+    pub(crate) fn tell(&mut self, text: &[u8]) -> Result<bool, AllocError> {
         if self.socket.is_none() || self.is_deaf {
-            return true;
+            return Ok(true);
         }
-        if self.outbox.push(text) {
-            return true;
+        let pushed = self.outbox.push(text);
+        if !matches!(pushed, Ok(true)) {
+            self.end();
         }
-        self.end();
-        false
+        pushed
     }
 
     /// Returns true if it has the current state and one more line fits.

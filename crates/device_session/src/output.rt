@@ -227,8 +227,10 @@ fn note_end<R: Clock + Eprint>(missed: &mut Missed, has_read_all: bool, log: &Lo
 }
 
 fn say<R: Clock + Eprint>(application: &mut Application, log: &Log<'_, R>, text: &[u8]) {
-    if !application.tell(text) {
-        log.say("application cut off: it does not read");
+    match application.tell(text) {
+        Ok(true) => {}
+        Ok(false) => log.say("application cut off: it does not read"),
+        Err(_) => log.say("memory: refused for an application"),
     }
 }
 
