@@ -32,6 +32,27 @@ int fsync(int file) {
 }
 """
 
+# No sync succeeds while the file FULL is there. SYNCS gets an octet for each.
+FULL = """
+#include <errno.h>
+#include <fcntl.h>
+#include <stdlib.h>
+#include <sys/syscall.h>
+#include <unistd.h>
+int fsync(int file) {
+    int syncs = open(getenv("SYNCS"), O_WRONLY | O_APPEND);
+    if (syncs >= 0) {
+        if (write(syncs, "s", 1) != 1) abort();
+        close(syncs);
+    }
+    if (access(getenv("FULL"), F_OK) == 0) {
+        errno = ENOSPC;
+        return -1;
+    }
+    return (int)syscall(SYS_fsync, file);
+}
+"""
+
 
 class Broken:
     """A place where nothing can be saved, until it is mended."""
@@ -243,15 +264,48 @@ def a_stop_that_cannot_save(folder):
         check("the log", True, device.said(f"stopped: {why}") != "")
 
 
+def disk(folder, text):
+    """A library with this text in C, by which a program finds another disk, or none."""
+    source, library = f"{folder}/disk.c", f"{folder}/disk.so"
+    with open(source, "w") as file:
+        file.write(text)
+    if shutil.which("cc") is None or subprocess.run(["cc", "-O1", "-shared", "-fPIC", "-o", library, source]).returncode:
+        print("skipped: another disk needs a compiler for C")
+        return None
+    return library
+
+
 def slow_disk(folder):
     """The words that run a program on a disk that is slow by so many milliseconds a sync, or none."""
-    source, library = f"{folder}/slow.c", f"{folder}/slow.so"
-    with open(source, "w") as file:
-        file.write(SLOW)
-    if shutil.which("cc") is None or subprocess.run(["cc", "-O1", "-shared", "-fPIC", "-o", library, source]).returncode:
-        print("skipped: a slow disk needs a compiler for C")
-        return None
-    return lambda takes: ["env", f"LD_PRELOAD={library}", f"SYNC_TAKES={takes}"]
+    library = disk(folder, SLOW)
+    return library and (lambda takes: ["env", f"LD_PRELOAD={library}", f"SYNC_TAKES={takes}"])
+
+
+def tries_once_a_second(folder):
+    """A save that failed is tried again each second, however much happens meanwhile."""
+    library, full, syncs = disk(folder, FULL), f"{folder}/full", f"{folder}/syncs"
+    if library is None:
+        return
+    home = Home(folder)
+    device = home.device(through=["env", f"LD_PRELOAD={library}", f"FULL={full}", f"SYNCS={syncs}"])
+    device.said("ready")
+    controller = controller_at(device)
+    controller.is_advertised()
+    controller.connect(AT_STRANGER, STRANGER)
+    application = home.application()
+    with open(full, "w"), open(syncs, "w"):
+        pass
+    application.say(f"update {VALUE} 20")
+    check("an update", "ok", application.up_to("ok")[-1])
+    begun, answers = time.monotonic(), []
+    while time.monotonic() < begun + 2.5:
+        answers.append(read(controller, VALUE, AT_STRANGER))
+    tries = os.stat(syncs).st_size
+    check("a phone is served meanwhile", ({"20"}, True), (set(answers), len(answers) > 20))
+    check("two or three tries more", True, 3 <= tries <= 4)
+    os.remove(full)
+    device.said("saved again:")
+    end(device, controller)
 
 
 def lines_of_one_read(folder):
@@ -302,9 +356,37 @@ def a_device_that_was_stopped(folder):
     end(device)
 
 
+def strangers_while_it_is_stopped(folder):
+    """The time for which a device was stopped counts neither as a phone's silence nor as its stay."""
+    home = Home(folder)
+    for word in ("--idle", "--stranger"):
+        device = home.device(word, "3")
+        device.said("ready")
+        controller = controller_at(device)
+        controller.is_advertised()
+        controller.connect(AT_STRANGER, STRANGER)
+        begun = time.monotonic()
+        check(f"{word}: it is served", "00", read(controller, VALUE, AT_STRANGER))
+        device.process.send_signal(signal.SIGSTOP)
+        for _ in range(5):
+            controller.say(AT_STRANGER, f"0a{spelled(VALUE)}")
+            time.sleep(1)
+        device.process.send_signal(signal.SIGCONT)
+        began_again = time.monotonic()
+        answers = [controller.hears(AT_STRANGER) for _ in range(5)]
+        check(f"{word}: what waited is answered", ["0b00"] * 5, answers)
+        controller.until(lambda: any(it[0] == DISCONNECT for it in controller.commands), 1)
+        check(f"{word}: it stays", [], [it for it in controller.commands if it[0] == DISCONNECT])
+        check(f"{word}: it is disconnected in the end", "400013", controller.command(DISCONNECT))
+        counted = time.monotonic() - began_again + (0 if word == "--idle" else began_again - begun - 5)
+        check(f"{word}: after three seconds", True, 2.2 < counted < 5)
+        end(device, controller)
+
+
 SCENARIOS = (
     a_write_that_is_not_saved, writes_that_no_longer_stand, nobody_reads_of_it, lost_with_the_device, values_beside_rows,
     a_disk_that_fails_for_long, a_stop_saves, a_stop_that_cannot_save, lines_of_one_read, a_device_that_was_stopped,
+    strangers_while_it_is_stopped, tries_once_a_second,
 )
 
 

@@ -1,5 +1,6 @@
 -- Phones without a key that are disconnected after a time limit: a choice of this profile.
-use Rattle.std.specs.Prelude.{ℕ, ◌+◌, ◌-◌, ◌^◌, ◌==◌, ◌||◌, Bool, false, if◌then◌else◌, is_some, List, map, min, nat_le, unwrap_or, Option, Some, None}
+-- `heard` of a connection is the host's time. All other times are those of the peers' clock.
+use Rattle.std.specs.Prelude.{ℕ, ◌+◌, ◌-◌, ◌^◌, ◌==◌, ◌&&◌, ◌||◌, Bool, false, if◌then◌else◌, is_some, List, map, min, nat_le, unwrap_or, Option, Some, None}
 use Rattle.std.specs.List.{find}
 use Rattle.std.specs.Option.{option_map, option_map_or}
 use Rattle.host_api.specs.declared.connection.Connection.{Connection}
@@ -26,7 +27,7 @@ sooner_of None other = other
 -- The time at which a phone has been silent, or known, for too long.
 abbrev pub due_of : Limits → Stranger → Option ℕ
 due_of limits stranger =
-    sooner_of (time_after stranger.connection.heard limits.silent)
+    sooner_of (time_after stranger.heard limits.silent)
     (time_after stranger.found limits.staying)
 
 abbrev pub is_due : Limits → ℕ → Stranger → Bool
@@ -42,9 +43,25 @@ found_at known ordinal now =
     (option_map (λ (one : Stranger). one.found)
     (find (λ (one : Stranger). one.connection.ordinal == ordinal) known)) now
 
+-- This is the same connection, with no data since.
+abbrev pub is_silent : Keyless → Keyless → Bool
+is_silent connection later =
+    connection.ordinal == later.ordinal && connection.heard == later.heard
+
+-- The time at which the last data of a connection was found.
+abbrev pub heard_at : List Stranger → Keyless → ℕ → ℕ
+heard_at known connection now =
+    unwrap_or
+    (option_map (λ (one : Stranger). one.heard)
+    (find (λ (one : Stranger). is_silent one.connection connection) known)) now
+
 abbrev pub stranger_of : List Stranger → ℕ → Keyless → Stranger
 stranger_of known now connection =
-    record { connection = connection; found = found_at known connection.ordinal now }
+    record {
+      connection = connection;
+      heard = heard_at known connection now;
+      found = found_at known connection.ordinal now;
+    }
 
 abbrev pub strangers_of : List Stranger → ℕ → List Keyless → List Stranger
 strangers_of known now connections = map (stranger_of known now) connections

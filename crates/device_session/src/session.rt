@@ -102,10 +102,10 @@ impl<'a, R> Session<'a, R> {
     /// It disconnects a phone without a key after its time limit, or is what the application asks.
     /// Its value lies in a prefix of `buffer`.
     pub fn next_call<'b>(&mut self, buffer: &'b mut [u8]) -> Option<App<'b>> {
-        let time = self.turns.time();
-        if let Some(handle) = self.controller.strangers.next_due(time) {
+        if let Some(handle) = self.controller.strangers.next_due(self.clock.time()) {
             return Some(App::Disconnect(handle));
         }
+        let time = self.turns.time();
         self.asking
             .next_call(&mut self.application, &self.names, time, buffer)
     }
@@ -181,8 +181,7 @@ impl<'a, R> Session<'a, R> {
 
     /// Updates the phones without a key.
     pub fn look_for_strangers(&mut self, keyless: &ArrayVec<Keyless, MAX_SLOTS>) {
-        let now = self.turns.time();
-        self.controller.strangers.look(keyless, now);
+        self.controller.strangers.look(keyless, self.clock.time());
     }
 
     /// Returns true if a controller is served without a required application.
@@ -223,7 +222,7 @@ impl<R: Clock + Eprint> Session<'_, R> {
     /// It is not read while too much waits for the application, so that no phone can cause that to
     /// be cut off.
     pub fn is_controller_next(&mut self) -> bool {
-        let has_other = self.controller.strangers.is_due(self.turns.time())
+        let has_other = self.controller.strangers.is_due(self.clock.time())
             || self.application.has_something();
         let is_readable = self.is_controller_readable();
         self.turns.is_read(is_readable, has_other)
@@ -363,11 +362,12 @@ impl<R: Clock + Eprint> Session<'_, R> {
             return Some(Duration::from_millis(0));
         }
         let controller = sooner(self.controller.due(), self.acceptance.due());
-        let peers = match sooner(self.application.due(), controller) {
+        let application = sooner(self.application.due(), self.controller.strangers.due());
+        let peers = match sooner(application, controller) {
             Some(due) => Some(due.saturating_sub(self.clock.time()).min(LONGEST_WAIT)),
             None => None,
         };
-        let own = match sooner(deadline, self.controller.strangers.due()) {
+        let own = match deadline {
             Some(due) => Some(due.saturating_sub(self.log.now())),
             None => None,
         };

@@ -1,8 +1,9 @@
-//! Phones without a key, and when each is disconnected. All times are in milliseconds.
+//! Phones without a key, and when each is disconnected. All times are in milliseconds, by the clock
+//! of the peers' time limits unless another clock is named.
 
 ghost use Rattle.std.specs.Prelude.{◌≡◌, []};
 ghost use Rattle.std.specs.Option.{option_map};
-ghost use Rattle.device_session.specs.Strangers.{due_of, first_due, found_at, is_due, keyless_of, sooner_of, stranger_of, strangers_of, time_after};
+ghost use Rattle.device_session.specs.Strangers.{due_of, first_due, found_at, heard_at, is_due, is_silent, keyless_of, sooner_of, stranger_of, strangers_of, time_after};
 
 use arrayvec::ArrayVec;
 use gatt_laws::MAX_SLOTS;
@@ -14,7 +15,7 @@ pub struct Keyless {
     /// Its number, unique within the host.
     pub ordinal: u64,
     pub handle: u16,
-    /// When its last data arrived.
+    /// When its last data arrived, by the host's clock.
     pub heard: u64,
 }
 
@@ -32,12 +33,21 @@ impl Keyless {
             heard: connection.heard,
         })
     }
+
+    fn is_silent(&self, later: &Keyless) -> bool
+        ensures { result ≡ is_silent self.now later.now }
+    {
+        self.ordinal == later.ordinal && self.heard == later.heard
+    }
 }
 
 /// A phone without a key.
 #[derive(Clone, Copy, Default)]
 pub struct Stranger {
     pub connection: Keyless,
+    /// When its last data was found.
+    pub heard: u64,
+    /// When it was found.
     pub found: u64,
 }
 
@@ -55,7 +65,7 @@ impl Limits {
         ensures { result ≡ due_of self.now stranger.now }
     {
         sooner(
-            time_after(stranger.connection.heard, self.silent),
+            time_after(stranger.heard, self.silent),
             time_after(stranger.found, self.staying),
         )
     }
@@ -180,8 +190,20 @@ fn stranger_of(connection: &Keyless, known: &[Stranger], now: u64) -> Stranger
 {
     Stranger {
         connection: *connection,
+        heard: heard_at(known, connection, now),
         found: found_at(known, connection.ordinal, now),
     }
+}
+
+fn heard_at(known: &[Stranger], connection: &Keyless, now: u64) -> u64
+    ensures { result ≡ heard_at known.now connection.now now }
+{
+    for stranger in known {
+        if stranger.connection.is_silent(connection) {
+            return stranger.heard;
+        }
+    }
+    now
 }
 
 fn found_at(known: &[Stranger], ordinal: u64, now: u64) -> u64
