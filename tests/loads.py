@@ -115,21 +115,25 @@ def a_loud_phone(folder):
 
 
 def slow_applications(folder):
-    """An application at a path that reads anything in five seconds is not cut off. One at a port has to read
-    more, because the system sees less of it."""
+    """An application at a path that reads anything in five seconds is not cut off. One at a port has 20, because
+    the system sees its reads late."""
     table = f"{folder}/loud.toml"
     with open(table, "w") as file:
         file.write(LOUD)
     commands = bytes.fromhex("0240200700 03000400 520300") * 8_000
-    seconds, ended = 14, {}
+    seconds, ended = 25, {}
 
     def pieces(stream):
         """Reads 2 KiB a second."""
         return iter(lambda: stream.recv(512), b"")
 
-    def large_pieces(stream):
-        """Reads at most 64 KiB a second."""
-        return iter(lambda: stream.recv(16_384), b"")
+    def larger_pieces(stream):
+        """Reads 8 KiB a second."""
+        return iter(lambda: stream.recv(2_048), b"")
+
+    def nothing(stream):
+        """Reads for a moment, and then not at all."""
+        return [stream.recv(512)]
 
     def lines(stream):
         """Reads as a file does, 8 KiB at once, and needs a while for each line."""
@@ -155,7 +159,13 @@ def slow_applications(folder):
             time.sleep(pause)
             if time.monotonic() > begun + seconds:
                 break
-        ended[name] = (time.monotonic() - begun > seconds, [it for it in device.log if "cut off" in it])
+        took = time.monotonic() - begun
+        ended[name] = (took > seconds, [it for it in device.log if "cut off" in it])
+        if read is nothing:
+            # The system takes some megabytes before the device has to wait.
+            soon(lambda: any("cut off" in it for it in device.log), 6 * PATIENCE)
+            took = time.monotonic() - begun
+            ended[name] = (took > 18, [it for it in device.log if "cut off" in it])
         device.end()
         stream.close()
 
@@ -168,15 +178,17 @@ def slow_applications(folder):
     kinds = {
         "pieces by a path": (["--application", f"{folder}/pieces.socket"], pieces, 0.25),
         "lines by a path": (["--application", f"{folder}/lines.socket"], lines, 0.3),
-        "large pieces by a port": (["--application-port", "127.0.0.1:0"], large_pieces, 0.25),
+        "larger pieces by a port": (["--application-port", "127.0.0.1:0"], larger_pieces, 0.25),
+        "nothing by a port": (["--application-port", "127.0.0.1:0"], nothing, 17),
     }
     threads = [threading.Thread(target=play, args=(name, *kind)) for name, kind in kinds.items()]
     for it in threads:
         it.start()
     for it in threads:
         it.join()
+    cut_off = ["application cut off: it does not read"]
     for name in kinds:
-        check(name, (True, []), ended.get(name))
+        check(name, (True, cut_off if name == "nothing by a port" else []), ended.get(name))
 
 
 def a_busy_controller(folder):

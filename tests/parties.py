@@ -349,9 +349,9 @@ def text_of(path):
         return file.read()
 
 
-def soon(look):
-    """What is so at last, once it is so: None where it never is."""
-    end = time.monotonic() + PATIENCE
+def soon(look, seconds=PATIENCE):
+    """What is so at last, once it is so: None where it is not in so many seconds."""
+    end = time.monotonic() + seconds
     while time.monotonic() < end:
         found = look()
         if found:

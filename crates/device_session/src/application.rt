@@ -18,8 +18,13 @@ const LIMIT: usize = 1_048_576;
 /// While more bytes wait for the application, neither it nor the controller is read.
 const MANY: usize = 65_536;
 
-/// How long it may accept none of them.
+/// How long it may accept none of them at a path.
 const SLOW_TIME: u64 = 5_000;
+
+/// How long it may accept none of them at a port.
+///
+/// The other end's system accepts nothing until the application has read some 64 KiB.
+const SLOW_PORT_TIME: u64 = 20_000;
 
 /// The most bytes of a write. The system takes more only once it has read a whole write.
 const PIECE: usize = 1_024;
@@ -194,7 +199,7 @@ impl Application {
             _ => None,
         };
         let end = match self.stalled_since {
-            Some(since) => Some(since.saturating_add(SLOW_TIME)),
+            Some(since) => Some(since.saturating_add(self.slow_time())),
             None => None,
         };
         sooner(visit, end)
@@ -204,6 +209,13 @@ impl Application {
     pub(crate) fn is_full(&self) -> bool {
         let takes = self.socket.is_some() && !self.is_deaf && self.next.is_none();
         takes && self.outbox.waiting().len() > MANY
+    }
+
+    fn slow_time(&self) -> u64 {
+        match &self.socket {
+            Some(Socket::Port(_)) => SLOW_PORT_TIME,
+            _ => SLOW_TIME,
+        }
     }
 
     /// Cuts off an application that accepts nothing for too long. Returns true if it did.
@@ -219,7 +231,7 @@ impl Application {
         }
         let since = self.stalled_since.unwrap_or(now);
         self.stalled_since = Some(since);
-        if now.saturating_sub(since) < SLOW_TIME {
+        if now.saturating_sub(since) < self.slow_time() {
             return false;
         }
         self.end();
