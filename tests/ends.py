@@ -22,7 +22,7 @@ import threading
 import time
 
 from parties import (
-    DOOR, OWNER, PATIENCE, PROGRAM, STRANGER, Application, Controller, Device, SerialLine, check,
+    DOOR, OWNER, PATIENCE, PROGRAM, STRANGER, Application, Controller, Device, SerialLine, captured, check,
     controller_at, play_all, stream_to,
 )
 
@@ -611,7 +611,7 @@ def no_descriptors(folder):
             line = "controller: not accepted: Too many open files"
         else:
             streams = [connected_to(path) for _ in range(5)]
-            line = "application: not accepted"
+            line = "application: not accepted: Too many open files"
         device.said(line)
         is_idle(f"{who}, no descriptors", device, 3)
         check(f"{who}: one line", 1, count_of(device, line))
@@ -937,11 +937,33 @@ def a_capture_that_nobody_reads(folder):
     os.close(reading)
 
 
+def a_capture_without_a_controller(folder):
+    """A capture has nothing that no controller was given, also where the device has something to send."""
+    path = f"{folder}/capture"
+    device = Device(*DOOR, *LISTEN, "--application", socket_of(folder), "--capture", path)
+    device.port()
+    application = Application(socket_of(folder), "application")
+    check("its state", ["+ waiting", "ok"], application.lines(2))
+    check("it is answered", ["value 10 00"] * 3, [application.ask("value 10") for _ in range(3)])
+    check("before a controller", [], captured(path))
+    controller = controller_at(device)
+    check("it is served", True, controller.is_advertised())
+    controller.close()
+    application.up_to("+ waiting")
+    before = captured(path)
+    check("what the controller was given", controller.received, b"".join(it[2] for it in before if not it[0] & 1))
+    application.say("stop")
+    application.up_to("ok")
+    device.process.wait(PATIENCE)
+    check("after it", before, captured(path))
+
+
 SCENARIOS = (
     silent_controllers_connect, silent_controllers_listen, a_connection_that_is_never_made, a_silent_serial_line, late_answers, old_octets,
     a_vanished_controller, half_an_initialisation, garbage, a_reader_who_pauses, a_reader_who_stops, a_reader_for_whom_too_much_waits, a_full_read,
     a_hardware_error, strangers_who_talk, a_handle_that_is_used_again, no_descriptors, the_socket, a_log_that_nobody_reads, a_log_without_a_reader,
     a_log_in_a_file, a_log_for_the_journal, a_capture_that_is_full, a_capture_that_nobody_reads,
+    a_capture_without_a_controller,
 )
 
 

@@ -265,6 +265,7 @@ fn attend<R: Clock + Eprint>(
 
 /// Accepts the next visitor. Logs only the first failure.
 pub(crate) fn accept<R: Clock + Eprint>(
+    alloc: Global,
     application: &mut Application,
     acceptance: &mut Acceptance,
     poller: &Poller,
@@ -273,9 +274,11 @@ pub(crate) fn accept<R: Clock + Eprint>(
 ) {
     match application.accept(poller, now) {
         Ok(is_accepted) => acceptance.succeed(is_accepted),
-        Err(_) => {
-            if acceptance.fail(now) {
-                log.say("application: not accepted");
+        Err(error) => {
+            if acceptance.fail(now)
+                && let Ok(reason) = format!(in alloc; "{error}")
+            {
+                log.say_of("application: not accepted:", reason.as_str());
             }
         }
     }

@@ -441,6 +441,7 @@ impl<
         let connects = ready.applications || self.application.is_knocking();
         if self.acceptance.is_due(connects, now) {
             accept(
+                self.alloc,
                 &mut self.application,
                 &mut self.acceptance,
                 &self.poller,
