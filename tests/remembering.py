@@ -13,6 +13,7 @@ import hashlib
 import os
 import random
 import re
+import select
 import shutil
 import socket
 import subprocess
@@ -23,7 +24,7 @@ import time
 
 sys.dont_write_bytecode = True
 from parties import (
-    COUNT, DISCONNECT, GUEST, GUEST_KEY, KEY, OWNER, PATIENCE, PROGRAM, ROOT, STRANGER, Application, Controller, Device, check,
+    COUNT, DISCONNECT, GUEST, GUEST_KEY, KEY, OWNER, PATIENCE, PROGRAM, ROOT, STRANGER, Application, Controller, Device, Visitor, check,
     controller_at, end_all,
 )
 
@@ -334,6 +335,23 @@ def unread_lines(folder, count, is_replaced):
     end(device, controller)
 
 
+def missed_again(folder):
+    """What an application was told that it has missed, and has not read, is told to the next one too."""
+    home = Home(folder)
+    device, controller = home.start()
+    write(controller, VALUE, "01")
+    one = Visitor(home.socket)
+    one.say("application")
+    select.select([one.stream], [], [], PATIENCE)
+    device.said("application")
+    one.close()
+    device.said("application gone")
+    two = home.application()
+    check("what was missed", [f"+ missed {VALUE} 01"], missed(two.welcome))
+    check("it is told once", [], missed(after(home, device, two).welcome))
+    end(device, controller)
+
+
 def gone_with_a_line(folder):
     unread_lines(folder, 1, False)
 
@@ -613,8 +631,13 @@ def a_start_without_a_lock(folder):
         has_saved("is still there", home, values=[f"{VALUE} fff1 01"])
         check("the other says it once", 1, len(lines_of(two, f"not saved: {home.path}: locked")))
         end(one)
-        two.said("saved again:")
+        two.said(f"not saved: {home.path}: another device has saved it: restart this one")
+        has_saved("the first one's value stays", home, values=[f"{VALUE} fff1 01"])
         end(two, *controllers)
+        home.socket = f"{folder}/c"
+        device, controller = home.start()
+        check("the next start serves it", "01", read(controller, VALUE))
+        end(device, controller)
     finally:
         end_all()
         subprocess.run(["umount", home.place])
@@ -637,13 +660,15 @@ def a_folder_made_anew(folder):
             device.said(f"not saved: {home.path}: locked: another device uses it")
             has_saved("the other's state", home)
             end(other)
-            device.said("saved again:")
+            device.said(f"not saved: {home.path}: another device has saved it: restart this one")
+            has_saved("it stays", home)
+            end(device, controller)
         else:
             check("another write", "13", write(controller, VALUE, "02"))
             second = Device(home.table, KEYS, "--listen", "127.0.0.1:0", *home.saved)
             is_refused("a second device", home, second, ["lock: locked: another device uses"])
-        has_saved("the value", home, values=[f"{VALUE} fff1 02"])
-        end(device, controller)
+            has_saved("the value", home, values=[f"{VALUE} fff1 02"])
+            end(device, controller)
 
 
 def a_lock_that_is_removed(folder):
@@ -983,7 +1008,7 @@ def another_value_in_its_place(folder):
 
 
 def a_kept_state(folder):
-    """A start with a wrong table keeps the old state, which then serves the right one again."""
+    """A start with a wrong table keeps the old state, which then serves the right one again, however late."""
     home, kept = Home(folder), f"{folder}/saved/state.before"
     device, controller = home.start()
     check("a write", "13", write(controller, VALUE, "0102"))
@@ -1004,7 +1029,15 @@ def a_kept_state(folder):
         check("the files", ["lock", "state", "state.before"], sorted(os.listdir(home.place)))
         end(device)
     check("it is told once", 0, len(lines_of(device, "the table has changed")))
+    wrong = home.state()
     write_text(home.table, TABLE)
+    device = home.device()
+    device.said("ready")
+    device.said(CHANGED_TO.format(home.path).replace(".before", ".other"))
+    device.said(f"a state of this table is in {kept}")
+    check("the good state stays", before, text_of(kept))
+    check("the wrong one is kept too", wrong, text_of(f"{home.path}.other"))
+    end(device)
     shutil.copy(kept, home.path)
     device, controller = home.start()
     check("the value", "0102", read(controller, VALUE))
@@ -1343,7 +1376,7 @@ def killed(folder, times):
 
 
 SCENARIOS = [
-    writable_values, all_values, commands, a_stranger, starts, nobody_there, gone_with_a_line, gone_with_many_lines,
+    writable_values, all_values, commands, a_stranger, starts, nobody_there, missed_again, gone_with_a_line, gone_with_many_lines,
     replaced_with_a_line, replaced_with_many_lines, a_locked_state, a_locked_rows_file, a_linked_rows_file,
     commands_beside_a_device, two_runs, a_device_beside_serve, no_lock, a_state_of_two_folders,
     a_start_without_a_lock, a_folder_made_anew, a_lock_that_is_removed, a_changed_file, no_place_to_listen, faulty_states,

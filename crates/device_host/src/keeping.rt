@@ -1,6 +1,7 @@
 //! The saved data of a host.
 
-use crate::stop::{Stop, refuse};
+use crate::before::keep_before;
+use crate::stop::Stop;
 use app_lines::Told;
 use device_io::{Lock, LockFault, Log, SavedFile};
 use device_session::Session;
@@ -43,6 +44,14 @@ impl Contents {
         match self {
             Contents::State(served) => served.is_changed,
             Contents::Subscriptions => false,
+        }
+    }
+
+    /// Returns the text of the table that is served, if it is saved.
+    fn table_text(&self) -> &[u8] {
+        match self {
+            Contents::State(served) => served.text.as_slice(),
+            Contents::Subscriptions => &[],
         }
     }
 
@@ -123,22 +132,7 @@ impl Keeping {
         if !self.contents.is_changed() {
             return Ok(());
         }
-        match self.file.keep_before(log.rt, self.alloc) {
-            Ok(path) => {
-                log.say_of(
-                    "the table has changed: the old state is kept as",
-                    path.as_str(),
-                );
-                Ok(())
-            }
-            Err(error) => {
-                let path = self.file.path();
-                Err(refuse(
-                    log.rt,
-                    format!(in self.alloc; "{path}.before: {error}").ok(),
-                ))
-            }
-        }
+        keep_before(self.alloc, log, &self.file, self.contents.table_text())
     }
 
     pub(crate) fn retry(&self) -> Option<u64> {
@@ -239,7 +233,7 @@ impl Keeping {
 
     /// Saves a host, unless another device has one of the locks.
     fn write<R: Files<File = File>>(&mut self, host: &Host, files: &R) -> io::Result<()> {
-        if let Err(fault) = hold(self.locks.as_mut_slice(), files) {
+        if let Err(fault) = hold(self.locks.as_mut_slice(), &mut self.file, files) {
             return Err(fault.error());
         }
         let text = self.contents.text(self.alloc, host)?;
@@ -254,10 +248,16 @@ fn is_told(failure: &Option<String>, line: &str) -> bool {
     }
 }
 
-/// Takes all locks that are not held.
-fn hold<R: Files<File = File>>(locks: &mut [Lock], files: &R) -> Result<(), LockFault> {
+/// Takes all locks of a file that are not held.
+fn hold<R: Files<File = File>>(
+    locks: &mut [Lock],
+    file: &mut SavedFile,
+    files: &R,
+) -> Result<(), LockFault> {
     for lock in locks.iter_mut() {
-        lock.hold(files)?;
+        if lock.hold(files)? {
+            file.contest();
+        }
     }
     Ok(())
 }

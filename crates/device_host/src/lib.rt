@@ -4,6 +4,7 @@
 //! Other crates handle input, output and files; this one connects them with a host.
 #![tactic(auto)]
 
+mod before;
 mod device;
 mod files;
 mod keeping;

@@ -57,19 +57,20 @@ impl Lock {
         self.path.as_str()
     }
 
-    /// Takes the lock unless it is held. Creates the file if necessary.
+    /// Takes the lock unless it is held. Creates the file if necessary. Returns true if it was not
+    /// held, so that another process may have held it.
     ///
     /// The lock is lost once the path leads to another file than the locked one, since a second
     /// process can lock that file. The old file stays locked until the new one is.
-    pub fn hold<R: Files<File = File>>(&mut self, files: &R) -> Result<(), LockFault> {
+    pub fn hold<R: Files<File = File>>(&mut self, files: &R) -> Result<bool, LockFault> {
         let path = self.path.as_str();
         match fs::symlink_metadata(files, path) {
-            Ok(found) if is_held(&self.held, &found) => return Ok(()),
+            Ok(found) if is_held(&self.held, &found) => return Ok(false),
             Ok(found) if !found.is_file() => return Err(LockFault::NotAFile),
             _ => {}
         }
         self.held = Some(take(files, path)?);
-        Ok(())
+        Ok(true)
     }
 }
 

@@ -17,6 +17,10 @@ pub struct SavedFile {
     beside: String,
     mode: u32,
     saved: Option<Saved>,
+    /// The file that was there at the start, or that was saved last.
+    known: Option<Version>,
+    /// Set while another device may have replaced that file.
+    is_contested: bool,
 }
 
 /// The text that was saved last, and the file that has it.
@@ -56,11 +60,14 @@ impl SavedFile {
     pub fn at<R: Files>(files: &R, alloc: Global, path: &str, mode: u32) -> io::Result<SavedFile> {
         let path = resolve(files, alloc, path)?;
         let beside = format!(in alloc; "{path}.new")?;
+        let known = version_at(files, path.as_str());
         Ok(SavedFile {
             path,
             beside,
             mode,
             saved: None,
+            known,
+            is_contested: false,
         })
     }
 
@@ -77,62 +84,80 @@ impl SavedFile {
         self.path.as_str()
     }
 
+    /// Notes that another device may have replaced the file.
+    pub fn contest(&mut self) {
+        self.is_contested = true;
+    }
+
     /// Saves a text. Writes nothing if the file has it, and no other program has changed the file
     /// since it was saved.
     ///
+    /// Fails if another device may have replaced the file and there is a file that is not known.
     /// After an error the file has either the old text or the new one.
     pub fn save<R: Files<File = File>>(&mut self, files: &R, text: Vec<u8>) -> io::Result<()> {
         if self.has(files, text.as_slice()) {
             return Ok(());
         }
+        if self.is_contested && self.is_replaced(files) {
+            return Err(io::Error::new(
+                ErrorKind::AlreadyExists,
+                "another device has saved it: restart this one",
+            ));
+        }
+        self.is_contested = false;
         self.saved = None;
         let version = self.replace(files, text.as_slice())?;
         self.saved = Some(Saved { text, version });
         Ok(())
     }
 
+    fn is_replaced<R: Files>(&self, files: &R) -> bool {
+        let found = version_at(files, self.path.as_str());
+        found.is_some() && found != self.known
+    }
+
     fn has<R: Files>(&self, files: &R, text: &[u8]) -> bool {
         match &self.saved {
             Some(saved) if saved.text.as_slice() == text => {
-                self.version(files) == Some(saved.version)
+                version_at(files, self.path.as_str()) == Some(saved.version)
             }
             _ => false,
         }
     }
 
-    fn version<R: Files>(&self, files: &R) -> Option<Version> {
-        let found = fs::metadata(files, self.path.as_str()).ok()?;
-        Some(Version::of(&found))
-    }
-
-    fn replace<R: Files<File = File>>(&self, files: &R, text: &[u8]) -> io::Result<Version> {
+    fn replace<R: Files<File = File>>(&mut self, files: &R, text: &[u8]) -> io::Result<Version> {
         let (path, beside) = (self.path.as_str(), self.beside.as_str());
         remove_left_file(files, beside)?;
         let version = write_new(files, beside, self.mode, path, text)?;
         fs::rename(files, beside, path)?;
+        self.known = Some(version);
         sync_folder(files, path)?;
         Ok(version)
     }
 
-    /// Links or copies the file to its path and `.before`. Returns that path.
+    /// Links or copies the file to `kept`, in the same folder.
     ///
     /// Replaces an older file there. If this fails, the older one stays.
-    pub fn keep_before<R: Files<File = File>>(
+    pub fn keep_as<R: Files<File = File>>(
         &self,
         files: &R,
         alloc: Global,
-    ) -> io::Result<String> {
+        kept: &str,
+    ) -> io::Result<()> {
         let path = self.path.as_str();
-        let kept = format!(in alloc; "{path}.before")?;
-        let beside = format!(in alloc; "{path}.before.new")?;
+        let beside = format!(in alloc; "{kept}.new")?;
         remove_left_file(files, beside.as_str())?;
-        let moved = move_copy(files, alloc, path, beside.as_str(), kept.as_str());
+        let moved = move_copy(files, alloc, path, beside.as_str(), kept);
         // A rename leaves the file if the other path has the same one already.
         remove_left_file(files, beside.as_str())?;
         moved?;
-        sync_folder(files, path)?;
-        Ok(kept)
+        sync_folder(files, path)
     }
+}
+
+fn version_at<R: Files>(files: &R, path: &str) -> Option<Version> {
+    let found = fs::metadata(files, path).ok()?;
+    Some(Version::of(&found))
 }
 
 /// Links or copies a file to `beside`, and renames that to `kept`.

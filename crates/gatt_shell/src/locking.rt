@@ -45,7 +45,7 @@ fn lock_file(rt: &HostRuntime, path: &str) -> Result<Option<Lock>, Unlocked> {
     };
     let mut lock = Lock::at(place);
     match lock.hold(rt) {
-        Ok(()) => Ok(Some(lock)),
+        Ok(_) => Ok(Some(lock)),
         Err(LockFault::Taken) => Err(Unlocked::Taken),
         Err(LockFault::NotAFile) => Ok(None),
         Err(LockFault::Failed(error)) => without(&error),
