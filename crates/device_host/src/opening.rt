@@ -1,4 +1,6 @@
 //! Opens the host that is served, from its files and the saved data.
+//!
+//! Tables, keys and files are dropped as a whole, which keeps the proofs small.
 
 use crate::files::{TableFile, read_file, read_keys, read_subscriptions, read_table};
 use crate::keeping::{Contents, Keeping, Served, subscriptions_text};
@@ -66,13 +68,54 @@ fn open_with_subscriptions<R: Files<File = File> + Clock + Eprint>(
     table: Table,
     keys: Keys,
 ) -> Result<(Host, Option<Keeping>), Stop> {
+    let found = find_subscriptions(alloc, log, path);
+    let (file, locks, rows) = match found {
+        Ok((file, locks, rows)) => (file, locks, rows),
+        Err(stop) => {
+            drop(table);
+            drop(keys);
+            return Err(stop);
+        }
+    };
+    match open_with(alloc, log, options, table, keys, rows) {
+        Ok(host) => {
+            let keeping = Keeping::new(alloc, locks, file, Contents::Subscriptions);
+            Ok((host, Some(keeping)))
+        }
+        Err(stop) => {
+            drop(locks);
+            drop(file);
+            Err(stop)
+        }
+    }
+}
+
+/// Returns a subscriptions file with its locks and its subscriptions.
+fn find_subscriptions<R: Files<File = File> + Clock + Eprint>(
+    alloc: Global,
+    log: &Log<'_, R>,
+    path: &str,
+) -> Result<(SavedFile, Vec<Lock>, Rows), Stop> {
     let file = find_file(alloc, log, path, FOR_ALL)?;
     let mut locks = Vec::new(alloc);
-    add_lock(alloc, log, &mut locks, file.path(), ".lock")?;
-    let rows = read_subscriptions(alloc, log.rt, file.path())?;
-    let host = open_with(alloc, log, options, table, keys, rows)?;
-    let keeping = Keeping::new(alloc, locks, file, Contents::Subscriptions);
-    Ok((host, Some(keeping)))
+    match lock_and_read(alloc, log, &mut locks, file.path()) {
+        Ok(rows) => Ok((file, locks, rows)),
+        Err(stop) => {
+            drop(locks);
+            drop(file);
+            Err(stop)
+        }
+    }
+}
+
+fn lock_and_read<R: Files<File = File> + Clock + Eprint>(
+    alloc: Global,
+    log: &Log<'_, R>,
+    locks: &mut Vec<Lock>,
+    path: &str,
+) -> Result<Rows, Stop> {
+    add_lock(alloc, log, locks, path, ".lock")?;
+    read_subscriptions(alloc, log.rt, path)
 }
 
 fn open_with_state<R: Files<File = File> + Clock + Eprint>(
@@ -84,28 +127,100 @@ fn open_with_state<R: Files<File = File> + Clock + Eprint>(
     keys: Keys,
 ) -> Result<(Host, Option<Keeping>), Stop> {
     let mut locks = Vec::new(alloc);
-    add_lock(alloc, log, &mut locks, folder, "/lock")?;
+    let found = find_saved(alloc, log, &mut locks, folder, served.text.as_slice());
+    let (file, table, state) = match found {
+        Ok((file, table, state)) => (file, table, state),
+        Err(stop) => {
+            drop(locks);
+            drop(served);
+            drop(keys);
+            return Err(stop);
+        }
+    };
+    let mut served = served;
+    served.is_changed = is_of_another_table(&state, served.text.as_slice());
+    let opened = match state {
+        Some(state) => resume(alloc, log, options, state, &served, table, keys),
+        None => open_empty(alloc, options, table, keys),
+    };
+    match opened {
+        Ok(host) => {
+            let keeping = Keeping::new(alloc, locks, file, Contents::State(served));
+            Ok((host, Some(keeping)))
+        }
+        Err(stop) => {
+            drop(locks);
+            drop(file);
+            drop(served);
+            Err(stop)
+        }
+    }
+}
+
+/// Opens a host without subscriptions.
+fn open_empty(
+    alloc: Global,
+    options: &HostOptions<'_>,
+    table: Table,
+    keys: Keys,
+) -> Result<Host, Stop> {
+    match no_rows(alloc) {
+        Ok(rows) => open(alloc, table, keys, rows, &options.host),
+        Err(fault) => {
+            drop(table);
+            drop(keys);
+            Err(Stop::Fault(fault))
+        }
+    }
+}
+
+/// Locks the state of a folder. Returns its file, a table from `text`, and the state if there is
+/// one.
+fn find_saved<R: Files<File = File> + Clock + Eprint>(
+    alloc: Global,
+    log: &Log<'_, R>,
+    locks: &mut Vec<Lock>,
+    folder: &str,
+    text: &[u8],
+) -> Result<(SavedFile, Table, Option<State>), Stop> {
+    let file = lock_state(alloc, log, locks, folder)?;
+    let table = match judged_table(alloc, text) {
+        Ok(table) => table,
+        Err(fault) => {
+            drop(file);
+            return Err(Stop::Fault(fault));
+        }
+    };
+    match find_state(alloc, log, file.path()) {
+        Ok(state) => Ok((file, table, state)),
+        Err(stop) => {
+            drop(table);
+            drop(file);
+            Err(stop)
+        }
+    }
+}
+
+/// Locks the state of a folder and returns its file.
+fn lock_state<R: Files<File = File> + Clock + Eprint>(
+    alloc: Global,
+    log: &Log<'_, R>,
+    locks: &mut Vec<Lock>,
+    folder: &str,
+) -> Result<SavedFile, Stop> {
+    add_lock(alloc, log, locks, folder, "/lock")?;
     let path = match format!(in alloc; "{folder}/state") {
         Ok(path) => path,
         Err(_) => return Err(Stop::Fault(ShellFault::Memory)),
     };
     let file = find_file(alloc, log, path.as_str(), OWNER_ALONE)?;
-    if file.path() != path.as_str() {
-        lock_target(alloc, log, &mut locks, file.path())?;
+    if file.path() != path.as_str()
+        && let Err(stop) = lock_target(alloc, log, locks, file.path())
+    {
+        drop(file);
+        return Err(stop);
     }
-    let table = judged_table(alloc, served.text.as_slice())?;
-    let state = find_state(alloc, log, file.path())?;
-    let mut served = served;
-    served.is_changed = is_of_another_table(&state, served.text.as_slice());
-    let host = match state {
-        Some(state) => resume(alloc, log, options, state, &served, table, keys)?,
-        None => {
-            let rows = no_rows(alloc)?;
-            open(alloc, table, keys, rows, &options.host)?
-        }
-    };
-    let keeping = Keeping::new(alloc, locks, file, Contents::State(served));
-    Ok((host, Some(keeping)))
+    Ok(file)
 }
 
 /// Returns the file at a path. Refuses a path of anything else.
@@ -301,10 +416,51 @@ fn open_changed<R: Files<File = File> + Clock + Eprint>(
     keys: Keys,
     rows: Rows,
 ) -> Result<Host, Stop> {
+    let saved = match known_lines(alloc, log.rt, options, &rows, &keys) {
+        Ok(saved) => saved,
+        Err(stop) => {
+            drop(replacement);
+            drop(keys);
+            drop(rows);
+            return Err(stop);
+        }
+    };
     let Replacement { before, table } = replacement;
-    refuse_unknown(alloc, log.rt, options, &rows, &keys)?;
-    let saved = saved_lines(alloc, &rows)?;
-    let mut host = open(alloc, before, keys, rows, &options.host)?;
+    match open(alloc, before, keys, rows, &options.host) {
+        Ok(host) => {
+            let (table, keys, rows) = exchange(alloc, log, host, table);
+            open_and_log(alloc, log, options, table, keys, rows, saved)
+        }
+        Err(stop) => {
+            drop(table);
+            Err(stop)
+        }
+    }
+}
+
+/// Opens a host, and logs which of the saved subscriptions it drops.
+fn open_and_log<R: Clock + Eprint>(
+    alloc: Global,
+    log: &Log<'_, R>,
+    options: &HostOptions<'_>,
+    table: Table,
+    keys: Keys,
+    rows: Rows,
+    saved: Vec<u8>,
+) -> Result<Host, Stop> {
+    let host = open(alloc, table, keys, rows, &options.host)?;
+    log_dropped(alloc, log, saved.as_slice(), host.rows());
+    Ok(host)
+}
+
+/// Replaces the table of a host, and returns what the host with the new one is opened with.
+fn exchange<R: Clock + Eprint>(
+    alloc: Global,
+    log: &Log<'_, R>,
+    host: Host,
+    table: Table,
+) -> (Table, Keys, Rows) {
+    let mut host = host;
     take_out(&mut host);
     let refused = replace_table(alloc, log, &mut host, table);
     let (mut table, keys, mut rows) = host.into_parts();
@@ -312,9 +468,7 @@ fn open_changed<R: Files<File = File> + Clock + Eprint>(
         rows.keep(&table, &refused);
         table = refused;
     }
-    let host = open(alloc, table, keys, rows, &options.host)?;
-    log_dropped(alloc, log, saved.as_slice(), host.rows());
-    Ok(host)
+    (table, keys, rows)
 }
 
 /// Replaces the table of a host. Returns the new table if the host refuses it.
@@ -357,15 +511,32 @@ fn open_with<R: Eprint + Clock>(
     keys: Keys,
     rows: Rows,
 ) -> Result<Host, Stop> {
-    refuse_unknown(alloc, log.rt, options, &rows, &keys)?;
-    let saved = saved_lines(alloc, &rows)?;
+    let saved = match known_lines(alloc, log.rt, options, &rows, &keys) {
+        Ok(saved) => saved,
+        Err(stop) => {
+            drop(table);
+            drop(keys);
+            drop(rows);
+            return Err(stop);
+        }
+    };
     let mut table = table;
     if is_change_pending(saved.as_slice()) {
         set_whole_range(&mut table);
     }
-    let host = open(alloc, table, keys, rows, &options.host)?;
-    log_dropped(alloc, log, saved.as_slice(), host.rows());
-    Ok(host)
+    open_and_log(alloc, log, options, table, keys, rows, saved)
+}
+
+/// Returns the lines of saved subscriptions. Refuses those of a peer without a key.
+fn known_lines<R: Eprint>(
+    alloc: Global,
+    rt: &R,
+    options: &HostOptions<'_>,
+    rows: &Rows,
+    keys: &Keys,
+) -> Result<Vec<u8>, Stop> {
+    refuse_unknown(alloc, rt, options, rows, keys)?;
+    saved_lines(alloc, rows)
 }
 
 /// Returns true if a peer has a pending Service Changed.

@@ -39,9 +39,14 @@ pub(crate) fn reaching<
     );
     let mut session = match opened {
         Ok(session) => session,
-        Err(error) => return Err(refuse_controllers(alloc, rt, options.controller, &error)),
+        Err(error) => {
+            drop(keeping);
+            return Err(refuse_controllers(alloc, rt, options.controller, &error));
+        }
     };
     if let Err(error) = session.listen_for_applications(options.application) {
+        drop(session);
+        drop(keeping);
         return Err(refuse_applications(alloc, rt, options.application, &error));
     }
     Ok(Device {
