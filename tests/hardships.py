@@ -1,6 +1,6 @@
 #!/usr/bin/env -S python3 -B
 """Gives `gatt_shell host` what nobody should: garbage from its controllers and from its applications,
-and requests without end.
+requests without end, and too little stack and memory.
 
 usage: tests/hardships.py [PROGRAM] [--sessions N] [--requests N] [--seed N]
 
@@ -13,12 +13,13 @@ import argparse
 import random
 import re
 import socket
+import subprocess
 import sys
 import tempfile
 
 sys.dont_write_bytecode = True
 from parties import (
-    COUNT, OWNER, PATIENCE, ROOT, STRANGER, Application, Controller, Device, Visitor, check, controller_at, end_all, stream_to,
+    COUNT, OWNER, PATIENCE, PROGRAM, ROOT, STRANGER, Application, Controller, Device, Visitor, check, controller_at, end_all, stream_to,
 )
 
 DOOR = [f"{ROOT}/examples/door.toml", f"{ROOT}/examples/keys.toml"]
@@ -204,6 +205,65 @@ def requests(folder, count):
     controller.close()
 
 
+def limited(limit, *words):
+    """The status of a command with this limit, and the last line that it prints."""
+    ran = subprocess.run(["prlimit", limit, PROGRAM, *words], stdin=subprocess.DEVNULL, capture_output=True, text=True, timeout=PATIENCE)
+    return ran.returncode, (ran.stdout + ran.stderr).rstrip("\n").rpartition("\n")[2]
+
+
+def little_stack(folder, count):
+    """Each command asks for its stack before it does anything, and never needs more."""
+    table = f"{folder}/nested.toml"
+    script = f"{ROOT}/examples/bonded.script"
+    commands = {
+        "host": ["host", *DOOR, "--listen", "127.0.0.1:0"],
+        "serve": ["serve", *DOOR, "--listen", "127.0.0.1:0"],
+        "run": ["run", *DOOR, script],
+        "show": ["show", *DOOR],
+        "check": ["check", *DOOR],
+        "att": ["att"],
+        "tell": ["tell", f"{folder}/no.socket", "stop"],
+        "--version": ["--version"],
+    }
+    for name, words in commands.items():
+        for size in (128, 1_024, 4_095):
+            check(f"{name}: {size} KiB", (2, "stack: 4096 KB needed"), limited(f"--stack={size * 1024}", *words))
+    nested = {
+        "arrays": lambda depth: "a = " + "[" * depth + "]" * depth,
+        "tables": lambda depth: "a = " + "{a = " * depth + "1" + "}" * depth,
+        "keys": lambda depth: "a" + ".a" * depth + " = 1",
+        "headers": lambda depth: "[a" + ".a" * depth + "]",
+        "both": lambda depth: f"[a{'.a' * depth}]\nb{'.b' * depth} = " + "[" * depth + "]" * depth,
+    }
+    for kind, text in nested.items():
+        for depth in (40, 78, 79, 80, 100_000):
+            with open(table, "w") as file:
+                file.write(text(depth) + "\n")
+            for files in ([table, DOOR[1]], [DOOR[0], table]):
+                for name in ("check", "show", "host"):
+                    words = [name, *files, *(["--listen", "127.0.0.1:0"] if name == "host" else [])]
+                    check(f"{name}: {kind}, {depth} deep", 1, limited("--stack=4194304", *words)[0])
+
+
+def little_memory(folder, count):
+    """With little address space a device serves, or ends with a fault, and never by a signal."""
+    ends = set()
+    for size in range(1_024, 8_192, 64):
+        device = Device(*DOOR, "--listen", "127.0.0.1:0", "--state", folder, through=["prlimit", f"--as={size * 1024}"])
+        try:
+            controller = controller_at(device)
+            controller.is_advertised()
+            controller.connect(64, STRANGER)
+            ends.add(controller.ask(64, "0a0300"))
+            controller.close()
+            device.end()
+        except (TimeoutError, OSError):
+            status = device.process.wait(PATIENCE)
+            # Below some size not even the loader of the system finds memory.
+            ends.add("a fault" if status in (1, 2, 127) else f"status {status} with {size} KiB")
+    check("the ends", {"a fault", "0b4c6f636b"}, ends)
+
+
 def main():
     words = argparse.ArgumentParser(description=__doc__, formatter_class=argparse.RawDescriptionHelpFormatter)
     words.add_argument("program", nargs="?")
@@ -215,7 +275,7 @@ def main():
     with tempfile.TemporaryDirectory() as folder:
         for play, often in [
             (garbage_of_controllers, given.sessions), (garbage_of_applications, given.sessions),
-            (requests, given.requests),
+            (requests, given.requests), (little_stack, None), (little_memory, None),
         ]:
             try:
                 play(folder, often)

@@ -309,10 +309,24 @@ fn run_words(rt: &HostRuntime, words: &[String]) -> u8 {
 }
 
 fn run(rt: &HostRuntime) -> u8 {
+    if let Err(needed) = device_io::take_stack(rt.alloc()) {
+        return stack_status(rt, needed);
+    }
     match shell_args::words_of(rt) {
         Ok(words) => run_words(rt, words.as_slice()),
         Err(refusal) => refusal_status(rt, &refusal),
     }
+}
+
+/// Returns the exit status of a program whose stack is too small, after printing what it needs.
+fn stack_status(rt: &HostRuntime, needed: u64) -> u8
+    ensures memory { result ≡ 2 }
+{
+    // If this fails, the error cannot be reported at all.
+    if let Ok(line) = format!(in rt.alloc(); "stack: {needed} KB needed") {
+        let _ = rt.eprintln(line.as_str());
+    }
+    gatt_commands::status(&ShellFault::Memory)
 }
 
 fn main(rt: HostRuntime) -> ExitCode {
