@@ -121,6 +121,19 @@ const KEY_NUMBERS: &[(&str, &str)] = &[
         [[key]]
         address = "c0:00:00:00:00:02"
         kind = "random"
+        rand = "01"
+        ediv = 257
+        ltk = "00"
+        size = 16
+        authenticated = true
+        "#,
+        "key 2, rand: it is not 16 hexadecimal digits",
+    ),
+    (
+        r#"
+        [[key]]
+        address = "c0:00:00:00:00:02"
+        kind = "random"
         rand = "0101010101010101"
         ediv = 65536
         ltk = "ff112233445566778899aabbccddeeff"

@@ -67,10 +67,12 @@ fn add_bad_address(report: &mut Report<'_>, front: &Front<'_>) {
 }
 
 fn add_bad_hex(report: &mut Report<'_>, front: &Front<'_>) {
-    if stays_with(report, front, "rand", "\"0000000000000000\"") {
-        add_said(report, front, "ltk", b": it is not 32 hexadecimal digits");
-    } else {
+    // If both are wrong, `rand` is the first fault.
+    let good = "\"00000000000000000000000000000000\"";
+    if stays_with(report, front, "ltk", good) {
         add_said(report, front, "rand", b": it is not 16 hexadecimal digits");
+    } else {
+        add_said(report, front, "ltk", b": it is not 32 hexadecimal digits");
     }
 }
 
