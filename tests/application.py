@@ -317,6 +317,27 @@ def ends_with_a_controller(folder):
     controller.close()
 
 
+def names_of_an_earlier_controller(folder):
+    """As many phones as a controller may have are named anew with the next one."""
+    path = f"{folder}/names.socket"
+    device = Device(*DOOR, "--listen", "127.0.0.1:0", "--slots", "8", "--application", path)
+    device.port()
+    application = Application(path, "application")
+    check("its state", ["+ waiting", "ok"], application.lines(2))
+    for first in (1, 9):
+        controller = controller_at(device)
+        controller.is_advertised()
+        check("serving", "+ serving", application.line())
+        for handle in range(64, 72):
+            controller.connect(handle, STRANGER)
+        names = [it.split()[:3] for it in application.lines(8)]
+        check("each is told", [["+", "connected", str(first + it)] for it in range(8)], names)
+        check("each is there", 9, len(look(path, "connections")))
+        controller.close()
+        application.up_to("+ waiting")
+    device.end()
+
+
 def commands(folder):
     """What an application may ask, and what it is answered if a word is wrong."""
     path = f"{folder}/commands.socket"
@@ -491,6 +512,7 @@ def a_confirmation(folder):
 
 SCENARIOS = (
     a_second_device, sent_and_closed, looks, lines_of_others, a_first_line, an_endless_asker, ends_with_a_controller,
+    names_of_an_earlier_controller,
     commands, a_tell, a_stop, a_confirmation,
 )
 
