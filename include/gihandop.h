@@ -268,7 +268,7 @@ uint32_t gh_update(struct gh_host *host, uint16_t handle, const uint8_t *value, 
 
 /*
  * Authorizes the connection with an HCI handle while the time is below a moment, in milliseconds; 0 ends
- * the authorization. Returns GH_NO_SUCH_CONNECTION if the host refuses it.
+ * the authorization. PDUs that were queued before are still sent. Returns GH_NO_SUCH_CONNECTION if the host refuses it.
  */
 uint32_t gh_authorize(struct gh_host *host, uint16_t connection, uint64_t until);
 

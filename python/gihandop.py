@@ -474,7 +474,7 @@ class Device:
         await self._ask("allow", connection, *([] if milliseconds is None else [milliseconds]))
 
     async def deny(self, connection: int) -> None:
-        """Ends the authorization of a phone."""
+        """Ends the authorization of a phone. Answers that were queued before are still sent."""
         await self._ask("deny", connection)
 
     async def disconnect(self, connection: int) -> None:

@@ -290,7 +290,7 @@ impl Host {
     }
 
     /// Authorizes a connection while the time of [`Host::tick`] is below `until`, in milliseconds:
-    /// 0 withdraws it.
+    /// 0 withdraws it. PDUs that were queued before are still sent.
     ///
     /// # Errors
     ///
