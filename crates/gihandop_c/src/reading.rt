@@ -38,6 +38,7 @@ pub(crate) fn deadline(opened: &Opened, time: &mut u64) -> u32
     ensures status { result ≡ deadline_status opened.now }
     ensures deadline { result ≡ DONE → slots_deadline opened.now.host.server.time
         opened.now.host.server.slots ≡ Some time.new }
+    ensures none { result ≢ DONE → time.new ≡ 0 }
 {
     match opened.host.deadline() {
         Some(deadline) => {

@@ -102,6 +102,7 @@ pub extern "C" fn gh_deadline(host: &mut HostPointer, time: &mut u64) -> u32
     ensures status { result ≡ if_open deadline_status host.old.host }
     ensures deadline { result ≡ DONE → IfSome host.old.host (λ opened.
         slots_deadline opened.host.server.time opened.host.server.slots ≡ Some time.new) }
+    ensures none { result ≢ DONE → time.new ≡ 0 }
     ensures unchanged { host.new.host ≡ host.old.host }
 {
     *time = 0;
@@ -178,6 +179,7 @@ pub extern "C" fn gh_values_text(
 #[unsafe(no_mangle)]
 pub extern "C" fn gh_text(status: u32, out: &mut [u8], count: &mut usize) -> u32
     ensures status { result ≡ text_status status count.new (length out.old) }
+    ensures none { result ≢ DONE → result ≢ SHORT_BUFFER → count.new ≡ 0 }
     ensures untouched { result ≢ DONE → out.new ≡ out.old }
 {
     *count = 0;
