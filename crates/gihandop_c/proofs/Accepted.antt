@@ -1,5 +1,5 @@
 -- What a host is opened with, where each text is accepted.
-use Rattle.std.proofs.Common.{◌≡◌, ◌∙◌, ℕ, List, [], Result, Ok, ap, subst, sym}
+use Rattle.std.proofs.Common.{◌≡◌, ◌∙◌, ℕ, List, [], None, Result, Ok, ap, subst, sym}
 use Rattle.att_table.specs.declared.table_fault.TableFault.{TableFault}
 use Rattle.att_table.specs.Table.{Contents}
 use Rattle.gatt_host.specs.HostModel.{RefinesRun}
@@ -33,8 +33,8 @@ module _ (table keys rows values : Octets) (config : HostConfig) (served restore
       (subst (λ (it : Contents). values_in values it ≡ Ok (again, count)) (sym (same_ok (table_in table) served contents is_table read)) values_read)
 
   pub opened_with : (opened : Opened) → RefinesRun (run (start_of restored entries said (config_given config)) []) [] opened.host
-      → opened.initial ≡ served → IsOpenedWith table keys rows values config omitted opened
-  opened_with opened refines initial = record {
+      → opened.host.fault ≡ None → opened.initial ≡ served → IsOpenedWith table keys rows values config omitted opened
+  opened_with opened refines going initial = record {
     host = λ contents again others rest count read keys_read rows_read values_read.
         subst (λ (it : Contents). RefinesRun (run (start_of it others rest (config_given config)) []) [] opened.host)
         (ap (λ (pair : Contents × ℕ). pair.0) (same_values contents again count read values_read))
@@ -42,6 +42,7 @@ module _ (table keys rows values : Octets) (config : HostConfig) (served restore
         (same_ok (keys_in keys) entries others is_keys keys_read)
         (subst (λ (it : Subscriptions). RefinesRun (run (start_of restored entries it (config_given config)) []) [] opened.host)
         (same_ok (rows_in rows) said rest is_rows rows_read) refines));
+    going = going;
     left_out = λ contents again count read values_read. ap (λ (pair : Contents × ℕ). pair.1) (same_values contents again count read values_read);
     initial = λ contents read. initial ∙ same_ok (table_in table) served contents is_table read;
   }

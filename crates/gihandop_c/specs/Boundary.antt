@@ -1,11 +1,11 @@
 -- The effects of a function on the host behind a pointer.
-use Rattle.std.specs.Prelude.{◌≡◌, ℕ, ◌+◌, List, drop, Option, Some, None, IsSome}
+use Rattle.std.specs.Prelude.{◌≡◌, ℕ, ◌+◌, false, List, drop, Option, Some, None, IsSome, IfSome}
 use Rattle.att_table.specs.Table.{Contents}
 use Rattle.gatt_host.specs.declared.host_fault.HostFault.{HostFault}
 use Rattle.gatt_host.specs.Calls.{number_of_refused}
 use Rattle.gatt_host.specs.Numbers.{number_of_fault}
 use Rattle.gatt_host.specs.Telling.{notices_told, silent}
-use Rattle.gatt_host.specs.HostModel.{Refines, RefinesRun}
+use Rattle.gatt_host.specs.HostModel.{is_own_fault, Refines, RefinesRun}
 use Rattle.gatt_laws.specs.machine.Calls.{Call, Refused}
 use Rattle.gatt_laws.specs.machine.Input.{Run, Item, run, call_refusal, replacement_refusal}
 use Rattle.gatt_laws.specs.machine.Notice.{Notice, notices_in, notices_of}
@@ -57,6 +57,21 @@ KeepsInitial old new = new.initial ≡ old.initial
 
 abbrev pub HostKeepsInitial : Option Opened → Option Opened → Type 0
 HostKeepsInitial = OfTheHost KeepsInitial
+
+-- The host neither stops nor gets another fault.
+abbrev pub KeepsFault : Opened → Opened → Type 0
+KeepsFault old new = new.host.fault ≡ old.host.fault
+
+abbrev pub HostKeepsFault : Option Opened → Option Opened → Type 0
+HostKeepsFault = OfTheHost KeepsFault
+
+-- If the host stops, its input is the reason: the fault is none of a reader, a writer or turns.
+abbrev pub StopsByItsInput : Opened → Opened → Type 0
+StopsByItsInput old new =
+    old.host.fault ≡ None → IfSome new.host.fault (λ fault. is_own_fault fault ≡ false)
+
+abbrev pub HostStopsByItsInput : Option Opened → Option Opened → Type 0
+HostStopsByItsInput = OfTheHost StopsByItsInput
 
 -- Notices and tables do not change.
 pub record KeepsNotices (old new : Opened) : Type 0 where

@@ -44,6 +44,7 @@ pub record IsOpenedWith (table keys rows values : Octets) (config : HostConfig) 
       → table_in table ≡ Ok contents → keys_in keys ≡ Ok entries → rows_in rows ≡ Ok said
       → values_in values contents ≡ Ok (restored, count)
       → RefinesRun (run (start_of restored entries said (config_given config)) []) [] opened.host
+  pub going : opened.host.fault ≡ None
   -- The number of values that do not fit the table.
   pub left_out : (contents restored : Contents) (count : ℕ)
       → table_in table ≡ Ok contents → values_in values contents ≡ Ok (restored, count)

@@ -6,7 +6,7 @@ ghost use Rattle.att_table.specs.Table.{Contents};
 ghost use Rattle.att_table.specs.TableFault.{table_fault_number};
 ghost use Rattle.gatt_host.specs.Calls.{call_of};
 ghost use Rattle.gatt_laws.specs.machine.Input.{ACall, ATable};
-ghost use Rattle.gihandop_c.specs.Boundary.{AnswersCall, AnswersTable, FallsSilent, KeepsInitial, OpenedRefines, TellsItem};
+ghost use Rattle.gihandop_c.specs.Boundary.{AnswersCall, AnswersTable, FallsSilent, KeepsFault, KeepsInitial, OpenedRefines, TellsItem};
 ghost use Rattle.gihandop_c.specs.Opening.{IsNotOfMemory};
 ghost use Rattle.gihandop_c.specs.Statuses.{WaitsForOutput};
 ghost use Rattle.gihandop_c.specs.declared.status.TheConstants.{BAD_TABLE, DONE, HAS_STOPPED, OUTPUT_OWED};
@@ -28,6 +28,7 @@ pub(crate) fn call(opened: &mut Opened, call: App<'_>) -> u32
     ensures refused { result ≢ DONE → result ≢ OUTPUT_OWED
         → FallsSilent opened.old opened.new }
     ensures stopped { IsSome opened.old.host.fault → result ≡ HAS_STOPPED }
+    ensures fault { KeepsFault opened.old opened.new }
     ensures initial { KeepsInitial opened.old opened.new }
     ensures owes { WaitsForOutput result opened.old }
     ensures owed { result ≡ OUTPUT_OWED → opened.new ≡ opened.old }
@@ -56,6 +57,7 @@ pub(crate) fn replace_by(alloc: Global, opened: &mut Opened, file: &[u8]) -> u32
         → AnswersTable contents result opened.old }
     ensures stopped { (contents : Contents) → table_in file.now ≡ Ok contents
         → IsNotOfMemory result → IsSome opened.old.host.fault → result ≡ HAS_STOPPED }
+    ensures fault { KeepsFault opened.old opened.new }
     ensures file { (fault : TableFault) → table_in file.now ≡ Err fault
         → IsNotOfMemory result → result ≢ OUTPUT_OWED
         → result ≡ BAD_TABLE + table_fault_number fault }
@@ -84,6 +86,7 @@ fn replace(opened: &mut Opened, tables: (Table, Table)) -> u32
     ensures tells { result ≢ OUTPUT_OWED → TellsItem (ATable tables.0) opened.old opened.new }
     ensures answers { result ≢ OUTPUT_OWED → AnswersTable tables.0 result opened.old }
     ensures stopped { IsSome opened.old.host.fault → result ≡ HAS_STOPPED }
+    ensures fault { KeepsFault opened.old opened.new }
     ensures refused { result ≢ DONE → result ≢ OUTPUT_OWED
         → FallsSilent opened.old opened.new }
     ensures initial { result ≡ DONE → opened.new.initial ≡ tables.1 }

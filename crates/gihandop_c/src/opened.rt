@@ -1,7 +1,8 @@
 //! An open host, with the data that C calls need.
 
-ghost use Rattle.std.specs.Prelude.{◌≡◌, ◌||◌, not, true};
-ghost use Rattle.gatt_host.specs.HostModel.{all_out};
+ghost use Rattle.std.specs.Prelude.{◌≡◌, ◌||◌, not, false, true};
+ghost use Rattle.std.specs.Option.{option_map_or};
+ghost use Rattle.gatt_host.specs.HostModel.{all_out, is_own_fault};
 
 use gatt_host::{Host, Table};
 
@@ -16,21 +17,11 @@ pub struct Opened {
     /// Set if the host is known to have no pending packet.
     pub(crate) drained: bool,
     pub ghost out: { (not drained || all_out host) ≡ true },
+    // No call reads, writes or counts turns, so the host has no fault of these.
+    pub ghost not_own: { option_map_or is_own_fault host.fault false ≡ false },
 }
 
 impl Opened {
-    pub(crate) fn new(host: Host, initial: Table) -> Opened
-        ensures host { result.host ≡ host }
-        ensures initial { result.initial ≡ initial }
-    {
-        Opened {
-            host,
-            initial,
-            told: 0,
-            drained: false,
-        }
-    }
-
     #[inline(always)]
     pub(crate) fn is_drained(&self) -> bool
         ensures { result ≡ all_out self.now.host }

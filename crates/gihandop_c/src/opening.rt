@@ -1,6 +1,6 @@
 //! Opens a host with the contents of its files.
 
-ghost use Rattle.std.specs.Prelude.{◌≡◌, ◌<◌, ℕ, [], IfOk, IfErr, IsOk, Ok};
+ghost use Rattle.std.specs.Prelude.{◌≡◌, ◌<◌, ℕ, [], IfOk, IfErr, IsOk, None, Ok};
 ghost use Rattle.gatt_host.specs.Opening.{start_of};
 ghost use Rattle.gatt_host.specs.HostModel.{RefinesRun};
 ghost use Rattle.gatt_laws.specs.machine.Input.{run};
@@ -48,7 +48,12 @@ pub(crate) fn open(
     let count = restore_values(&mut served, values)?;
     let host = open_with(alloc, served, keys, rows, config)?;
     *left_out = count;
-    Ok(Opened::new(host, initial))
+    Ok(Opened {
+        host,
+        initial,
+        told: 0,
+        drained: false,
+    })
 }
 
 /// Reads a table file into two tables.
@@ -91,6 +96,7 @@ fn open_with(
 ) -> Result<Host, u32>
     ensures opened { IfOk result (λ host.
         RefinesRun (run (start_of table keys rows (config_given config.now)) []) [] host) }
+    ensures going { IfOk result (λ host. host.fault ≡ None) }
     ensures accepted { IsOk result → config_status config.now ≡ DONE }
     ensures refused { IfErr result (λ status. 0 < status) }
     ensures status { IfErr result (λ status. IsNotOfMemory status

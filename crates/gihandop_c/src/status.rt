@@ -1,12 +1,14 @@
 //! The numbers that functions return.
 
-ghost use Rattle.std.specs.Prelude.{◌≡◌, ◌+◌, Some};
+ghost use Rattle.std.specs.Prelude.{◌≡◌, ◌+◌, false, true, Some};
 ghost use Rattle.att_table.specs.TableFault.{table_fault_number};
 ghost use Rattle.host_api.specs.Refusals.{number_of_refusal};
 ghost use Rattle.gatt_host.specs.Calls.{refused_of};
 ghost use Rattle.gatt_host.specs.Numbers.{number_of_fault};
 ghost use Rattle.gatt_subs.specs.RowsFault.{rows_fault_number};
+ghost use Rattle.gatt_host.specs.HostModel.{is_own_fault};
 ghost use Rattle.gihandop_c.specs.Boundary.{call_status};
+ghost use Rattle.gihandop_c.specs.Statuses.{is_status};
 ghost use Rattle.gihandop_c.specs.declared.status.TheConstants.{BAD_KEYS, BAD_ROWS, BAD_TABLE, REFUSED, STOPPED};
 ghost use Rattle.le_security.specs.KeyFault.{key_fault_number};
 
@@ -55,7 +57,8 @@ pub(crate) const BAD_VALUES: u32 = 400;
 pub(crate) const VALUES_BAD_LINE: u32 = 401;
 
 pub(crate) fn of_host_fault(fault: HostFault) -> u32
-    ensures { result ≡ STOPPED + number_of_fault fault }
+    ensures number { result ≡ STOPPED + number_of_fault fault }
+    ensures words { is_own_fault fault ≡ false → is_status result ≡ true }
 {
     STOPPED + u32::from(fault.number())
 }

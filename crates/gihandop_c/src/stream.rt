@@ -3,8 +3,8 @@
 ghost use Rattle.std.specs.Prelude.{◌≡◌, ◌≢◌, ◌<◌, ◌≤◌, ◌∷◌, [], length, take, true, if◌then◌else◌};
 ghost use Rattle.gatt_host.specs.Feeding.{octet_items, TakesUpToAPacket};
 ghost use Rattle.gatt_host.specs.HostModel.{all_out};
-ghost use Rattle.gihandop_c.specs.Boundary.{KeepsInitial, KeepsNotices, OpenedRefines, StaysIfStopped, TellsItems};
-ghost use Rattle.gihandop_c.specs.Statuses.{out_status, room_status, take_status};
+ghost use Rattle.gihandop_c.specs.Boundary.{KeepsFault, KeepsInitial, KeepsNotices, OpenedRefines, StaysIfStopped, StopsByItsInput, TellsItems};
+ghost use Rattle.gihandop_c.specs.Statuses.{is_status, out_status, room_status, take_status};
 ghost use Rattle.gihandop_c.specs.declared.status.TheConstants.{DONE, NOTHING, OUTPUT_OWED, SHORT_BUFFER};
 
 use crate::opened::Opened;
@@ -17,6 +17,7 @@ const LONGEST_PACKET: usize = MAX_PACKET_OUT;
 /// Takes bytes up to the end of the next packet, or all if none ends in them.
 ///
 /// Writes their number to `used`. If the host stops or has stopped, all count as taken.
+#[tactic(auto, using(crate::proofs::OwnFaults::none_taken))]
 pub(crate) fn take(opened: &mut Opened, octets: &[u8], used: &mut usize) -> u32
     ensures takes { OpenedRefines (octet_items (take used.new octets.now)) [] opened.old
         opened.new }
@@ -28,8 +29,10 @@ pub(crate) fn take(opened: &mut Opened, octets: &[u8], used: &mut usize) -> u32
     ensures all { result ≢ DONE → result ≢ OUTPUT_OWED → used.new ≡ length octets.now }
     ensures none { result ≡ OUTPUT_OWED → used.new ≡ 0 }
     ensures status { result ≡ take_status opened.old opened.new }
+    ensures words { is_status result ≡ true }
     ensures initial { KeepsInitial opened.old opened.new }
     ensures owed { result ≡ OUTPUT_OWED → opened.new ≡ opened.old }
+    ensures not_own { StopsByItsInput opened.old opened.new }
     ensures stopped { StaysIfStopped opened.old opened.new }
 {
     if !opened.drained && !opened.host.drained() {
@@ -75,6 +78,7 @@ pub(crate) fn next_out(opened: &mut Opened, out: &mut [u8], count: &mut usize) -
     ensures none { result ≢ DONE → result ≢ SHORT_BUFFER → count.new ≡ 0 }
     ensures unchanged { result ≢ DONE → opened.new.host ≡ opened.old.host }
     ensures told { opened.new.told ≡ opened.old.told }
+    ensures fault { KeepsFault opened.old opened.new }
     ensures notices { KeepsNotices opened.old opened.new }
     ensures untouched { result ≢ DONE → out.new ≡ out.old }
 {

@@ -7,7 +7,7 @@ ghost use Rattle.att_table.specs.TableFault.{table_fault_number};
 ghost use Rattle.gatt_host.specs.Calls.{call_of};
 ghost use Rattle.gatt_laws.specs.machine.Calls.{AuthorizeCall, DisconnectCall, TickCall, UpdateCall};
 ghost use Rattle.gatt_laws.specs.machine.Input.{ACall, ATable};
-ghost use Rattle.gihandop_c.specs.Boundary.{AnswersCall, AnswersTable, HostFallsSilent, HostKeepsInitial, HostRefines, HostTellsItem};
+ghost use Rattle.gihandop_c.specs.Boundary.{AnswersCall, AnswersTable, HostFallsSilent, HostKeepsFault, HostKeepsInitial, HostRefines, HostTellsItem};
 ghost use Rattle.gihandop_c.specs.Opening.{IsNotOfMemory};
 ghost use Rattle.gihandop_c.specs.Statuses.{WaitsForOutput};
 ghost use Rattle.gihandop_c.specs.declared.status.TheConstants.{BAD_TABLE, CLOSED, DONE, HAS_STOPPED, OUTPUT_OWED};
@@ -30,6 +30,7 @@ fn ask(host: &mut HostPointer, call: App<'_>) -> u32
         → HostFallsSilent host.old.host host.new.host }
     ensures stopped { IfSome host.old.host (λ opened. IsSome opened.host.fault
         → result ≡ HAS_STOPPED) }
+    ensures fault { HostKeepsFault host.old.host host.new.host }
     ensures initial { HostKeepsInitial host.old.host host.new.host }
     ensures owes { IfSome host.old.host (WaitsForOutput result) }
     ensures owed { result ≡ OUTPUT_OWED → host.new.host ≡ host.old.host }
@@ -55,6 +56,7 @@ pub extern "C" fn gh_update(host: &mut HostPointer, handle: u16, value: &[u8]) -
         → HostFallsSilent host.old.host host.new.host }
     ensures stopped { IfSome host.old.host (λ opened. IsSome opened.host.fault
         → result ≡ HAS_STOPPED) }
+    ensures fault { HostKeepsFault host.old.host host.new.host }
     ensures initial { HostKeepsInitial host.old.host host.new.host }
     ensures owes { IfSome host.old.host (WaitsForOutput result) }
     ensures owed { result ≡ OUTPUT_OWED → host.new.host ≡ host.old.host }
@@ -77,6 +79,7 @@ pub extern "C" fn gh_authorize(host: &mut HostPointer, connection: u16, until: u
         → HostFallsSilent host.old.host host.new.host }
     ensures stopped { IfSome host.old.host (λ opened. IsSome opened.host.fault
         → result ≡ HAS_STOPPED) }
+    ensures fault { HostKeepsFault host.old.host host.new.host }
     ensures initial { HostKeepsInitial host.old.host host.new.host }
     ensures owes { IfSome host.old.host (WaitsForOutput result) }
     ensures owed { result ≡ OUTPUT_OWED → host.new.host ≡ host.old.host }
@@ -98,6 +101,7 @@ pub extern "C" fn gh_disconnect(host: &mut HostPointer, connection: u16) -> u32
         → HostFallsSilent host.old.host host.new.host }
     ensures stopped { IfSome host.old.host (λ opened. IsSome opened.host.fault
         → result ≡ HAS_STOPPED) }
+    ensures fault { HostKeepsFault host.old.host host.new.host }
     ensures initial { HostKeepsInitial host.old.host host.new.host }
     ensures owes { IfSome host.old.host (WaitsForOutput result) }
     ensures owed { result ≡ OUTPUT_OWED → host.new.host ≡ host.old.host }
@@ -119,6 +123,7 @@ pub extern "C" fn gh_tick(host: &mut HostPointer, time: u64) -> u32
         → HostFallsSilent host.old.host host.new.host }
     ensures stopped { IfSome host.old.host (λ opened. IsSome opened.host.fault
         → result ≡ HAS_STOPPED) }
+    ensures fault { HostKeepsFault host.old.host host.new.host }
     ensures initial { HostKeepsInitial host.old.host host.new.host }
     ensures owes { IfSome host.old.host (WaitsForOutput result) }
     ensures owed { result ≡ OUTPUT_OWED → host.new.host ≡ host.old.host }
@@ -142,6 +147,7 @@ pub extern "C" fn gh_replace(alloc: Global, host: &mut HostPointer, table: &[u8]
     ensures stopped { (contents : Contents) → table_in table.now ≡ Ok contents
         → IsNotOfMemory result → IfSome host.old.host (λ opened.
         IsSome opened.host.fault → result ≡ HAS_STOPPED) }
+    ensures fault { HostKeepsFault host.old.host host.new.host }
     ensures file { (fault : TableFault) → table_in table.now ≡ Err fault
         → IsNotOfMemory result → result ≢ OUTPUT_OWED → IfSome host.old.host (λ opened.
         result ≡ BAD_TABLE + table_fault_number fault) }

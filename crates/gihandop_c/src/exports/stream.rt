@@ -1,9 +1,9 @@
 //! Input from the controller, output and notices.
 
-ghost use Rattle.std.specs.Prelude.{◌≡◌, ◌≢◌, ◌<◌, ◌≤◌, ◌∷◌, [], length, take, IfSome, Some, None};
+ghost use Rattle.std.specs.Prelude.{◌≡◌, ◌≢◌, ◌<◌, ◌≤◌, ◌∷◌, [], length, take, true, IfSome, Some, None};
 ghost use Rattle.gatt_host.specs.Feeding.{octet_items, TakesUpToAPacket};
-ghost use Rattle.gihandop_c.specs.Boundary.{HostKeepsInitial, HostRefines, HostStays, HostStaysIfStopped, HostTellsItems, KeepsNotices, OfTheHost};
-ghost use Rattle.gihandop_c.specs.Statuses.{if_open, notice_status, out_status, take_status};
+ghost use Rattle.gihandop_c.specs.Boundary.{HostKeepsFault, HostKeepsInitial, HostRefines, HostStays, HostStaysIfStopped, HostStopsByItsInput, HostTellsItems, KeepsNotices, OfTheHost};
+ghost use Rattle.gihandop_c.specs.Statuses.{if_open, is_status, notice_status, out_status, take_status};
 ghost use Rattle.gihandop_c.specs.Telling.{HandsOut};
 ghost use Rattle.gihandop_c.specs.declared.status.TheConstants.{CLOSED, DONE, OUTPUT_OWED, SHORT_BUFFER};
 ghost use Rattle.gihandop_c.specs.declared.stream.TheConstants.{LONGEST_PACKET};
@@ -33,8 +33,10 @@ pub extern "C" fn gh_take(host: &mut HostPointer, octets: &[u8], used: &mut usiz
     ensures closed_none { host.old.host ≡ None → used.new ≡ 0 }
     ensures status { OfTheHost (λ old new. result ≡ take_status old new)
         host.old.host host.new.host }
+    ensures words { is_status result ≡ true }
     ensures initial { HostKeepsInitial host.old.host host.new.host }
     ensures owed { result ≡ OUTPUT_OWED → host.new.host ≡ host.old.host }
+    ensures not_own { HostStopsByItsInput host.old.host host.new.host }
     ensures stopped { HostStaysIfStopped host.old.host host.new.host }
 {
     let Some(open) = host.as_mut() else {
@@ -56,6 +58,7 @@ pub extern "C" fn gh_next_out(host: &mut HostPointer, out: &mut [u8], count: &mu
     ensures needs { result ≡ SHORT_BUFFER → count.new ≡ LONGEST_PACKET }
     ensures none { result ≢ DONE → result ≢ SHORT_BUFFER → count.new ≡ 0 }
     ensures unchanged { result ≢ DONE → HostStays host.old.host host.new.host }
+    ensures fault { HostKeepsFault host.old.host host.new.host }
     ensures notices { OfTheHost KeepsNotices host.old.host host.new.host }
     ensures untouched { result ≢ DONE → out.new ≡ out.old }
 {

@@ -1,8 +1,3 @@
-use Rattle.std.proofs.Common.{◌∙◌, [], subst, sym}
-use Rattle.gatt_host.specs.HostModel.{HostModel, RefinesRun}
-use Rattle.gatt_host.specs.Opening.{start_of}
-use Rattle.gatt_laws.specs.machine.Input.{run}
-use Rattle.gihandop_c.specs.Opening.{config_given}
 use Rattle.gihandop_c.proofs.Accepted.{opened_status, opened_with}
 use Rattle.gihandop_c.proofs.Carried.{same_ok}
 use Rattle.gihandop_c.proofs.opening.open.Goals as goal
@@ -12,12 +7,9 @@ pub returns-clause-opened : goal.returns-clause-opened
 returns-clause-opened c =
     opened_with c.args.table.now c.args.keys.now c.args.rows.now c.args.values.now c.args.config.now
     c.in_ok-served.served c.restore_values.new.table c.in_ok-keys.keys c.in_ok-rows.rows c.in_ok-count.count
-    c.in_ok-served.ensures.first c.in_ok-keys.ensures.keys c.in_ok-rows.ensures.rows c.in_ok-count.ensures.restored c.new.result
-    (subst (λ (host : HostModel).
-    RefinesRun (run (start_of c.restore_values.new.table c.in_ok-keys.keys c.in_ok-rows.rows (config_given c.args.config.now)) []) [] host)
-    (sym c.new.ensures.host) c.in_ok-host.ensures.opened)
-    (c.new.ensures.initial
-    ∙ same_ok (table_in c.args.table.now) c.in_ok-served.initial c.in_ok-served.served c.in_ok-served.ensures.second c.in_ok-served.ensures.first)
+    c.in_ok-served.ensures.first c.in_ok-keys.ensures.keys c.in_ok-rows.ensures.rows c.in_ok-count.ensures.restored _ c.in_ok-host.ensures.opened
+    c.in_ok-host.ensures.going
+    (same_ok (table_in c.args.table.now) c.in_ok-served.initial c.in_ok-served.served c.in_ok-served.ensures.second c.in_ok-served.ensures.first)
 
 pub returns-clause-accepted : goal.returns-clause-accepted
 returns-clause-accepted c = λ done.
