@@ -2,6 +2,12 @@
 //! so they are a crate of their own.
 #![tactic(auto)]
 
+mod history;
+mod recorded;
+
+pub use crate::history::{History, Note};
+pub use crate::recorded::{Recording, serve_each};
+
 #[cfg(test)]
 mod a_day;
 #[cfg(test)]

@@ -1,0 +1,3 @@
+pub mod HistoryCode
+pub mod Noting
+pub mod Reached
