@@ -1,2 +1,4 @@
 pub mod ValuesBack
+pub mod Ascii
+pub mod Restored
 pub mod Writing

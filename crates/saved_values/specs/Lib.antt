@@ -3,3 +3,4 @@ pub mod TypeText
 pub mod SavedValue
 pub mod ValuesText
 pub mod Restore
+pub mod ReadBack

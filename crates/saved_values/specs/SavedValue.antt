@@ -18,6 +18,12 @@ pub record Saved : Type 0 where
   pub kind : AttributeType
   pub octets : Octets
 
+-- The numbers are those of a `u16`, a `u128` and octets.
+pub record IsTyped (value : Saved) : Type 0 where
+  pub handle : value.handle < 2 ^ 16
+  pub kind : value.kind < 2 ^ 128
+  pub octets : All (λ octet. octet < 256) value.octets
+
 -- A line can write this value.
 pub record IsSavedValue (value : Saved) : Type 0 where
   pub handle : value.handle < 2 ^ 16

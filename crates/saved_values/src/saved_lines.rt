@@ -1,7 +1,12 @@
 //! The text of the saved values of a table.
 
 ghost use Rattle.std.specs.Prelude.{◌≡◌, ◌++◌, ◌∷◌, [], IfOk, OnOk};
-ghost use Rattle.saved_values.specs.ValuesText.{saved_lines, saved_values, values_text};
+ghost use Rattle.std.specs.List.{All};
+ghost use Rattle.std.specs.Str.{IsUtf8};
+ghost use Rattle.att_table.specs.Facts.{IsTable};
+ghost use Rattle.saved_values.specs.ReadBack.{RestoresTheTable, RestoresWhatWasSaved};
+ghost use Rattle.saved_values.specs.SavedValue.{IsSavedValue, IsTyped};
+ghost use Rattle.saved_values.specs.ValuesText.{saved_lines, saved_of, saved_values, values_text};
 
 use crate::saved_value::add_value_line;
 use crate::saves::{Saves, is_saved, value_told};
@@ -17,8 +22,14 @@ pub fn values_text(
     initial: &Table,
     saves: Saves,
 ) -> Result<Vec<u8>, AllocError>
-    ensures { IfOk result (λ text. text.items
+    ensures text { IfOk result (λ text. text.items
         ≡ values_text (saved_values saves table.now initial.now)) }
+    ensures utf8 { IfOk result (λ text. IsUtf8 text.items) }
+    // The text restores the values that were saved, all of them.
+    ensures restores { IfOk result (λ text.
+        RestoresWhatWasSaved saves table.now initial.now text.items) }
+    ensures whole { IfOk result (λ text.
+        RestoresTheTable saves table.now initial.now text.items) }
 {
     let mut text = Vec::new(alloc);
     add_values(&mut text, table, initial, saves)?;
@@ -34,13 +45,17 @@ pub fn add_values(
 ) -> Result<(), AllocError>
     ensures ok { OnOk result (text.new.items ≡ text.old.items
         ++ values_text (saved_values saves table.now initial.now)) }
+    // Each line can be read as its value.
+    ensures values { OnOk result (All IsSavedValue (saved_values saves table.now initial.now)) }
+    ensures table { IsTable table.now }
 {
     add_values_of(text, all_attributes(table), table, initial, saves)
 }
 
 #[tactic(auto, using(crate::proofs::Writing::all_attributes))]
 fn all_attributes(table: &Table) -> &[Attr]
-    ensures { result.now ≡ table.now.attributes }
+    ensures attributes { result.now ≡ table.now.attributes }
+    ensures table { IsTable table.now }
 {
     table.in_range(1, table.len() as u16)
 }
@@ -54,6 +69,8 @@ fn add_values_of(
 ) -> Result<(), AllocError>
     ensures ok { OnOk result (text.new.items ≡ text.old.items
         ++ saved_lines saves table.now initial.now attributes.now) }
+    ensures typed { OnOk result
+        (All IsTyped (saved_of saves table.now initial.now attributes.now)) }
 {
     for attr in attributes {
         add_saved(text, attr, table, initial, saves)?;
@@ -70,6 +87,7 @@ fn add_saved(
 ) -> Result<(), AllocError>
     ensures ok { OnOk result (text.new.items ≡ text.old.items
         ++ saved_lines saves table.now initial.now (attr.now ∷ [])) }
+    ensures typed { All IsTyped (saved_of saves table.now initial.now (attr.now ∷ [])) }
 {
     if is_saved(attr, table, initial, saves) {
         add_value_line(text, attr.handle, attr.kind, value_told(table, attr.handle))

@@ -4,7 +4,7 @@ ghost use Rattle.std.specs.Prelude.{◌≡◌, ◌++◌, OnOk};
 ghost use Rattle.std.specs.Option.{option_map};
 ghost use Rattle.gatt_subs.specs.RowsLine.{parts_of, parts_view};
 ghost use Rattle.scripts.specs.Payload.{payload_of};
-ghost use Rattle.saved_values.specs.SavedValue.{value_line, value_of_line, value_of_words};
+ghost use Rattle.saved_values.specs.SavedValue.{value_line, value_of_line, value_of_words, IsTyped};
 
 use crate::type_text::add_type;
 use app_lines::{add_value, read_type};
@@ -104,6 +104,7 @@ pub fn add_value_line(
     ensures ok { OnOk result
         (text.new.items ≡ text.old.items
         ++ value_line (record { handle = handle; kind = kind; octets = octets.now })) }
+    ensures typed { IsTyped (record { handle = handle; kind = kind; octets = octets.now }) }
 {
     let mut digits = Buffer::new();
     text.extend_from_slice(digits.format(u64::from(handle)).as_bytes())?;
