@@ -11,7 +11,7 @@ use Rattle.std.proofs.lemmas.List.Concat.{flat_map-append}
 use Rattle.std.proofs.lemmas.List.Elements.{All-append, All-nil, All-cons, All-head, All-tail}
 use Rattle.std.proofs.lemmas.Fmt.{decimal_digit}
 use Rattle.std.proofs.lemmas.List.Sums.{AllPass-from_list_all}
-use Rattle.std.proofs.lemmas.List.Splits.{join_with_byte-slice_split, length-slice_split, slice_split_at}
+use Rattle.std.proofs.lemmas.List.Splits.{join_with_byte-slice_split, length-slice_split}
 use Rattle.std.proofs.lemmas.Slice.Eq.{bytes_eq-Decides}
 use Rattle.hex.specs.Hex.{lower_digits}
 use Rattle.hex.proofs.HexLemmas.{length-encode_with}
@@ -38,17 +38,10 @@ use Rattle.device_state.specs.declared.state_fault.StateFault.{StateFault}
 use Rattle.device_state.specs.declared.state_fault.StateFault.TheVariants.{Unended, OtherChecksum, NotText}
 use Rattle.device_state.proofs.LinesTaken.{IsOther, all_lines, behind_rows, behind_table, barred, lines_taken, the_state}
 use Rattle.device_state.proofs.Utf8Lines.{barred_utf8, entry_utf8, heading_utf8, joined_utf8, owed_utf8, pieces_utf8, value_utf8}
+use Rattle.saved_values.proofs.Restored.{divided}
 use Rattle.saved_values.proofs.ValuesBack.{value_ended, value_feedless, value_words}
 
--- lines divide at their line feeds
-divided : (lines : List Octets) → All HasNoFeed lines → pieces_of (flat_map line_of lines) ≡ lines ++ [] ∷ []
-divided [] feedless = refl
-divided (line ∷ lines) feedless =
-    ap pieces_of (append_assoc line (10 ∷ []) (flat_map line_of lines))
-    ∙ slice_split_at (λ octet. octet == 10) line 10 (flat_map line_of lines) (All-head HasNoFeed line lines feedless) refl
-    ∙ ap (λ (pieces : List Octets). line ∷ pieces) (divided lines (All-tail HasNoFeed line lines feedless))
-
--- and so do lines without the last line feed
+-- lines without the last line feed divide at the others
 onto_more : (octet : ℕ) (pieces : List Octets) (last : Octets) → 0 < length pieces → onto_first octet (pieces ++ last ∷ []) ≡ onto_first octet pieces ++ last
     ∷ []
 onto_more octet [] last some = absurd (omega (arith, some))
@@ -322,9 +315,11 @@ front_utf8 table_text rows values utf8 is good =
     (All-cons IsUtf8 values_heading (map value_words values) (heading_utf8 values_heading refl)
     (all_of_each IsSavedValue IsUtf8 value_words value_utf8 values good)))))))
 
-pub reads_back : (table_text : Octets) (rows : Subscriptions) (values : List Saved) → ReadsBack table_text rows values
+pub reads_back : (table_text : Octets) (rows : Subscriptions) (values : List Saved) (text : Octets) → IsUtf8 table_text → All IsSavedValue values
+    → text ≡ state_text table_text rows values → ReadsBack table_text rows values text
 unfolding front_of
-reads_back table_text rows values utf8 is good =
+reads_back table_text rows values text utf8 good same is =
     let lines = behind_table (pieces_of table_text) (row_lines rows) values in
-    all_back (front_of (pieces_of table_text) (row_lines rows) values) table_text rows values is good
+    ap state_read same
+    ∙ all_back (front_of (pieces_of table_text) (row_lines rows) values) table_text rows values is good
     (sym (joined_ended first_line (table_heading ∷ lines)) ∙ sym (state_lines table_text rows values)) (front_utf8 table_text rows values utf8 is good)

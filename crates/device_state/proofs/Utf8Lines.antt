@@ -29,27 +29,10 @@ use Rattle.saved_values.specs.SavedValue.{Saved, IsSavedValue}
 use Rattle.saved_values.specs.ValuesText.{pieces_of}
 use Rattle.saved_values.specs.TypeText.{short_type_text, long_type_text, type_text}
 use Rattle.device_state.proofs.LinesTaken.{barred}
+use Rattle.saved_values.proofs.Ascii.{digits_ascii, spaced, tested, value_ascii}
 use Rattle.saved_values.proofs.ValuesBack.{value_words}
 
--- texts that are ASCII
-small : (octet : ℕ) → nat_lt octet 128 ≡ true → octet < 128
-small octet is = grind (arith, nat_tests, is)
-
-all_small : (octets : Octets) → All (λ octet. nat_lt octet 128 ≡ true) octets → IsAscii octets
-all_small [] all = IsAscii-nil
-all_small (octet ∷ octets) all =
-    IsAscii-cons octet octets (small octet (All-head (λ octet. nat_lt octet 128 ≡ true) octet octets all))
-    (all_small octets (All-tail (λ octet. nat_lt octet 128 ≡ true) octet octets all))
-
-tested : (octets : Octets) → list_all (λ octet. nat_lt octet 128) octets ≡ true → IsAscii octets
-tested octets is = all_small octets (AllPass-from_list_all (λ octet. nat_lt octet 128) octets is)
-
-digits_ascii : (octets : Octets) → IsAscii (encode_lower octets)
-digits_ascii octets = IsAscii-encode_with lower_digits octets (tested lower_digits refl)
-
-spaced : (word rest : Octets) → IsAscii word → IsAscii rest → IsAscii (word ++ 32 ∷ rest)
-spaced word rest is other = IsAscii-append word (32 ∷ rest) is (IsAscii-cons 32 rest (omega arith) other)
-
+-- the lines of subscriptions and of values
 joined_ascii : (octets : Octets) → IsAscii (joined_by_colons octets)
 joined_ascii [] = IsAscii-nil
 joined_ascii (octet ∷ []) = digits_ascii (octet ∷ [])
@@ -61,7 +44,6 @@ address_ascii : (address : Octets) → IsAscii (address_text address)
 unfolding address_text
 address_ascii address = joined_ascii (map (slice_index address) (5 ∷ 4 ∷ 3 ∷ 2 ∷ 1 ∷ 0 ∷ []))
 
--- the lines of subscriptions and of values
 pub entry_utf8 : (entry : RowEntry) → IsConfigured entry → IsUtf8 (entry_words entry)
 entry_utf8 entry is =
     IsUtf8-from_ascii (entry_words entry)
@@ -78,22 +60,8 @@ owed_utf8 peer is =
     (IsAscii-cons 32 (decimal peer.kind ++ 32 ∷ address_text peer.address) (omega arith)
     (spaced (decimal peer.kind) (address_text peer.address) (IsAscii-decimal peer.kind (omega (arith, is.kind))) (address_ascii peer.address))))
 
-type_ascii : (kind : ℕ) → IsAscii (type_text kind)
-type_ascii kind = by (is_of_16_bits kind)
-  where
-    by : (is : Bool) → IsAscii (if is then short_type_text kind else long_type_text kind)
-    by true = digits_ascii (to_be_bytes w16 (kind / 2 ^ 96))
-    by false = hyphenated_ascii lower (to_be_bytes w128 kind) (inl refl)
-
-octets_ascii : (octets : Octets) → IsAscii (value_text octets)
-octets_ascii [] = IsAscii-cons 45 [] (omega arith) IsAscii-nil
-octets_ascii (octet ∷ octets) = digits_ascii (octet ∷ octets)
-
 pub value_utf8 : (value : Saved) → IsSavedValue value → IsUtf8 (value_words value)
-value_utf8 value is =
-    IsUtf8-from_ascii (value_words value)
-    (spaced (decimal value.handle) (type_text value.kind ++ 32 ∷ value_text value.octets) (IsAscii-decimal value.handle (omega (arith, is.handle)))
-    (spaced (type_text value.kind) (value_text value.octets) (type_ascii value.kind) (octets_ascii value.octets)))
+value_utf8 value is = IsUtf8-from_ascii (value_words value) (value_ascii value is)
 
 -- the headings
 pub heading_utf8 : (words : Octets) → list_all (λ octet. nat_lt octet 128) words ≡ true → IsUtf8 words

@@ -1,8 +1,10 @@
 //! The text of a state.
 
-ghost use Rattle.std.specs.Prelude.{◌≡◌, ◌++◌, Some, None, IfOk, OnOk};
+ghost use Rattle.std.specs.Prelude.{◌≡◌, ◌++◌, Some, None, IfOk, IsOk, OnOk};
+ghost use Rattle.std.specs.List.{All};
 ghost use Rattle.gatt_subs.specs.RowsText.{rows_text};
 ghost use Rattle.device_state.specs.ReadBack.{ReadsBack};
+ghost use Rattle.saved_values.specs.SavedValue.{IsSavedValue};
 ghost use Rattle.saved_values.specs.ValuesText.{saved_values};
 ghost use Rattle.device_state.specs.StateText.{checksum, end_line, lines_of_state, piece_line, state_text, table_lines};
 
@@ -29,8 +31,8 @@ pub fn state_text(
     ensures text { IfOk result (λ text. text.items
         ≡ state_text table_text.now rows.now (saved_values saves table.now initial.now)) }
     // The text is read back as these parts.
-    ensures read_back { ReadsBack table_text.now rows.now
-        (saved_values saves table.now initial.now) }
+    ensures read_back { IfOk result (λ text. ReadsBack table_text.now rows.now
+        (saved_values saves table.now initial.now) text.items) }
 {
     let mut text = lines_of_state(alloc, table_text, rows, table, initial, saves)?;
     add_end(&mut text)?;
@@ -46,8 +48,9 @@ fn lines_of_state(
     initial: &Table,
     saves: Saves,
 ) -> Result<Vec<u8>, AllocError>
-    ensures { IfOk result (λ text. text.items
+    ensures lines { IfOk result (λ text. text.items
         ≡ lines_of_state table_text.now rows.now (saved_values saves table.now initial.now)) }
+    ensures values { IsOk result → All IsSavedValue (saved_values saves table.now initial.now) }
 {
     let mut lines = Lines {
         octets: Vec::new(alloc),
