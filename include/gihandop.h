@@ -329,8 +329,8 @@ uint32_t gh_values_text(struct gh_host *host, uint8_t all, uint8_t *out, size_t 
 /*
  * Sets *time to the earliest time, in milliseconds, at which an unconfirmed indication is late or the
  * authorization of a connection ends. No gh_tick is needed before that time: it would cause no packet of
- * its own and no notice, and each request would be answered as without it. Returns GH_NOTHING if every
- * indication is confirmed and no connection is authorized.
+ * its own and no notice, and each request would be answered as without it. Returns GH_NOTHING, with
+ * *time 0, if every indication is confirmed and no connection is authorized.
  */
 uint32_t gh_deadline(struct gh_host *host, uint64_t *time);
 
@@ -438,7 +438,7 @@ uint32_t gh_next_notice(struct gh_host *host, struct gh_notice *notice);
 
 /*
  * Writes the words of a status to out, a line of ASCII without a zero at its end, and the length to
- * *count. Returns GH_NOTHING for a number that is no status.
+ * *count. Returns GH_NOTHING, with *count 0, for a number that is no status.
  */
 uint32_t gh_text(uint32_t status, uint8_t *out, size_t room, size_t *count);
 
