@@ -1,10 +1,10 @@
 //! The events of a host: those of its controller, its application and the clock.
 
-ghost use Rattle.std.specs.Prelude.{None};
+ghost use Rattle.std.specs.Prelude.{◌≡◌, None, Some};
 
 use crate::keeping::Keeping;
 use arrayvec::ArrayVec;
-use device_loop::{Happenings, Next};
+use device_loop::{Happenings, History, Next, Note};
 use device_session::{Session, sooner};
 use gatt_host::{App, AppFault, MAX_SLOTS};
 use std::alloc::Global;
@@ -35,6 +35,8 @@ pub(crate) struct Device<'a, R> {
     pub(crate) stop: Option<u64>,
     /// The random number of this start.
     pub(crate) started: u64,
+    /// The history since its start, which only proofs read.
+    pub(crate) history: History,
 }
 
 impl<R> Device<'_, R> {
@@ -53,24 +55,36 @@ impl<
 
     ghost calls = { λ _. None };
 
-    ghost history = { λ _. None };
+    ghost history = { λ device. Some device.history.entries };
 
     fn next<'b>(&mut self, deadline: Option<u64>, buffer: &'b mut [u8]) -> Next<'b> {
-        match self.takes {
-            Takes::Nothing => Next::Octets(&[]),
-            Takes::Line => call_or_nothing(self.session.next_call_of_asker(buffer)),
-            Takes::Any => {
-                if let Some(handle) = self.ending.pop() {
-                    return Next::Call(App::Disconnect(handle));
-                }
-                let deadline = sooner(sooner(deadline, self.stop), self.retry());
-                next(&mut self.session, deadline, buffer)
-            }
-        }
+        let next = next_of(self, deadline, buffer);
+        self.history = self.history.with(&Note::Waited(deadline, next));
+        next
     }
 
     fn answered(&mut self, answer: Result<(), AppFault>) {
         self.session.answered(answer);
+        self.history = self.history.with(&Note::Answered(answer));
+    }
+}
+
+fn next_of<
+    'b,
+    R: Files<File = File> + Net<Listener = TcpListener, Stream = TcpStream> + Clock + Eprint,
+>(device: &mut Device<'_, R>, deadline: Option<u64>, buffer: &'b mut [u8]) -> Next<'b>
+    ensures history { device.new.history ≡ device.old.history }
+{
+    match device.takes {
+        Takes::Nothing => Next::Octets(&[]),
+        Takes::Line => call_or_nothing(device.session.next_call_of_asker(buffer)),
+        Takes::Any => {
+            if let Some(handle) = device.ending.pop() {
+                return Next::Call(App::Disconnect(handle));
+            }
+            let deadline = sooner(sooner(deadline, device.stop), device.retry());
+            next(&mut device.session, deadline, buffer)
+        }
     }
 }
 

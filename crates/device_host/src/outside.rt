@@ -3,7 +3,8 @@
 use crate::device::Device;
 use crate::turn_effects::settle;
 use crate::turn_notices::Hearing;
-use device_loop::{Outside, Saving, Sending};
+use device_loop::{Note, Outside, Saving, Sending};
+use device_session::Session;
 use gatt_host::Host;
 use std::fs::{File, Files};
 use std::net::{Net, TcpListener, TcpStream};
@@ -13,18 +14,25 @@ impl<
     R: Files<File = File> + Net<Listener = TcpListener, Stream = TcpStream> + Clock + Eprint,
 > Outside<Hearing> for Device<'_, R> {
     fn save(&mut self, host: &Host, listener: &mut Hearing) -> Saving {
-        settle(self, host, listener)
+        let saving = settle(self, host, listener);
+        self.history = self.history.with(&Note::Saved(&saving, host));
+        saving
     }
 
-    #[tactic(auto, using(device_loop::proofs::Unknown::sends_unknown))]
     fn send(&mut self, octets: &[u8]) -> Sending {
-        if octets.is_empty() {
-            return Sending::Done;
-        }
-        match self.session.write(octets) {
-            Ok(true) => Sending::Done,
-            Ok(false) => Sending::Waits,
-            Err(_) => Sending::Failed,
-        }
+        let sending = write(&mut self.session, octets);
+        self.history = self.history.with(&Note::Sent(octets, sending));
+        sending
+    }
+}
+
+fn write<R: Clock + Eprint>(session: &mut Session<'_, R>, octets: &[u8]) -> Sending {
+    if octets.is_empty() {
+        return Sending::Done;
+    }
+    match session.write(octets) {
+        Ok(true) => Sending::Done,
+        Ok(false) => Sending::Waits,
+        Err(_) => Sending::Failed,
     }
 }

@@ -5,6 +5,7 @@ use crate::keeping::Keeping;
 use crate::stop::{Stop, refuse_socket};
 use arrayvec::ArrayVec;
 use device_io::Log;
+use device_loop::History;
 use device_options::{ApplicationAddress, ControllerAddress, HostOptions};
 use device_session::{Limits, Session};
 use std::alloc::Global;
@@ -57,6 +58,7 @@ pub(crate) fn reaching<
         ending: ArrayVec::new(),
         stop: None,
         started,
+        history: History::none(),
     })
 }
 

@@ -49,7 +49,9 @@ pub(crate) fn settle<R: Files<File = File> + Clock + Eprint>(
     device: &mut Device<'_, R>,
     host: &Host,
     hearing: &mut Hearing,
-) -> Saving {
+) -> Saving
+    ensures history { device.new.history ≡ device.old.history }
+{
     device.session.tell_controller(host.is_initialised());
     let saving = save(device, host, hearing);
     let is_saved = matches!(saving, Saving::Saved);
@@ -112,7 +114,9 @@ fn save<R: Files<File = File> + Clock + Eprint>(
     device: &mut Device<'_, R>,
     host: &Host,
     hearing: &mut Hearing,
-) -> Saving {
+) -> Saving
+    ensures history { device.new.history ≡ device.old.history }
+{
     let is_saved = match &mut device.keeping {
         Some(keeping) => keeping.save(host, &mut device.session),
         None => true,
@@ -273,7 +277,9 @@ fn add_all_connections(text: &mut Vec<u8>, names: &Names, host: &Host) -> Result
 }
 
 /// Sends a new application the current state, and what is not saved.
-fn welcome<R: Clock + Eprint>(device: &mut Device<'_, R>, host: &Host, heard: &Heard) {
+fn welcome<R: Clock + Eprint>(device: &mut Device<'_, R>, host: &Host, heard: &Heard)
+    ensures history { device.new.history ≡ device.old.history }
+{
     let session = &mut device.session;
     if session.has_new_application() {
         let text = standing_text(device.alloc, device.started, session, host, heard);

@@ -1,5 +1,6 @@
 pub mod Changes
 pub mod Happened
+pub mod Making
 pub mod Order
 pub mod Packets
 pub mod Time

@@ -1,4 +1,6 @@
 pub mod Happenings
+pub mod HistoryCode
+pub mod Noting
 pub mod Outside
 pub mod Serving
 pub mod Time

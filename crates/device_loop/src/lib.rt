@@ -4,6 +4,7 @@
 #![tactic(auto)]
 
 mod happenings;
+mod history;
 mod outside;
 mod serving;
 mod turn;
@@ -11,6 +12,7 @@ mod unsaved;
 mod withholding;
 
 pub use happenings::{Happenings, Next};
+pub use history::{History, Note};
 pub use outside::{Outgoing, Outside, Saving, Sending};
 pub use serving::{End, serve_happenings};
 pub use turn::{Turn, serve_turn};

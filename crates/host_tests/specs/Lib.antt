@@ -1,3 +1,1 @@
-pub mod HistoryCode
-pub mod Noting
 pub mod Reached

@@ -2,10 +2,8 @@
 //! so they are a crate of their own.
 #![tactic(auto)]
 
-mod history;
 mod recorded;
 
-pub use crate::history::{History, Note};
 pub use crate::recorded::{Recording, serve_each};
 
 #[cfg(test)]

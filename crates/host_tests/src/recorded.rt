@@ -4,9 +4,10 @@ ghost use Rattle.std.specs.Prelude.{◌≡◌, [], Some, None};
 ghost use Rattle.device_loop.specs.Turn.{SavedBeforeSent};
 ghost use Rattle.host_tests.specs.Reached.{IsInARun};
 
-use crate::history::{History, Note};
 use arrayvec::ArrayVec;
-use device_loop::{Happenings, Next, Outgoing, Outside, Saving, Sending, serve_turn};
+use device_loop::{
+    Happenings, History, Next, Note, Outgoing, Outside, Saving, Sending, serve_turn,
+};
 use gatt_host::{AppFault, Host, Listener};
 
 /// Event, connections with unsaved changes, and the outcome of sending.

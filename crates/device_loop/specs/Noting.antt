@@ -6,8 +6,8 @@ use Rattle.device_loop.specs.declared.outside.Sending.TheVariants as sending
 use Rattle.device_loop.specs.Happenings.{HistoryEntry, Waited, Answered, Unsent, Broken, next_entry, saved_state}
 use Rattle.device_loop.specs.Outside.{saving_entry, sent_entries}
 use Rattle.gatt_host.specs.Asked.{refusal_in_result}
-use Rattle.host_tests.specs.declared.history.Note.{Note}
-use Rattle.host_tests.specs.declared.history.Note.TheVariants as note
+use Rattle.device_loop.specs.declared.history.Note.{Note}
+use Rattle.device_loop.specs.declared.history.Note.TheVariants as note
 
 abbrev pub entries_sent : Sending → Octets → List HistoryEntry
 entries_sent sending.Done octets = sent_entries octets

@@ -11,11 +11,11 @@ use denote.Signature.{types_at}
 use denote.Steps.{nothing}
 use denote.Triple.Walked.{says, Stays, walk_of, ends_at}
 use Rattle.std.proofs.raw_atomic.Walks.{proved_at}
-use Rattle.host_tests.proofs.Making.{word, history_in}
-use Rattle.host_tests.specs.contracts.history.History.none as f
-use Rattle.host_tests.specs.contracts.history.History.none.Key.{name}
-use Rattle.host_tests.proofs.history.History.none.Statement.{statement}
-use Rattle.host_tests.proofs.history.History.none.Code as code
+use Rattle.device_loop.proofs.Making.{word, history_in}
+use Rattle.device_loop.specs.contracts.history.History.none as f
+use Rattle.device_loop.specs.contracts.history.History.none.Key.{name}
+use Rattle.device_loop.proofs.history.History.none.Statement.{statement}
+use Rattle.device_loop.proofs.history.History.none.Code as code
 
 pub none_spec : {M : Type 1} → statement M
 none_spec 𝓤 𝓛 𝓜 𝓡 wired =

@@ -12,7 +12,7 @@ use denote.Steps.{nothing, owned}
 use denote.Struct.Struct.{within}
 use denote.Struct.Owning.{shape}
 use Rattle.device_loop.specs.Happenings.{HistoryEntry}
-use Rattle.host_tests.specs.contracts.history.History as history
+use Rattle.device_loop.specs.contracts.history.History as history
 
 abbrev pub word : Val
 word = vstruct (vcons (vint w8 0) vnil)

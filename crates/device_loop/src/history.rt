@@ -3,10 +3,11 @@
 ghost use Rattle.std.specs.Prelude.{◌≡◌, List, [], ◌++◌};
 ghost use Rattle.std.specs.Borrow.{ftrue};
 ghost use Rattle.device_loop.specs.Happenings.{HistoryEntry};
-ghost use Rattle.host_tests.specs.HistoryCode.{coded_history};
-ghost use Rattle.host_tests.specs.Noting.{entries_of};
+ghost use Rattle.device_loop.specs.HistoryCode.{coded_history};
+ghost use Rattle.device_loop.specs.Noting.{entries_of};
 
-use device_loop::{Next, Saving, Sending};
+use crate::happenings::Next;
+use crate::outside::{Saving, Sending};
 use gatt_host::{AppFault, Host};
 use std::marker::Model;
 
@@ -19,7 +20,7 @@ pub enum Note<'a> {
     Answered(Result<(), AppFault>),
     /// The outcome of saving the state of a host.
     Saved(&'a Saving, &'a Host),
-    /// The octets to be sent, and the outcome. No prefix was sent before a failure.
+    /// The octets to be sent, and the outcome. A failure is noted as if no prefix was sent.
     Sent(&'a [u8], Sending),
 }
 

@@ -16,14 +16,14 @@ use denote.Steps.{nothing}
 use denote.Triple.Entry.{alive}
 use denote.Triple.Walked.{says, Stays, stay_dropped, Goes-dropped, walk_of, ends_at}
 use Rattle.std.proofs.raw_atomic.Walks.{proved_at}
-use Rattle.host_tests.proofs.Making.{word, history_in}
-use Rattle.host_tests.specs.Noting.{entries_of}
-use Rattle.host_tests.specs.contracts.history.History as history
-use Rattle.host_tests.specs.contracts.history.Note as note
-use Rattle.host_tests.specs.contracts.history.History.with as f
-use Rattle.host_tests.specs.contracts.history.History.with.Key.{name}
-use Rattle.host_tests.proofs.history.History.with.Statement.{statement}
-use Rattle.host_tests.proofs.history.History.with.Code as code
+use Rattle.device_loop.proofs.Making.{word, history_in}
+use Rattle.device_loop.specs.Noting.{entries_of}
+use Rattle.device_loop.specs.contracts.history.History as history
+use Rattle.device_loop.specs.contracts.history.Note as note
+use Rattle.device_loop.specs.contracts.history.History.with as f
+use Rattle.device_loop.specs.contracts.history.History.with.Key.{name}
+use Rattle.device_loop.proofs.history.History.with.Statement.{statement}
+use Rattle.device_loop.proofs.history.History.with.Code as code
 
 pub with_spec : {M : Type 1} → statement M
 with_spec 𝓤 𝓛 𝓜 𝓡 wired =
