@@ -2,7 +2,7 @@ use Rattle.std.proofs.Common.{List, sym, subst}
 use Rattle.device_loop.specs.Happenings.{HistoryEntry}
 use Rattle.device_loop.specs.Turn.{SavedBeforeSent}
 use Rattle.host_tests.proofs.recorded.serve_each.Goals as goal
-use Rattle.host_tests.proofs.Turns.{nothing_sent, turned}
+use Rattle.host_tests.proofs.Reaching.{nothing_sent, turned}
 
 pub loop-turn-init : goal.loop-turn-init
 loop-turn-init g c = record {
