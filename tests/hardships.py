@@ -248,7 +248,8 @@ def little_stack(folder, count):
 def little_memory(folder, count):
     """With little address space a device serves, or ends with a fault, and never by a signal."""
     ends = set()
-    for size in range(1_024, 8_192, 64):
+    # With less the system cannot begin any program of this size.
+    for size in range(1_536, 8_192, 64):
         device = Device(*DOOR, "--listen", "127.0.0.1:0", "--state", folder, through=["prlimit", f"--as={size * 1024}"])
         try:
             controller = controller_at(device)
@@ -259,7 +260,7 @@ def little_memory(folder, count):
             device.end()
         except (TimeoutError, OSError):
             status = device.process.wait(PATIENCE)
-            # Below some size not even the loader of the system finds memory.
+            # Below some size the loader of the system ends it, with 127.
             ends.add("a fault" if status in (1, 2, 127) else f"status {status} with {size} KiB")
     check("the ends", {"a fault", "0b4c6f636b"}, ends)
 
