@@ -318,7 +318,7 @@ def ends_with_a_controller(folder):
 
 
 def names_of_an_earlier_controller(folder):
-    """As many phones as a controller may have are named anew with the next one."""
+    """As many phones as a controller may have are named anew with the next one, also under other handles."""
     path = f"{folder}/names.socket"
     device = Device(*DOOR, "--listen", "127.0.0.1:0", "--slots", "8", "--application", path)
     device.port()
@@ -328,8 +328,8 @@ def names_of_an_earlier_controller(folder):
         controller = controller_at(device)
         controller.is_advertised()
         check("serving", "+ serving", application.line())
-        for handle in range(64, 72):
-            controller.connect(handle, STRANGER)
+        for number in range(8):
+            controller.connect(64 + 16 * first + number, STRANGER)
         names = [it.split()[:3] for it in application.lines(8)]
         check("each is told", [["+", "connected", str(first + it)] for it in range(8)], names)
         check("each is there", 9, len(look(path, "connections")))

@@ -332,6 +332,27 @@ def lines_of_one_read(folder):
     end(device, controller)
 
 
+def saves_within_an_initialisation(folder):
+    """The time of saves counts for no controller, however many of them there are."""
+    through = slow_disk(folder)
+    if through is None:
+        return
+    home = Home(folder)
+    device = home.device("--patience", "2", through=through(600))
+    device.said("ready")
+    application = home.application()
+    controller = Controller(stream_to(device))
+    controller.until(lambda: controller.commands)
+    begun = time.monotonic()
+    for value in range(6):
+        application.say(f"update {VALUE} {value + 1:02x}")
+        check("an update", "ok", application.up_to("ok")[-1])
+    check("they take long", True, time.monotonic() - begun > 5)
+    check("it is served", True, controller.is_advertised())
+    check("nobody is given up", [], [it for it in device.log if "given up" in it])
+    end(device, controller)
+
+
 def a_device_that_was_stopped(folder):
     """A device that was stopped for longer than its patience gives nobody up for that."""
     home = Home(folder)
@@ -385,7 +406,7 @@ def strangers_while_it_is_stopped(folder):
 
 SCENARIOS = (
     a_write_that_is_not_saved, writes_that_no_longer_stand, nobody_reads_of_it, lost_with_the_device, values_beside_rows,
-    a_disk_that_fails_for_long, a_stop_saves, a_stop_that_cannot_save, lines_of_one_read, a_device_that_was_stopped,
+    a_disk_that_fails_for_long, a_stop_saves, a_stop_that_cannot_save, lines_of_one_read, saves_within_an_initialisation, a_device_that_was_stopped,
     strangers_while_it_is_stopped, tries_once_a_second,
 )
 
