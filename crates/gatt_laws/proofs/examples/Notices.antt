@@ -196,3 +196,12 @@ skips : told_of bell phone (stream (asks_on notified) ++ flat_map (update 3) (re
 unfolding run noticed event_told after_item packet_event step change_of live_effect after_hearing
     commands_due frame_at form_of pieces after_entries value_answer notified
 skips = refl
+
+-- a value waits to be indicated when the client asks for notifications instead: it is skipped all
+-- the same
+skips_while_it_waits : told_of bell phone (indicated ++ update 3 (0x01 ∷ []) ++ stream (asks_on notified)
+    ++ flat_map (update 3) (replicate 10 (0x01 ∷ [])))
+    ≡ Configured 0x40 4 2 ∷ Configured 0x40 4 1 ∷ Skipped 0x40 3 ∷ []
+unfolding run noticed event_told after_item packet_event step change_of live_effect after_hearing
+    commands_due frame_at form_of pieces after_entries value_answer subscribes indicated notified
+skips_while_it_waits = refl

@@ -1,11 +1,10 @@
 -- Each skipped value causes a notice, and nothing else causes one of this kind.
 use Rattle.std.proofs.Common.{◌≡◌, ℕ, ◌+◌, ◌≤◌, Bool, true, false, List, [], ◌∷◌, ◌++◌, map, length, Option, Some, None}
 use Rattle.std.proofs.Common.{refl, sym, ap, ◌∙◌, arith}
-use Rattle.std.specs.Prelude.{◌==◌, ◌&&◌, ◌||◌, not, nat_lt, All, is_some, if◌then◌else◌}
+use Rattle.std.specs.Prelude.{◌==◌, ◌&&◌, ◌||◌, not, nat_lt, All, cond, filter, is_some, if◌then◌else◌}
 use Rattle.std.specs.List.{list_any, flat_map}
 use Rattle.std.specs.Option.{option_to_list}
 use Rattle.std.proofs.lemmas.Bool.{eqb-true, eq-eqb, ltb-false, not-true, or_left, or_right, and_parts}
-use Rattle.std.proofs.lemmas.List.{length-append}
 use Rattle.std.proofs.lemmas.List.Elements.{All-nil, All-cons, All-head, All-tail, All-append}
 use Rattle.std.proofs.lemmas.List.Folds.{list_any-append}
 use Rattle.att_numbers.specs.Types.{Handle, Row, Values}
@@ -19,13 +18,13 @@ use Rattle.gatt_laws.proofs.notices.Skipped.{still-on-time, accounts_for_each_va
 use Rattle.gatt_laws.specs.laws.MayBeHeard.{handles_told}
 use Rattle.gatt_laws.specs.laws.Settled.{has_slot}
 use Rattle.gatt_laws.specs.laws.Skipped.{is_among, hearer_at, heard_at, is_skip_of, IsSkippedIfTold}
-use Rattle.gatt_laws.specs.laws.Skipped.{NoticesEachSkipped, NoticesOnlyWhatIsSkipped}
+use Rattle.gatt_laws.specs.laws.Skipped.{NoticesEachSkipped, NoticesOnlyWhatIsSkipped, backlog_with, wants_notification}
 use Rattle.gatt_laws.specs.machine.ConnectionState.{ConnectionState, after_giving, is_live, is_there, key_of, row_in_force}
 use Rattle.gatt_laws.specs.machine.Controller.{Slots, command_of_init, count_before, without_command}
 use Rattle.gatt_laws.specs.machine.Effect.{Effect, effect_of, handles_written}
 use Rattle.gatt_laws.specs.machine.Event as event
 use Rattle.gatt_laws.specs.machine.Event.{Ordinal, Own, Encrypted, Refreshed, Asks, Event, Of, Tick}
-use Rattle.gatt_laws.specs.machine.Heard.{Heard, hearer_after, heard_when_notifying, heard_in_turn, is_skipped}
+use Rattle.gatt_laws.specs.machine.Heard.{Heard, hearer_after, heard_when_notifying, is_skipped}
 use Rattle.gatt_laws.specs.machine.Heard.{skipped_in_turn, after_hearing}
 use Rattle.gatt_laws.specs.machine.Notice.{Notice, Connected, Disconnected, Secured, Unsecured, Written, Configured, Confirmed}
 use Rattle.gatt_laws.specs.machine.Notice.{TimedOut, Ending, Skipped, are_same_facts, link_told, write_told, confirmation_told}
@@ -36,8 +35,8 @@ use Rattle.gatt_laws.specs.machine.State.{State, Change, change_of, connections_
 use Rattle.gatt_subs.specs.declared.pending.TheConstants.{MAX_BACKLOG}
 use Rattle.gatt_subs.specs.declared.pending.Unconfirmed.{Unconfirmed}
 use Rattle.gatt_subs.specs.Hearing.{may_hear_at, wants_indications}
-use Rattle.gatt_subs.specs.Indications.{Indications, hears}
-use Rattle.gatt_subs.specs.Told.{Hearer}
+use Rattle.gatt_subs.specs.Indications.{Indications, hears, is_notified}
+use Rattle.gatt_subs.specs.Told.{Hearer, notification_of}
 use Rattle.le_acl.specs.History.{packets_allowed}
 
 -- Each causes one.
@@ -121,10 +120,11 @@ notices_each_skipped state happens ordinal attribute to_hear =
     let shared : SharedState = change.state.shared in
     let heard : Heard = heard_at change ordinal in
     let its : Notice → Bool = is_skip_of (change.state.connections ordinal).handle attribute in
-    or-last (is_among attribute (handles_told heard.responses)) (is_among attribute heard.pending.waiting)
-    (is_among attribute ((step state happens).connections ordinal).pending.waiting)
+    let wants : Bool = wants_indications (hearer_at change ordinal).row attribute in
+    or-last (is_among attribute (handles_told heard.responses)) (wants && is_among attribute heard.pending.waiting)
+    (wants && is_among attribute ((step state happens).connections ordinal).pending.waiting)
     (is_among attribute (values_skipped change ordinal)) (list_any its (noticed state happens))
-    (sym (ap (λ (pending : Indications). is_among attribute pending.waiting) (waits-then state happens ordinal)))
+    (sym (ap (λ (pending : Indications). wants && is_among attribute pending.waiting) (waits-then state happens ordinal)))
     (λ among. list_any-append its (event_told state happens) (skips_told change)
     ∙ or_right (list_any its (event_told state happens)) (list_any its (skips_told change))
     (one-told change ordinal attribute change.state.slots among to_hear.has))
@@ -133,14 +133,39 @@ notices_each_skipped state happens ordinal attribute to_hear =
 
 -- Nothing else does: first for one hearer.
 
-record IsRightlySkipped (attributes : List Attr) (values : Values) (hearer : Hearer) (now : ℕ) (handles : List Handle)
-    (handle : Handle) : Type 0 where
+record IsRightlySkipped (attributes : List Attr) (hearer : Hearer) (handles : List Handle) (handle : Handle) : Type 0 where
   live : hearer.live ≡ true
   on_time : hearer.pending.timed_out ≡ false
   among : is_among handle handles ≡ true
   may : may_hear_at attributes hearer.row hearer.standing handle ≡ true
   by_notification : wants_indications hearer.row handle ≡ false
-  full : MAX_BACKLOG ≤ hearer.backlog + length (heard_in_turn attributes values hearer now handles).responses
+  before : List Handle
+  rest : List Handle
+  split : handles ≡ before ++ handle ∷ rest
+  full : MAX_BACKLOG ≤ backlog_with attributes hearer before
+
+-- A notification that is sent is of a value that counts.
+sent-counts : (response : Response) (handle : Handle) (others : List Handle) (sent wants : Bool)
+    → (sent ≡ true → wants ≡ true)
+    → length (option_to_list (if sent then Some response else None)) + length others
+    ≤ length (cond wants (handle ∷ others) others)
+sent-counts response handle others true true wanted = omega arith
+sent-counts response handle others true false wanted = cc (wanted refl)
+sent-counts response handle others false true wanted = omega arith
+sent-counts response handle others false false wanted = omega arith
+
+wanted-if-sent : (attributes : List Attr) (hearer : Hearer) (handle : Handle)
+    → (hearer.live && is_notified hearer.pending attributes hearer.row hearer.standing handle hearer.backlog) ≡ true
+    → wants_notification attributes hearer handle ≡ true
+wanted-if-sent attributes hearer handle is =
+    let heard_it : Bool = hears hearer.pending attributes hearer.row hearer.standing handle in
+    let by_notification : Bool = not (wants_indications hearer.row handle) in
+    let few : Bool = nat_lt hearer.backlog MAX_BACKLOG in
+    let notified = and_parts hearer.live (heard_it && by_notification && few) is in
+    let both = and_parts (heard_it && by_notification) few notified.1 in
+    let hears_it = and_parts heard_it by_notification both.0 in
+    let timely = and_parts (not hearer.pending.timed_out) (may_hear_at attributes hearer.row hearer.standing handle) hears_it.0 in
+    λ i. timely.1 i && hears_it.1 i
 
 all-weaker : (P Q : Handle → Type 0) (handles : List Handle) → ((handle : Handle) → P handle → Q handle) → All P handles → All Q handles
 all-weaker P Q [] weaker all = All-nil Q
@@ -148,7 +173,7 @@ all-weaker P Q (handle ∷ handles) weaker all =
     All-cons Q handle handles (weaker handle (All-head P handle handles all))
     (all-weaker P Q handles weaker (All-tail P handle handles all))
 
-module _ (attributes : List Attr) (values : Values) (hearer : Hearer) (now : ℕ) (handle : Handle) (handles : List Handle) where
+module _ (attributes : List Attr) (values : Values) (hearer : Hearer) (handle : Handle) (handles : List Handle) where
   abbrev first : Heard
   first = heard_when_notifying attributes values hearer handle
 
@@ -156,12 +181,15 @@ module _ (attributes : List Attr) (values : Values) (hearer : Hearer) (now : ℕ
   after = hearer_after hearer first
 
   abbrev IsRight : Handle → Type 0
-  IsRight = IsRightlySkipped attributes values hearer now (handle ∷ handles)
+  IsRight = IsRightlySkipped attributes hearer (handle ∷ handles)
 
-  right-later : (other : Handle) → IsRightlySkipped attributes values after now handles other → IsRight other
+  right-later : (other : Handle) → IsRightlySkipped attributes after handles other → IsRight other
   right-later other is =
-      let later : List Response = (heard_in_turn attributes values after now handles).responses in
-      let count = length-append first.responses later in
+      let before : List Handle = is.before in
+      let counted = sent-counts (notification_of values handle hearer.mtu) handle
+      (filter (wants_notification attributes hearer) before)
+      (hearer.live && is_notified hearer.pending attributes hearer.row hearer.standing handle hearer.backlog)
+      (wants_notification attributes hearer handle) (wanted-if-sent attributes hearer handle) in
       let full = is.full in
       record {
         live = is.live;
@@ -169,7 +197,10 @@ module _ (attributes : List Attr) (values : Values) (hearer : Hearer) (now : ℕ
         among = or_right (handle == other) (is_among other handles) is.among;
         may = is.may;
         by_notification = is.by_notification;
-        full = omega (arith, count, full);
+        before = handle ∷ before;
+        rest = is.rest;
+        split = ap (λ (later : List Handle). handle ∷ later) is.split;
+        full = omega (arith, counted, full);
       }
 
   right-here : is_skipped attributes hearer handle ≡ true → IsRight handle
@@ -186,6 +217,9 @@ module _ (attributes : List Attr) (values : Values) (hearer : Hearer) (now : ℕ
         among = or_left (handle == handle) (is_among handle handles) (eq-eqb handle handle refl);
         may = timely.1;
         by_notification = not-true (wants_indications hearer.row handle) but_full.1;
+        before = [];
+        rest = handles;
+        split = refl;
         full = omega (arith, full);
       }
 
@@ -194,18 +228,17 @@ module _ (attributes : List Attr) (values : Values) (hearer : Hearer) (now : ℕ
   right-if true is = All-cons IsRight handle [] (right-here is) (All-nil IsRight)
   right-if false is = All-nil IsRight
 
-are-right : (attributes : List Attr) (values : Values) (hearer : Hearer) (now : ℕ) (handles : List Handle)
-    → All (IsRightlySkipped attributes values hearer now handles) (skipped_in_turn attributes values hearer handles)
-are-right attributes values hearer now [] = All-nil (IsRightlySkipped attributes values hearer now [])
-are-right attributes values hearer now (handle ∷ handles) =
+are-right : (attributes : List Attr) (values : Values) (hearer : Hearer) (handles : List Handle)
+    → All (IsRightlySkipped attributes hearer handles) (skipped_in_turn attributes values hearer handles)
+are-right attributes values hearer [] = All-nil (IsRightlySkipped attributes hearer [])
+are-right attributes values hearer (handle ∷ handles) =
     let after : Hearer = hearer_after hearer (heard_when_notifying attributes values hearer handle) in
     let later : List Handle = skipped_in_turn attributes values after handles in
-    All-append (IsRightlySkipped attributes values hearer now (handle ∷ handles))
+    All-append (IsRightlySkipped attributes hearer (handle ∷ handles))
     (if is_skipped attributes hearer handle then handle ∷ [] else []) later
-    (right-if attributes values hearer now handle handles (is_skipped attributes hearer handle) refl)
-    (all-weaker (IsRightlySkipped attributes values after now handles)
-    (IsRightlySkipped attributes values hearer now (handle ∷ handles)) later
-    (right-later attributes values hearer now handle handles) (are-right attributes values after now handles))
+    (right-if attributes values hearer handle handles (is_skipped attributes hearer handle) refl)
+    (all-weaker (IsRightlySkipped attributes after handles) (IsRightlySkipped attributes hearer (handle ∷ handles)) later
+    (right-later attributes values hearer handle handles) (are-right attributes values after handles))
 
 -- Then for a state: no other notice of an event is of this kind.
 
@@ -311,15 +344,13 @@ module _ (change : Change) where
 
   -- the values that are skipped for the connection of each slot
   values-skipped : (ordinal : Ordinal) → has_slot ordinal change.state.slots ≡ true → (values : List Handle)
-      → All (IsRightlySkipped change.state.shared.table.attributes change.state.shared.table.values (hearer_at change ordinal)
-      change.state.shared.time (change.to_notify ordinal)) values
+      → All (IsRightlySkipped change.state.shared.table.attributes (hearer_at change ordinal) (change.to_notify ordinal)) values
       → AreSkipped (map (Skipped (change.state.connections ordinal).handle) values)
   values-skipped ordinal has [] right = none-skipped
   values-skipped ordinal has (attribute ∷ values) right =
-      let shared : SharedState = change.state.shared in
       let handle : ℕ = (change.state.connections ordinal).handle in
-      let Right : Handle → Type 0 = IsRightlySkipped shared.table.attributes shared.table.values (hearer_at change ordinal)
-      shared.time (change.to_notify ordinal) in
+      let Right : Handle → Type 0 = IsRightlySkipped change.state.shared.table.attributes (hearer_at change ordinal)
+      (change.to_notify ordinal) in
       let is = All-head Right attribute values right in
       All-cons (IsSkippedIfTold change) (Skipped handle attribute) (map (Skipped handle) values)
       (record {
@@ -327,6 +358,9 @@ module _ (change : Change) where
         named = refl;
         to_hear = record { has = has; live = is.live; on_time = is.on_time; notified = is.among; may = is.may };
         by_notification = is.by_notification;
+        before = is.before;
+        rest = is.rest;
+        split = is.split;
         full = is.full;
       })
       (values-skipped ordinal has values (All-tail Right attribute values right))
@@ -341,7 +375,7 @@ module _ (change : Change) where
       (values-skipped ordinal
       (has ordinal (or_left (ordinal == ordinal) (has_slot ordinal slots) (eq-eqb ordinal ordinal refl)))
       (values_skipped change ordinal)
-      (are-right shared.table.attributes shared.table.values (hearer_at change ordinal) shared.time (change.to_notify ordinal)))
+      (are-right shared.table.attributes shared.table.values (hearer_at change ordinal) (change.to_notify ordinal)))
       (slots-skipped slots (λ other later. has other (or_right (ordinal == other) (has_slot other slots) later)))
 
 pub notices_only_what_is_skipped : NoticesOnlyWhatIsSkipped

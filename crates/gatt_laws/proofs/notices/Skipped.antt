@@ -199,22 +199,26 @@ module _ (attributes : List Attr) (values : Values) (now : ℕ) (handle : Handle
         let first : Heard = heard_when_notifying attributes values hearer handle in
         let after : Hearer = hearer_after hearer first in
         let heard : Heard = heard_in_turn attributes values after now handles in
-        or_left (is_among handle (handles_told (first.responses ++ heard.responses)) || is_among handle heard.pending.waiting)
+        let sent : Bool = is_among handle (handles_told (first.responses ++ heard.responses)) in
+        let waits : Bool = is_among handle heard.pending.waiting in
+        or_left (sent || (wants_indications hearer.row handle && waits))
         (is_among handle (skipped_in_turn attributes values hearer (handle ∷ handles)))
-        (more-sent first.responses heard (waits-on after handles live may wants (begins-to-wait wants)))
+        (ap (λ (is : Bool). sent || (is && waits)) wants
+        ∙ more-sent first.responses heard (waits-on after handles live may wants (begins-to-wait wants)))
     accounted-here handles false true wants is_few =
         let first : Heard = heard_when_notifying attributes values hearer handle in
         let heard : Heard = heard_in_turn attributes values (hearer_after hearer first) now handles in
         let sent : Bool = is_among handle (handles_told (first.responses ++ heard.responses)) in
-        or_left (sent || is_among handle heard.pending.waiting)
-        (is_among handle (skipped_in_turn attributes values hearer (handle ∷ handles)))
-        (or_left sent (is_among handle heard.pending.waiting)
+        let waits : Bool = wants_indications hearer.row handle && is_among handle heard.pending.waiting in
+        or_left (sent || waits) (is_among handle (skipped_in_turn attributes values hearer (handle ∷ handles)))
+        (or_left sent waits
         (told-first first.responses heard.responses handle (is-notified wants is_few)))
     accounted-here handles false false wants is_few =
         let first : Heard = heard_when_notifying attributes values hearer handle in
         let after : Hearer = hearer_after hearer first in
         let heard : Heard = heard_in_turn attributes values hearer now (handle ∷ handles) in
-        or_right (is_among handle (handles_told heard.responses) || is_among handle heard.pending.waiting)
+        or_right (is_among handle (handles_told heard.responses)
+        || (wants_indications hearer.row handle && is_among handle heard.pending.waiting))
         (is_among handle (skipped_in_turn attributes values hearer (handle ∷ handles)))
         (ap (λ (skips : Bool). is_among handle ((if skips then handle ∷ [] else [])
         ++ skipped_in_turn attributes values after handles)) (is-skipped wants is_few)
@@ -249,7 +253,8 @@ module _ (attributes : List Attr) (values : Values) (hearer : Hearer) (now : ℕ
   more-accounted : is_accounted_for attributes values after now handles handle ≡ true
       → is_accounted_for attributes values hearer now (other ∷ handles) handle ≡ true
   more-accounted is =
-      either-more (is_among handle (handles_told heard.responses)) (is_among handle heard.pending.waiting)
+      either-more (is_among handle (handles_told heard.responses))
+      (wants_indications hearer.row handle && is_among handle heard.pending.waiting)
       (is_among handle (skipped_in_turn attributes values after handles))
       (is_among handle (handles_told (first.responses ++ heard.responses)))
       (is_among handle (skipped_in_turn attributes values hearer (other ∷ handles)))
