@@ -1,6 +1,7 @@
 pub mod Changes
 pub mod Happened
 pub mod Making
+pub mod MakingReceived
 pub mod Order
 pub mod Packets
 pub mod Time

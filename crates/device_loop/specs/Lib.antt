@@ -2,6 +2,7 @@ pub mod Happenings
 pub mod HistoryCode
 pub mod Noting
 pub mod Outside
+pub mod ReceivedCode
 pub mod Serving
 pub mod Time
 pub mod Turn

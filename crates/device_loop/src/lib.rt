@@ -6,6 +6,7 @@
 mod happenings;
 mod history;
 mod outside;
+mod received;
 mod serving;
 mod turn;
 mod unsaved;
@@ -14,6 +15,7 @@ mod withholding;
 pub use happenings::{Happenings, Next};
 pub use history::{History, Note};
 pub use outside::{Outgoing, Outside, Saving, Sending};
+pub use received::Received;
 pub use serving::{End, serve_happenings};
 pub use turn::{Turn, serve_turn};
 pub use unsaved::Unsaved;
