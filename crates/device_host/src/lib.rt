@@ -7,10 +7,12 @@
 mod before;
 mod device;
 mod files;
+mod finding;
 mod keeping;
 mod opening;
 mod outgoing;
 mod outside;
+mod restoring;
 mod serving;
 mod starting;
 mod stop;

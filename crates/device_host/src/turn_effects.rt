@@ -51,6 +51,7 @@ pub(crate) fn settle<R: Files<File = File> + Clock + Eprint>(
     hearing: &mut Hearing,
 ) -> Saving
     ensures history { device.new.history ≡ device.old.history }
+    ensures heard { hearing.new.received ≡ hearing.old.received }
 {
     device.session.tell_controller(host.is_initialised());
     let saving = save(device, host, hearing);
@@ -116,6 +117,7 @@ fn save<R: Files<File = File> + Clock + Eprint>(
     hearing: &mut Hearing,
 ) -> Saving
     ensures history { device.new.history ≡ device.old.history }
+    ensures heard { hearing.new.received ≡ hearing.old.received }
 {
     let is_saved = match &mut device.keeping {
         Some(keeping) => keeping.save(host, &mut device.session),

@@ -1,6 +1,8 @@
 //! The notices of the host in one turn.
 
-use device_loop::Unsaved;
+ghost use Rattle.std.specs.Prelude.{◌≡◌, Some};
+
+use device_loop::{Received, Unsaved};
 use device_session::Heard;
 use gatt_host::{Listener, Notice};
 
@@ -13,6 +15,8 @@ pub(crate) struct Hearing {
     pub(crate) is_change: bool,
     /// Set if values that phones write are saved.
     saves_values: bool,
+    /// All notices so far, of all turns.
+    pub(crate) received: Received,
 }
 
 impl Hearing {
@@ -22,6 +26,7 @@ impl Hearing {
             unsaved: Unsaved::new(),
             is_change: false,
             saves_values,
+            received: Received::none(),
         }
     }
 
@@ -32,7 +37,9 @@ impl Hearing {
     }
 
     /// Notes whether a notice reports a change of what is saved.
-    fn note(&mut self, notice: &Notice<'_>) {
+    fn note(&mut self, notice: &Notice<'_>)
+        ensures received { self.new.received ≡ self.old.received }
+    {
         self.is_change |= match notice {
             Notice::Written { .. } => self.saves_values,
             Notice::Configured { .. } | Notice::Confirmed { .. } => true,
@@ -45,7 +52,10 @@ impl Hearing {
 }
 
 impl Listener for Hearing {
+    ghost heard = { λ hearing. Some hearing.received.notices };
+
     fn hear(&mut self, notice: Notice<'_>) {
+        self.received = self.received.with(&notice);
         self.note(&notice);
         self.heard.hear(notice);
     }
