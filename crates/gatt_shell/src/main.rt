@@ -17,6 +17,7 @@ use gatt_commands::{
     Address, KeysPath, NextPath, RowsPath, RunPaths, ScriptPath, ServePaths, ShellFault, Shows,
     TablePath,
 };
+use itoa::Buffer;
 use locking::{Unlocked, lock_rows};
 use shell_args::{Choice, Refusal};
 use show_command::ShowPaths;
@@ -322,10 +323,12 @@ fn run(rt: &HostRuntime) -> u8 {
 fn stack_status(rt: &HostRuntime, needed: u64) -> u8
     ensures memory { result ≡ 2 }
 {
-    // If this fails, the error cannot be reported at all.
-    if let Ok(line) = format!(in rt.alloc(); "stack: {needed} KB needed") {
-        let _ = rt.eprintln(line.as_str());
-    }
+    let mut digits = Buffer::new();
+    // This takes no memory, since memory may be what was refused. If it fails, the error cannot be
+    // reported at all.
+    let _ = rt.eprint("stack: ");
+    let _ = rt.eprint(digits.format(needed));
+    let _ = rt.eprintln(" KB needed");
     gatt_commands::status(&ShellFault::Memory)
 }
 
