@@ -1,6 +1,7 @@
 //! Plays steps with a host and compares its output.
 
 ghost use Rattle.std.specs.Prelude.{◌<◌};
+ghost use Rattle.host_tests.specs.Reached.{IsInARun};
 
 use crate::controller::{Controller, answer_all};
 use crate::peers::Who;
@@ -123,7 +124,9 @@ pub fn feed_pieces(host: &mut Host, size: usize, octets: &[u8], written: &mut Wr
 
 /// Returns a host with the example keys. Callers end it by `drop`, which makes their proofs
 /// cheaper.
-pub fn opened(rt: &impl Abort, alloc: Global, setting: &Setting<'_>) -> Host {
+pub fn opened(rt: &impl Abort, alloc: Global, setting: &Setting<'_>) -> Host
+    ensures run { IsInARun result }
+{
     Host::open(
         alloc,
         read_table(rt, alloc, setting.table),

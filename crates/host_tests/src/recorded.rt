@@ -17,7 +17,8 @@ pub type Turn = (Next<'static>, &'static [u16], Sending);
 #[derive(Drop)]
 pub struct Recording {
     turns: &'static [Turn],
-    over: usize,
+    /// Number of turns so far.
+    pub over: usize,
     pub history: History,
 }
 

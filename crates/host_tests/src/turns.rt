@@ -2,7 +2,8 @@
 
 ghost use Rattle.std.specs.Prelude.{None, Some};
 
-use crate::player::{Setting, ready};
+use crate::player::{Setting, opened, ready};
+use crate::recorded::{self, Recording, serve_each};
 use crate::tables::File::Bell;
 use arrayvec::ArrayVec;
 use device_loop::{
@@ -178,6 +179,31 @@ fn serves(rt: &impl Abort, alloc: Global) -> bool {
 #[test]
 fn withheld_while_nothing_is_saved(rt: HostRuntime) {
     assert!(rt; serves(&rt, rt.alloc()));
+}
+
+/// The controller completes Reset and connects a phone, and then says nothing more.
+const RECORDED: &[recorded::Turn] = &[
+    (
+        Next::Octets(b"\x04\x0E\x04\x01\x03\x0C\x00"),
+        &[],
+        Sending::Done,
+    ),
+    (Next::Call(App::Update(3, &[0x01])), &[0x40], Sending::Waits),
+    (Next::Ended, &[], Sending::Done),
+];
+
+fn serves_recorded(rt: &impl Abort, alloc: Global) -> bool {
+    let mut host = opened(rt, alloc, SETTING);
+    let mut device = Recording::new(RECORDED);
+    let mut out = Waiting(Vec::new(alloc));
+    serve_each(&mut host, &mut device, &mut out, &mut Hearing, 3);
+    drop(host);
+    device.over == RECORDED.len() && out.waiting().is_empty()
+}
+
+#[test]
+fn a_device_with_a_history(rt: HostRuntime) {
+    assert!(rt; serves_recorded(&rt, rt.alloc()));
 }
 
 type Case = (&'static [u8], &'static [u16], &'static [u8]);
