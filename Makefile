@@ -111,4 +111,4 @@ manual: $(PROGRAM)
 	docs/manual $(PROGRAM) docs/man
 
 check: all
-	tests/run $(PROGRAM)
+	GATT_SHELL=$(PROGRAM) GIHANDOP_ARCHIVE=$(ARCHIVE) tests/pytest -q tests/test_c_*.py tests/test_rust*.py tests/test_install.py

@@ -1,5 +1,5 @@
 # Completes the words of gatt_shell and hci_bridge in bash. Bash loads it by the name of the command, from
-# share/bash-completion/completions. tests/completion.py compares it with the help of each command.
+# share/bash-completion/completions. tests/test_completion.py compares it with the help of each command.
 
 _gatt_shell() {
     local word=$2 before=$3 command=${COMP_WORDS[1]-} words

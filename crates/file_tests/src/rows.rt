@@ -8,7 +8,7 @@ use le_hci::{PUBLIC_ADDRESS, Peer, RANDOM_ADDRESS};
 use le_security::Keys;
 use le_security::examples::KEYS;
 use octet_io::ArraySink;
-use std::alloc::{AllocError, Global};
+use std::alloc::Global;
 use std::process::Abort;
 
 const PHONE: Peer = Peer {
@@ -207,60 +207,6 @@ fn set_all(rows: &mut Rows) {
             row.set(8, 1);
         }
     }
-}
-
-#[test]
-fn too_many(rt: HostRuntime) {
-    for &(handles, peers, answer) in MANY {
-        assert!(rt; is_refused(rt.alloc(), handles, peers, answer));
-    }
-}
-
-/// Numbers of configurations and of peers awaiting Service Changed, and the fault.
-const MANY: &[(u16, u16, Option<RowsFault>)] = &[
-    (4096, 64, None),
-    (4097, 64, Some(RowsFault::TooMany)),
-    (4096, 65, Some(RowsFault::TooMany)),
-];
-
-fn is_refused(alloc: Global, handles: u16, peers: u16, answer: Option<RowsFault>) -> bool {
-    match many(alloc, handles, peers) {
-        Ok(text) => Rows::read(alloc, &text).err() == answer,
-        Err(_) => false,
-    }
-}
-
-fn many(alloc: Global, handles: u16, peers: u16) -> Result<String, AllocError> {
-    let mut text = String::new(alloc);
-    push_many(&mut text, handles, peers)?;
-    Ok(text)
-}
-
-fn push_many(text: &mut String, handles: u16, peers: u16) -> Result<(), AllocError> {
-    push_configurations(text, handles)?;
-    push_owed(text, peers)
-}
-
-fn push_configurations(text: &mut String, handles: u16) -> Result<(), AllocError> {
-    for handle in 1..=handles {
-        push_configuration(text, handle)?;
-    }
-    Ok(())
-}
-
-fn push_configuration(text: &mut String, handle: u16) -> Result<(), AllocError> {
-    write!(text, "0 00:00:00:00:00:00 {handle} 1\n")
-}
-
-fn push_owed(text: &mut String, peers: u16) -> Result<(), AllocError> {
-    for peer in 0..peers {
-        push_peer(text, peer)?;
-    }
-    Ok(())
-}
-
-fn push_peer(text: &mut String, peer: u16) -> Result<(), AllocError> {
-    write!(text, "! 0 00:00:00:00:00:{peer:02x}\n")
 }
 
 /// A full sink has a prefix of the text.

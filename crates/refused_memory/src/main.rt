@@ -1,5 +1,6 @@
-//! Makes each call that allocates memory, and prints its outcome. `tests/refusals.py` runs this
-//! program once for each allocation, and refuses only that one.
+//! Makes each call that allocates memory, and prints its outcome.
+//! `tests/test_refused_memory.py` runs this program once for each allocation, and refuses only that
+//! one.
 #![tactic(auto)]
 
 mod calls;

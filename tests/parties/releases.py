@@ -1,0 +1,109 @@
+"""Copies of the checkout with its outputs, as one makes a release or packages from them.
+
+The outputs are packed as they are. Their verdicts are made up here, if the logs of tools/prove are not beside
+them.
+"""
+
+import glob
+import os
+import re
+import shutil
+import subprocess
+
+import pytest
+
+from parties.building import once, ran, run
+from parties.compiling import ARCHIVE, HAS_ARCHIVE, MISSING
+from parties.places import ROOT, text_of
+
+NAMED = {"NAME": "a", "EMAIL": "a@b", "DATE": "2026-01-01T00:00:00Z"}
+
+
+def need(what, packages, *tools):
+    """Skips a test if this machine lacks a tool."""
+    missing = [it for it in tools if not shutil.which(it)]
+    if missing:
+        pytest.skip(f"{what}: {', '.join(missing)} is not on PATH (Debian: {packages})")
+
+
+def write(path, text):
+    """Writes a file, and makes its folder."""
+    os.makedirs(os.path.dirname(path), exist_ok=True)
+    with open(path, "w", encoding="utf-8") as file:
+        file.write(text)
+
+
+def files_below(folder):
+    """The paths of all files below a folder."""
+    return sorted(os.path.relpath(f"{at}/{it}", folder) for at, _, files in os.walk(folder) for it in files)
+
+
+def logic():
+    """The logic of the kit, which a verdict names."""
+    return run(["rt", "version"]).stdout.split()[-1]
+
+
+def made_up_verdict(word="proved", target="x86_64-unknown-linux-gnu", sum_of_logic=None):
+    """The lines of a log that say that an output is proved."""
+    end = f"functions=1 axioms=0 target={target} sum={sum_of_logic or logic()} native=nat"
+    return f"fn a::b: {word}\naxioms libc: libc::heap::a (1 of the 2 declared)\nlogic={word} {end}\n"
+
+
+def log_of(source):
+    """The log of an output, made up if tools/prove has left none."""
+    log = f"{os.path.dirname(source)}/build.log"
+    text = text_of(log) if os.path.exists(log) else ""
+    return text if "logic=proved" in text else made_up_verdict()
+
+
+def copy_checkout(to, program):
+    """Copies the files of the checkout as a repository of one commit, and the outputs with their verdicts."""
+    listed = ran(["git", "ls-files", "-coz", "--exclude-standard"])
+    for it in listed.split("\0"):
+        if it and os.path.lexists(f"{ROOT}/{it}"):
+            os.makedirs(os.path.dirname(f"{to}/{it}"), exist_ok=True)
+            shutil.copy(f"{ROOT}/{it}", f"{to}/{it}", follow_symlinks=False)
+    env = {**os.environ, "GIT_CONFIG_GLOBAL": os.devnull}
+    env.update({f"GIT_{who}_{what}": it for who in ("AUTHOR", "COMMITTER") for what, it in NAMED.items()})
+    for words in (["init", "-q"], ["add", "-A"], ["commit", "-qm", "a release"]):
+        ran(["git", *words], cwd=to, env=env)
+    outputs = (("gatt_shell", program, "gatt_shell"), ("gihandop_c", ARCHIVE, "libgihandop_c.a"))
+    for crate, source, name in outputs:
+        out = f"{to}/crates/{crate}/out"
+        os.makedirs(out, exist_ok=True)
+        shutil.copy(source, f"{out}/{name}")
+        write(f"{out}/build.log", log_of(source))
+    for folder in glob.glob(f"{ROOT}/crates/*/out/*-linux-gnu"):
+        shutil.copytree(folder, f"{to}/{os.path.relpath(folder, ROOT)}", copy_function=shutil.copy)
+
+
+def checkout_at(place, program):
+    """A copy of the checkout at a place, made once for all tests, none of which changes it."""
+    if not HAS_ARCHIVE:
+        pytest.skip(MISSING)
+    need("a copy of the checkout", "git, make", "git", "make")
+    need("a verdict", "none, it is Rattle's", "rt")
+    if run(["git", "rev-parse", "--show-toplevel"]).stdout.strip() != ROOT:
+        pytest.skip(f"{ROOT} is no repository of git")
+    to = f"{os.environ['BUILT_ONCE']}/{place}/gihandop"
+    once(place.partition("/")[0], lambda _: copy_checkout(to, program))
+    return to
+
+
+def copied(checkout, to):
+    """Another copy, which a test may change, with the same times."""
+    os.makedirs(os.path.dirname(to), exist_ok=True)
+    subprocess.run(["cp", "-a", checkout, to], check=True)
+    return to
+
+
+def broken_links(folder):
+    """The links of pages below a folder that lead to no file."""
+    missing = set()
+    for page in glob.glob(f"{folder}/**/*.md", recursive=True):
+        text = re.sub(r"(?ms)^```.*?^```|`[^`\n]*`", "", text_of(page))
+        for link in re.findall(r"\]\((?!http)([^)#]+)", text):
+            target = os.path.normpath(f"{os.path.dirname(page)}/{link}")
+            if not os.path.exists(target):
+                missing.add(os.path.relpath(target, folder))
+    return sorted(missing)

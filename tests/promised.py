@@ -1,0 +1,112 @@
+"""The crates with their contracts, and the tables of the documents that cite them."""
+
+import functools
+import os
+import re
+
+from documents import ROOT
+
+
+def texts(folder, suffix):
+    for place, _, names in os.walk(folder):
+        for name in names:
+            if name.endswith(suffix) and "/out" not in place:
+                with open(f"{place}/{name}", encoding="utf-8") as file:
+                    yield file.read()
+
+
+class Crate:
+    """The functions of a crate with their clauses, its traits, and the fields of its records."""
+
+    def __init__(self, name):
+        folder = f"{ROOT}/crates/{name}"
+        # By the name of a function: whether it is public, the type that it belongs to, its clauses.
+        self.functions = {}
+        self.types, self.members, self.aliases = set(), set(), {}
+        for text in texts(f"{folder}/src", ".rt"):
+            self.read(text)
+        specs = "\n".join(texts(f"{folder}/specs", ".antt"))
+        self.fields = set(re.findall(r"^ +pub (\w+)(?: [^:]*)?:", specs, re.M))
+        self.records = set(re.findall(r"\b([A-Z]\w+)\b", specs))
+
+    def read(self, text):
+        owner, is_trait, indent = None, False, 0
+        lines = text.split("\n")
+        for at, line in enumerate(lines):
+            header = re.match(
+                r"( *)(pub(?:\([a-z]+\))? )?(?:unsafe )?(impl|trait)\b(?:<.*?>)? ?(.*?) *(?:where.*)?[{;]?$", line
+            )
+            if header and "fn " not in line:
+                words = re.sub(r"<[^<>]*(?:<[^<>]*>[^<>]*)*>", "", header[4])
+                owner = words.split(" for ")[-1].split(":")[0].split("(")[0].strip().lstrip("&").split()[-1:]
+                owner, is_trait, indent = (owner or [""])[0], header[3] == "trait", len(header[1])
+                self.types |= {owner, words.split(" for ")[0].split(":")[0].strip()}
+            elif line[: indent + 1] == " " * indent + "}":
+                owner, is_trait = None, False
+            self.types |= set(re.findall(r"\b(?:struct|enum|trait) (\w+)", line))
+            self.aliases.update(re.findall(r"\btype (\w+)(?:<.*?>)? = (\w+)", line))
+            self.members |= set(re.findall(r"ghost (\w+)\s*[:=]", line))
+            found = re.match(
+                r' *((?:pub(?:\([a-z]+\))? )?)(?:const )?(?:unsafe )?(?:extern "C" )?fn (\w+)', line
+            )
+            if found:
+                is_of_trait = owner is not None and not found[1] and self.is_of_trait(lines, at)
+                is_public = found[1] == "pub " or is_trait or is_of_trait
+                self.functions.setdefault(found[2], []).append((is_public, owner, self.clauses(lines, at)))
+
+    @staticmethod
+    def clauses(lines, at):
+        """The names of the clauses of the function at a line."""
+        contract = []
+        for follows in lines[at + 1 :]:
+            if re.match(r" *(\{ *$|\} *$|(pub )?fn |///)", follows):
+                break
+            contract.append(follows)
+            if follows.endswith("};"):
+                break
+        return set(re.findall(r"\bensures\*? (\w+) \{", "\n".join(contract)))
+
+    @staticmethod
+    def is_of_trait(lines, at):
+        """Whether the function at a line stands in an `impl Trait for Type`."""
+        for line in reversed(lines[:at]):
+            if re.match(r" *(?:unsafe )?impl\b", line):
+                return " for " in line
+        return False
+
+    def find(self, name):
+        """The functions of a name, `function` or `Type::function`."""
+        owner, _, function = name.rpartition("::")
+        owner = self.aliases.get(owner, owner)
+        return [it for it in self.functions.get(function, []) if not owner or it[1] == owner]
+
+    def has(self, clause):
+        """Whether a function has this clause, or a trait this member."""
+        return clause in self.members or any(
+            clause in one[2] for all_of in self.functions.values() for one in all_of
+        )
+
+
+@functools.cache
+def crate_of(name):
+    return Crate(name)
+
+
+def is_crate(name):
+    return os.path.isdir(f"{ROOT}/crates/{name}/src")
+
+
+def is_program(name):
+    """Whether a crate is a program, which has no public functions."""
+    return os.path.isfile(f"{ROOT}/crates/{name}/src/main.rt")
+
+
+def names_in(text):
+    return re.findall(r"`([^`]+)`", text)
+
+
+def rows_of(text, heading):
+    """The cells of each row of the tables below a heading, without the heads."""
+    section = re.search(rf"(?ms)^##+ {heading}$(.*?)(?=^##+ |\Z)", text)[1]
+    rows = re.findall(r"(?m)^\| (.*) \|$(?!\n\|-)", section)
+    return [[cell.strip() for cell in row.split(" | ")] for row in rows]

@@ -1,0 +1,73 @@
+"""Compiles what is C in this repository with the archive of crates/gihandop_c, and runs the tests in C."""
+
+import re
+import shutil
+
+import pytest
+
+from parties.building import ran
+from parties.compiling import (
+    ARCHIVE, FORMS, LINKED, MADE, PROGRAMS, SANITIZERS, compile_at, compilers, lacks, need_archive, words_of,
+)
+from parties.places import ROOT, text_of
+
+need_archive()
+pytestmark = pytest.mark.without_program
+
+LINES = re.findall(r"(?m)^    (cc -Iinclude -o (\w+) .*)$", text_of(f"{ROOT}/docs/C.md"))
+
+
+def runs():
+    """Each program that ends by itself in each form, and a skip for each form that is not here."""
+    for form in FORMS:
+        if lacks(form):
+            yield pytest.param(form, None, id=form, marks=pytest.mark.skip(lacks(form)))
+            continue
+        for name, (_, _, words) in PROGRAMS.items():
+            # Valgrind and the sanitizers have a stack of their own.
+            if words and (name != "stack" or form not in ("valgrind", "sanitized")):
+                yield pytest.param(form, name, id=f"{form}-{name}")
+
+
+@pytest.mark.parametrize("name", PROGRAMS)
+@pytest.mark.parametrize("compiler", compilers())
+def test_compile(folder, compiler, name):
+    """Each compiler compiles each program without a warning."""
+    compile_at(f"{folder}/{name}", compiler, name, *LINKED)
+
+
+@pytest.mark.parametrize("name", PROGRAMS)
+def test_compile_with_sanitizers(folder, name):
+    """Each program is compiled with sanitizers, without a warning."""
+    if lacks("sanitized"):
+        pytest.skip(lacks("sanitized"))
+    compile_at(f"{folder}/{name}", compilers()[0], name, *SANITIZERS)
+
+
+@pytest.mark.parametrize("form, name", runs())
+def test_run(form, name):
+    """Each check of a program holds."""
+    words = [*words_of(form, name), *PROGRAMS[name][2]]
+    ran(words, f"{name}, {form}")
+
+
+def test_lines_of_the_page():
+    """docs/C.md shows how the two examples are compiled."""
+    assert {it[1] for it in LINES} == {"first", "lockd"}, f"the lines of docs/C.md: {LINES}"
+
+
+@pytest.mark.parametrize("line, name", LINES, ids=[it[1] for it in LINES])
+def test_line_of_the_page(folder, line, name):
+    """A line of docs/C.md compiles its example."""
+    if not shutil.which("cc"):
+        pytest.skip("there is no cc here")
+    words = line.replace(f"-o {name}", f"-o {folder}/{name}").replace(MADE.removeprefix(f"{ROOT}/"), ARCHIVE)
+    ran([*words.split(), *LINKED], line)
+
+
+def test_header_in_another_language():
+    """The header is also one of C++."""
+    if not shutil.which("c++"):
+        pytest.skip("there is no c++ here")
+    flags = ["-std=c++17", "-Wall", "-Wextra", "-Werror", "-fsyntax-only"]
+    ran(["c++", *flags, "-x", "c++", "include/gihandop.h"], "the header in C++")

@@ -1,0 +1,116 @@
+"""Tries a device that is held up: by a disk that is slow or full, or by a signal that stops its process."""
+
+import signal
+import time
+
+import pytest
+
+from parties import DISCONNECT, PATIENCE, STRANGER, controller_at, stream_to
+from parties.disks import Disk
+from parties.homes import AT_OWNER, AT_STRANGER, owner_comes, read
+from parties.tables import VALUE, spelled
+
+
+def test_tries_once_a_second(home):
+    """A save that failed is tried again each second, however much happens meanwhile."""
+    disk = Disk(home.folder)
+    device = home.device(through=disk.through)
+    device.said("ready")
+    controller = controller_at(device)
+    controller.is_advertised()
+    controller.connect(AT_STRANGER, STRANGER)
+    application = home.application()
+    disk.fill()
+    before, begun = disk.syncs(), time.monotonic()
+    application.say(f"update {VALUE} 20")
+    assert application.up_to("ok")[-1] == "ok", "an update"
+    answers = []
+    while disk.syncs() < before + 3 and time.monotonic() < begun + PATIENCE:
+        answers.append(read(controller, VALUE, AT_STRANGER))
+    took = time.monotonic() - begun
+    assert (set(answers), len(answers) > 20) == ({"20"}, True), "a phone is served meanwhile"
+    assert disk.syncs() == before + 3, "three tries"
+    assert 2 <= took < 3, "the third one after two seconds"
+    disk.empty()
+    device.said("saved again:")
+
+
+def test_lines_of_one_read(home):
+    """One save covers all lines of one read, and the time that it takes is nobody's fault."""
+    disk = Disk(home.folder, takes=300)
+    device = home.device("--patience", "3", through=disk.through)
+    device.said("ready")
+    application = home.application()
+    before = disk.syncs()
+    application.stream.sendall(b"".join(f"update {VALUE} {it:02x}\n".encode() for it in range(100)))
+    controller = controller_at(device)
+    assert controller.is_advertised(), "a controller is served beside it"
+    assert [it for it in application.lines(101) if it == "ok"] == ["ok"] * 100, "100 updates"
+    assert disk.syncs() < before + 20, "take some saves"
+    assert [it for it in device.log if "given up" in it or "gone" in it] == [], "nobody is given up"
+    owner_comes(controller)
+    assert controller.ask(AT_OWNER, f"12{spelled(VALUE)}70") == "13", "a write"
+    assert f"\n{VALUE} fff1 70\n" in home.state(), "the last one is saved"
+
+
+def test_saves_within_an_initialisation(home):
+    """The time of saves counts for no controller, however many of them there are."""
+    device = home.device("--patience", "2", through=Disk(home.folder, takes=600).through)
+    device.said("ready")
+    application = home.application()
+    controller = controller_at(device)
+    controller.until(lambda: controller.commands)
+    begun = time.monotonic()
+    for value in range(6):
+        application.say(f"update {VALUE} {value + 1:02x}")
+        assert application.up_to("ok")[-1] == "ok", "an update"
+    assert time.monotonic() - begun > 5, "they take long"
+    assert controller.is_advertised(), "it is served"
+    assert [it for it in device.log if "given up" in it] == [], "nobody is given up"
+
+
+def test_a_device_that_was_stopped(home):
+    """A device that was stopped for longer than its patience gives nobody up for that."""
+    device = home.device("--patience", "2")
+    device.said("ready")
+    application = home.application()
+    for moment in ("before it says anything", "within its initialisation"):
+        controller = controller_at(device)
+        if moment != "before it says anything":
+            controller.until(lambda: controller.commands)
+        device.process.send_signal(signal.SIGSTOP)
+        time.sleep(4)
+        device.process.send_signal(signal.SIGCONT)
+        assert controller.is_advertised(), f"{moment}: it is served"
+        assert application.up_to("+ serving")[-1] == "+ serving", f"{moment}: its application"
+        controller.close()
+        application.up_to("+ waiting")
+    assert [it for it in device.log if "given up" in it] == [], "nobody is given up"
+    silent = stream_to(device)
+    assert device.said("controller given up: it is not initialised in time") == "", "a silent one is given up"
+    silent.close()
+
+
+@pytest.mark.parametrize("word", ["--idle", "--stranger"])
+def test_strangers_while_it_is_stopped(home, word):
+    """The time for which a device was stopped counts neither as a phone's silence nor as its stay."""
+    device = home.device(word, "3")
+    device.said("ready")
+    controller = controller_at(device)
+    controller.is_advertised()
+    controller.connect(AT_STRANGER, STRANGER)
+    begun = time.monotonic()
+    assert read(controller, VALUE, AT_STRANGER) == "00", "it is served"
+    device.process.send_signal(signal.SIGSTOP)
+    for _ in range(5):
+        controller.say(AT_STRANGER, f"0a{spelled(VALUE)}")
+        time.sleep(1)
+    device.process.send_signal(signal.SIGCONT)
+    began_again = time.monotonic()
+    answers = [controller.hears(AT_STRANGER) for _ in range(5)]
+    assert answers == ["0b00"] * 5, "what waited is answered"
+    controller.until(lambda: any(it[0] == DISCONNECT for it in controller.commands), 1)
+    assert [it for it in controller.commands if it[0] == DISCONNECT] == [], "it stays"
+    assert controller.command(DISCONNECT) == "400013", "it is disconnected in the end"
+    counted = time.monotonic() - began_again + (0 if word == "--idle" else began_again - begun - 5)
+    assert 2.2 < counted < 5, "after three seconds"

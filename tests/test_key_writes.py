@@ -1,0 +1,123 @@
+"""Tries how tools/keys writes a file: a full disk, signals at each line, no hard links, and the order."""
+
+import errno
+import os
+import resource
+import runpy
+import shutil
+import signal
+import stat
+import sys
+
+import pytest
+
+from parties import text_of
+from parties.key_tool import (
+    DEVICE, LEGACY, SECURE, TAKEN, TOOL, accepted, begun, mode_of, own_file, put, refused,
+)
+
+
+@pytest.mark.parametrize("option, name, count", [
+    ("--output", "new.toml", 1), ("--add", "other.toml", 1), ("--add", "keys.toml", 2),
+], ids=["output", "add_to_none", "add"])
+def test_a_full_disk(folder, option, name, count):
+    """A call that may write no byte to a file, as on a full disk, changes nothing, and the next one does."""
+    path, place = own_file(f"{folder}/keys.toml", LEGACY), f"{folder}/{name}"
+    before = {"keys.toml", f"{name}.lock"}
+    full = lambda: resource.setrlimit(resource.RLIMIT_FSIZE, (0, resource.RLIM_INFINITY))
+    call = begun("new", DEVICE, "public", option, place, preexec_fn=full)
+    message = call.communicate()[1]
+    told = f"tools/keys: {place}: cannot be written: {os.strerror(errno.EFBIG)}\n"
+    assert (call.returncode, message) == (1, told), "is refused"
+    assert set(os.listdir(folder)) - before == set(), "what is left"
+    assert text_of(path) == LEGACY, "no file is changed"
+    accepted("new", DEVICE, "public", option, place)
+    assert text_of(place).count("[[key]]") == count, "the next call"
+
+
+def interrupt(number, line, words):
+    """Runs tools/keys and sends it a signal at this line of those that write a file. Returns its status."""
+    left = None
+
+    def trace(frame, event, _):
+        nonlocal left
+        code = frame.f_code
+        if code.co_filename != TOOL:
+            return None
+        if left is None and code.co_name in ("create_file", "replace_file"):
+            left = line
+        if left is not None and event == "line":
+            left -= 1
+            if left == 0:
+                os.kill(os.getpid(), number)
+        return trace
+
+    child = os.fork()
+    if child == 0:
+        try:
+            os.dup2(os.open(os.devnull, os.O_RDWR), 2)
+            # A shell has a command in the background ignore SIGINT.
+            signal.signal(number, signal.SIG_DFL)
+            sys.argv = [TOOL, *words]
+            sys.settrace(trace)
+            runpy.run_path(TOOL, run_name="__main__")
+        except SystemExit as ended:
+            os._exit(ended.code)
+        finally:
+            os._exit(99)
+    return os.waitstatus_to_exitcode(os.waitpid(child, 0)[1])
+
+
+@pytest.mark.parametrize("option, before", [
+    ("--output", None), ("--add", None), ("--add", SECURE),
+], ids=["output", "add_to_none", "add"])
+def test_an_end_at_each_line(folder, option, before):
+    """SIGTERM at a line that writes a file leaves the old file or the new one, and no other."""
+    after = f"{before}\n{LEGACY}" if before else LEGACY
+    texts, status, line, room = set(), None, 0, f"{folder}/signals"
+    path = f"{room}/keys.toml"
+    while status != 0 and line < 200:
+        line += 1
+        os.makedirs(room)
+        if before:
+            put(path, before)
+        status = interrupt(signal.SIGTERM, line, [*TAKEN, option, path])
+        left = set(os.listdir(room)) - {"keys.toml", "keys.toml.lock"}
+        assert status in (0, -signal.SIGTERM), f"line {line}: the status"
+        assert left == set(), f"line {line}: what is left"
+        texts.add(text_of(path) if os.path.exists(path) else None)
+        shutil.rmtree(room)
+    assert 8 < line < 200, "lines"
+    assert texts == {before, after}, "the file is whole"
+
+
+@pytest.mark.parametrize("number", [signal.SIGHUP, signal.SIGINT], ids=lambda it: it.name)
+def test_signals(folder, number):
+    """Other signals end it too, and leave nothing."""
+    assert interrupt(number, 8, [*TAKEN, "--output", f"{folder}/keys.toml"]) == -number, "ends it"
+    assert os.listdir(folder) == [], "nothing is left"
+
+
+def test_no_links(folder, monkeypatch):
+    """A new file is written on a file system that has no hard links."""
+    def link(*_):
+        raise PermissionError(errno.EPERM, os.strerror(errno.EPERM))
+
+    path = f"{folder}/keys.toml"
+    monkeypatch.setattr(os, "link", link)
+    accepted(*TAKEN, "--output", path)
+    refused("is there already", "new", DEVICE, "public", "--output", path)
+    found = text_of(path), mode_of(path), os.listdir(folder)
+    assert found == (LEGACY, 0o600, ["keys.toml"]), "the file"
+
+
+def test_order(folder, monkeypatch):
+    """A file is on the disk before it gets its name, and its name after."""
+    calls, link, replace = [], os.link, os.replace
+    kind = lambda it: "folder" if stat.S_ISDIR(os.fstat(it).st_mode) else "file"
+    monkeypatch.setattr(os, "fsync", lambda it: calls.append(kind(it)))
+    monkeypatch.setattr(os, "link", lambda *paths: (calls.append("link"), link(*paths)))
+    monkeypatch.setattr(os, "replace", lambda *paths: (calls.append("rename"), replace(*paths)))
+    for option, due in (("--output", "link"), ("--add", "rename")):
+        accepted("new", f"00:00:00:00:00:0{len(calls)}", "public", option, f"{folder}/order.toml")
+        assert calls[-3:] == ["file", due, "folder"], f"order, {option}"

@@ -1,0 +1,192 @@
+"""Tries the launcher `./gatt_shell` in checkouts of fakes, where nothing is proved or compiled."""
+
+import os
+import re
+import shutil
+import subprocess
+import time
+
+import pytest
+
+from parties.launching import CODE, TICK, append, new_checkout, try_running
+from parties.places import ROOT, text_of
+
+pytestmark = pytest.mark.without_program
+
+COMMANDS = ["att", "check", "show", "run", "serve", "host", "tell"]
+CRATE = "crates/octet_io"
+LATER = 9
+# Edits after which a program is proved again, of a checkout at a path.
+EDITS = {
+    "code": lambda tree: append(f"{tree}/{CODE}"),
+    "definition": lambda tree: append(f"{tree}/{CRATE}/specs/A.antt"),
+    "proof": lambda tree: append(f"{tree}/{CRATE}/proofs/a/A.antt"),
+    "new-file": lambda tree: append(f"{tree}/{CRATE}/src/other.rt"),
+    "file-that-is-gone": lambda tree: os.remove(f"{tree}/{CRATE}/specs/A.antt"),
+    "crates.txt": lambda tree: append(f"{tree}/crates.txt", "# edited\n"),
+    "HANDLES": lambda tree: append(f"{tree}/HANDLES", "\n"),
+    "old-time": lambda tree: (append(f"{tree}/{CODE}"), os.utime(f"{tree}/{CODE}", (0, 0))),
+    "folder-that-is-gone": lambda tree: shutil.rmtree(f"{tree}/{CRATE}/proofs"),
+}
+
+
+@pytest.fixture
+def it(folder):
+    """A checkout in which nothing is built."""
+    return new_checkout(folder)
+
+
+@pytest.fixture
+def proved(it):
+    """A checkout whose program is proved."""
+    it.expect("the first call", ["att"], (0, "first", 1))
+    return it
+
+
+@pytest.mark.parametrize("without", [(), ("rt", "python3", "sha256sum")], ids=["", "bare"])
+@pytest.mark.parametrize("word", ["--help", "-h", "help"])
+def test_help(it, word, without):
+    """Without a program, the help is printed at once."""
+    status, output, errors, builds, _ = it.call(word, without=without)
+    assert (status, errors, builds) == (0, "", 0), f"{word} without a program"
+    assert re.findall(r"(?m)^  (\w+) +\w.*$", output.split("\nOptions:\n")[0]) == COMMANDS, "the commands"
+    for text in ("--unproved", "minutes", "README.md"):
+        assert text in output, "--unproved, the time and the documents"
+
+
+@pytest.mark.parametrize("without", [(), ("rt", "python3", "sha256sum")], ids=["", "bare"])
+def test_version(it, without):
+    """Without a program, the version is printed at once, and calls without words are refused."""
+    version = re.search(r'VERSION: &str = "(.*)"', text_of(f"{ROOT}/crates/shell_args/src/help.rt"))[1]
+    for word in ("--version", "-V"):
+        assert it.call(word, without=without)[:4] == (0, f"gatt_shell {version}\n", "", 0), word
+    status, output, errors, builds, _ = it.call(without=without)
+    assert (status, output, builds) == (64, "", 0), "no words without a program"
+    assert "Usage:" in errors, "its text"
+
+
+@pytest.mark.parametrize("words", [["att"], ["--unproved", "att"]], ids=["proved", "unproved"])
+@pytest.mark.parametrize("name", ["rt", "python3"])
+def test_missing(it, name, words):
+    """What a build needs is named if it is missing."""
+    errors = it.expect(f"{words} without {name}", words, (69, "", 0), without=(name,))
+    assert f"{name} is not on PATH" in errors, "its text"
+
+
+def test_proved(it):
+    """A program is proved once, and run with its words, its status and its signals."""
+    errors = it.expect("a failed build", ["att"], (70, "", 1), BUILD="fails")
+    assert "the build failed" in errors, "a failed build: its text"
+    errors = it.expect("the first call", ["att"], (0, "first", 1))
+    assert re.match(r"gatt_shell: .*minutes.*--unproved.*\n", errors), "the first call: its first line"
+    assert sorted(os.listdir(it.out)) == ["gatt_shell", "gatt_shell.proved"], "the first call: what it leaves"
+    try_running(it, [], "")
+
+
+def test_paths(proved, folder):
+    """The launcher is called by a link, by a relative path, and by PATH."""
+    env = proved.env()
+    os.symlink("tree/gatt_shell", f"{folder}/link")
+    os.symlink(f"{folder}/link", f"{folder}/without-/gatt_linked")
+    proved.expect("by a symbolic link", ["att"], (0, "first", 0), path=f"{folder}/link")
+    proved.expect("by a relative path", ["att"], (0, "first", 0), path="./gatt_shell", cwd=proved.tree)
+    how = {"shell": True, "cwd": "/", "env": env, "capture_output": True, "text": True, "timeout": 60}
+    assert subprocess.run("gatt_linked att", **how).stdout.startswith("first att\n"), "by PATH"
+
+
+@pytest.mark.parametrize("edit", EDITS)
+def test_stale(proved, edit):
+    """A program is proved again after a change of what it is made from."""
+    time.sleep(TICK)
+    EDITS[edit](proved.tree)
+    assert proved.call("--version")[1].startswith("gatt_shell "), "--version"
+    errors = proved.expect(edit, ["att"], (0, "first", 1))
+    assert "have changed" in errors.split("\n")[0], "its first line"
+    proved.expect("the next call", ["att"], (0, "first", 0))
+
+
+def test_current(proved):
+    """A program is not proved again after another change."""
+    os.utime(f"{proved.tree}/{CODE}")
+    proved.expect("a time alone", ["att"], (0, "first", 0))
+    append(f"{proved.tree}/crates/host_tests/src/lib.rt")
+    proved.expect("an edit of a crate that the program does not use", ["att"], (0, "first", 0))
+
+
+def test_edited_meanwhile(proved):
+    """A source that is edited during a build leaves the program stale, and so does a failed build."""
+    source = f"{proved.tree}/{CODE}"
+    append(source)
+    errors = proved.expect("an edit during the build", ["att"], (0, "first", 1), EDITED=source)
+    assert "during the build" in errors, "an edit during the build: its text"
+    copied = proved.copy("edited", "-r")
+    os.utime(copied.program, (time.time() + LATER, time.time() + LATER))
+    copied.expect("a copy of it", ["att"], (70, "", 1), BUILD="fails")
+    proved.expect("after a failed build", ["att"], (70, "", 1), BUILD="fails")
+    proved.expect("the call after it", ["att"], (0, "first", 1))
+    proved.expect("the next one", ["att"], (0, "first", 0))
+
+
+@pytest.mark.parametrize("has_note", [True, False], ids=["note", "no-note"])
+def test_built_by_rt(proved, has_note):
+    """A program that rt built after the last edit is current, with a note and without."""
+    append(f"{proved.tree}/{CODE}")
+    if not has_note:
+        os.remove(f"{proved.out}/gatt_shell.proved")
+    time.sleep(TICK)
+    shutil.copy(f"{proved.room}/program", proved.program)
+    proved.expect("built by rt", ["att"], (0, "first", 0))
+    proved.expect("the next call", ["att"], (0, "first", 0))
+    shutil.copy(f"{proved.room}/program", proved.program)
+    append(f"{proved.tree}/{CODE}")
+    proved.expect("an edit after rt", ["att"], (0, "first", 1))
+
+
+@pytest.mark.parametrize("by", ["-r", "-a", "tar"])
+def test_copy(proved, by):
+    """A copy is current if the original was, whatever the times of its files."""
+    copied = proved.copy("copy", by)
+    copied.expect(f"a copy by {by}", ["att"], (0, "first", 0))
+    copied.expect("the next call", ["att"], (0, "first", 0))
+    append(f"{copied.tree}/{CODE}")
+    copied.expect("a copy that is edited", ["att"], (0, "first", 1))
+
+
+def test_stale_copy(proved):
+    """A copy of a stale checkout is stale, whatever the times of its files."""
+    append(f"{proved.tree}/{CODE}")
+    copied = proved.copy("stale", "-r")
+    later = time.time() + LATER
+    for path in (copied.program, f"{copied.out}/gatt_shell.proved"):
+        os.utime(path, (later, later))
+    copied.expect("a copy of a stale checkout with a late program", ["att"], (0, "first", 1))
+    proved.expect("the original", ["att"], (0, "first", 1))
+
+
+def test_two_builds(proved):
+    """Two calls that find a stale program both run it in the end, and leave it current."""
+    append(f"{proved.tree}/{CODE}")
+    both = [proved.start("att") for _ in range(2)]
+    for command in both:
+        assert command.communicate(timeout=60)[0].startswith("first att\n"), "its output"
+    proved.expect("the next call", ["att"], (0, "first", 0))
+    assert sorted(os.listdir(proved.out)) == ["gatt_shell", "gatt_shell.proved"], "what they leave"
+
+
+def test_tools_prove(it):
+    """With the project's own tools/prove a copy is current too, and an edit is proved with what uses it."""
+    with open(f"{it.tree}/crates.txt", "w", encoding="utf-8") as file:
+        file.write("octet_io:\nshell_args:\ngatt_shell: octet_io shell_args\n")
+    shutil.copy2(f"{ROOT}/tools/prove", f"{it.tree}/tools/prove")
+    errors = it.expect("tools/prove", ["att"], (0, "first", 3))
+    assert "proved 3 of 3" in errors, "its progress"
+    copied = it.copy("small-copy", "-r")
+    copied.expect("a copy", ["att"], (0, "first", 0))
+    append(f"{copied.tree}/{CODE}")
+    copied.expect("a copy that is edited", ["att"], (0, "first", 2))
+    append(f"{copied.tree}/{CODE}")
+    for _ in range(2):
+        words = [f"{copied.tree}/tools/prove", "gatt_shell"]
+        ran = subprocess.run(words, env=copied.env(), capture_output=True, text=True)
+        assert ran.returncode == 0, f"tools/prove by hand: {ran.stderr}"
+    copied.expect("after tools/prove by hand", ["att"], (0, "first", 0))

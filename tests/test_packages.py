@@ -1,0 +1,146 @@
+"""Makes Debian's packages from two copies of the checkout, and looks what they have.
+
+If the environment variable NEW_ROOT is set, the packages are also installed in a new root of Debian in a
+folder, which needs mmdebstrap, root and the network. There debian/tests are run, and the packages are purged.
+"""
+
+import glob
+import os
+import re
+import shutil
+import time
+
+import pytest
+
+from parties.building import once, ran
+from parties.places import ROOT, text_of
+from parties.releases import checkout_at, copied, files_below, need
+
+BRANCH = "bookworm"
+# Folders of a root that others change.
+OTHERS = ("/proc", "/sys", "/dev", "/tmp", "/run", "/var/cache", "/var/log", "/var/lib/dpkg", "/var/lib/apt")
+# Each package with a file, and the file of the checkout that it is.
+OUTPUTS = [
+    ("gihandop", "usr/bin/gatt_shell", "crates/gatt_shell/out/gatt_shell"),
+    ("libgihandop-dev", "usr/lib/*/libgihandop_c.a", "crates/gihandop_c/out/libgihandop_c.a"),
+    ("python3-gihandop", "usr/lib/python3/dist-packages/gihandop.py", "python/gihandop.py"),
+]
+INSIDE = {"PATH": "/usr/sbin:/usr/bin:/sbin:/bin", "DEBIAN_FRONTEND": "noninteractive", "LC_ALL": "C.UTF-8"}
+
+
+@pytest.fixture
+def checkout(program):
+    """A copy of the checkout."""
+    packages = "dpkg-dev, debhelper, dh-python, fakeroot"
+    need("Debian's packages", packages, "dpkg-buildpackage", "dh", "dh_python3", "fakeroot")
+    return checkout_at("one", program)
+
+
+@pytest.fixture
+def packages(checkout):
+    """The folder of the packages and of what is in them, made once for all tests."""
+    return once("debian", lambda path: build(checkout, path))
+
+
+def build(checkout, folder):
+    """Makes the packages of a copy of the checkout, and unpacks them."""
+    ran(["dpkg-buildpackage", "-b", "-us", "-uc"], cwd=copied(checkout, f"{folder}/gihandop"))
+    for it in glob.glob(f"{folder}/*.deb"):
+        name = os.path.basename(it).partition("_")[0]
+        os.makedirs(f"{folder}/unpacked", exist_ok=True)
+        ran(["dpkg-deb", "-x", it, f"{folder}/unpacked/{name}"])
+
+
+def names_of(folder):
+    """The names of the packages in a folder."""
+    return sorted(os.path.basename(it) for it in glob.glob(f"{folder}/*.deb"))
+
+
+def test_twice(packages, program, folder):
+    """The packages of a copy with other paths and times are the same."""
+    other = f"{folder}/another-place/deeper"
+    time.sleep(1.1)
+    build(checkout_at("another-place/deeper", program), other)
+    assert len(names_of(packages)) == 3, "there are three"
+    assert names_of(other) == names_of(packages), "their names"
+    for it in names_of(packages):
+        sums = [ran(["sha256sum", f"{place}/{it}"]).split()[0] for place in (packages, other)]
+        assert sums[0] == sums[1], f"the packages, twice: {it}"
+
+
+def test_version(packages):
+    """The packages have the version of the Makefile."""
+    version = re.search(r"(?m)^VERSION = (\S+)$", text_of(f"{ROOT}/Makefile"))[1]
+    others = [it for it in names_of(packages) if f"_{version}-1_" not in it]
+    assert others == [], "the version of the packages"
+
+
+@pytest.mark.parametrize("package, path, output", OUTPUTS, ids=[it[0] for it in OUTPUTS])
+def test_output(packages, checkout, package, path, output):
+    """A package has an output as it is."""
+    found = glob.glob(f"{packages}/unpacked/{package}/{path}")
+    assert len(found) == 1, f"{package}: {path}"
+    ran(["cmp", found[0], f"{checkout}/{output}"])
+
+
+@pytest.mark.parametrize("package", ["gihandop", "libgihandop-dev"])
+def test_licences(packages, package):
+    """A package has the licences of others."""
+    texts = f"{packages}/unpacked/{package}/usr/share/doc/{package}/LICENSE-THIRD-PARTY"
+    assert text_of(texts) == text_of(f"{ROOT}/LICENSE-THIRD-PARTY"), f"{package}: licences"
+
+
+def test_modules(packages):
+    """The package for Python has one module."""
+    modules = files_below(f"{packages}/unpacked/python3-gihandop/usr/lib")
+    assert modules == ["python3/dist-packages/gihandop.py"], "python3-gihandop: modules"
+
+
+def test_lintian(packages):
+    """lintian finds no error."""
+    need("the packages", "lintian", "lintian")
+    ran(["lintian", "--allow-root", "--fail-on", "error", *glob.glob(f"{packages}/*.changes")])
+
+
+def listing(new):
+    """The files and folders of a root, except those of apt, of dpkg and of running programs."""
+    found = []
+    for folder, folders, files in os.walk(new):
+        folders[:] = [it for it in folders if f"{folder}/{it}"[len(new) :] not in OTHERS]
+        found += [f"{folder}/{it}"[len(new) :] for it in folders + files]
+    return set(found)
+
+
+def test_new_root(packages, checkout, folder):
+    """The packages are installed in a new root, work there, and leave nothing when they are purged."""
+    if not os.environ.get("NEW_ROOT"):
+        pytest.skip("a new root: it needs the network, so it is made only if NEW_ROOT is set")
+    if os.getuid():
+        pytest.skip("a new root: root is needed")
+    need("a new root", "mmdebstrap", "mmdebstrap", "chroot")
+    new, names = f"{folder}/root", names_of(packages)
+    tests = text_of(f"{checkout}/debian/tests/control")
+    needed = set(re.findall(r"[\w.+-]+", " ".join(re.findall(r"(?m)^Depends: (.*)$", tests))))
+    own = {it for it in needed if any(name.startswith(f"{it}_") for name in names)}
+    outside = ",".join(sorted({"adduser", "python3"} | needed - own))
+    ran(["mmdebstrap", "--variant=apt", f"--include={outside}", BRANCH, new])
+    apt = ["chroot", new, "apt-get", "-qq", "-y"]
+    before = listing(new)
+    os.makedirs(f"{new}/packages")
+    for it in names:
+        shutil.copy(f"{packages}/{it}", f"{new}/packages")
+    files = [f"/packages/{it}" for it in names]
+    ran([*apt, "install", *files], "install the packages", env=INSIDE)
+    ignored = shutil.ignore_patterns(".git", "out")
+    shutil.copytree(checkout, f"{new}/packages/source", symlinks=True, ignore=ignored)
+    for it in re.findall(r"(?m)^Tests: (\w+)$", tests):
+        line = f"cd /packages/source && timeout 60 debian/tests/{it}"
+        ran(["chroot", new, "sh", "-c", line], f"debian/tests/{it}", env=INSIDE)
+    ran([*apt, "install", "--reinstall", *files], "reinstall", env=INSIDE)
+    os.makedirs(f"{new}/var/lib/gihandop/hci0")
+    ran([*apt, "purge", *(it.partition("_")[0] for it in names)], "purge", env=INSIDE)
+    shutil.rmtree(f"{new}/packages")
+    # Older versions of the files with the users are left by whatever makes one.
+    users = r"/etc/g?shadow-|/etc/(passwd|group)-"
+    left = sorted(it for it in listing(new) - before if not re.fullmatch(users, it))
+    assert left == [], "what purge leaves"

@@ -1,0 +1,230 @@
+"""Tries python/gihandop.py with `gatt_shell host`: a phone's day, restarts, and the blocking form."""
+
+import asyncio
+import subprocess
+import sys
+import threading
+import time
+
+import pytest
+
+from parties import DOOR, OWNER, PATIENCE, ROOT, Device, controller_at
+from parties.asynchronous import (
+    ADDRESS, ADDRESS_OF_STRANGER, apart, door, error_of, gihandop, heard, in_loop, rest_of, timed, within,
+)
+
+# Each warning is an error, also one of a socket that is not closed.
+pytestmark = [pytest.mark.filterwarnings("error"), pytest.mark.usefixtures("collected")]
+
+
+@in_loop
+async def test_at_once(folder):
+    """It is the application at once: a device waits a second for one that says nothing."""
+    path, took = f"{folder}/door.socket", []
+    door(path)
+    for _ in range(3):
+        begun = time.monotonic()
+        async with gihandop.Device(path):
+            took.append(time.monotonic() - begun)
+    assert min(took) < 0.9, "it is the application at once"
+
+
+@in_loop
+async def test_a_day(folder):
+    """The notices of a phone, and what is asked meanwhile."""
+    path = f"{folder}/door.socket"
+    host = door(path)
+    async with gihandop.Device(path) as device:
+        started = await heard(device, 1)
+        assert started == [gihandop.Started(device.started, True)], "it is started"
+        controller = await apart(controller_at, host)
+        await apart(controller.is_advertised)
+        assert await heard(device, 2) == [gihandop.Waiting(), gihandop.Serving()], "it serves"
+        controller.connect(64, OWNER)
+        assert await heard(device, 1) == [gihandop.Connected(1, 0, ADDRESS)], "a phone"
+        found = await within(device.connections())
+        assert found == [gihandop.Connection(1, 0, ADDRESS, None)], "is connected"
+        await apart(controller.encrypt, 64)
+        secured = gihandop.Secured(1, 16, True, False)
+        assert await heard(device, 1) == [secured], "its link has a key"
+        found = await within(device.connections())
+        assert found == [gihandop.Connection(1, 0, ADDRESS, secured)], "which is told"
+        assert await within(device.subscriptions(1)) == [], "no subscription"
+        assert await apart(controller.ask, 64, "120a0001") == "13", "it writes"
+        assert await heard(device, 1) == [gihandop.Written(1, 10, b"\1")], "the value"
+        assert await apart(controller.ask, 64, "120b000100") == "13", "it subscribes"
+        assert await heard(device, 1) == [gihandop.Configured(1, 11, 1)], "to it"
+        assert await within(device.subscriptions(1)) == [gihandop.Subscribed(1, 11, 1)], "a subscription"
+        assert await within(device.value(10)) == b"\1", "the value is asked"
+        await within(device.update(10, b"\0"))
+        assert await apart(controller.hears, 64) == "1b0a0000", "it is notified"
+        assert await apart(controller.ask, 64, "0a0d00") == "010a0d0008", "it may not read"
+        await within(device.allow(1, 60_000))
+        assert await apart(controller.ask, 64, "0a0d00") == "0b31323334", "it may read"
+        await within(device.deny(1))
+        assert await apart(controller.ask, 64, "0a0d00") == "010a0d0008", "it may no more"
+        await within(device.allow(1))
+        assert await apart(controller.ask, 64, "0a0d00") == "0b31323334", "it may for good"
+        await within(device.update(21, b""))
+        assert await within(device.value(21)) == b"", "no bytes"
+        await within(device.update(21, bytes(512)))
+        assert await within(device.value(21)) == bytes(512), "many bytes"
+        found = await within(device.find("180f", "2a19")), await within(device.find("fff0", "fff3", 2))
+        assert found == (6, 17), "a handle"
+        for ask, words, error in (
+            (device.value, (99,), ("Refused", "fault 1: there is no attribute with the handle")),
+            (device.allow, (7,), ("Refused", "fault 4: no connection with the handle serves")),
+            (device.subscriptions, (7,), ("Refused", "fault 4: no connection with the handle serves")),
+            (device.find, ("180f", "fff3"), ("Refused", "fault 1: there is no such characteristic")),
+            (device.find, ("180", "fff3"), ("NotUnderstood", 'bad: "180" is no UUID')),
+            (device.allow, (7, -1), ("NotUnderstood", 'bad: "-1" is no time')),
+        ):
+            assert await error_of(ask(*words)) == error, f"an error of {words}"
+        for ask, words in ((device.find, ("180f", "2a19\nvalue 10")), (device.update, (21, bytes(600)))):
+            assert (await error_of(ask(*words)))[0] == "ValueError", "no line"
+        assert await within(device.value(10)) == b"\0", "the next answer"
+        await within(device.disconnect(1))
+        await apart(controller.until, lambda: False, 0.2)
+        assert await heard(device, 2) == [gihandop.Ending(1, 0x13), gihandop.Disconnected(1)], "it is gone"
+        stopped = asyncio.ensure_future(device.stop())
+        await apart(controller.until, lambda: controller.is_gone)
+        await within(stopped)
+        assert await apart(host.process.wait, PATIENCE) == 0, "it has ended"
+        # The last notice may be lost with the connection.
+        assert (await rest_of(device))[-1:] in ([], [gihandop.Waiting()]), "and the notices"
+        closed = "Gone", "the connection to the device is closed"
+        assert await error_of(device.value(10)) == closed, "after that"
+        controller.close()
+
+
+@in_loop
+async def test_restarts(folder):
+    """It waits for a device that is not there yet, and connects to each that follows."""
+    path = f"{folder}/late.socket"
+    device = gihandop.Device(path, retry=0.05)
+    opened = asyncio.ensure_future(device.open())
+    await asyncio.sleep(0.3)
+    assert not opened.done(), "there is no device"
+    host = await apart(door, path)
+    await within(opened)
+    first = (await heard(device, 2))[0]
+    await within(device.update(6, b"\x5a"))
+    host.end()
+    assert (await error_of(device.update(6, b"\x5b")))[0] == "Gone", "it is gone"
+    assert await error_of(device.value(6)) == ("Gone", "the device is not connected"), "it stays gone"
+    assert (await error_of(device.connections()))[0] == "Gone", "for a look"
+    host = await apart(door, path)
+    second, waiting = await heard(device, 2)
+    assert (second.is_new, second.number != first.number) == (True, True), "it is there again"
+    assert waiting == gihandop.Waiting(), "as it is"
+    assert await within(device.value(6)) == b"\x64", "it has forgotten"
+    device._link.abort()
+    found = await heard(device, 2)
+    assert found == [gihandop.Started(second.number, False), gihandop.Waiting()], "the same start"
+    assert await within(device.value(6)) == b"\x64", "an answer"
+    await within(device.close())
+    assert await rest_of(device) == [], "the end"
+    host.end()
+
+
+@in_loop
+async def test_no_device(folder):
+    """It waits for a device as long as it is to, and not at all for a path that cannot be one."""
+    path = f"{folder}/never.socket"
+    assert await timed(gihandop.Device(path, retry=0.05).open()) == "TimeoutError", "it waits no longer"
+    found = await error_of(gihandop.Device(path, retry=None).open())
+    assert found[0] == "FileNotFoundError", "one attempt"
+    found = await error_of(gihandop.Device("x" * 200).open())
+    assert found == ("OSError", "AF_UNIX path too long"), "a path too long"
+
+
+@in_loop
+async def test_replaced(folder):
+    """It does not come back after another application has replaced it."""
+    path = f"{folder}/replaced.socket"
+    host = door(path)
+    async with gihandop.Device(path, retry=0.05) as one:
+        async with gihandop.Device(path, retry=0.05) as two:
+            assert (await rest_of(one))[-1:] == [gihandop.Replaced()], "the last notice"
+            assert (await error_of(one.update(6, b"\1")))[0] == "WasReplaced", "no more"
+            await asyncio.sleep(0.3)
+            assert host.log.count("application") == 2, "it stays away"
+            assert await within(two.value(6)) == b"\x64", "the other serves"
+
+
+@pytest.mark.parametrize("line, notice", [
+    ("+ connected 2 1 c0:00:00:00:00:0a", gihandop.Connected(2, 1, ADDRESS_OF_STRANGER)),
+    ("+ disconnected 2", gihandop.Disconnected(2)),
+    ("+ secured 2 7 0 1", gihandop.Secured(2, 7, False, True)),
+    ("+ unsecured 2", gihandop.Unsecured(2)),
+    ("+ written 2 10 -", gihandop.Written(2, 10, b"")),
+    ("+ configured 2 7 3", gihandop.Configured(2, 7, 3)),
+    ("+ subscribed 2 7 3", gihandop.Subscribed(2, 7, 3)),
+    ("+ confirmed 2 6", gihandop.Confirmed(2, 6)),
+    ("+ timed-out 2", gihandop.TimedOut(2)),
+    ("+ ending 2 1f", gihandop.Ending(2, 31)),
+    ("+ skipped 2 6", gihandop.Skipped(2, 6)),
+    ("+ missed 10 0a0b", gihandop.Missed(10, b"\n\x0b")),
+    ("+ updated 10 -", gihandop.Updated(10, b"")),
+    ("+ serving", gihandop.Serving()),
+    ("+ waiting", gihandop.Waiting()),
+    ("+ stopped: Hardware Error: 42", gihandop.Stopped("Hardware Error: 42")),
+    ("+ unsaved: door.state: No space left", gihandop.Unsaved("door.state: No space left")),
+    ("+ saved", gihandop.Saved()),
+    ("+ replaced", gihandop.Replaced()),
+    *((it, gihandop.Unknown(it)) for it in (
+        "+ ", "+ paired 1", "+ written 1", "+ written x 10 01", "+ written 1 10 0", "+ secured 1 16 2 0",
+        "+ saved now",
+    )),
+], ids=lambda it: it[2:].replace(" ", "_") if isinstance(it, str) else type(it).__name__)
+def test_forms(line, notice):
+    """Each line is the notice that it says, and what is not known is kept."""
+    assert gihandop.notice_of(line) == notice, line
+
+
+@in_loop
+async def test_by_port():
+    """A device is reached by TCP too."""
+    host = Device(*DOOR, "--listen", "127.0.0.1:0", "--application-port", "127.0.0.1:0")
+    host.said("ready")
+    name, port = host.said("listening for an application: ").rsplit(":", 1)
+    async with gihandop.Device((name, int(port))) as device:
+        assert await within(device.value(6)) == b"\x64", "a value"
+        assert await within(device.connections()) == [], "nobody"
+
+
+def test_blocking(folder):
+    """The form without asyncio, by threads too."""
+    path = f"{folder}/blocking.socket"
+    door(path)
+    with gihandop.BlockingDevice(path) as device:
+        device.update(6, b"\x32")
+        assert (device.value(6), device.find("fff0", "fff1")) == (b"\x32", 10), "a value"
+        with pytest.raises(gihandop.Refused) as error:
+            device.allow(3)
+        assert error.value.number == 4, "an error"
+        assert device.connections() == [], "nobody"
+        notices = iter(device)
+        found = [next(notices), next(notices)]
+        assert found == [gihandop.Started(device.device.started, True), gihandop.Waiting()], "notices"
+        seen = []
+        reader = threading.Thread(target=lambda: seen.extend(device), daemon=True)
+        reader.start()
+        time.sleep(0.1)
+    reader.join(PATIENCE)
+    assert (reader.is_alive(), seen) == (False, []), "a thread that reads ends"
+    with pytest.raises(gihandop.Gone) as error:
+        device.value(6)
+    assert str(error.value) == "the connection to the device is closed", "after its end"
+    with pytest.raises(FileNotFoundError):
+        gihandop.BlockingDevice(path + "x", retry=None).__enter__()
+
+
+def test_types(folder):
+    """mypy finds nothing, if it is there."""
+    mypy = [sys.executable, "-m", "mypy"]
+    if subprocess.run([*mypy, "--version"], capture_output=True, timeout=PATIENCE).returncode:
+        pytest.skip("mypy is not there: Debian's mypy is one")
+    words = [*mypy, "--strict", "--cache-dir", f"{folder}/mypy", f"{ROOT}/python/gihandop.py"]
+    ran = subprocess.run(words, capture_output=True, text=True, timeout=300)
+    assert (ran.returncode, ran.stdout if ran.returncode else "") == (0, ""), "mypy --strict"

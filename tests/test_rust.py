@@ -1,0 +1,78 @@
+"""Compiles, tests and checks what is Rust in this repository, by cargo."""
+
+import os
+import re
+
+import pytest
+
+from parties.building import ran, run
+from parties.places import ROOT, write_text
+from parties.rust import AT, MANIFEST, cargo_env, need_rust
+
+need_rust()
+pytestmark = pytest.mark.without_program
+
+# What the build script prints for a machine, if the folder of the repository has all archives.
+BUILT_FOR = {
+    ("x86_64", "linux"): "cargo::rustc-link-search=native={}/crates/gihandop_c/out",
+    ("aarch64", "linux"):
+        "cargo::rustc-link-search=native={}/crates/gihandop_c/out/aarch64-unknown-linux-gnu",
+    ("arm", "linux"): "cargo::error=the archive is for Linux on x86_64 or aarch64, not for linux on arm",
+    ("x86_64", "windows"):
+        "cargo::error=the archive is for Linux on x86_64 or aarch64, not for windows on x86_64",
+}
+
+
+def test_tests(folder):
+    """Each test of the crate passes, those of its documents and examples too."""
+    # Tests of documents need the library after cargo has unlocked its folder, so they have one of their own.
+    env = cargo_env(CARGO_TARGET_DIR=f"{folder}/target")
+    ended = run(["cargo", "test", "--no-fail-fast", *AT], env=env)
+    found = re.findall(r"(?m)^test (.+?) \.\.\. (ok|FAILED|ignored)", ended.stdout)
+    for name, result in found:
+        assert result == "ok", f"{name}\n{ended.stdout}"
+    assert ended.returncode == 0, ended.stdout
+    assert found, "there are tests"
+
+
+def test_documents():
+    """The crate's documents are made without a warning."""
+    assert ran(["cargo", "--quiet", "doc", "--no-deps", *AT], env=cargo_env()) == "", "cargo doc"
+
+
+@pytest.mark.parametrize("name, words", [
+    ("clippy", ["--all-targets", *AT, "--", "-D", "warnings"]),
+    ("fmt", ["--check", *MANIFEST]),
+], ids=["clippy", "fmt"])
+def test_tool(name, words):
+    """A tool of cargo finds nothing."""
+    if run(["cargo", name, "--version"]).returncode:
+        pytest.skip(f"there is no cargo {name} here")
+    ran(["cargo", "--quiet", name, *words], env=cargo_env())
+
+
+def test_package():
+    """The crate can be packed."""
+    ran(["cargo", "--quiet", "package", "--allow-dirty", *AT], env=cargo_env())
+
+
+def test_without_an_archive(folder):
+    """A build without an archive ends with the command that makes one."""
+    env = cargo_env(CARGO_TARGET_DIR=f"{folder}/target", GIHANDOP_LIB=folder)
+    ended = run(["cargo", "--quiet", "build", *AT], env=env)
+    assert ended.returncode != 0, "it fails"
+    assert "`rt lib` in crates/gihandop_c makes" in ended.stdout, "what makes the archive"
+
+
+@pytest.mark.parametrize("machine", BUILT_FOR, ids=["-".join(it) for it in BUILT_FOR])
+def test_build_script(folder, machine):
+    """In a folder that has all archives, the build script finds that of a machine, or refuses the machine."""
+    tree, script = f"{folder}/tree", f"{folder}/build_script"
+    for target in ("", "aarch64-unknown-linux-gnu"):
+        os.makedirs(f"{tree}/crates/gihandop_c/out/{target}", exist_ok=True)
+        write_text(f"{tree}/crates/gihandop_c/out/{target}/libgihandop_c.a", "")
+    ran(["rustc", "--edition", "2024", "-D", "warnings", "-o", script, f"{ROOT}/rust/build.rs"])
+    env = dict(zip(("CARGO_CFG_TARGET_ARCH", "CARGO_CFG_TARGET_OS"), machine))
+    env["HOST"] = "x86_64-unknown-linux-gnu"
+    env.update({"CARGO_MANIFEST_DIR": f"{tree}/rust", "PATH": os.environ["PATH"]})
+    assert BUILT_FOR[machine].format(tree) in run([script], env=env).stdout.splitlines(), "what it prints"
