@@ -1,103 +1,145 @@
-#!/usr/bin/env bash
-# The merge gate: every proof (of what has changed since a gate on this machine passed), the must-fail edits, the tests and the programs. Then what
-# runs the programs: each command that the documents show, a day of it as a device, its ends and starts,
-# controllers, lines, sockets and logs that do their worst, each call that saves a file failing in turn,
-# garbage, and each allocation refused in turn; and the library for C over what was proved, with what is C
-# and Rust, as far as the machine has compilers; the packages of both; and both for aarch64, if it has an
-# emulator. The day of a device, its ends and starts, and those who do their worst are played a second time, by
-# the program as tools/unproved compiles it, under AddressSanitizer.
-set -euo pipefail
-cd "$(dirname "$0")/.."
+"""The merge gate: every proof, the must-fail edits, and all tests.
 
-# README names the kit that this tree passed with.
-kit=$(rt version)
-if ! grep -qF "${kit%% *}" README.md || ! grep -qF "${kit##* }" README.md; then
-    echo "note: README names another kit than this one, $kit" >&2
-fi
+Proofs and edits are made anew only where something has changed since a gate on this machine passed. Then
+the tests in Python are played by the proved program, while the library for C is proved; by the program as
+tools/unproved compiles it, under AddressSanitizer; and over the proved library, with what is C and Rust,
+as far as the machine has compilers. Both are proved for aarch64 too, if it has an emulator.
 
-docs/proved
-docs/linked
-docs/traced
-docs/api --check
-docs/model --check
-docs/contracts --check
-docs/prose
-docs/manual --check
-tools/licences
-tests/launcher.py
+A line is printed for each part as it ends, and a table of all parts at the end. After the table stands
+what failed.
+"""
 
-# An edit that does not apply or compile shows nothing, and `rt ci` only notes it.
-proofs=$(mktemp)
-trap 'rm -f -- "$proofs"' EXIT
-rt ci 2>&1 | tee -- "$proofs"
-if grep "BAD EDIT" -- "$proofs"; then
-    exit 1
-fi
+import glob
+import os
+import re
+import shutil
+import subprocess
+import sys
+import threading
+import time
 
-# The launcher notes what the program was proved from: a copy of this checkout is then not proved again.
-./gatt_shell --version >/dev/null
+ROOT = os.path.dirname(os.path.dirname(os.path.realpath(__file__)))
+PROGRAM = "crates/gatt_shell/out/gatt_shell"
+UNPROVED = "crates/gatt_shell/out/unproved/gatt_shell"
+ARCHIVE = "crates/gihandop_c/out/libgihandop_c.a"
+REFUSED = "crates/refused_memory/out/refused_memory"
+AARCH64 = "aarch64-unknown-linux-gnu"
+# The tests wait most of the time.
+TESTS = ["tests/pytest", "-q", "-r", "fEs", "-n", str(3 * (os.cpu_count() or 1))]
+# The tests of what is made of the library for C, and of what is installed.
+ARCHIVED = [f"test_{it}.py" for it in ("c_*", "install", "packages", "release", "rust*", "uninstall")]
+EMULATED = "test_aarch64.py"
+OTHERS = [f"--ignore-glob=*/{it}" for it in (*ARCHIVED, EMULATED)]
+# Those that need nothing that is proved.
+FIRST = [f"tests/test_{it}.py" for it in ("claims", "launcher", "limits_page", "links", "pages", "traces", "unproved")]
+# rt ci only notes an edit that does not apply or compile. It shows nothing.
+BAD = re.compile(r"BAD EDIT|^FAILED|^failed:|^ERROR|^note: .* is not proved", re.MULTILINE)
+# What a part that passed prints of itself.
+SHOWN = re.compile(r"^(?:SKIPPED .*|\d+ checks held|\d+ passed.*|rt: ok.*|.*skipped: .*)$", re.MULTILINE)
 
-# Plays the day of a device: its phones, its application, what it is given at its start, loads, and restarts.
-day() {
-    local part
-    for part in device application saving starting lines loads remembering; do
-        echo "-- tests/$part.py $1"
-        "tests/$part.py" "$1" || return
-    done
-}
 
-# Plays the day of a device, and plays it again with the unproved program, if the kit can compile one, with
-# its ends.
-device() {
-    local status=0 unproved=crates/gatt_shell/out/unproved/gatt_shell
-    nice -n 10 tools/unproved || status=$?
-    day "$program" || return
-    case $status in
-    0) day "$unproved" && tests/ends.py "$unproved" ;;
-    69) echo "skipped: the kit cannot compile without proofs" ;;
-    *) return "$status" ;;
-    esac
-}
+class Part:
+    """A part of the gate, which runs commands one after the other until one fails."""
 
-# These parts need a program alone, and wait most of the time: they run while the library for C is
-# proved.
-program=crates/gatt_shell/out/gatt_shell
-parts=(
-    "docs/run $program"
-    "docs/manual --check $program"
-    "tests/schema.py $program"
-    "tests/ends.py $program"
-    "tests/keys.py $program"
-    "tests/python.py $program"
-    "tests/bridge.py $program"
-    "tests/completion.py $program"
-    device
-    "tests/failing.py $program"
-    "tests/hardships.py $program"
-    "tests/refusals.py crates/refused_memory/out/refused_memory"
-)
-room=$(mktemp -d)
-trap 'rm -rf -- "$room" "$proofs"' EXIT
-started=()
-for at in "${!parts[@]}"; do
-    ${parts[at]} >"$room/$at" 2>&1 &
-    started+=($!)
-done
-failed=0
-nice -n 10 tools/prove --over-gate gihandop_c || failed=1
-for at in "${!parts[@]}"; do
-    echo "== ${parts[at]}"
-    wait "${started[at]}" || failed=1
-    cat -- "$room/$at"
-done
-[[ $failed == 0 ]] || exit 1
-tests/run "$program"
+    ended = []
+    printing = threading.Lock()
 
-# The library and the program for aarch64, if the cross compiler and the emulator are here.
-if command -v aarch64-linux-gnu-gcc >/dev/null && command -v qemu-aarch64 >/dev/null; then
-    for crate in gihandop_c gatt_shell; do
-        tools/prove --over-gate --target aarch64-unknown-linux-gnu "$crate"
-    done
-fi
-tests/aarch64.py
-tests/packages.py "$program"
+    def __init__(self, name, *commands, is_live=False, unless=None, **variables):
+        """`is_live` prints the output as it comes. `unless` is a status for which the part is skipped."""
+        self.name, self.commands, self.is_live, self.unless = name, commands, is_live, unless
+        self.variables = {name: f"{ROOT}/{path}" for name, path in variables.items()}
+        self.output, self.result, self.seconds = "", "passed", 0
+        self.thread = threading.Thread(target=self.run)
+
+    def start(self):
+        self.thread.start()
+        return self
+
+    def run(self):
+        begun = time.monotonic()
+        for words in self.commands:
+            status = self.run_one(words)
+            if status == self.unless:
+                self.result = "skipped"
+                break
+            if status or (self.is_live and "BAD EDIT" in self.output):
+                self.result = "failed"
+                self.output += f"status {status} of {' '.join(words)}\n"
+                break
+        self.seconds = time.monotonic() - begun
+        with Part.printing:
+            Part.ended.append(self)
+            if not self.is_live:
+                print(self.output if self.result == "failed" else "\n".join(SHOWN.findall(self.output)))
+            print(f"== {self.name}: {self.result} in {self.seconds:.0f} s", flush=True)
+
+    def run_one(self, words):
+        """Runs a command, and returns its status."""
+        env = {**os.environ, **self.variables}
+        pipe = {"stdin": subprocess.DEVNULL, "stdout": subprocess.PIPE, "stderr": subprocess.STDOUT}
+        with subprocess.Popen(words, cwd=ROOT, env=env, text=True, errors="replace", **pipe) as command:
+            for line in command.stdout:
+                self.output += line
+                if self.is_live:
+                    print(line, end="", flush=True)
+        return command.returncode
+
+    def has_passed(self):
+        """Runs this part to its end. Returns whether nothing failed so far."""
+        self.start()
+        self.thread.join()
+        return not any(it.result == "failed" for it in Part.ended)
+
+
+def play():
+    """Runs the parts. Those that begin once all is proved run side by side."""
+    if not Part("documents", [*TESTS, *FIRST]).has_passed():
+        return
+    if not Part("proofs and edits", ["rt", "ci"], is_live=True).has_passed():
+        return
+    # The launcher notes what the program was proved from: a copy of this checkout is then not proved again.
+    if not Part("launcher", ["./gatt_shell", "--version"]).has_passed():
+        return
+    archived = sorted(it for name in ARCHIVED for it in glob.glob(f"tests/{name}", root_dir=ROOT))
+    words = [*TESTS, *OTHERS, *(f"--ignore={it}" for it in FIRST)]
+    tests = Part("tests", words, GATT_SHELL=PROGRAM, REFUSED_MEMORY=REFUSED).start()
+    compiled = Part("program without proofs", ["nice", "-n", "10", "tools/unproved"], unless=69).start()
+    archive = Part(
+        "C and Rust", ["nice", "-n", "10", "tools/prove", "--over-gate", "gihandop_c"], [*TESTS, *archived],
+        GATT_SHELL=PROGRAM, GIHANDOP_ARCHIVE=ARCHIVE,
+    ).start()
+    tests.thread.join()
+    compiled.thread.join()
+    if compiled.result == "passed":
+        Part("tests without proofs", [*words, "-m", "not without_program"], GATT_SHELL=UNPROVED).has_passed()
+    archive.thread.join()
+    if shutil.which("aarch64-linux-gnu-gcc") and shutil.which("qemu-aarch64"):
+        prove = ["tools/prove", "--over-gate", "--target", AARCH64]
+        play_emulated = [*TESTS, f"tests/{EMULATED}", *archived, "-k", "aarch64"]
+        Part(
+            "aarch64", [*prove, "gihandop_c"], [*prove, "gatt_shell"], play_emulated,
+            GATT_SHELL=PROGRAM, GIHANDOP_ARCHIVE=ARCHIVE,
+        ).has_passed()
+
+
+def main():
+    with open(f"{ROOT}/README.md", encoding="utf-8") as file:
+        readme, kit = file.read(), subprocess.run(["rt", "version"], capture_output=True, text=True).stdout.split()
+    if not {kit[0], kit[-1]} <= set(re.findall(r"[\w-]+", readme)):
+        print(f"note: README names another kit than this one, {' '.join(kit)}", file=sys.stderr)
+    begun = time.monotonic()
+    play()
+    width = max(len(it.name) for it in Part.ended)
+    print(f"\n{'part':{width}}  seconds")
+    for it in Part.ended:
+        print(f"{it.name:{width}}  {it.seconds:7.0f}  {it.result}")
+    print(f"{'all':{width}}  {time.monotonic() - begun:7.0f}")
+    failed = [it for it in Part.ended if it.result == "failed"]
+    for it in failed:
+        print(f"\nfailed: {it.name}")
+        print("\n".join(line for line in it.output.splitlines() if BAD.search(line)) or it.output[-2_000:])
+    return 1 if failed else 0
+
+
+if __name__ == "__main__":
+    sys.exit(main())
