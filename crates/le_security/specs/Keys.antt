@@ -3,6 +3,7 @@ use Rattle.std.specs.Prelude.{ℕ, ◌≤◌, Bool, List, length, slice_get, Opt
 use Rattle.std.specs.List.{find, list_any, count_by}
 use Rattle.std.specs.Option.{option_map}
 use Rattle.octet_io.specs.Number.{Octets}
+use Rattle.att_policy.specs.declared.standing.KeyFacts.{KeyFacts}
 use Rattle.le_hci.specs.declared.peer.Peer.{Peer}
 use Rattle.le_security.specs.declared.entry.Entry.{Entry}
 use Rattle.le_security.specs.declared.entry.Key.{Key}
@@ -29,3 +30,7 @@ key_asked_for entries peer random_number diversifier =
 
 abbrev pub peer_at : List Entry → ℕ → Option Peer
 peer_at entries at = option_map (λ (entry : Entry). entry.peer) (slice_get entries at)
+
+abbrev pub facts_at : List Entry → ℕ → Option KeyFacts
+facts_at entries at =
+    option_map (λ (entry : Entry). entry.key.facts) (slice_get entries at)

@@ -2,10 +2,11 @@ ghost use Rattle.std.specs.Prelude.{◌≡◌, ◌≤◌, ◌<◌, [], ◌∷◌
 ghost use Rattle.std.specs.List.{count_by};
 ghost use Rattle.std.specs.Option.{option_copied};
 ghost use Rattle.le_security.specs.Entry.{is_for};
-ghost use Rattle.le_security.specs.Keys.{has_answer, is_known, key_asked_for, peer_at};
+ghost use Rattle.le_security.specs.Keys.{facts_at, has_answer, is_known, key_asked_for, peer_at};
 ghost use Rattle.le_security.specs.declared.entry_file.TheConstants.{MAX_ENTRIES};
 
 use crate::entry::{Entry, Key};
+use att_policy::KeyFacts;
 use le_hci::Peer;
 use std::alloc::{AllocError, Global};
 use std::marker::Model;
@@ -86,5 +87,12 @@ impl Keys {
         ensures { option_copied result ≡ peer_at self.now at }
     {
         Some(&self.entries.get(at)?.peer)
+    }
+
+    /// Returns the facts of the key at an index from 0.
+    pub fn facts(&self, at: usize) -> Option<KeyFacts>
+        ensures { result ≡ facts_at self.now at }
+    {
+        Some(self.entries.get(at)?.key.facts)
     }
 }
