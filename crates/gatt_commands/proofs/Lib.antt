@@ -15,4 +15,3 @@ pub mod Running
 pub mod ServeEnds
 pub mod ServeFaults
 pub mod Unshown
-pub mod WriterLent

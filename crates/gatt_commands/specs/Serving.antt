@@ -19,13 +19,6 @@ pub record ServesStream (old new : HostModel) (remaining left before after : Opt
     pub serves : Serves ended TURNS old new remaining left before after
     pub refines : new.fault ≡ result_err ended
 
-pub record ServesBy {R W : Type 0} (remaining : R → Option Octets) (contents : W → Option Octets)
-    (reader : R) (writer : W) (old new : HostModel) : Type 0 where
-  pub reader_then : R
-  pub writer_then : W
-  pub serves : ServesStream old new (remaining reader) (remaining reader_then) (contents writer)
-      (contents writer_then)
-
 abbrev pub fault_told_of : Option HostFault → Result (Unit {0}) ShellFault
 fault_told_of None = Ok tt
 fault_told_of (Some fault) = Err (Host (number_of_fault fault))

@@ -5,19 +5,19 @@ ghost use Rattle.gatt_subs.specs.RowsText.{rows_text};
 ghost use Rattle.shell_files.specs.KeyFile.{keys_out_of_memory, keys_in, KeysAreRefusedAs};
 ghost use Rattle.gatt_commands.specs.Opening.{IsOpenedWithFiles};
 ghost use Rattle.shell_files.specs.RowsFile.{rows_out_of_memory, rows_in, RowsAreRefusedAs};
-ghost use Rattle.gatt_commands.specs.Serving.{fault_told_of, IsOpeningFault, IsOutcomeOf, IsServeFault, IsServedFault, SavesBy, ServesBy, ServesStream};
+ghost use Rattle.gatt_commands.specs.Serving.{fault_told_of, IsOpeningFault, IsOutcomeOf, IsServeFault, IsServedFault, SavesBy, ServesStream};
 ghost use Rattle.shell_files.specs.TableFile.{table_out_of_memory, table_in, TableIsRefusedAs};
 
 use crate::opening::open_host;
 use gatt_host::{Host, serve};
-use octet_io::{Reader, Writer};
+use octet_io::{Reader, Sink, Source, Writer};
 use shell_files::{
     KeysPath, LazyFile, RowsOut, RowsPath, RowsReader, RowsStore, RowsWriter, ShellFault,
     TablePath, read_keys, read_rows, read_table, save_after,
 };
 use std::alloc::Global;
 use std::fs::Files;
-use std::io::{Read, Write};
+use std::io::Read;
 use std::net::{Net, SocketAddr, TcpListener, TcpStream};
 
 /// The largest number of reads of a connection, including the one at its end.
@@ -47,23 +47,22 @@ pub fn serve_on<V: RowsStore>(
     };
     // If this fails, packets are sent with delay.
     let _ = stream.set_nodelay(true);
-    let served = serve_stream(host, &mut &stream, &mut &stream);
+    let served = serve_stream(host, &mut Reader::new(&stream), &mut Writer::new(&stream));
     save_after(served, host.rows(), store)
 }
 
-fn serve_stream<R: Read, W: Write>(
+fn serve_stream<R: Source, W: Sink>(
     host: &mut Host,
     reader: &mut R,
     writer: &mut W,
 ) -> Result<(), ShellFault>
     ensures serves { host.old.fault ≡ None
-        → ServesBy R.remaining W.contents reader.old writer.old host.old host.new }
+        → ServesStream host.old host.new (R.remaining reader.old) (R.remaining reader.new)
+        (W.contents writer.old) (W.contents writer.new) }
     ensures told { result ≡ fault_told_of host.new.fault }
     ensures faults { IfErr result (λ fault. IsServedFault fault × (fault ≢ ShellFault.Listen)) }
 {
-    let mut source = Reader::new(reader);
-    let mut sink = Writer::new(writer);
-    match serve(host, &mut source, &mut sink, TURNS) {
+    match serve(host, reader, writer, TURNS) {
         Ok(_) => Ok(()),
         Err(fault) => Err(ShellFault::Host(fault.number())),
     }
