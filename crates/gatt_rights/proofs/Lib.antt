@@ -1,0 +1,4 @@
+pub mod Added
+pub mod Attributes
+pub mod Keyed
+pub mod Subscribing

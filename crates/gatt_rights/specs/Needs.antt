@@ -1,0 +1,50 @@
+-- The requirements of an attribute, and whether they fit each other (this profile's own).
+use Rattle.std.specs.Prelude.{Bool, ◌||◌, ◌&&◌, not, nat_lt}
+use Rattle.att_policy.specs.declared.guard.Guard.{Guard}
+use Rattle.att_policy.specs.declared.guard.Need.{Need}
+use Rattle.att_policy.specs.declared.guard.Properties.{Properties}
+use Rattle.att_policy.specs.declared.guard.TheConstants.Properties.{READ, WRITE_WITHOUT_RESPONSE, WRITE, NOTIFY, INDICATE}
+use Rattle.att_policy.specs.Need.{needs_encryption_of, needs_authentication_of, key_size_of}
+use Rattle.att_policy.specs.Policy.{has_property}
+
+abbrev pub is_announced : Properties → Bool
+is_announced properties = has_property properties NOTIFY || has_property properties INDICATE
+
+-- A notified or indicated value needs what reading needs.
+abbrev pub is_heard : Properties → Bool
+is_heard properties = has_property properties READ || is_announced properties
+
+-- These need what writing needs.
+abbrev pub is_written : Properties → Bool
+is_written properties =
+    has_property properties WRITE || has_property properties WRITE_WITHOUT_RESPONSE
+
+abbrev pub asks_nothing : Need → Bool
+asks_nothing need = not (needs_encryption_of need) && not need.authorized
+
+-- One need has a part that the other lacks.
+abbrev pub asks_more : Need → Need → Bool
+asks_more one other =
+    (needs_encryption_of one && not (needs_encryption_of other))
+    || ((needs_authentication_of one && not (needs_authentication_of other))
+    || (nat_lt (key_size_of other) (key_size_of one)
+    || ((one.secure && not other.secure) || (one.authorized && not other.authorized))))
+
+-- An authorization without encryption trusts the address of a peer.
+abbrev pub trusts_address : Need → Bool
+trusts_address need = need.authorized && not (needs_encryption_of need)
+
+abbrev pub asks_less : Guard → Bool
+asks_less guard =
+    is_heard guard.properties && (is_written guard.properties && asks_more guard.read guard.write)
+
+abbrev pub has_idle_read_rule : Guard → Bool
+has_idle_read_rule guard = not (is_heard guard.properties) && not (asks_nothing guard.read)
+
+abbrev pub has_idle_write_rule : Guard → Bool
+has_idle_write_rule guard = not (is_written guard.properties) && not (asks_nothing guard.write)
+
+abbrev pub trusts_an_address : Guard → Bool
+trusts_an_address guard =
+    (is_heard guard.properties && trusts_address guard.read)
+    || (is_written guard.properties && trusts_address guard.write)

@@ -1,0 +1,14 @@
+//! The rights that a table gives to each kind of key, and the findings for its author.
+#![tactic(auto)]
+
+mod columns;
+mod finding;
+mod held;
+mod needs;
+mod rights;
+
+pub use columns::{columns_of, has_key, is_same_column};
+pub use finding::{Finding, findings};
+pub use held::may_with;
+pub use needs::{is_announced, is_heard, is_written};
+pub use rights::{Right, all_attributes, may, standing_of};
