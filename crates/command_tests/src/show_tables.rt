@@ -1,10 +1,8 @@
-//! Tables as shown, and who may use their attributes by the profile's rules.
+//! Tables as lines of attributes, and the names of common types.
 
-use att_policy::KeyFacts;
 use att_table::Table;
 use att_table::examples::{BELL, DOOR};
-use gatt_show::{add_holder, add_holders, add_table, name_of};
-use le_security::examples::{KEYS, SECURE_KEY};
+use gatt_show::{add_table, name_of};
 use std::alloc::Global;
 use std::process::Abort;
 use std::test::Fail;
@@ -49,105 +47,6 @@ const TABLES: &[(&str, &str)] = &[
     ("service = []", "no attributes\n"),
 ];
 
-const HOLDERS: &[(&str, Option<KeyFacts>, &str)] = &[
-    (
-        "stranger",
-        None,
-        r"stranger
-  read: 3 6 7 11 15 19 21
-  write: 7 21
-  command: 21
-  hear of: 6
-",
-    ),
-    (
-        "random c0:00:00:00:00:01, key of 16",
-        Some(KeyFacts {
-            size: 16,
-            authenticated: false,
-            secure: false,
-        }),
-        r"random c0:00:00:00:00:01, key of 16
-  read: 3 6 7 10 11 15 17 19 21
-  write: 7 11 21
-  command: 21
-  hear of: 6 10
-",
-    ),
-    (
-        "public 00:11:22:33:44:55, key of 16, authenticated",
-        Some(KeyFacts {
-            size: 16,
-            authenticated: true,
-            secure: false,
-        }),
-        r"public 00:11:22:33:44:55, key of 16, authenticated
-  read: 3 6 7 10 11 13(authorized) 15 17 19 21
-  write: 7 10 11 13(authorized) 21
-  command: 21
-  hear of: 6 10
-",
-    ),
-    (
-        "public 00:11:22:33:44:55, key of 7, authenticated",
-        Some(KeyFacts {
-            size: 7,
-            authenticated: true,
-            secure: false,
-        }),
-        r"public 00:11:22:33:44:55, key of 7, authenticated
-  read: 3 6 7 10 11 15 17 19 21
-  write: 7 10 11 21
-  command: 21
-  hear of: 6 10
-",
-    ),
-];
-
-const KEY_FILES: &[(&str, &str)] = &[
-    (
-        KEYS,
-        r"
-random c0:00:00:00:00:01, key of 16
-  read: 3 6 7 10 11 15 17 19 21
-  write: 7 11 21
-  command: 21
-  hear of: 6 10
-
-public 00:11:22:33:44:55, key of 16, authenticated
-  read: 3 6 7 10 11 13(authorized) 15 17 19 21
-  write: 7 10 11 13(authorized) 21
-  command: 21
-  hear of: 6 10
-
-public 00:11:22:33:44:55, key of 7, authenticated
-  read: 3 6 7 10 11 15 17 19 21
-  write: 7 10 11 21
-  command: 21
-  hear of: 6 10
-",
-    ),
-    (
-        SECURE_KEY,
-        r"
-random c0:00:00:00:00:02, key of 16, authenticated, secure connections
-  read: 3 6 7 10 11 13(authorized) 15 17 19 21
-  write: 7 10 11 13(authorized) 21
-  command: 21
-  hear of: 6 10
-",
-    ),
-    ("", ""),
-];
-
-const STRANGER: &str = r"
-stranger
-  read: 3 6 7 11 15 19 21
-  write: 7 21
-  command: 21
-  hear of: 6
-";
-
 const NAMES: &[(u16, Option<&str>)] = &[
     (0x1800, Some("Generic Access")),
     (0x180F, Some("Battery")),
@@ -163,29 +62,6 @@ const NAMES: &[(u16, Option<&str>)] = &[
 fn shows_a_line_for_each_attribute(rt: HostRuntime) {
     for (table, lines) in TABLES {
         shows(&rt, rt.alloc(), table, lines);
-    }
-}
-
-#[test]
-fn shows_who_may_do_what(rt: HostRuntime) {
-    for (name, key, lines) in HOLDERS {
-        shows_holder(&rt, rt.alloc(), name, *key, lines);
-    }
-}
-
-#[test]
-fn shows_that_nothing_may_be_done(rt: HostRuntime) {
-    let lines = "stranger\n  read: -\n  write: -\n  command: -\n  hear of: -\n";
-    assert!(rt;
-        is_shown_of(rt.alloc(), "service = []", "stranger", None, lines),
-        "{lines}"
-    );
-}
-
-#[test]
-fn shows_who_has_which_key(rt: HostRuntime) {
-    for (keys, lines) in KEY_FILES {
-        shows_holders(&rt, rt.alloc(), keys, lines);
     }
 }
 
@@ -206,32 +82,4 @@ fn is_shown(alloc: Global, table: &str, lines: &str) -> bool {
         return false;
     };
     add_table(alloc, &mut text, &table).is_ok() && text.as_slice() == lines.as_bytes()
-}
-
-fn shows_holder(rt: &impl Abort, alloc: Global, name: &str, key: Option<KeyFacts>, lines: &str) {
-    assert!(rt; is_shown_of(alloc, DOOR, name, key, lines), "{lines}");
-}
-
-fn is_shown_of(alloc: Global, table: &str, name: &str, key: Option<KeyFacts>, lines: &str) -> bool {
-    let mut text: Vec<u8> = Vec::new(alloc);
-    let Ok(table) = Table::read(alloc, table) else {
-        return false;
-    };
-    add_holder(alloc, &mut text, &table, name.as_bytes(), key).is_ok()
-        && text.as_slice() == lines.as_bytes()
-}
-
-fn shows_holders(rt: &impl Abort, alloc: Global, keys: &str, lines: &str) {
-    assert!(rt; are_shown(alloc, keys, lines), "{lines}");
-}
-
-fn are_shown(alloc: Global, keys: &str, lines: &str) -> bool {
-    let mut text: Vec<u8> = Vec::new(alloc);
-    let Ok(table) = Table::read(alloc, DOOR) else {
-        return false;
-    };
-    let Ok(all) = format!(in alloc; "{STRANGER}{lines}") else {
-        return false;
-    };
-    add_holders(alloc, &mut text, &table, keys).is_ok() && text.as_slice() == all.as_bytes()
 }

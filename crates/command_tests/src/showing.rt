@@ -1,14 +1,10 @@
 //! The command `show`.
 
 use gatt_commands::ShellFault;
-use show_command::show_files;
+use show_command::{View, show_files};
 use std::alloc::Global;
 use std::process::Abort;
 use std::test::Fail;
-
-/// The output for no attributes and no keys.
-const NOBODY: &str =
-    "no attributes\n\nstranger\n  read: -\n  write: -\n  command: -\n  hear of: -\n";
 
 type Files = (&'static [u8], Option<&'static [u8]>, &'static [u8]);
 
@@ -18,7 +14,7 @@ const FILES: &[(Files, Result<(), ShellFault>, &str, &str)] = &[
     (
         (b"service = []", Some(b"key = []"), b""),
         Ok(()),
-        NOBODY,
+        "no attributes\n",
         "",
     ),
     (
@@ -83,6 +79,7 @@ fn are_shown(
         &mut table,
         &mut keys,
         &mut rows,
+        View::Attributes,
         &mut output,
         &mut told,
     ) == answer

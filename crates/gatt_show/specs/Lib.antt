@@ -1,6 +1,4 @@
-pub mod Access
 pub mod Cells
-pub mod Holders
 pub mod Line
 pub mod Names
 pub mod Rights

@@ -1,5 +1,5 @@
 -- The permitted uses of an attribute and their needs (this profile's own).
-use Rattle.std.specs.Prelude.{ℕ, ◌++◌, Bool, ◌||◌, if◌then◌else◌, [], codes, Option, Some, None}
+use Rattle.std.specs.Prelude.{ℕ, ◌++◌, Bool, if◌then◌else◌, [], codes, Option, Some, None}
 use Rattle.std.specs.Fmt.{decimal}
 use Rattle.std.specs.Str.{bytes_eq}
 use Rattle.octet_io.specs.Number.{Octets}
@@ -9,26 +9,16 @@ use Rattle.att_policy.specs.declared.guard.Properties.{Properties}
 use Rattle.att_policy.specs.declared.guard.TheConstants.Properties.{READ, WRITE_WITHOUT_RESPONSE, WRITE, NOTIFY, INDICATE}
 use Rattle.att_policy.specs.Need.{needs_encryption_of, needs_authentication_of}
 use Rattle.att_policy.specs.Policy.{has_property}
+use Rattle.gatt_rights.specs.Needs.{is_heard, is_written}
 
 -- A present property is named after a space.
 abbrev pub word : Properties → Properties → Octets → Octets
 word properties property text = if has_property properties property then text else []
 
--- A notified or indicated value needs what reading needs.
-abbrev pub needs_reading : Properties → Bool
-needs_reading properties =
-    has_property properties READ || has_property properties NOTIFY
-    || has_property properties INDICATE
-
 unfoldable pub heard_words : Properties → Octets
 heard_words properties =
     word properties READ (codes " read") ++ word properties NOTIFY (codes " notify")
     ++ word properties INDICATE (codes " indicate")
-
--- These need what writing needs.
-abbrev pub is_written : Properties → Bool
-is_written properties =
-    has_property properties WRITE || has_property properties WRITE_WITHOUT_RESPONSE
 
 unfoldable pub written_words : Properties → Octets
 written_words properties =
@@ -71,6 +61,6 @@ both_texts guard =
 
 unfoldable pub rights_text : Guard → Octets
 rights_text guard =
-    if needs_reading guard.properties
+    if is_heard guard.properties
     then (if is_written guard.properties then both_texts guard else reading_text guard)
     else (if is_written guard.properties then writing_text guard else codes " nothing")

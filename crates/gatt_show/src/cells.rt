@@ -8,7 +8,7 @@ use itoa::Buffer;
 use std::alloc::AllocError;
 
 /// The width of the widest cell.
-pub(crate) const WIDEST: usize = 64;
+pub const WIDEST: usize = 64;
 
 /// Adds a text, padded on the right with spaces to a width of at most `WIDEST`.
 pub fn add_left(text: &mut Vec<u8>, cell: &[u8], width: usize) -> Result<(), AllocError>
@@ -19,15 +19,22 @@ pub fn add_left(text: &mut Vec<u8>, cell: &[u8], width: usize) -> Result<(), All
     add_blanks(text, width.saturating_sub(cell.len()))
 }
 
-/// Adds a decimal number, padded on the left to a width of at most `WIDEST`.
-pub fn add_right(text: &mut Vec<u8>, number: u64, width: usize) -> Result<(), AllocError>
+/// Adds a text, padded on the left with spaces to a width of at most `WIDEST`.
+pub fn add_right(text: &mut Vec<u8>, cell: &[u8], width: usize) -> Result<(), AllocError>
+    requires { width ≤ WIDEST }
+    ensures ok { OnOk result (text.new.items ≡ text.old.items ++ right width cell.now) }
+{
+    add_blanks(text, width.saturating_sub(cell.len()))?;
+    add_octets(text, cell)
+}
+
+/// Adds a decimal number as `add_right` adds a text.
+pub fn add_right_number(text: &mut Vec<u8>, number: u64, width: usize) -> Result<(), AllocError>
     requires { width ≤ WIDEST }
     ensures ok { OnOk result (text.new.items ≡ text.old.items ++ right width (decimal number)) }
 {
     let mut digits = Buffer::new();
-    let cell = digits.format(number).as_bytes();
-    add_blanks(text, width.saturating_sub(cell.len()))?;
-    add_octets(text, cell)
+    add_right(text, digits.format(number).as_bytes(), width)
 }
 
 #[tactic(auto, using(crate::proofs::Blanks::some_blanks))]

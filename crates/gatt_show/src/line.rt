@@ -8,11 +8,12 @@ ghost use Rattle.gatt_show.specs.Line.{attribute_line, attribute_lines, declared
 ghost use Rattle.gatt_show.specs.TypeText.{type_text};
 ghost use Rattle.att_numbers.specs.AttributeType.{type_octets};
 
-use crate::cells::{add_left, add_number, add_octets, add_right};
+use crate::cells::{add_left, add_number, add_octets, add_right_number};
 use crate::rights::add_rights;
 use crate::type_text::add_type;
 use att_numbers::attribute_type::{INCLUDE, PRIMARY_SERVICE, SECONDARY_SERVICE};
 use att_table::{Attr, Role, Table, is_service, type_octets};
+use gatt_rights::all_attributes;
 use std::alloc::{AllocError, Global};
 
 /// Adds a line for each attribute in order of handles, or `no attributes`.
@@ -38,14 +39,6 @@ fn add_lines(
         [] => add_octets(text, b"no attributes\n"),
         _ => add_attributes(alloc, text, table, attributes),
     }
-}
-
-/// Returns all attributes of a table.
-#[tactic(auto, using(crate::proofs::Lines::all_attributes))]
-pub fn all_attributes(table: &Table) -> &[Attr]
-    ensures { result.now ≡ table.now.attributes }
-{
-    table.in_range(1, table.len() as u16)
 }
 
 fn add_attributes(
@@ -82,7 +75,7 @@ fn add_front(text: &mut Vec<u8>, attr: &Attr) -> Result<(), AllocError>
     ensures ok { OnOk result (text.new.items ≡ text.old.items ++ (right 4 (decimal attr.now.handle)
         ++ codes "  " ++ left 14 (kind_word attr.now.role attr.now.kind) ++ codes "  ")) }
 {
-    add_right(text, u64::from(attr.handle), 4)?;
+    add_right_number(text, u64::from(attr.handle), 4)?;
     add_octets(text, b"  ")?;
     add_left(text, kind_word(attr.role, attr.kind).as_bytes(), 14)?;
     add_octets(text, b"  ")
@@ -116,7 +109,8 @@ fn add_rest(alloc: Global, text: &mut Vec<u8>, table: &Table, attr: &Attr) -> Re
     }
 }
 
-fn told_value(table: &Table, handle: u16) -> &[u8]
+/// Returns the value at a handle; empty if there is none, or for a CCCD.
+pub fn told_value(table: &Table, handle: u16) -> &[u8]
     ensures { result.now ≡ told_value table.now handle }
 {
     table.value_of(handle).unwrap_or(&[])
@@ -180,8 +174,9 @@ fn add_length_cell(alloc: Global, text: &mut Vec<u8>, attr: &Attr) -> Result<(),
     add_left(text, &cell, 5)
 }
 
+/// Adds the lengths that a value may have, in octets.
 #[tactic(auto, unfolding(crate::specs::Line::length_text))]
-fn add_length(text: &mut Vec<u8>, attr: &Attr) -> Result<(), AllocError>
+pub fn add_length(text: &mut Vec<u8>, attr: &Attr) -> Result<(), AllocError>
     ensures ok { OnOk result (text.new.items
         ≡ text.old.items ++ length_text attr.now.role attr.now) }
 {

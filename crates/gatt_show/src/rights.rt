@@ -3,11 +3,13 @@
 ghost use Rattle.std.specs.Prelude.{◌≡◌, ◌++◌, codes, if◌then◌else◌, IfOk, OnOk};
 ghost use Rattle.att_policy.specs.Need.{needs_authentication_of};
 ghost use Rattle.std.specs.Str.{bytes_eq};
-ghost use Rattle.gatt_show.specs.Rights.{asked_size_words, both_texts, reading_text, heard_words, needs_reading, is_written, key_words, need_words, rights_text, size_words, word, writing_text, written_words};
+ghost use Rattle.gatt_rights.specs.Needs.{is_written};
+ghost use Rattle.gatt_show.specs.Rights.{asked_size_words, both_texts, reading_text, heard_words, key_words, need_words, rights_text, size_words, word, writing_text, written_words};
 
 use crate::cells::{add_number, add_octets};
 use att_policy::{Guard, Need, Properties};
 use bitflags::Flags;
+use gatt_rights::{is_heard, is_written};
 use std::alloc::{AllocError, Global};
 
 /// Adds the permitted uses of a guarded attribute and their needs.
@@ -54,21 +56,6 @@ fn have_same_need(alloc: Global, guard: &Guard) -> Result<bool, AllocError>
     let read = need_words(alloc, &guard.read)?;
     let write = need_words(alloc, &guard.write)?;
     Ok(read.as_slice() == write.as_slice())
-}
-
-fn is_heard(properties: Properties) -> bool
-    ensures { result ≡ needs_reading properties }
-{
-    properties.contains(Properties::READ)
-        || properties.contains(Properties::NOTIFY)
-        || properties.contains(Properties::INDICATE)
-}
-
-fn is_written(properties: Properties) -> bool
-    ensures { result ≡ is_written properties }
-{
-    properties.contains(Properties::WRITE)
-        || properties.contains(Properties::WRITE_WITHOUT_RESPONSE)
 }
 
 fn add_heard(text: &mut Vec<u8>, guard: &Guard) -> Result<(), AllocError>

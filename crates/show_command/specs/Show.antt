@@ -1,35 +1,37 @@
 -- The text that `show` prints.
-use Rattle.std.specs.Prelude.{◌≡◌, Option, Some, None, Ok, IfSome, IsOk}
+use Rattle.std.specs.Prelude.{◌≡◌, ◌++◌, List, [], Option, Some, None, Ok, IfSome}
 use Rattle.std.specs.Io.KnownBytes.{Appends}
 use Rattle.att_table.specs.Table.{Contents}
-use Rattle.gatt_show.specs.Holders.{TellsHolders}
 use Rattle.gatt_show.specs.Line.{shown_table}
+use Rattle.le_security.specs.declared.entry.Entry.{Entry}
 use Rattle.octet_io.specs.Number.{Octets}
+use Rattle.rights_text.specs.Shown.{ShowsRights}
 use Rattle.shell_files.specs.declared.fault.ShellFault.{ShellFault}
 use Rattle.shell_files.specs.declared.fault.ShellFault.TheVariants.{Table, Keys, Rows, Unreadable, Unwritten, Memory}
 use Rattle.shell_files.specs.KeyFile.{keys_in}
 use Rattle.shell_files.specs.TableFile.{table_in}
+use Rattle.show_command.specs.declared.show.View.{View}
+use Rattle.show_command.specs.declared.show.View.TheVariants.{Rights, Attributes}
 
--- The holders of keys of an accepted file are appended, with their permitted uses.
-pub record TellsHoldersOf (key_file : Option Octets) (table : Contents) (old new : Octets) : Type 0
-  where
-    pub octets : Octets
-    pub has_octets : IfSome key_file (λ file. octets ≡ file)
-    pub accepted : IsOk (keys_in octets)
-    pub told : TellsHolders table octets old new
+-- The keys are those of the key file, if it is known; without one, of an empty file.
+abbrev pub HasKeys : Option (Option Octets) → List Entry → Type 0
+HasKeys None keys = keys_in [] ≡ Ok keys
+HasKeys (Some key_file) keys = IfSome key_file (λ octets. keys_in octets ≡ Ok keys)
 
--- Without a key file nothing is appended.
-abbrev pub HasHolders : Option (Option Octets) → Contents → Octets → Octets → Type 0
-HasHolders None table old new = new ≡ old
-HasHolders (Some key_file) table old new = TellsHoldersOf key_file table old new
+-- A view of a table is added to a text.
+abbrev pub IsShown : View → Contents → List Entry → Octets → Octets → Type 0
+IsShown (Rights width) table keys old new = ShowsRights table keys old new
+IsShown Attributes table keys old new = new ≡ old ++ shown_table table
 
--- The table file, if known, is accepted; its attributes and the permitted uses are printed.
-pub record AreShown (table_file : Option Octets) (key_file : Option (Option Octets))
-    (held holds : Option Octets) : Type 0 where
+-- The table file and the key file, if known, are accepted; the view of them is printed.
+pub record AreShown (view : View) (table_file : Option Octets)
+    (key_file : Option (Option Octets)) (held holds : Option Octets) : Type 0 where
   pub table : Contents
   pub has_table : IfSome table_file (λ octets. table_in octets ≡ Ok table)
+  pub keys : List Entry
+  pub has_keys : HasKeys key_file keys
   pub text : Octets
-  pub has_holders : HasHolders key_file table (shown_table table) text
+  pub shown : IsShown view table keys [] text
   pub printed : Appends held holds text
 
 abbrev pub IsShowFault : ShellFault → Type 0

@@ -4,5 +4,5 @@
 mod show;
 
 pub use show::{
-    ShowPaths, show_files, show_paths, tell_keys_fault, tell_rows_fault, tell_table_fault,
+    ShowPaths, View, show_files, show_paths, tell_keys_fault, tell_rows_fault, tell_table_fault,
 };

@@ -5,11 +5,12 @@ ghost use Rattle.std.specs.Io.KnownBytes.{Keeps};
 ghost use Rattle.std.specs.Option.{option_map};
 ghost use Rattle.shell_files.specs.KeyFile.{keys_out_of_memory, keys_in, KeysAreRefusedAs, IsKeyFileFault, IsKeyRefusal};
 ghost use Rattle.shell_files.specs.RowsFile.{rows_out_of_memory, rows_in, RowsAreRefusedAs, IsRowsFileFault};
-ghost use Rattle.show_command.specs.Show.{AreShown, HasHolders, IsShowFault, TellsHoldersOf};
+ghost use Rattle.show_command.specs.Show.{AreShown, HasKeys, IsShowFault, IsShown};
 ghost use Rattle.shell_files.specs.TableFile.{table_out_of_memory, table_in, TableIsRefusedAs, IsTableFileFault};
 ghost use Rattle.shell_files.specs.Turns.{IsPast, OfKeys, OfRows, OfTable};
 
 use att_table::Table;
+use le_security::Keys;
 use shell_files::{
     KeysPath, LazyFile, RowsPath, RowsReader, ShellFault, TOML_OCTETS, TablePath, judged_keys,
     judged_rows, judged_table, print, read_all,
@@ -17,26 +18,35 @@ use shell_files::{
 use std::alloc::{AllocError, Global};
 use std::fs::Files;
 use std::io::{Read, Write};
-use std::str;
 
 /// The text about a file that is too large.
 const TOO_LARGE: &[u8] = b"more than 2,097,152 octets";
 
-/// Checks the table, key and subscriptions files, and prints the table.
+/// The view of a table that `show` prints.
+#[derive(Clone, Copy)]
+pub enum View {
+    /// The rights of each kind of key, in lines of at most so many columns if that is possible.
+    Rights(usize),
+    /// A line for each attribute.
+    Attributes,
+}
+
+/// Checks the table, key and subscriptions files, and prints a view of the table.
 ///
-/// With a key file, prints the permitted uses too. Reads each file only if those before it are
-/// accepted. Adds the place and the fault of a refused file to `place`, which is empty if memory is
-/// refused for them.
+/// Without a key file there is no key. Reads each file only if those before it are accepted. Adds
+/// the place and the fault of a refused file to `place`, which is empty if memory is refused for
+/// them.
 pub fn show_files<T: Read, K: Read, R: Read, W: Write>(
     alloc: Global,
     table: &mut T,
     keys: &mut Option<K>,
     rows: &mut R,
+    view: View,
     writer: &mut W,
     place: &mut Vec<u8>,
 ) -> Result<(), ShellFault>
-    ensures ok { OnOk result (AreShown (T.remaining table.old) (option_map K.remaining keys.old)
-        (W.contents writer.old) (W.contents writer.new)) }
+    ensures ok { OnOk result (AreShown view (T.remaining table.old)
+        (option_map K.remaining keys.old) (W.contents writer.old) (W.contents writer.new)) }
     // A file is refused by the number of its first fault, or by that of refused memory.
     ensures table { (number : ℕ) → result ≡ Err (ShellFault.Table number)
         → number ≢ table_out_of_memory
@@ -68,9 +78,9 @@ pub fn show_files<T: Read, K: Read, R: Read, W: Write>(
     ensures faults { IfErr result IsShowFault }
 {
     let table = read_table_at(alloc, table, place)?;
+    let keys = read_keys_at(alloc, keys, place)?;
     let mut text = Vec::new(alloc);
-    gatt_show::add_table(alloc, &mut text, &table)?;
-    add_keys(alloc, &mut text, &table, keys, place)?;
+    add_view(alloc, &mut text, &table, &keys, view)?;
     judge_rows_at(alloc, rows, place)?;
     print(text.as_slice(), writer)
 }
@@ -126,18 +136,13 @@ pub fn tell_keys_fault(
     gatt_show::add_keys_fault(alloc, place, octets)
 }
 
-/// Reads a key file, if any, and adds its holders and their permitted uses.
-fn add_keys<K: Read>(
+/// Reads the keys of a key file, or those of an empty one.
+fn read_keys_at<K: Read>(
     alloc: Global,
-    text: &mut Vec<u8>,
-    table: &Table,
     keys: &mut Option<K>,
     place: &mut Vec<u8>,
-) -> Result<(), ShellFault>
-    ensures ok { OnOk result (HasHolders (option_map K.remaining keys.old)
-        table.now text.old.items text.new.items) }
-    ensures accepted { OnOk result
-        (IfSome keys.old (λ file. IfSome (K.remaining file) (λ octets. IsOk (keys_in octets)))) }
+) -> Result<Keys, ShellFault>
+    ensures keys { IfOk result (λ read. HasKeys (option_map K.remaining keys.old) read) }
     ensures refused { (number : ℕ) → result ≡ Err (ShellFault.Keys number)
         → number ≢ keys_out_of_memory
         → IfSome keys.old (λ file. IfSome (K.remaining file)
@@ -146,22 +151,18 @@ fn add_keys<K: Read>(
     ensures faults { IfErr result IsKeyFileFault }
 {
     match keys {
-        Some(reader) => add_holders(alloc, text, table, reader, place),
-        None => Ok(()),
+        Some(reader) => read_key_file_at(alloc, reader, place),
+        None => judged_keys(alloc, b""),
     }
 }
 
-fn add_holders<K: Read>(
+fn read_key_file_at<K: Read>(
     alloc: Global,
-    text: &mut Vec<u8>,
-    table: &Table,
     reader: &mut K,
     place: &mut Vec<u8>,
-) -> Result<(), ShellFault>
-    ensures ok { OnOk result (TellsHoldersOf (K.remaining reader.old)
-        table.now text.old.items text.new.items) }
-    ensures accepted { OnOk result
-        (IfSome (K.remaining reader.old) (λ octets. IsOk (keys_in octets))) }
+) -> Result<Keys, ShellFault>
+    ensures keys { IfOk result
+        (λ read. IfSome (K.remaining reader.old) (λ octets. keys_in octets ≡ Ok read)) }
     ensures refused { (number : ℕ) → result ≡ Err (ShellFault.Keys number)
         → number ≢ keys_out_of_memory
         → IfSome (K.remaining reader.old) (λ octets. KeysAreRefusedAs number (keys_in octets)) }
@@ -169,35 +170,30 @@ fn add_holders<K: Read>(
     ensures faults { IfErr result IsKeyFileFault }
 {
     let octets = read_all(alloc, reader)?;
-    judge_keys_at(alloc, octets.as_slice(), place)?;
-    let file = key_text(octets.as_slice())?;
-    Ok(gatt_show::add_holders(alloc, text, table, file)?)
-}
-
-#[tactic(auto, using(octet_io::proofs::Texts::of_no_text), unfolding(le_security::specs::KeyFile::keys_in))]
-fn key_text(octets: &[u8]) -> Result<&str, ShellFault>
-    ensures text { IfOk result (λ text. text.now ≡ octets.now) }
-    ensures refused { IfErr result (IsKeyRefusal octets.now) }
-{
-    match str::from_utf8(octets) {
-        Ok(text) => Ok(text),
-        Err(_) => Err(ShellFault::Keys(1)),
-    }
-}
-
-fn judge_keys_at(alloc: Global, octets: &[u8], place: &mut Vec<u8>) -> Result<(), ShellFault>
-    ensures accepted { OnOk result (IsOk (keys_in octets.now)) }
-    ensures refused { IfErr result (IsKeyRefusal octets.now) }
-    ensures place { IsOk result → place.new ≡ place.old }
-{
-    match judged_keys(alloc, octets) {
-        Ok(_) => Ok(()),
+    match judged_keys(alloc, octets.as_slice()) {
+        Ok(keys) => Ok(keys),
         Err(fault) => {
-            if tell_keys_fault(alloc, place, octets).is_err() {
+            if tell_keys_fault(alloc, place, octets.as_slice()).is_err() {
                 place.clear();
             }
             Err(fault)
         }
+    }
+}
+
+/// Adds the rights of a table, or the list of its attributes.
+fn add_view(
+    alloc: Global,
+    text: &mut Vec<u8>,
+    table: &Table,
+    keys: &Keys,
+    view: View,
+) -> Result<(), AllocError>
+    ensures ok { OnOk result (IsShown view table.now keys.now text.old.items text.new.items) }
+{
+    match view {
+        View::Attributes => gatt_show::add_table(alloc, text, table),
+        View::Rights(width) => rights_text::add_rights(alloc, text, table, keys, width),
     }
 }
 
@@ -248,6 +244,7 @@ pub fn show_paths<F: Files, W: Write>(
     alloc: Global,
     files: &F,
     paths: ShowPaths<'_>,
+    view: View,
     writer: &mut W,
     place: &mut Vec<u8>,
 ) -> Result<(), ShellFault>
@@ -259,7 +256,7 @@ pub fn show_paths<F: Files, W: Write>(
     let mut table = LazyFile::new(files, paths.table.0);
     let mut keys = key_file(files, paths.keys);
     let mut rows = RowsReader::new(files, paths.rows);
-    show_files(alloc, &mut table, &mut keys, &mut rows, writer, place)
+    show_files(alloc, &mut table, &mut keys, &mut rows, view, writer, place)
 }
 
 fn key_file<'a, F: Files>(files: &'a F, path: Option<KeysPath<'a>>) -> Option<LazyFile<'a, F>>

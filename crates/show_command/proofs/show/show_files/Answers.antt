@@ -1,26 +1,24 @@
-use Rattle.std.proofs.Common.{◌≡◌, ◌++◌, ◌∙◌, ap, subst}
+use Rattle.std.proofs.Common.{◌≡◌, subst}
 use Rattle.std.proofs.lemmas.Result.{on_ok_weaker}
-use Rattle.std.specs.Option.{option_map}
 use Rattle.std.specs.Io.KnownBytes.{Appends}
 use Rattle.octet_io.specs.Number.{Octets}
-use Rattle.gatt_show.specs.Line.{shown_table}
-use Rattle.show_command.specs.Show.{HasHolders}
+use Rattle.show_command.specs.Show.{IsShown}
 use Rattle.shell_files.specs.TableFile.{table_in}
 use Rattle.shell_files.proofs.Turns.{accepted}
 use Rattle.show_command.proofs.show.show_files.Goals as goal
 
 pub returns-clause-ok : goal.returns-clause-ok
 returns-clause-ok g c =
-    let told : c.add_table.new.text.items ≡ shown_table c.in_ok-table.table =
-    c.in_ok-add_table.ensures.ok ∙ ap (λ (front : Octets). front ++ shown_table c.in_ok-table.table) c.new-text.ensures.items in
     on_ok_weaker c.print.result
     (λ printed. record {
       table = c.in_ok-table.table;
       has_table = c.in_ok-table.ensures.table;
-      text = c.add_keys.new.text.items;
-      has_holders =
-          subst (λ (old : Octets). HasHolders (option_map g.K.Read.remaining c.args.keys.now) c.in_ok-table.table old c.add_keys.new.text.items) told
-          c.in_ok-add_keys.ensures.ok;
+      keys = c.in_ok-keys.keys;
+      has_keys = c.in_ok-keys.ensures.keys;
+      text = c.add_view.new.text.items;
+      shown =
+          subst (λ (old : Octets). IsShown c.args.view c.in_ok-table.table c.in_ok-keys.keys old c.add_view.new.text.items) c.new-text.ensures.items
+          c.in_ok-add_view.ensures.ok;
       printed = subst (Appends (g.W.Write.contents c.args.writer.now) (g.W.Write.contents c.print.new.writer)) c.as_slice.ensures.value printed;
     })
     c.print.ensures.ok

@@ -1,0 +1,10 @@
+use Rattle.std.proofs.Common.{◌≡◌, ◌++◌, drop}
+use Rattle.std.specs.List.{flat_map}
+use Rattle.rights_text.specs.Legend.{also_text}
+use Rattle.rights_text.proofs.legend.add_others.Given as goal
+
+-- what stands and what is left are all
+abbrev pub invariant-loop-other : goal.invariant-loop-other
+invariant-loop-other l =
+    l.text.items ++ flat_map (also_text l.fn.keys l.fn.peer l.fn.column) (drop l.other-index l.columns)
+    ≡ l.fn.text.items ++ flat_map (also_text l.fn.keys l.fn.peer l.fn.column) l.columns

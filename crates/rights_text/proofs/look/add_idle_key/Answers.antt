@@ -1,0 +1,18 @@
+use Rattle.std.proofs.Common.{◌++◌}
+use Rattle.std.proofs.lemmas.Result.{on_ok_weaker}
+use Rattle.std.specs.Prelude.{codes}
+use Rattle.rights_text.specs.Legend.{strength_text}
+use Rattle.rights_text.proofs.Added.{joined}
+use Rattle.rights_text.proofs.look.add_idle_key.Goals as goal
+
+pub returns : goal.returns
+returns c =
+    let strength = strength_text c.args.key in
+    let rest = codes " permits no more than no key" in
+    record {
+      ok = on_ok_weaker c.add_octets-2.result
+          (λ added.
+          joined c.args.text.now.items (codes "       a ") (strength ++ rest) c.in_ok-add_octets.ensures.ok
+          (joined c.add_octets.new.text.items strength rest c.in_ok-add_strength.ensures.ok added))
+          c.add_octets-2.ensures.ok;
+    }

@@ -1,0 +1,12 @@
+use Rattle.std.proofs.Common.{◌≡◌, ◌++◌, drop}
+use Rattle.std.specs.List.{flat_map}
+use Rattle.gatt_show.specs.Cells.{right}
+use Rattle.rights_text.specs.Cell.{cell_text}
+use Rattle.rights_text.specs.declared.columns.Column.{Column}
+use Rattle.rights_text.proofs.matrix.add_cells.Given as goal
+
+-- what stands and what is left are all
+abbrev pub invariant-loop-column : goal.invariant-loop-column
+invariant-loop-column l =
+    l.text.items ++ flat_map (λ (column : Column). right l.fn.layout.cell (cell_text l.fn.table.attributes l.fn.handle column.key)) (drop l.column-index l.columns)
+    ≡ l.fn.text.items ++ flat_map (λ (column : Column). right l.fn.layout.cell (cell_text l.fn.table.attributes l.fn.handle column.key)) l.columns

@@ -1,0 +1,6 @@
+pub mod Cell
+pub mod Columns
+pub mod Legend
+pub mod Look
+pub mod Matrix
+pub mod Shown

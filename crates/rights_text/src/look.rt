@@ -1,0 +1,130 @@
+//! The findings of a table in words.
+
+ghost use Rattle.std.specs.Prelude.{◌≡◌, ◌++◌, OnOk};
+ghost use Rattle.std.specs.List.{flat_map};
+ghost use Rattle.rights_text.specs.Look.{at_handle, finding_text, finding_words, idle_key_words, look_text, short_key_words, size_words};
+
+use crate::legend::add_strength;
+use att_policy::KeyFacts;
+use gatt_rights::Finding;
+use gatt_show::{add_number, add_octets, add_right_number};
+use std::alloc::AllocError;
+
+/// Adds the findings, a line each.
+pub(crate) fn add_look(text: &mut Vec<u8>, findings: &[Finding]) -> Result<(), AllocError>
+    ensures ok { OnOk result (text.new.items ≡ text.old.items ++ look_text findings.now) }
+{
+    match findings {
+        [] => add_octets(text, b"Nothing to look at twice.\n"),
+        _ => {
+            add_octets(text, b"Look twice:\n")?;
+            add_findings(text, findings)
+        }
+    }
+}
+
+fn add_findings(text: &mut Vec<u8>, findings: &[Finding]) -> Result<(), AllocError>
+    ensures ok { OnOk result (text.new.items
+        ≡ text.old.items ++ flat_map finding_text findings.now) }
+{
+    for finding in findings {
+        add_finding(text, *finding)?;
+    }
+    Ok(())
+}
+
+fn add_finding(text: &mut Vec<u8>, finding: Finding) -> Result<(), AllocError>
+    ensures ok { OnOk result (text.new.items ≡ text.old.items ++ finding_text finding) }
+{
+    add_words(text, finding)?;
+    add_octets(text, b"\n")
+}
+
+fn add_words(text: &mut Vec<u8>, finding: Finding) -> Result<(), AllocError>
+    ensures ok { OnOk result (text.new.items ≡ text.old.items ++ finding_words finding) }
+{
+    match finding {
+        Finding::OpenWrite(handle) => {
+            add_at(text, handle, b"everybody may write it: `write` has no rule")
+        }
+        Finding::ShortKey(handle, size) => add_short_key(text, handle, size),
+        Finding::EasyWrite(handle) => add_at(
+            text,
+            handle,
+            b"to write it needs less than to read it: compare `write` and `read`",
+        ),
+        Finding::IdleReadRule(handle) => add_at(
+            text,
+            handle,
+            b"`read` has no effect: there is no property read, notify or indicate",
+        ),
+        Finding::IdleWriteRule(handle) => add_at(
+            text,
+            handle,
+            b"`write` has no effect: there is no property write or command",
+        ),
+        Finding::ForgedAddress(handle) => add_at(
+            text,
+            handle,
+            b"`authorized` without `encrypted`: a stranger can use the address of another",
+        ),
+        Finding::NoSubscriber(handle) => add_at(
+            text,
+            handle,
+            b"nobody may subscribe to it: `config` and `read` exclude all",
+        ),
+        Finding::DeafReader(handle) => add_at(
+            text,
+            handle,
+            b"some who may read it may not subscribe: compare `config` and `read`",
+        ),
+        Finding::Unused(handle) => add_at(
+            text,
+            handle,
+            b"nobody may use it: no key of the key file meets its rules",
+        ),
+        Finding::EmptyService(handle) => {
+            add_at(text, handle, b"a service without characteristics")
+        }
+        Finding::IdleKey(key) => add_idle_key(text, key),
+        Finding::NoKeyMatters => {
+            add_octets(text, b"       no key makes a difference to this table")
+        }
+    }
+}
+
+fn add_at(text: &mut Vec<u8>, handle: u16, words: &[u8]) -> Result<(), AllocError>
+    ensures ok { OnOk result (text.new.items ≡ text.old.items ++ at_handle handle words.now) }
+{
+    add_right_number(text, u64::from(handle), 5)?;
+    add_octets(text, b"  ")?;
+    add_octets(text, words)
+}
+
+#[tactic(auto, unfolding(crate::specs::Look::short_key_words))]
+fn add_short_key(text: &mut Vec<u8>, handle: u16, size: u8) -> Result<(), AllocError>
+    ensures ok { OnOk result (text.new.items
+        ≡ text.old.items ++ short_key_words handle size) }
+{
+    add_at(text, handle, b"a key of ")?;
+    add_size(text, size)
+}
+
+fn add_size(text: &mut Vec<u8>, size: u8) -> Result<(), AllocError>
+    ensures ok { OnOk result (text.new.items ≡ text.old.items ++ size_words size) }
+{
+    add_number(text, u64::from(size))?;
+    add_octets(
+        text,
+        b" may write it: `key_size = 16` in `write` would exclude it",
+    )
+}
+
+fn add_idle_key(text: &mut Vec<u8>, key: KeyFacts) -> Result<(), AllocError>
+    ensures ok { OnOk result (text.new.items
+        ≡ text.old.items ++ idle_key_words key) }
+{
+    add_octets(text, b"       a ")?;
+    add_strength(text, key)?;
+    add_octets(text, b" permits no more than no key")
+}

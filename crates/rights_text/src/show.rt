@@ -1,0 +1,59 @@
+//! The rights of a table, as `show` prints them.
+
+ghost use Rattle.std.specs.Prelude.{◌≡◌, ◌++◌, OnOk};
+ghost use Rattle.rights_text.specs.Shown.{ShowsRights, columns_for, explained};
+
+use crate::columns::{Column, named_columns};
+use crate::layout::Layout;
+use crate::legend::add_legend;
+use crate::look::add_look;
+use crate::matrix::add_blocks;
+use att_table::Table;
+use gatt_rights::{columns_of, findings};
+use gatt_show::add_octets;
+use le_security::Keys;
+use std::alloc::{AllocError, Global};
+
+/// Adds the matrix of a table, its legend and what to look at twice, in lines of a width if they
+/// fit into it.
+///
+/// A row is a value or a descriptor, a column a kind of key. On `Err` memory was refused and the
+/// text is invalid.
+pub fn add_rights(
+    alloc: Global,
+    text: &mut Vec<u8>,
+    table: &Table,
+    keys: &Keys,
+    width: usize,
+) -> Result<(), AllocError>
+    ensures ok { OnOk result (ShowsRights table.now keys.now text.old.items text.new.items) }
+{
+    let columns = named_columns(alloc, keys)?;
+    let layout = Layout::of(alloc, table, &columns)?;
+    add_blocks(
+        alloc,
+        text,
+        table,
+        layout,
+        &columns,
+        layout.most_columns(width),
+    )?;
+    add_explanation(alloc, text, table, keys, &columns)
+}
+
+fn add_explanation(
+    alloc: Global,
+    text: &mut Vec<u8>,
+    table: &Table,
+    keys: &Keys,
+    columns: &[Column],
+) -> Result<(), AllocError>
+    requires { columns.now ≡ columns_for keys.now }
+    ensures ok { OnOk result (text.new.items ≡ text.old.items ++ explained table.now keys.now) }
+{
+    add_legend(text, keys, columns)?;
+    add_octets(text, b"\n")?;
+    let kinds = columns_of(alloc, keys)?;
+    let found = findings(alloc, table, &kinds)?;
+    add_look(text, &found)
+}

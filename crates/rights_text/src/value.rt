@@ -1,0 +1,121 @@
+//! The names and the values of attributes, cut to the width of a cell.
+
+ghost use Rattle.std.specs.Prelude.{◌≡◌, ◌++◌, ◌∷◌, [], if◌then◌else◌, IfOk, OnOk};
+ghost use Rattle.std.specs.List.{list_all};
+ghost use Rattle.hex.specs.Hex.{encode_lower};
+ghost use Rattle.rights_text.specs.Matrix.{cut_text, hex_text, is_plain, is_text, name_text, quoted_text, value_text};
+
+use att_table::type_octets;
+use gatt_show::{add_octets, add_type};
+use std::alloc::{AllocError, Global};
+
+/// Returns the text of a type, cut after 28 octets.
+pub(crate) fn name_of(alloc: Global, kind: u128) -> Result<Vec<u8>, AllocError>
+    ensures { IfOk result (λ name. name.items ≡ name_text kind) }
+{
+    let mut name = Vec::new(alloc);
+    add_type(&mut name, type_octets(kind).as_slice())?;
+    let mut cut = Vec::new(alloc);
+    add_cut(&mut cut, &name)?;
+    Ok(cut)
+}
+
+fn add_cut(text: &mut Vec<u8>, name: &[u8]) -> Result<(), AllocError>
+    ensures ok { OnOk result (text.new.items ≡ text.old.items ++ cut_text name.now) }
+{
+    if name.len() > 28 {
+        add_octets(text, name.split_at(26).0)?;
+        add_octets(text, b"..")
+    } else {
+        add_octets(text, name)
+    }
+}
+
+/// Returns a value as a text or in hexadecimal, cut after 12 octets.
+pub(crate) fn value_of(alloc: Global, value: &[u8]) -> Result<Vec<u8>, AllocError>
+    ensures { IfOk result (λ text. text.items ≡ value_text value.now) }
+{
+    let mut text = Vec::new(alloc);
+    add_value(&mut text, value)?;
+    Ok(text)
+}
+
+fn add_value(text: &mut Vec<u8>, value: &[u8]) -> Result<(), AllocError>
+    ensures ok { OnOk result (text.new.items ≡ text.old.items ++ value_text value.now) }
+{
+    match value {
+        [] => add_octets(text, b"empty"),
+        _ => add_shown(text, value),
+    }
+}
+
+fn add_shown(text: &mut Vec<u8>, value: &[u8]) -> Result<(), AllocError>
+    ensures ok { OnOk result (text.new.items ≡ text.old.items
+        ++ (if is_text value.now then quoted_text value.now else hex_text value.now)) }
+{
+    if is_text(value) {
+        add_quoted(text, value)
+    } else {
+        add_hex(text, value)
+    }
+}
+
+/// Returns true if a value is a text: three octets or more, each plain ASCII.
+fn is_text(value: &[u8]) -> bool
+    ensures { result ≡ is_text value.now }
+{
+    value.len() > 2 && are_plain(value)
+}
+
+fn are_plain(value: &[u8]) -> bool
+    ensures { result ≡ list_all is_plain value.now }
+{
+    value.iter().all(|octet| is_plain(*octet))
+}
+
+fn is_plain(octet: u8) -> bool
+    ensures { result ≡ is_plain octet }
+{
+    32 <= octet && octet < 127 && octet != b'"' && octet != b'\\'
+}
+
+fn add_quoted(text: &mut Vec<u8>, value: &[u8]) -> Result<(), AllocError>
+    ensures ok { OnOk result (text.new.items ≡ text.old.items ++ quoted_text value.now) }
+{
+    add_octets(text, b"\"")?;
+    if value.len() > 10 {
+        add_octets(text, &value[..8])?;
+        add_octets(text, b"\"..")
+    } else {
+        add_octets(text, value)?;
+        add_octets(text, b"\"")
+    }
+}
+
+fn add_hex(text: &mut Vec<u8>, value: &[u8]) -> Result<(), AllocError>
+    ensures ok { OnOk result (text.new.items ≡ text.old.items ++ hex_text value.now) }
+{
+    if value.len() > 6 {
+        add_digits(text, &value[..5])?;
+        add_octets(text, b"..")
+    } else {
+        add_digits(text, value)
+    }
+}
+
+fn add_digits(text: &mut Vec<u8>, value: &[u8]) -> Result<(), AllocError>
+    ensures ok { OnOk result (text.new.items ≡ text.old.items ++ encode_lower value.now) }
+{
+    for octet in value {
+        add_octet(text, *octet)?;
+    }
+    Ok(())
+}
+
+fn add_octet(text: &mut Vec<u8>, octet: u8) -> Result<(), AllocError>
+    ensures ok { OnOk result (text.new.items ≡ text.old.items ++ encode_lower (octet ∷ [])) }
+{
+    let mut digits = [0; 2];
+    hex::encode_to_slice([octet], &mut digits).unwrap();
+    add_octets(text, &digits)
+}
