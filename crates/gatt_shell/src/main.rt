@@ -20,7 +20,7 @@ use gatt_commands::{
 use itoa::Buffer;
 use locking::{Unlocked, lock_rows};
 use shell_args::{Choice, Refusal};
-use show_command::ShowPaths;
+use show_command::{ShowPaths, View};
 use std::fs::File;
 use std::io::{BufWriter, Write};
 use std::process::ExitCode;
@@ -107,10 +107,33 @@ fn run_check(rt: &HostRuntime, table: TablePath<'_>, keys: KeysPath<'_>) -> Resu
     gatt_commands::check_paths(rt.alloc(), rt, table, keys, &mut io::writer(rt))
 }
 
-/// Shows a table and returns the exit status. Prints the place of a fault after its number.
-fn run_show(rt: &HostRuntime, paths: ShowPaths<'_>) -> u8 {
+/// Shows the attributes of a table or who may use them, and returns the exit status.
+fn show_as(rt: &HostRuntime, paths: ShowPaths<'_>, attributes: bool, width: Option<&str>) -> u8 {
+    match columns_in(width) {
+        Some(_) if attributes => run_show(rt, paths, View::Attributes),
+        Some(columns) => run_show(rt, paths, View::Rights(usize::from(columns))),
+        None => {
+            // If this fails, the error cannot be reported at all.
+            let _ = rt.eprintln("--width: it is no number from 1 to 65535");
+            Refusal::Misunderstood.status()
+        }
+    }
+}
+
+/// Returns the width of a line in columns, if it is a number; without one it is 80.
+fn columns_in(width: Option<&str>) -> Option<u16> {
+    match width {
+        Some(width) => width.parse().ok().filter(|columns| *columns > 0),
+        None => Some(80),
+    }
+}
+
+/// Shows a view of a table and returns the exit status. Prints the place of a fault after its
+/// number.
+fn run_show(rt: &HostRuntime, paths: ShowPaths<'_>, view: View) -> u8 {
     let mut place = Vec::new(rt.alloc());
-    let ran = show_command::show_paths(rt.alloc(), rt, paths, &mut io::writer(rt), &mut place);
+    let writer = &mut io::writer(rt);
+    let ran = show_command::show_paths(rt.alloc(), rt, paths, view, writer, &mut place);
     if let Err(fault) = &ran
         && !place.is_empty()
     {
@@ -249,13 +272,19 @@ fn carry_out(rt: &HostRuntime, choice: &Choice<'_>) -> u8 {
         Choice::Check { table, keys } => {
             exit_status(rt, run_check(rt, TablePath(table), KeysPath(keys)))
         }
-        Choice::Show { table, keys, rows } => {
+        Choice::Show {
+            table,
+            keys,
+            rows,
+            attributes,
+            width,
+        } => {
             let paths = ShowPaths {
                 table: TablePath(table),
                 keys: keys.map(KeysPath),
                 rows: RowsPath(rows),
             };
-            run_show(rt, paths)
+            show_as(rt, paths, attributes, width)
         }
         Choice::Run {
             table,

@@ -63,7 +63,8 @@ check_shape = shape_with (codes "check") (file_rule (codes "TABLE") ∷ file_rul
 abbrev pub show_shape : Shape
 show_shape =
     shape_with (codes "show")
-    (file_rule (codes "TABLE") ∷ optional_rule (codes "KEYS") ∷ option_rule (codes "rows") ∷ [])
+    (file_rule (codes "TABLE") ∷ optional_rule (codes "KEYS") ∷ option_rule (codes "rows")
+    ∷ flag_rule (codes "attributes") ∷ option_rule (codes "width") ∷ [])
 
 abbrev pub run_shape : Shape
 run_shape = shape_with (codes "run") (
@@ -140,7 +141,7 @@ command_line =
 abbrev pub command_name : Choice → List ℕ
 command_name Att = codes "att"
 command_name (Check table keys) = codes "check"
-command_name (Show table keys rows) = codes "show"
+command_name (Show table keys rows attributes width) = codes "show"
 command_name (Run table next keys rows script notices echo) = codes "run"
 command_name (Serve table keys rows address) = codes "serve"
 command_name (Host words) = codes "host"
@@ -168,10 +169,12 @@ abbrev pub HasFilesOf : List Row → Choice → Type 0
 HasFilesOf arguments Att = Unit {0}
 HasFilesOf arguments (Check table keys) =
     IsGiven (codes "TABLE") arguments table.now × IsGiven (codes "KEYS") arguments keys.now
-HasFilesOf arguments (Show table keys rows) =
+HasFilesOf arguments (Show table keys rows attributes width) =
     IsGiven (codes "TABLE") arguments table.now
     × IsGivenIfAny (codes "KEYS") arguments (option_map (λ path. path.now) keys)
     × IsGivenIfAny (codes "rows") arguments (option_map (λ path. path.now) rows)
+    × IsSetIfGiven (codes "attributes") arguments attributes
+    × IsGivenIfAny (codes "width") arguments (option_map (λ word. word.now) width)
 HasFilesOf arguments (Run table next keys rows script notices echo) =
     IsGiven (codes "TABLE") arguments table.now × IsGiven (codes "KEYS") arguments keys.now
     × IsGiven (codes "SCRIPT") arguments script.now

@@ -16,6 +16,10 @@ pub const ADDRESS: &str = "ADDRESS";
 
 pub const ROWS: &str = "rows";
 
+pub const ATTRIBUTES: &str = "attributes";
+
+pub const WIDTH: &str = "width";
+
 pub const NEXT: &str = "next";
 
 pub const NOTICES: &str = "notices";
@@ -93,7 +97,7 @@ const ROWS_FILE: Argument = Argument {
 
 const CHECK_ARGUMENTS: [Argument; 2] = [TABLE_FILE, KEY_FILE];
 
-const SHOW_ARGUMENTS: [Argument; 3] = [
+const SHOW_ARGUMENTS: [Argument; 5] = [
     TABLE_FILE,
     Argument {
         name: KEYS,
@@ -101,6 +105,16 @@ const SHOW_ARGUMENTS: [Argument; 3] = [
         about: "The key file: the long-term keys of known peers",
     },
     ROWS_FILE,
+    Argument {
+        name: ATTRIBUTES,
+        takes: Takes::Nothing,
+        about: "Print a line for each attribute, declarations too, and no keys",
+    },
+    Argument {
+        name: WIDTH,
+        takes: Takes::Value("COLUMNS"),
+        about: "The width of the lines, if it has space for a key [default: 80]",
+    },
 ];
 
 const RUN_ARGUMENTS: [Argument; 7] = [

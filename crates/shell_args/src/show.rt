@@ -9,7 +9,7 @@ use crate::arguments;
 use crate::words::Choice;
 use clap::ArgMatches;
 
-#[tactic(auto, using(crate::proofs::CommandLines::first_in_rows))]
+#[tactic(auto, using(crate::proofs::CommandLines::first_in_rows, crate::proofs::CommandLines::flag_in_rows))]
 pub(crate) fn showing<'a>(matches: &ArgMatches<'a>) -> Option<Choice<'a>>
     ensures name { IfSome result (λ choice. command_name choice ≡ codes "show") }
     ensures files { IfSome result (HasFilesOf (rows_of (found_of matches.now))) }
@@ -18,5 +18,7 @@ pub(crate) fn showing<'a>(matches: &ArgMatches<'a>) -> Option<Choice<'a>>
         table: matches.get_str(arguments::TABLE)?,
         keys: matches.get_str(arguments::KEYS),
         rows: matches.get_str(arguments::ROWS),
+        attributes: matches.get_flag(arguments::ATTRIBUTES),
+        width: matches.get_str(arguments::WIDTH),
     })
 }

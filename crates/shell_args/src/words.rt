@@ -32,6 +32,10 @@ pub enum Choice<'a> {
         keys: Option<&'a str>,
         /// The subscriptions file.
         rows: Option<&'a str>,
+        /// Set to print a line for each attribute in place of the rights.
+        attributes: bool,
+        /// The width of the lines.
+        width: Option<&'a str>,
     },
     /// Runs a script.
     Run {
