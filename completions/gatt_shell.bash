@@ -15,7 +15,7 @@ _gatt_shell() {
         compopt -o dirnames
         return
         ;;
-    --rows | --next | --capture | --serial | --application)
+    --rows | --next | --table | --capture | --serial | --application)
         compopt -o default
         return
         ;;
@@ -25,14 +25,15 @@ _gatt_shell() {
         ;;
     esac
     if ((COMP_CWORD == 1)); then
-        words='att check show run serve host tell help --help --version'
+        words='att check show run words serve host tell help --help --version'
     elif [[ $command == help ]]; then
-        words='att check show run serve host tell help'
+        words='att check show run words serve host tell help'
     elif [[ $word == -* ]]; then
         case $command in
         att | check | tell) words='--help' ;;
         show | serve) words='--rows --help' ;;
         run) words='--rows --next --notices --echo --help' ;;
+        words) words='--table --help' ;;
         host)
             words='--state --save-updates --rows --drop-unknown --listen --connect --serial --application
                 --application-port --wait-for-application --name --advertise --address --capture --capture-size

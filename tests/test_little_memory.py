@@ -21,6 +21,7 @@ COMMANDS = {
     "show": DOOR,
     "check": DOOR,
     "att": [],
+    "words": DOOR[:1],
     "tell": ["no.socket", "stop"],
     "--version": [],
 }

@@ -29,6 +29,15 @@ PRINTED = {
         "examples/conformance/reading.out"
     ),
     "./gatt_shell run examples/door.toml examples/keys.toml examples/notices.script --notices": "examples/notices.out",
+    "./gatt_shell run examples/door.toml examples/keys.toml examples/bonded.script"
+    " | ./gatt_shell words --table examples/door.toml": (
+        "Q > 01120a000f  Error Response: Write Request of handle 10 (fff1), Insufficient Encryption\n"
+        "Q > 13  Write Response\n"
+        "Q > 0b01  Read Response: 01\n"
+        "Q > 010a0d0008  Error Response: Read Request of handle 13 (fff2), Insufficient Authorization\n"
+        "Q > 0b31323334  Read Response: 31323334\n"
+        "Q ended 05\n"
+    ),
     "./gatt_shell --help": "",
 }
 # Those that another test tries, which makes the files that they read.

@@ -6,6 +6,7 @@
 
 mod locking;
 mod telling;
+mod wording;
 
 ghost use Rattle.std.specs.Prelude.{◌≡◌, Ok, Err, IfErr, true, false};
 ghost use Rattle.shell_files.specs.Check.{IsCheckFault};
@@ -308,6 +309,7 @@ fn carry_out(rt: &HostRuntime, choice: &Choice<'_>) -> u8 {
             };
             run_locked(rt, paths)
         }
+        Choice::Words { table } => exit_status(rt, wording::add_words(rt, table.map(TablePath))),
         Choice::Serve {
             table,
             keys,

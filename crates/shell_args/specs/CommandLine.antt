@@ -7,7 +7,7 @@ use Rattle.shell_args.specs.declared.argument.Takes.{Takes}
 use Rattle.shell_args.specs.declared.argument.Takes.TheVariants.{Path, PathIfAny, Value, Values, Nothing}
 use Rattle.shell_args.specs.declared.subcommand.Subcommand.{Subcommand}
 use Rattle.shell_args.specs.declared.words.Choice.{Choice}
-use Rattle.shell_args.specs.declared.words.Choice.TheVariants.{Att, Check, Show, Run, Serve, Host, Tell}
+use Rattle.shell_args.specs.declared.words.Choice.TheVariants.{Att, Check, Show, Run, Words, Serve, Host, Tell}
 
 -- A required path.
 abbrev pub file_rule : Text → Rule
@@ -77,6 +77,9 @@ run_shape = shape_with (codes "run") (
     ∷ flag_rule (codes "echo")
     ∷ [])
 
+abbrev pub words_shape : Shape
+words_shape = shape_with (codes "words") (option_rule (codes "table") ∷ [])
+
 abbrev pub serve_shape : Shape
 serve_shape = shape_with (codes "serve") (
     file_rule (codes "TABLE") ∷ file_rule (codes "KEYS") ∷ file_rule (codes "ADDRESS")
@@ -134,8 +137,9 @@ command_line =
     with_subcommand
     (with_subcommand
     (with_subcommand
+    (with_subcommand
     (with_subcommand (with_subcommand (with_subcommand (with_subcommand program_line
-    att_shape) check_shape) show_shape) run_shape) serve_shape) host_shape) tell_shape
+    att_shape) check_shape) show_shape) run_shape) words_shape) serve_shape) host_shape) tell_shape
 
 -- The name that chooses a command.
 abbrev pub command_name : Choice → List ℕ
@@ -143,6 +147,7 @@ command_name Att = codes "att"
 command_name (Check table keys) = codes "check"
 command_name (Show table keys rows attributes width) = codes "show"
 command_name (Run table next keys rows script notices echo) = codes "run"
+command_name (Words table) = codes "words"
 command_name (Serve table keys rows address) = codes "serve"
 command_name (Host words) = codes "host"
 command_name (Tell socket command first second third) = codes "tell"
@@ -182,6 +187,8 @@ HasFilesOf arguments (Run table next keys rows script notices echo) =
     × IsGivenIfAny (codes "next") arguments (option_map (λ path. path.now) next)
     × IsSetIfGiven (codes "notices") arguments notices
     × IsSetIfGiven (codes "echo") arguments echo
+HasFilesOf arguments (Words table) =
+    IsGivenIfAny (codes "table") arguments (option_map (λ path. path.now) table)
 HasFilesOf arguments (Serve table keys rows address) =
     IsGiven (codes "TABLE") arguments table.now × IsGiven (codes "KEYS") arguments keys.now
     × IsGiven (codes "ADDRESS") arguments address.now

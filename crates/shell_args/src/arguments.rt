@@ -12,6 +12,8 @@ pub const KEYS: &str = "KEYS";
 
 pub const SCRIPT: &str = "SCRIPT";
 
+pub const TABLE_OPTION: &str = "table";
+
 pub const ADDRESS: &str = "ADDRESS";
 
 pub const ROWS: &str = "rows";
@@ -142,6 +144,12 @@ const RUN_ARGUMENTS: [Argument; 7] = [
         about: "Print each line of the script too, before its output",
     },
 ];
+
+const WORDS_ARGUMENTS: [Argument; 1] = [Argument {
+    name: TABLE_OPTION,
+    takes: Takes::Value("FILE"),
+    about: "The table file by which handles are named",
+}];
 
 const SERVE_ARGUMENTS: [Argument; 4] = [
     TABLE_FILE,
@@ -289,7 +297,7 @@ const TELL_ARGUMENTS: [Argument; 5] = [
 ];
 
 /// The commands.
-pub const SUBCOMMANDS: [Subcommand; 7] = [
+pub const SUBCOMMANDS: [Subcommand; 8] = [
     Subcommand {
         name: help::ATT,
         about: help::ATT_ABOUT,
@@ -313,6 +321,12 @@ pub const SUBCOMMANDS: [Subcommand; 7] = [
         about: help::RUN_ABOUT,
         details: help::RUN_DETAILS,
         arguments: &RUN_ARGUMENTS,
+    },
+    Subcommand {
+        name: help::WORDS,
+        about: help::WORDS_ABOUT,
+        details: help::WORDS_DETAILS,
+        arguments: &WORDS_ARGUMENTS,
     },
     Subcommand {
         name: help::SERVE,

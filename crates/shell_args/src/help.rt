@@ -78,6 +78,20 @@ missing one is empty.
 
   gatt_shell run examples/door.toml examples/keys.toml examples/first_contact.script";
 
+pub const WORDS: &str = "words";
+
+pub const WORDS_ABOUT: &str = "Add to each line with an ATT PDU what the PDU says";
+
+pub const WORDS_DETAILS: &str = "\
+Add to each line with an ATT PDU what the PDU says.
+
+Each line of standard input is printed as it is. If it has an ATT PDU in hexadecimal, as a line of
+`att` or `NAME > HEX` of `run`, two spaces follow and what the PDU says, in the terms of the Core
+Specification. With --table a handle has the name of its type behind it. docs/CLI.md has the forms.
+
+  gatt_shell run examples/door.toml examples/keys.toml examples/first_contact.script \\
+      --echo | gatt_shell words --table examples/door.toml";
+
 pub const SERVE: &str = "serve";
 
 pub const SERVE_ABOUT: &str = "Serve a controller over one TCP connection";

@@ -51,6 +51,11 @@ pub enum Choice<'a> {
         /// Set to print each line of the script.
         echo: bool,
     },
+    /// Adds words to lines with ATT PDUs.
+    Words {
+        /// The table file by which handles are named.
+        table: Option<&'a str>,
+    },
     /// Serves a controller over a connection.
     Serve {
         table: &'a str,
@@ -124,6 +129,7 @@ fn choice_of<'a>(name: &str, matches: &ArgMatches<'a>) -> Option<Choice<'a>>
         help::CHECK => checking(matches),
         help::SHOW => showing(matches),
         help::RUN => running(matches),
+        help::WORDS => wording(matches),
         help::SERVE => serving(matches),
         help::HOST => hosting(matches),
         help::TELL => telling(matches),
@@ -155,6 +161,16 @@ fn running<'a>(matches: &ArgMatches<'a>) -> Option<Choice<'a>>
         script: matches.get_str(arguments::SCRIPT)?,
         notices: matches.get_flag(arguments::NOTICES),
         echo: matches.get_flag(arguments::ECHO),
+    })
+}
+
+#[tactic(auto, using(crate::proofs::CommandLines::first_in_rows))]
+fn wording<'a>(matches: &ArgMatches<'a>) -> Option<Choice<'a>>
+    ensures name { IfSome result (λ choice. command_name choice ≡ codes "words") }
+    ensures files { IfSome result (HasFilesOf (rows_of (found_of matches.now))) }
+{
+    Some(Choice::Words {
+        table: matches.get_str(arguments::TABLE_OPTION),
     })
 }
 
