@@ -30,9 +30,10 @@ _gatt_shell() {
         words='att check show run words serve host tell help'
     elif [[ $word == -* ]]; then
         case $command in
-        att | check | tell) words='--help' ;;
+        att) words='--words --help' ;;
+        check | tell) words='--help' ;;
         show | serve) words='--rows --help' ;;
-        run) words='--rows --next --notices --echo --help' ;;
+        run) words='--rows --next --notices --echo --words --help' ;;
         words) words='--table --help' ;;
         host)
             words='--state --save-updates --rows --drop-unknown --listen --connect --serial --application

@@ -22,6 +22,7 @@ PRINTED = {
         "examples/first_contact.out"
     ),
     "./gatt_shell run examples/door.toml examples/keys.toml examples/late.script --echo": "",
+    "./gatt_shell run examples/door.toml examples/keys.toml examples/first_contact.script --echo --words": "",
     "./gatt_shell run examples/porch.toml examples/keys.toml examples/replacement.script"
     " --next examples/porch_next.toml": "examples/replacement.out",
     "./gatt_shell run examples/conformance/server.toml examples/keys.toml"

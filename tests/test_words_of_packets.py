@@ -1,4 +1,5 @@
-"""Tries `gatt_shell words`: what it says of each ATT PDU, and that it changes no other byte.
+"""Tries `gatt_shell words`: what it says of each ATT PDU, and that it changes no other byte. `att --words` and
+`run --words` have to print what `words` makes of their output.
 
 The names of PDUs and of error codes are those of the Core Specification, Vol 3 Part F, 3.4, and of its
 Supplement, Part B, 1.2.
@@ -6,6 +7,7 @@ Supplement, Part B, 1.2.
 
 import glob
 import os
+import re
 import subprocess
 
 import pytest
@@ -13,6 +15,8 @@ import pytest
 from documents import ROOT
 
 DOOR = f"{ROOT}/examples/door.toml"
+KEYS = f"{ROOT}/examples/keys.toml"
+PORCH, PORCH_NEXT = f"{ROOT}/examples/porch.toml", f"{ROOT}/examples/porch_next.toml"
 OWN = "efcdab8967452301f0debc9a78563412"
 # PDUs with their words, by opcode.
 PDUS = [
@@ -324,10 +328,8 @@ def test_a_long_type(program, folder):
     [
         (["--table", f"{ROOT}/examples/keys.toml"], 1, b"table: fault 11\n"),
         (["--table", f"{ROOT}/nothing"], 1, b"file: unreadable\n"),
-        (["--table"], 64, b""),
-        (["other"], 64, b""),
     ],
-    ids=["refused", "missing", "no-path", "a-word"],
+    ids=["refused", "missing"],
 )
 def test_refused(program, words, status, errors):
     """A table is checked before the input is read."""
@@ -356,3 +358,55 @@ def test_examples(program):
             assert not words.startswith(("malformed", "unknown", "PDU")), line
             count += is_pdu
     assert count > 100, "many are tried"
+
+
+@pytest.mark.parametrize("name", ["att_first", "discovery", "long_write"])
+def test_att(program, name):
+    """`att --words` prints the answers of `att`, with their words."""
+    with open(f"{ROOT}/examples/{name}.txt", "rb") as file:
+        asked = file.read()
+    plain, found = (
+        subprocess.run([program, "att", *words], input=asked, capture_output=True, check=True, timeout=60).stdout
+        for words in ([], ["--words"])
+    )
+    assert plain.count(b"\n") > 5
+    assert found == worded(program, plain)
+
+
+@pytest.mark.parametrize("shows", [[], ["--echo"], ["--echo", "--notices"]], ids=["frames", "lines", "all"])
+@pytest.mark.parametrize("script", ["first_contact", "bonded", "notifications", "long_write", "full_queue", "notices"])
+def test_run(program, script, shows):
+    """`run --words` prints the output of `run`, with its words and the names of its own table."""
+    words = [program, "run", DOOR, KEYS, f"{ROOT}/examples/{script}.script", *shows]
+    plain, found = (
+        subprocess.run([*words, *more], capture_output=True, check=True, timeout=60).stdout
+        for more in ([], ["--words"])
+    )
+    assert found == worded(program, plain, "--table", DOOR)
+
+
+def test_two_tables(program):
+    """If a script may replace the table, only handles with the same type in both tables are named."""
+    words = [program, "run", PORCH, KEYS, f"{ROOT}/examples/replacement.script", "--next", PORCH_NEXT, "--echo"]
+    ran = subprocess.run([*words, "--words"], capture_output=True, check=True, text=True, timeout=60)
+    alone = subprocess.run([program, "run", PORCH, KEYS, f"{ROOT}/examples/replacement.script", "--next", PORCH_NEXT,
+                            "--echo"], capture_output=True, check=True, text=True, timeout=60)
+    first, second = (worded(program, alone.stdout, "--table", it) for it in (PORCH, PORCH_NEXT))
+    differ = 0
+    for found, one, two in zip(ran.stdout.splitlines(), first.splitlines(), second.splitlines()):
+        if one == two:
+            assert found == one
+        else:
+            differ += 1
+            assert found == re.sub(r" \([^)]*\)", "", one)
+    assert differ > 0, "a handle has two types"
+
+
+def test_each_answer_at_once(program):
+    """`att --words` prints an answer with its words before the next PDU comes."""
+    with subprocess.Popen([program, "att", "--words"], stdin=subprocess.PIPE, stdout=subprocess.PIPE, text=True) as att:
+        for pdu, answer in (("0a0300", "0b4c6f636b  Read Response: 4c6f636b"), ("0a0600", "0b64  Read Response: 64")):
+            att.stdin.write(f"{pdu}\n")
+            att.stdin.flush()
+            assert att.stdout.readline() == f"{answer}\n"
+        att.stdin.close()

@@ -75,7 +75,7 @@ fn refusal_status(rt: &HostRuntime, refusal: &Refusal) -> u8
 }
 
 /// Returns the outcome of a command whose output was flushed. Its own fault comes first.
-fn outcome_of(ran: Result<(), ShellFault>, is_flushed: bool) -> Result<(), ShellFault>
+pub(crate) fn outcome_of(ran: Result<(), ShellFault>, is_flushed: bool) -> Result<(), ShellFault>
     ensures fault { (fault : ShellFault) → ran ≡ Err fault → result ≡ Err fault }
     ensures unwritten { ran ≡ Ok tt → is_flushed ≡ false → result
         ≡ Err ShellFault.Unwritten }
@@ -91,7 +91,10 @@ fn outcome_of(ran: Result<(), ShellFault>, is_flushed: bool) -> Result<(), Shell
 
 /// Answers PDUs from standard input. The output is written before each read, when full, and at the
 /// end.
-fn run_att(rt: &HostRuntime) -> Result<(), ShellFault> {
+fn run_att(rt: &HostRuntime, words: bool) -> Result<(), ShellFault> {
+    if words {
+        return wording::answer_lines(rt);
+    }
     let Ok(mut writer) = BufWriter::new(rt.alloc(), io::writer(rt)) else {
         return Err(ShellFault::Memory);
     };
@@ -185,10 +188,10 @@ fn unlocked_status(rt: &HostRuntime, unlocked: Unlocked) -> u8
 }
 
 /// Runs a script while no other program uses its subscriptions file, and returns the exit status.
-fn run_locked(rt: &HostRuntime, paths: RunPaths<'_>) -> u8 {
+fn run_locked(rt: &HostRuntime, paths: RunPaths<'_>, words: bool) -> u8 {
     match lock_rows(rt, paths.rows) {
         Ok(lock) => {
-            let status = exit_status(rt, run_script(rt, paths));
+            let status = exit_status(rt, run_script(rt, paths, words));
             drop(lock);
             status
         }
@@ -211,7 +214,10 @@ fn serve_locked(rt: &HostRuntime, paths: ServePaths<'_>, address: Address<'_>) -
 }
 
 /// Runs a script and prints its output, also if it fails. No file is opened before its turn.
-fn run_script(rt: &HostRuntime, paths: RunPaths<'_>) -> Result<(), ShellFault> {
+fn run_script(rt: &HostRuntime, paths: RunPaths<'_>, words: bool) -> Result<(), ShellFault> {
+    if words {
+        return wording::run_script(rt, paths);
+    }
     let Ok(mut writer) = BufWriter::new(rt.alloc(), io::writer(rt)) else {
         return Err(ShellFault::Memory);
     };
@@ -269,7 +275,7 @@ fn carry_out(rt: &HostRuntime, choice: &Choice<'_>) -> u8 {
             second,
             third,
         } => run_tell(rt, socket, command, [first, second, third]),
-        Choice::Att => exit_status(rt, run_att(rt)),
+        Choice::Att { words } => exit_status(rt, run_att(rt, words)),
         Choice::Check { table, keys } => {
             exit_status(rt, run_check(rt, TablePath(table), KeysPath(keys)))
         }
@@ -295,6 +301,7 @@ fn carry_out(rt: &HostRuntime, choice: &Choice<'_>) -> u8 {
             script,
             notices,
             echo,
+            words,
         } => {
             let paths = RunPaths {
                 table: TablePath(table),
@@ -307,7 +314,7 @@ fn carry_out(rt: &HostRuntime, choice: &Choice<'_>) -> u8 {
                     lines: echo,
                 },
             };
-            run_locked(rt, paths)
+            run_locked(rt, paths, words)
         }
         Choice::Words { table } => exit_status(rt, wording::add_words(rt, table.map(TablePath))),
         Choice::Serve {

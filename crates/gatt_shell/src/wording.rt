@@ -1,9 +1,13 @@
-//! The command `words`, which adds words to lines with ATT PDUs.
+//! Words for ATT PDUs: the command `words`, and the option of `att` and `run`.
 
+use crate::outcome_of;
 use att_words::{CopyFault, Handles, Worded};
-use gatt_commands::{LazyFile, ShellFault, TablePath, read_table};
+use gatt_commands::{
+    KeysPath, LazyFile, RowsOut, RowsReader, RunPaths, ShellFault, TablePath, att_lines, read_table,
+};
+use shell_files::{RowsWriter, read_all, read_next};
 use std::io;
-use std::io::BufWriter;
+use std::io::{BufWriter, Write};
 
 /// Copies standard input to standard output with words, and names handles by a table file, if any.
 ///
@@ -28,4 +32,65 @@ fn copy(rt: &HostRuntime, handles: Handles<'_>) -> Result<(), ShellFault> {
         Err(CopyFault::Unreadable) => Err(ShellFault::Unreadable),
         Err(CopyFault::Unwritten) => Err(ShellFault::Unwritten),
     }
+}
+
+/// Answers PDUs from standard input with words, as `att` does without.
+pub(crate) fn answer_lines(rt: &HostRuntime) -> Result<(), ShellFault> {
+    let Ok(writer) = BufWriter::new(rt.alloc(), io::writer(rt)) else {
+        return Err(ShellFault::Memory);
+    };
+    let mut worded = Worded::new(writer, Handles::unnamed());
+    let ran = att_lines(rt.alloc(), &mut rt.reader(), &mut worded);
+    outcome_of(ran, worded.flush().is_ok())
+}
+
+/// Runs a script with words, as `run` does without.
+///
+/// Reads the tables once: for the run, and for the names of handles that are the same in both.
+pub(crate) fn run_script(rt: &HostRuntime, paths: RunPaths<'_>) -> Result<(), ShellFault> {
+    let alloc = rt.alloc();
+    let first = read_all(alloc, &mut LazyFile::new(rt, paths.table.0))?;
+    let table = read_table(alloc, &mut first.as_slice())?;
+    let second = match paths.next.0 {
+        Some(path) => Some(read_all(alloc, &mut LazyFile::new(rt, path))?),
+        None => None,
+    };
+    let next = read_next(alloc, &mut text_of(&second))?;
+    let Ok(writer) = BufWriter::new(alloc, io::writer(rt)) else {
+        return Err(ShellFault::Memory);
+    };
+    let mut worded = Worded::new(writer, Handles::of(&table, next.as_ref()));
+    let ran = run_texts(rt, paths, first.as_slice(), text_of(&second), &mut worded);
+    outcome_of(ran, worded.flush().is_ok())
+}
+
+/// Returns the bytes of a file, if there is one.
+fn text_of(file: &Option<Vec<u8>>) -> Option<&[u8]> {
+    match file {
+        Some(bytes) => Some(bytes.as_slice()),
+        None => None,
+    }
+}
+
+/// Runs the script of files whose tables are read already.
+fn run_texts<W: Write>(
+    rt: &HostRuntime,
+    paths: RunPaths<'_>,
+    table: &[u8],
+    next: Option<&[u8]>,
+    writer: &mut W,
+) -> Result<(), ShellFault> {
+    let KeysPath(keys) = paths.keys;
+    let (mut table, mut next) = (table, next);
+    gatt_commands::run_script(
+        rt.alloc(),
+        &mut table,
+        &mut next,
+        &mut LazyFile::new(rt, keys),
+        &mut RowsReader::new(rt, paths.rows),
+        &mut LazyFile::new(rt, paths.script.0),
+        &mut RowsOut::new(RowsWriter::new(rt, paths.rows)),
+        paths.shows,
+        writer,
+    )
 }

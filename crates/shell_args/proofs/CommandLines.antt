@@ -17,7 +17,7 @@ use Rattle.clap.specs.declared.error.ErrorKind.TheVariants.{InvalidValue, Unknow
 use Rattle.clap.specs.declared.Error.{Error}
 use Rattle.clap.proofs.OnLiterals.{clap_on_literals}
 use Rattle.clap.proofs.WalkLemmas.{first_value-rows, one_text-rows, raw_values-rows}
-use Rattle.shell_args.specs.CommandLine.{command_line}
+use Rattle.shell_args.specs.CommandLine.{IsAttAlone, command_line}
 use Rattle.shell_args.specs.Refusal.{ShowsUnlessMemory, refusal_for}
 use Rattle.shell_args.specs.declared.words.Refusal.TheVariants.{Shown, Misunderstood, Memory}
 
@@ -26,11 +26,10 @@ pub att_taken : (program : List ℕ) → takes command_line (program ∷ codes "
 unfolding clap_on_literals command_line
 att_taken program = refl
 
--- the word `att` alone names the command `att`
-pub att_named : (program : List ℕ)
-    → option_map (λ named. named.0) (subcommand_of command_line (program ∷ codes "att" ∷ [])) ≡ Some (codes "att")
+-- it names the command `att` without its option
+pub att_alone : (program : List ℕ) → IsAttAlone (subcommand_of command_line (program ∷ codes "att" ∷ []))
 unfolding clap_on_literals command_line
-att_named program = refl
+att_alone program = (refl, refl)
 
 -- with no word the command is missing
 pub none_faults : fault_of command_line ([] ∷ []) ≡ MissingSubcommand ∷ []

@@ -1,5 +1,5 @@
 -- The command line of the program, in terms of clap's specification.
-use Rattle.std.specs.Prelude.{◌≡◌, ℕ, List, [], ◌∷◌, codes, map, take, unwrap_or, Bool, true, false, Option, Some, IfSome, option_map}
+use Rattle.std.specs.Prelude.{◌≡◌, ℕ, List, [], ◌∷◌, codes, map, take, unwrap_or, Bool, true, false, Option, Some, None, IfSome, option_map}
 use Rattle.clap.specs.Words.{App, Row, Rule, Shape, Text, all_of, first_of, new_app, new_rule, one_of, with_rule, with_subcommand}
 use Rattle.clap.specs.declared.builder.action.ArgAction.TheVariants.{Append, Set, SetTrue}
 use Rattle.shell_args.specs.declared.argument.Argument.{Argument}
@@ -55,7 +55,7 @@ with_subcommands app [] = app
 with_subcommands app (sub ∷ subs) = with_subcommands (with_subcommand app sub) subs
 
 abbrev pub att_shape : Shape
-att_shape = (new_app (codes "att")).top
+att_shape = shape_with (codes "att") (flag_rule (codes "words") ∷ [])
 
 abbrev pub check_shape : Shape
 check_shape = shape_with (codes "check") (file_rule (codes "TABLE") ∷ file_rule (codes "KEYS") ∷ [])
@@ -75,6 +75,7 @@ run_shape = shape_with (codes "run") (
     ∷ option_rule (codes "next")
     ∷ flag_rule (codes "notices")
     ∷ flag_rule (codes "echo")
+    ∷ flag_rule (codes "words")
     ∷ [])
 
 abbrev pub words_shape : Shape
@@ -143,10 +144,10 @@ command_line =
 
 -- The name that chooses a command.
 abbrev pub command_name : Choice → List ℕ
-command_name Att = codes "att"
+command_name (Att words) = codes "att"
 command_name (Check table keys) = codes "check"
 command_name (Show table keys rows attributes width) = codes "show"
-command_name (Run table next keys rows script notices echo) = codes "run"
+command_name (Run table next keys rows script notices echo words) = codes "run"
 command_name (Words table) = codes "words"
 command_name (Serve table keys rows address) = codes "serve"
 command_name (Host words) = codes "host"
@@ -171,7 +172,7 @@ IsSetIfGiven name arguments flag =
 
 -- The choice has the values that the arguments of its command give.
 abbrev pub HasFilesOf : List Row → Choice → Type 0
-HasFilesOf arguments Att = Unit {0}
+HasFilesOf arguments (Att words) = IsSetIfGiven (codes "words") arguments words
 HasFilesOf arguments (Check table keys) =
     IsGiven (codes "TABLE") arguments table.now × IsGiven (codes "KEYS") arguments keys.now
 HasFilesOf arguments (Show table keys rows attributes width) =
@@ -180,13 +181,14 @@ HasFilesOf arguments (Show table keys rows attributes width) =
     × IsGivenIfAny (codes "rows") arguments (option_map (λ path. path.now) rows)
     × IsSetIfGiven (codes "attributes") arguments attributes
     × IsGivenIfAny (codes "width") arguments (option_map (λ word. word.now) width)
-HasFilesOf arguments (Run table next keys rows script notices echo) =
+HasFilesOf arguments (Run table next keys rows script notices echo words) =
     IsGiven (codes "TABLE") arguments table.now × IsGiven (codes "KEYS") arguments keys.now
     × IsGiven (codes "SCRIPT") arguments script.now
     × IsGivenIfAny (codes "rows") arguments (option_map (λ path. path.now) rows)
     × IsGivenIfAny (codes "next") arguments (option_map (λ path. path.now) next)
     × IsSetIfGiven (codes "notices") arguments notices
     × IsSetIfGiven (codes "echo") arguments echo
+    × IsSetIfGiven (codes "words") arguments words
 HasFilesOf arguments (Words table) =
     IsGivenIfAny (codes "table") arguments (option_map (λ path. path.now) table)
 HasFilesOf arguments (Serve table keys rows address) =
@@ -229,3 +231,9 @@ abbrev pub HasFiles : Option (Text × List Row) → Choice → Type 0
 HasFiles named choice =
     IfSome (option_map (λ name_and_arguments. name_and_arguments.1) named)
     (λ arguments. HasFilesOf arguments choice)
+
+-- The command `att` without its option.
+abbrev pub IsAttAlone : Option (Text × List Row) → Type 0
+IsAttAlone None = ⊥
+IsAttAlone (Some (name, arguments)) =
+    (name ≡ codes "att") × (one_of (codes "words") arguments ≡ Some (codes "false"))

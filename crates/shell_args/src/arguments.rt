@@ -28,6 +28,8 @@ pub const NOTICES: &str = "notices";
 
 pub const ECHO: &str = "echo";
 
+pub const WORDS: &str = "words";
+
 pub const SOCKET: &str = "SOCKET";
 
 pub const COMMAND: &str = "COMMAND";
@@ -97,6 +99,12 @@ const ROWS_FILE: Argument = Argument {
     about: "The rows file: the subscriptions of peers with keys",
 };
 
+const ATT_ARGUMENTS: [Argument; 1] = [Argument {
+    name: WORDS,
+    takes: Takes::Nothing,
+    about: "Print after each answer what it says, as the command `words` does",
+}];
+
 const CHECK_ARGUMENTS: [Argument; 2] = [TABLE_FILE, KEY_FILE];
 
 const SHOW_ARGUMENTS: [Argument; 5] = [
@@ -119,7 +127,7 @@ const SHOW_ARGUMENTS: [Argument; 5] = [
     },
 ];
 
-const RUN_ARGUMENTS: [Argument; 7] = [
+const RUN_ARGUMENTS: [Argument; 8] = [
     TABLE_FILE,
     KEY_FILE,
     Argument {
@@ -142,6 +150,11 @@ const RUN_ARGUMENTS: [Argument; 7] = [
         name: ECHO,
         takes: Takes::Nothing,
         about: "Print each line of the script too, before its output",
+    },
+    Argument {
+        name: WORDS,
+        takes: Takes::Nothing,
+        about: "Print after each PDU what it says, as the command `words` does",
     },
 ];
 
@@ -302,7 +315,7 @@ pub const SUBCOMMANDS: [Subcommand; 8] = [
         name: help::ATT,
         about: help::ATT_ABOUT,
         details: help::ATT_DETAILS,
-        arguments: &[],
+        arguments: &ATT_ARGUMENTS,
     },
     Subcommand {
         name: help::CHECK,

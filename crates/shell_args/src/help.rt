@@ -26,7 +26,8 @@ Answer ATT PDUs, one line of hexadecimal each, from standard input.
 
 Each line of input is one ATT PDU in hexadecimal. All come from one connection of an unknown,
 unencrypted peer to the built-in example table. Each line of output is the answer to one PDU,
-in hexadecimal, or `-` if there is none. Blank lines are skipped.
+in hexadecimal, or `-` if there is none. Blank lines are skipped. With --words each answer
+is followed by two spaces and what it says.
 
 Example: the line `0a0300`, a Read Request of the handle 3, has the answer `0b4c6f636b`.
 
@@ -71,7 +72,8 @@ Each line of a script is an act of a phone or of the application. A phone connec
 encrypts its link or disconnects. The application updates a value, authorizes a phone, passes the
 time or replaces the table. After each line the program prints what was refused, what each phone
 received, and which connection the host ended. With --notices it also prints the notices to the
-application, and with --echo the line itself first. docs/SCRIPTS.md has all lines and their output.
+application, and with --echo the line itself first. With --words each PDU is followed by what
+it says. docs/SCRIPTS.md has all lines and their output.
 
 The rows file has the subscriptions of peers with keys. It is read first and written at the end. A
 missing one is empty.

@@ -1,10 +1,10 @@
 //! The choice of a command, and refusals.
-ghost use Rattle.std.specs.Prelude.{◌≡◌, ◌⊎◌, [], ◌∷◌, map, drop, codes, option_map, string_bytes};
+ghost use Rattle.std.specs.Prelude.{◌≡◌, ◌⊎◌, [], ◌∷◌, map, drop, false, codes, option_map, string_bytes};
 ghost use Rattle.std.specs.Prelude.{IfSome, IfOk, IfErr, IsErrAnd, MatchResult};
 ghost use Rattle.clap.specs.Words.{IsAmong, app_of, fault_of, kind_of};
-ghost use Rattle.clap.specs.Words.{found_of, rows_of, subcommand_name_of, subcommand_of, subcommand_rows_of};
+ghost use Rattle.clap.specs.Words.{found_of, one_of, rows_of, subcommand_name_of, subcommand_of, subcommand_rows_of};
 ghost use Rattle.shell_args.specs.CommandLine.{program_line, command_line, command_name};
-ghost use Rattle.shell_args.specs.CommandLine.{HasFiles, HasFilesOf};
+ghost use Rattle.shell_args.specs.CommandLine.{HasFiles, HasFilesOf, IsAttAlone};
 ghost use Rattle.shell_args.specs.Refusal.{ShowsUnlessMemory, refusal_for};
 
 use crate::host::hosting;
@@ -20,7 +20,10 @@ use std::alloc::{AllocError, Global};
 #[derive(Drop)]
 pub enum Choice<'a> {
     /// Answers ATT PDUs from standard input.
-    Att,
+    Att {
+        /// Set to print what each answer says.
+        words: bool,
+    },
     /// Checks files.
     Check {
         table: &'a str,
@@ -50,6 +53,8 @@ pub enum Choice<'a> {
         notices: bool,
         /// Set to print each line of the script.
         echo: bool,
+        /// Set to print what each PDU says.
+        words: bool,
     },
     /// Adds words to lines with ATT PDUs.
     Words {
@@ -109,8 +114,8 @@ fn choice_in<'a>(matches: &ArgMatches<'a>) -> Result<Choice<'a>, Refusal>
     ensures named { IfOk result
         (λ choice. subcommand_name_of matches.now ≡ Some (command_name choice)) }
     ensures files { IfOk result (HasFiles (subcommand_rows_of matches.now)) }
-    ensures att { subcommand_name_of matches.now ≡ Some (codes "att") → result
-        ≡ Ok Choice.Att }
+    ensures att { IsAttAlone (subcommand_rows_of matches.now) → result
+        ≡ Ok (Choice.Att false) }
     ensures err { IfErr result (λ refusal. refusal ≡ Refusal.Misunderstood) }
 {
     let Some((name, named)) = matches.subcommand() else {
@@ -122,10 +127,11 @@ fn choice_in<'a>(matches: &ArgMatches<'a>) -> Result<Choice<'a>, Refusal>
 fn choice_of<'a>(name: &str, matches: &ArgMatches<'a>) -> Option<Choice<'a>>
     ensures named { IfSome result (λ choice. command_name choice ≡ name.now) }
     ensures files { IfSome result (HasFilesOf (rows_of (found_of matches.now))) }
-    ensures att { name.now ≡ codes "att" → result ≡ Some Choice.Att }
+    ensures att { IsAttAlone (Some (name.now, rows_of (found_of matches.now)))
+        → result ≡ Some (Choice.Att false) }
 {
     match name {
-        help::ATT => Some(Choice::Att),
+        help::ATT => Some(answering(matches)),
         help::CHECK => checking(matches),
         help::SHOW => showing(matches),
         help::RUN => running(matches),
@@ -134,6 +140,18 @@ fn choice_of<'a>(name: &str, matches: &ArgMatches<'a>) -> Option<Choice<'a>>
         help::HOST => hosting(matches),
         help::TELL => telling(matches),
         _ => None,
+    }
+}
+
+#[tactic(auto, using(crate::proofs::CommandLines::flag_in_rows))]
+fn answering<'a>(matches: &ArgMatches<'a>) -> Choice<'a>
+    ensures name { command_name result ≡ codes "att" }
+    ensures files { HasFilesOf (rows_of (found_of matches.now)) result }
+    ensures alone { one_of (codes "words") (rows_of (found_of matches.now)) ≡ Some (codes "false")
+        → result ≡ Choice.Att false }
+{
+    Choice::Att {
+        words: matches.get_flag(arguments::WORDS),
     }
 }
 
@@ -161,6 +179,7 @@ fn running<'a>(matches: &ArgMatches<'a>) -> Option<Choice<'a>>
         script: matches.get_str(arguments::SCRIPT)?,
         notices: matches.get_flag(arguments::NOTICES),
         echo: matches.get_flag(arguments::ECHO),
+        words: matches.get_flag(arguments::WORDS),
     })
 }
 
@@ -251,7 +270,7 @@ pub fn chosen<'a>(alloc: Global, words: &'a [String]) -> Result<Choice<'a>, Refu
     // After the program's name, each of these words alone has this result, unless memory is
     // refused.
     ensures att { drop 1 (map string_bytes words.now) ≡ codes "att" ∷ []
-        → MatchResult result (λ choice. choice ≡ Choice.Att)
+        → MatchResult result (λ choice. choice ≡ Choice.Att false)
         (λ refusal. refusal ≡ Refusal.Memory) }
     ensures help { drop 1 (map string_bytes words.now) ≡ codes "--help" ∷ []
         → IsErrAnd result (ShowsUnlessMemory ErrorKind.DisplayHelp) }
@@ -270,12 +289,13 @@ pub fn chosen<'a>(alloc: Global, words: &'a [String]) -> Result<Choice<'a>, Refu
     }
 }
 
-/// Returns the parser's error of words that are not understood, for `host`, `show` and `tell`.
+/// Returns the parser's error of words that are not understood, for `host`, `show`, `tell` and
+/// `words`.
 ///
 /// The other commands print nothing then.
 pub fn complaint(alloc: Global, words: &[String]) -> Option<Error> {
     let name = words.get(1)?;
-    if !matches!(name.as_str(), help::HOST | help::SHOW | help::TELL) {
+    if !matches!(name.as_str(), help::HOST | help::SHOW | help::TELL | help::WORDS) {
         return None;
     }
     let error = command(alloc).ok()?.try_get_matches_from(words).err()?;

@@ -1,9 +1,9 @@
-use Rattle.std.proofs.Common.{◌≡◌, [], ◌∷◌, map, codes, option_map, string_bytes, List, ℕ, Some, true, refl, sym, subst, ap, ◌∙◌}
-use Rattle.clap.specs.Words.{HasKind, Kinds, app_of, fault_of, is_simple, is_simple_and_free, subcommand_name_of, subcommand_of, subcommand_rows_of, takes}
-use Rattle.shell_args.specs.CommandLine.{command_line}
+use Rattle.std.proofs.Common.{◌≡◌, [], ◌∷◌, map, codes, option_map, string_bytes, List, ℕ, true, refl, sym, subst, ap, ◌∙◌}
+use Rattle.clap.specs.Words.{HasKind, Kinds, app_of, fault_of, is_simple, is_simple_and_free, subcommand_of, subcommand_rows_of, takes}
+use Rattle.shell_args.specs.CommandLine.{IsAttAlone, command_line}
 use Rattle.shell_args.specs.Refusal.{refusal_for}
 use Rattle.shell_args.specs.declared.words.Refusal.TheVariants.{Shown}
-use Rattle.shell_args.proofs.CommandLines.{att_taken, att_named, line_simple, line_simple_and_free, none_faults, help_faults, version_faults, takes_behind, named_behind, missing_refused, help_shown, version_shown, shown_among, name-rows, kinds_at, faulty}
+use Rattle.shell_args.proofs.CommandLines.{att_alone, att_taken, line_simple, line_simple_and_free, none_faults, help_faults, version_faults, takes_behind, named_behind, missing_refused, help_shown, version_shown, shown_among, name-rows, kinds_at, faulty}
 use Rattle.std.proofs.lemmas.Result.{IfOk-weaker}
 use Rattle.std.specs.Prelude.{IfOk}
 use Rattle.shell_args.specs.CommandLine.{HasFiles}
@@ -49,9 +49,7 @@ returns-in-Ok-try_get_matches_from-clause-att c = λ e.
     (c.in-Ok-try_get_matches_from.ensures.matches (ap is_simple app_is ∙ line_simple)).1 in
     let rows_are : subcommand_rows_of m ≡ subcommand_of command_line ([] ∷ codes "att" ∷ []) =
     rows ∙ ap (λ app. subcommand_of app words) app_is ∙ named_behind words _ e in
-    let name_is : subcommand_name_of m ≡ Some (codes "att") =
-    name-rows m ∙ ap (option_map (λ named. named.0)) rows_are ∙ att_named [] in
-    rw (c.choice_in.ensures.att name_is) refl
+    rw (c.choice_in.ensures.att (subst IsAttAlone (sym rows_are) (att_alone []))) refl
 
 pub returns-in-Ok-try_get_matches_from-clause-help :
     goal.returns-in-Ok-try_get_matches_from-clause-help
