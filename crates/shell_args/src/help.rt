@@ -49,15 +49,16 @@ checked first. The number of the first fault goes to standard error, and nothing
 
 pub const SHOW: &str = "show";
 
-pub const SHOW_ABOUT: &str = "Show a table in words, who may use it, and what is wrong in a file";
+pub const SHOW_ABOUT: &str = "Show who may do what with a table, and what is wrong in a file";
 
 pub const SHOW_DETAILS: &str = "\
-Show a table in words, who may use it, and what is wrong in a file.
+Show who may do what with a table, and what is wrong in a file.
 
-Each attribute has a line: its handle, what it is, its type with its name, how many bytes its value
-may have, and what may be done with it. With KEYS there follow the handles that a stranger and each
-peer with a key may read, write and be notified of. The rows file is only checked. The number of the
-first fault goes to standard error, as by `check`, with its place and its cause.
+A matrix has a row for each value and descriptor, and a column for each kind of key in KEYS. The
+first column is that of a link without a key: of everybody. Its letters are explained below it. What
+follows is what an author has perhaps not meant: a value that everybody may write, a rule without
+effect, a key that is too short. The rows file is only checked. The number of the first fault goes
+to standard error, as by `check`, with its place and its cause.
 
   gatt_shell show examples/door.toml examples/keys.toml";
 

@@ -295,7 +295,10 @@ pub fn chosen<'a>(alloc: Global, words: &'a [String]) -> Result<Choice<'a>, Refu
 /// The other commands print nothing then.
 pub fn complaint(alloc: Global, words: &[String]) -> Option<Error> {
     let name = words.get(1)?;
-    if !matches!(name.as_str(), help::HOST | help::SHOW | help::TELL | help::WORDS) {
+    if !matches!(
+        name.as_str(),
+        help::HOST | help::SHOW | help::TELL | help::WORDS
+    ) {
         return None;
     }
     let error = command(alloc).ok()?.try_get_matches_from(words).err()?;
