@@ -1,0 +1,283 @@
+"""Checks what `gatt_shell show` says of rights: the matrix, its columns and widths, and what to look at twice.
+
+The rights are proved to be those of the server; here stand whole outputs, and slips of an author that the
+program has to name.
+"""
+
+import subprocess
+import time
+
+import pytest
+
+from parties import ROOT, text_of
+
+DOOR = text_of(f"{ROOT}/examples/door.toml")
+KEYS = text_of(f"{ROOT}/examples/keys.toml")
+
+# A key of LE Secure Connections, and one that is neither authenticated nor long.
+SECURE = """[[key]]
+address = "c0:00:00:00:00:02"
+kind = "random"
+rand = "0000000000000000"
+ediv = 0
+ltk = "0f0e0d0c0b0a09080706050403020100"
+size = 16
+authenticated = true
+secure = true
+"""
+WEAK = """[[key]]
+address = "00:11:22:33:44:66"
+kind = "public"
+rand = "0404040404040404"
+ediv = 4
+ltk = "a1a2a3a4a5a6a7000000000000000000"
+size = 7
+authenticated = false
+"""
+
+SHORT_KEY = "   10  a key of 7 may write it: `key_size = 16` in `write` would exclude it"
+OPEN = "   21  everybody may write it: `write` has no rule"
+
+# Slips in the table of the door: a text, another one in its place, and what to look at twice besides OPEN.
+LAST = """uuid = "fff4"
+value = ""
+max = 512
+properties = ["read", "write", "command"]
+"""
+FIRST_FFF3 = 'value = "01"\nproperties = ["read"]\n'
+SLIPS = {
+    "no rule for writing": (
+        "write = { authenticated = true }\n", "",
+        [
+            "   10  everybody may write it: `write` has no rule",
+            "   10  to write it needs less than to read it: compare `write` and `read`",
+        ],
+    ),
+    "a rule for writing without its property": (
+        FIRST_FFF3, FIRST_FFF3 + "write = { authenticated = true }\n",
+        [SHORT_KEY, "   15  `write` has no effect: there is no property write or command"],
+    ),
+    "a rule for reading without its property": (
+        FIRST_FFF3, 'value = "01"\nproperties = ["write"]\nread = { encrypted = true }\n',
+        [
+            SHORT_KEY,
+            "   15  everybody may write it: `write` has no rule",
+            "   15  `read` has no effect: there is no property read, notify or indicate",
+        ],
+    ),
+    "a short key where a long one was meant": (
+        "write = { authenticated = true, key_size = 16, authorized = true }",
+        "write = { authenticated = true, key_size = 7, authorized = true }",
+        [
+            SHORT_KEY,
+            "   13  a key of 7 may write it: `key_size = 16` in `write` would exclude it",
+            "   13  to write it needs less than to read it: compare `write` and `read`",
+        ],
+    ),
+    "a subscription that no key permits": (
+        "config = { encrypted = true }", "config = { secure = true }",
+        [SHORT_KEY, "   10  nobody may subscribe to it: `config` and `read` exclude all"],
+    ),
+    "a subscription that asks for more than reading": (
+        "config = { encrypted = true }", "config = { authenticated = true }",
+        [SHORT_KEY, "   10  some who may read it may not subscribe: compare `config` and `read`"],
+    ),
+    "the rules for reading and writing exchanged": (
+        "read = { encrypted = true }\nwrite = { authenticated = true }\n",
+        "read = { authenticated = true }\nwrite = { encrypted = true }\n",
+        ["   10  to write it needs less than to read it: compare `write` and `read`"],
+    ),
+    "an authorization without encryption": (
+        FIRST_FFF3, FIRST_FFF3 + "read = { authorized = true }\n",
+        [SHORT_KEY, "   15  `authorized` without `encrypted`: a stranger can use the address of another"],
+    ),
+    "a rule that no key meets": (
+        FIRST_FFF3, FIRST_FFF3 + "read = { secure = true }\n",
+        [SHORT_KEY, "   15  nobody may use it: no key of the key file meets its rules"],
+    ),
+    "a service that is not finished": (
+        LAST, LAST + '\n[[service]]\nuuid = "fffa"\n',
+        [SHORT_KEY, "   22  a service without characteristics"],
+    ),
+}
+
+# Values, and what is shown of them.
+VALUES = {
+    "": "empty",
+    "41": "41",
+    "4142": "4142",
+    "414243": '"ABC"',
+    "41424344454647484950": '"ABCDEFGHIP"',
+    "4142434445464748495051": '"ABCDEFGH"..',
+    "414222": "414222",
+    "41425c": "41425c",
+    "41427f": "41427f",
+    "000102030405": "000102030405",
+    "00010203040506": "0001020304..",
+}
+
+# A table of 112 services with 498 attributes, and 20 keys of four kinds.
+LARGE = "".join(
+    f"""[[service]]
+uuid = "{0xA000 + number:04x}"
+[[service.characteristic]]
+uuid = "{0xB000 + number:04x}"
+value = "00"
+{'properties = ["read", "write", "notify"]' if number < 50 else 'properties = ["read", "write"]'}
+read = {{ encrypted = true }}
+write = {{ authenticated = true, key_size = 16 }}
+{"config = { encrypted = true }" if number < 50 else ""}
+[[service.characteristic.descriptor]]
+uuid = "2901"
+value = "6261"
+properties = ["read"]
+"""
+    for number in range(112)
+)
+MANY_KEYS = "".join(
+    f"""[[key]]
+address = "00:00:00:00:01:{number:02x}"
+kind = "public"
+rand = "{number + 1:016x}"
+ediv = {number}
+ltk = "{number:032x}"
+size = {16 if number % 2 else 7}
+authenticated = {str(number % 4 < 2).lower()}
+"""
+    for number in range(20)
+)
+
+
+@pytest.fixture
+def show(program, folder):
+    """Shows texts of a table and of keys, with further words. Returns the lines of the output."""
+
+    def shown(table, keys, *words):
+        paths = []
+        for name, text in (("table.toml", table), ("keys.toml", keys)):
+            if text is not None:
+                paths.append(f"{folder}/{name}")
+                with open(paths[-1], "w", encoding="utf-8") as file:
+                    file.write(text)
+        ran = subprocess.run([program, "show", *paths, *words], capture_output=True, text=True)
+        assert (ran.returncode, ran.stderr) == (0, "")
+        return ran.stdout.splitlines()
+
+    return shown
+
+
+def findings_in(lines):
+    if lines[-1] == "Nothing to look at twice.":
+        return []
+    return lines[lines.index("Look twice:") + 1 :]
+
+
+def rows_in(lines):
+    """The rows of a matrix of one block, without its header and the headings."""
+    return [line for line in lines[1 : lines.index("")] if line.startswith(" ")]
+
+
+@pytest.mark.parametrize("name", ["door", "bell", "porch"])
+def test_an_example(program, name):
+    words = [program, "show", f"{ROOT}/examples/{name}.toml", f"{ROOT}/examples/keys.toml"]
+    assert subprocess.run(words, capture_output=True, text=True).stdout == text_of(f"{ROOT}/examples/{name}.shown")
+
+
+def test_the_rights_of_the_door(show):
+    everybody, encrypted, long_key, short_key = zip(*(row.split()[-4:] for row in rows_in(show(DOOR, KEYS))))
+    assert everybody == ("r", "rn", ".", ".", "r", ".", "r", "rwc")
+    assert encrypted == ("r", "rn", "rn", ".", "r", "r", "r", "rwc")
+    assert long_key == ("r", "rn", "rwn", "(rw)", "r", "r", "r", "rwc")
+    assert short_key == ("r", "rn", "rwn", ".", "r", "r", "r", "rwc")
+
+
+@pytest.mark.parametrize("slip", SLIPS)
+def test_a_slip_is_named(show, slip):
+    before, after, findings = SLIPS[slip]
+    assert DOOR.count(before) == 1
+    assert sorted(findings_in(show(DOOR.replace(before, after), KEYS))) == sorted([*findings, OPEN])
+
+
+def test_a_table_without_findings(show):
+    table = DOOR.replace(LAST, "").replace("[[service.characteristic]]\n\n", "").rstrip()
+    table = table.removesuffix("[[service.characteristic]]")
+    assert show(table, KEYS.rpartition("[[key]]")[0])[-1] == "Nothing to look at twice."
+
+
+def test_a_key_that_permits_nothing(show):
+    table = DOOR.replace("encrypted = true", "authenticated = true")
+    assert "       a key of 16 permits no more than no key" in findings_in(show(table, KEYS))
+
+
+def test_no_key_makes_a_difference(show):
+    bell = text_of(f"{ROOT}/examples/bell.toml")
+    assert findings_in(show(bell, KEYS)) == ["       no key makes a difference to this table"]
+
+
+def test_without_a_key_file_there_is_one_column(show):
+    lines = show(DOOR, None)
+    assert lines[0].split() == ["size", "at", "first", "A"]
+    assert "A  no key: everybody, and each peer until its link is encrypted" in lines
+
+
+def test_keys_of_one_kind_share_a_column(show):
+    lines = show(DOOR, KEYS + SECURE + WEAK + WEAK.replace("44:66", "44:77").replace("0404", "0505"))
+    assert lines[0].split()[-6:] == ["A", "B", "C", "D", "E", "F"]
+    legend = lines[lines.index("F  key of 7") :]
+    assert legend[:3] == ["F  key of 7", "     public 00:11:22:33:44:66", "     public 00:11:22:33:44:77"]
+    assert "E  key of 16, authenticated, secure connections" in lines
+
+
+def test_one_peer_with_two_keys(show):
+    lines = show(DOOR, KEYS)
+    assert "     public 00:11:22:33:44:55 (also D)" in lines
+    assert "     public 00:11:22:33:44:55 (also C)" in lines
+
+
+def test_a_secure_key_that_is_not_authenticated(show):
+    keys = SECURE.replace("authenticated = true", "authenticated = false")
+    table = DOOR.replace(FIRST_FFF3, FIRST_FFF3 + "read = { secure = true }\n")
+    assert "   15  nobody may use it: no key of the key file meets its rules" in findings_in(show(table, keys))
+
+
+@pytest.mark.parametrize("width", [1, 40, 60, 80, 132, 65_535])
+def test_a_width(show, width):
+    lines = show(DOOR, KEYS + SECURE, "--width", str(width))
+    blocks = "\n".join(lines).split("\n\nr read")[0].split("\n\n")
+    names = [block.split("\n")[0].split()[3:] for block in blocks]
+    assert sum(names, []) == ["A", "B", "C", "D", "E"]
+    assert all(len(block.split("\n")) == len(blocks[0].split("\n")) for block in blocks)
+    if width >= 60:
+        assert max(map(len, "\n".join(blocks).split("\n"))) <= width
+
+
+@pytest.mark.parametrize("width", ["0", "-1", "65536", "wide", ""])
+def test_a_wrong_width(program, width):
+    words = [program, "show", f"{ROOT}/examples/door.toml", f"--width={width}"]
+    ran = subprocess.run(words, capture_output=True, text=True)
+    assert (ran.returncode, ran.stdout) == (64, "")
+    assert "width" in ran.stderr
+
+
+def test_attributes(show):
+    lines = show(DOOR, KEYS, "--attributes")
+    assert len(lines) == 21
+    assert lines[0] == "   1  service         1800 Generic Access"
+    assert lines[9].endswith("1     read notify if encrypted; write if authenticated")
+
+
+def test_values_and_names(show):
+    table = """[[service]]
+uuid = "12345678-9abc-def0-0123-456789abcdef"
+"""
+    for value in VALUES:
+        table += f'[[service.characteristic]]\nuuid = "fff1"\nvalue = "{value}"\nproperties = ["read"]\n'
+    assert [row.split()[3] for row in rows_in(show(table, None))] == list(VALUES.values())
+
+
+def test_a_large_table(show):
+    begun = time.monotonic()
+    lines = show(LARGE, MANY_KEYS)
+    assert time.monotonic() - begun < 10
+    assert lines[0].split()[-5:] == ["A", "B", "C", "D", "E"]
+    assert len(rows_in(lines)) == 224
