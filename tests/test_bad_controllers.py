@@ -8,8 +8,8 @@ import pytest
 from parties import (
     ADVERTISE_ENABLE, DOOR, PATIENCE, Application, Controller, Device, controller_at, stream_to,
 )
-from parties.served import RESET, serving, visitor, waiting
-from parties.watching import count_of, is_idle
+from parties.doors import RESET, serving, visitor, waiting
+from parties.watching import is_idle
 
 # How long a controller may be silent in most scenarios, in seconds.
 SHORT = ["--patience", "2"]
@@ -47,7 +47,7 @@ def test_silent_controllers_connect(folder):
     assert 19.5 < time.monotonic() - begun < 40, "within their patience"
     assert application.line() == "+ serving", "which the application reads, and no more"
     device.said(GIVEN_UP, 10)  # another thread reads the log, perhaps later than the lines above were read
-    assert count_of(device, GIVEN_UP) == 10, "each is given up"
+    assert len(device.logged(GIVEN_UP)) == 10, "each is given up"
     for one in silent:
         assert (one.recv(100), one.recv(100)) == (RESET, b""), "after a Reset"
         one.close()
@@ -107,7 +107,7 @@ def test_a_connection_that_is_never_made(folder):
         time.sleep(0.02)
     # An attempt to connect takes three seconds, and these were more than six.
     assert slowest < 2.5, "an application does not wait for an attempt"
-    assert count_of(device, "controller: %s:%d: no answer" % address) == 1, "it is logged once"
+    assert len(device.logged("controller: %s:%d: no answer" % address)) == 1, "it is logged once"
     is_idle("a connection that is never made", device)
     for one in blockers:
         one.close()
@@ -160,7 +160,7 @@ def test_half_an_initialisation(folder):
         found = half.received.count(b"\1") and len(half.commands) + 1
         assert found == count + 1, f"one that answers {count}: commands"
         half.close()
-        device.said(GIVEN_UP, count_of(device, GIVEN_UP) or 1)
+        device.said(GIVEN_UP, len(device.logged(GIVEN_UP)) or 1)
     talker = stream_to(device)
     begun, heard = time.monotonic(), b"?"
     try:

@@ -11,7 +11,7 @@ import pytest
 
 from parties import DOOR, OWNER, PATIENCE, STRANGER, Device, is_one_packet, soon
 from parties.bridges import is_hung_up, last_packet
-from parties.served import NAME, NAME_READ
+from parties.doors import NAME, NAME_READ
 from parties.watching import spent
 
 RESET = "01030c00"

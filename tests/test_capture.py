@@ -6,8 +6,7 @@ import time
 import pytest
 
 from parties import DOOR, PATIENCE, STRANGER, Application, Device, captured, controller_at
-from parties.served import LISTEN, NAME, NAME_READ
-from parties.watching import count_of
+from parties.doors import LISTEN, NAME, NAME_READ
 
 
 def capturing(path, *words):
@@ -30,7 +29,7 @@ def test_a_capture_that_is_full(folder):
     controller.close()
     controller = controller_at(device)
     assert controller.is_advertised(), "served further"
-    assert count_of(device, "capture: full") == 1, "said once"
+    assert len(device.logged("capture: full")) == 1, "said once"
     assert os.stat(path).st_size <= 4_000, "its size stays"
     device.end()
     controller.close()

@@ -77,7 +77,8 @@ def test_a_claim(row):
         assert functions and clauses, f"`{part.strip()}` names no function and no clause"
         for function in functions:
             for clause in clauses:
-                is_there = any(is_public and clause in all_of for is_public, _, all_of in crate.find(function))
+                found = crate.find(function)
+                is_there = any(is_public and clause in all_of for is_public, _, all_of in found)
                 assert is_there, f"`{function}` has no clause `{clause}`"
 
 
@@ -102,12 +103,17 @@ def test_the_promise():
     for row in rows_of(PROVED, "Isolation in full") + rows_of(PROVED, "gatt_theorems"):
         name = ""
         for it in names_in(row[-1]):
-            name, field = it.split(".") if "." in it else (it, "") if it in records and not name else (name, it)
-            assert name in records and (not field or field in fields[name]), f"the promise has no {name}.{field}"
+            if "." in it:
+                name, field = it.split(".")
+            else:
+                name, field = (it, "") if it in records and not name else (name, it)
+            is_there = name in records and (not field or field in fields[name])
+            assert is_there, f"the promise has no {name}.{field}"
             cited += [(name, field)] if field else []
     for name, all_of in fields.items():
         for field in all_of:
-            assert cited.count((name, field)) == 1, f"the rows that have the field {name}.{field} of the promise"
+            rows = cited.count((name, field))
+            assert rows == 1, f"the rows that have the field {name}.{field} of the promise"
 
 
 def test_scripts():

@@ -14,12 +14,13 @@ from documents import PAGES, ROOT, text_of
 pytestmark = pytest.mark.without_program
 
 EVERYDAY = (
-    "application byte connection event host item key kit link listener policy rule run service share standing table"
+    "application byte connection event host item key kit link listener policy rule run service share standing"
+    " table"
 ).split()
 # Names in which a term is only a part.
 NAMES = (
-    r"Service Changed|Attribute (?:Protocol|Profile|Not Found)|Read By \w+ Type|Handle Value \w+|Secure Connections"
-    r"|BSD-3-Clause"
+    r"Service Changed|Attribute (?:Protocol|Profile|Not Found)|Read By \w+ Type|Handle Value \w+"
+    r"|Secure Connections|BSD-3-Clause"
 )
 # Pages that link no terms.
 APART = ("docs/GLOSSARY.md", "docs/API.md", "docs/CONTRACTS.md", "CHANGELOG.md")

@@ -12,7 +12,7 @@ import time
 import pytest
 
 from parties import DOOR, PATIENCE, PROGRAM, Application, Device
-from parties.served import LISTEN
+from parties.doors import LISTEN
 from parties.watching import is_idle
 
 TIME = re.compile(r"\d{4}-\d\d-\d\dT\d\d:\d\d:\d\d\.\d{3}Z (.*)")

@@ -7,8 +7,8 @@ import time
 import pytest
 
 from parties import DOOR, Application, Controller, Device, SerialLine, controller_at, soon
-from parties.served import LISTEN, LONG, NAME, NAME_READ, visitor
-from parties.watching import count_of, is_idle, memory
+from parties.doors import LISTEN, LONG, NAME, NAME_READ, visitor
+from parties.watching import is_idle, memory
 
 STALLED = "controller given up: it takes no octets"
 TOO_MUCH = "controller given up: too many octets wait for it"
@@ -108,7 +108,7 @@ def test_a_reader_who_stops(folder, begin):
     quiet, begun, slowest = Quiet(controller.stream), time.monotonic(), 0
     writer = threading.Thread(target=quiet.sends, args=(3_000,), daemon=True)
     writer.start()
-    while count_of(device, STALLED) == 0 and time.monotonic() < begun + 20:
+    while not device.logged(STALLED) and time.monotonic() < begun + 20:
         since = time.monotonic()
         answer = application.ask("value 10")
         if answer != "value 10 00":
@@ -138,7 +138,7 @@ def test_a_reader_for_whom_too_much_waits(folder):
     before, quiet = memory(device), Quiet(controller.stream)
     writer = threading.Thread(target=quiet.sends, args=(100_000,), daemon=True)
     writer.start()
-    assert soon(lambda: count_of(device, TOO_MUCH), 120), "it is given up"
+    assert soon(lambda: device.logged(TOO_MUCH), 120), "it is given up"
     quiet.is_over = True
     assert application.up_to("+ waiting")[-1] == "+ waiting", "it is told"
     assert memory(device) - before < 8_192, "less than 8 MiB of memory"

@@ -11,6 +11,7 @@ import pytest
 from parties import PATIENCE, PROGRAM, Device, soon, text_of
 from parties.homes import Home, end, is_refused, read, write
 from parties.places import write_text
+from parties.ports import port_of
 from parties.tables import KEYS, OWNER_NAME, VALUE_CONFIG, spelled
 
 LOCKED = (1, "", "rows: locked\n")
@@ -86,20 +87,6 @@ def test_two_runs(home):
     os.close(pipe)
     assert (*first.communicate(timeout=PATIENCE), first.returncode) == ("", "", 0), "the first run"
     assert command(remembers, home.path) == DONE, "a run after it"
-
-
-def port_of(process):
-    """The port at which a program listens, or none if it does not listen yet."""
-    folder = f"/proc/{process.pid}/fd"
-    try:
-        files = {os.readlink(f"{folder}/{it}") for it in os.listdir(folder)}
-    except FileNotFoundError:
-        return None
-    for line in text_of("/proc/net/tcp").splitlines()[1:]:
-        _, address, _, state, *_, inode = line.split()[:10]
-        if state == "0A" and f"socket:[{inode}]" in files:
-            return int(address.split(":")[1], 16)
-    return None
 
 
 def test_a_device_beside_serve(home):

@@ -6,8 +6,8 @@ import time
 import pytest
 
 from parties import ADVERTISE_ENABLE, DOOR, OWNER, STRANGER, Application, Controller, Device, SerialLine
-from parties.served import CODE_READ, NAME, NAME_READ, RESET, visitor
-from parties.watching import count_of, is_idle
+from parties.doors import CODE_READ, NAME, NAME_READ, RESET, visitor
+from parties.watching import is_idle
 
 # How long a controller may be silent, in seconds.
 SHORT = ["--patience", "2"]
@@ -75,7 +75,7 @@ def test_old_octets(line):
     device = Device(*DOOR, "--serial", line.path)
     controller = Controller(line)
     assert controller.is_advertised(), "it is initialised"
-    assert count_of(device, "stopped") == 0, "at once"
+    assert device.logged("stopped") == [], "at once"
     device.end()
 
 

@@ -17,7 +17,9 @@ PRINTED = {
     "./gatt_shell check examples/door.toml examples/keys.toml": "attributes 21\nkeys 3\n",
     "./gatt_shell show examples/door.toml examples/keys.toml": "examples/door.shown",
     "./gatt_shell run examples/door.toml examples/keys.toml examples/bonded.script": "examples/bonded.out",
-    "./gatt_shell run examples/door.toml examples/keys.toml examples/bonded.script --echo": "examples/bonded.echoed",
+    "./gatt_shell run examples/door.toml examples/keys.toml examples/bonded.script --echo": (
+        "examples/bonded.echoed"
+    ),
     "./gatt_shell run examples/door.toml examples/keys.toml examples/first_contact.script": (
         "examples/first_contact.out"
     ),
@@ -29,7 +31,9 @@ PRINTED = {
     " examples/conformance/reading.script": (
         "examples/conformance/reading.out"
     ),
-    "./gatt_shell run examples/door.toml examples/keys.toml examples/notices.script --notices": "examples/notices.out",
+    "./gatt_shell run examples/door.toml examples/keys.toml examples/notices.script --notices": (
+        "examples/notices.out"
+    ),
     "./gatt_shell run examples/door.toml examples/keys.toml examples/bonded.script"
     " | ./gatt_shell words --table examples/door.toml": (
         "Q > 01120a000f  Error Response: Write Request of handle 10 (fff1), Insufficient Encryption\n"
@@ -151,7 +155,8 @@ def test_a_script(program, script):
 
 @pytest.mark.parametrize("name", ["discovery", "long_write"])
 def test_pdus(program, name):
-    assert printed(f"./gatt_shell att < examples/{name}.txt", program) == text_of(f"examples/{name}_answers.txt")
+    answers = printed(f"./gatt_shell att < examples/{name}.txt", program)
+    assert answers == text_of(f"examples/{name}_answers.txt")
 
 
 def test_the_tour_of_pdus(program):
@@ -166,7 +171,8 @@ def test_the_tour_of_pdus(program):
 def test_the_manual(program):
     """The manual pages are those that the pages and the help of the program make."""
     words = ["docs/manual", "--check", program]
-    ran = subprocess.run(words, cwd=ROOT, stdin=subprocess.DEVNULL, capture_output=True, text=True, timeout=300)
+    how = {"stdin": subprocess.DEVNULL, "capture_output": True, "text": True, "timeout": 300}
+    ran = subprocess.run(words, cwd=ROOT, **how)
     assert ran.returncode == 0, ran.stdout + ran.stderr
 
 

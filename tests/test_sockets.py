@@ -9,8 +9,8 @@ import time
 import pytest
 
 from parties import DOOR, PATIENCE, Application, Device
-from parties.served import LISTEN, NAME, NAME_READ, RESET, serving, visitor
-from parties.watching import count_of, highest, is_idle, limit
+from parties.doors import LISTEN, NAME, NAME_READ, RESET, serving, visitor
+from parties.watching import highest, is_idle, limit
 
 # A user that this machine need not have.
 ANOTHER = 12345
@@ -147,7 +147,7 @@ def is_once_logged(device, line):
     """A device that lacks descriptors logs so once, and does not spin."""
     device.said(line)
     is_idle("no descriptors", device, 3)
-    assert count_of(device, line) == 1, "one line"
+    assert len(device.logged(line)) == 1, "one line"
 
 
 def is_soon_served(device, streams, first):

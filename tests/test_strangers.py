@@ -3,7 +3,7 @@
 import time
 
 from parties import OWNER, STRANGER
-from parties.served import NAME, NAME_READ, serving, visitor
+from parties.doors import NAME, NAME_READ, serving, visitor
 from parties.watching import is_idle
 
 # Another phone without a key.

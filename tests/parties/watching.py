@@ -5,12 +5,6 @@ import resource
 import time
 
 
-def count_of(device, line):
-    """How many lines of the log begin so."""
-    with device.changed:
-        return sum(it.startswith(line) for it in device.log)
-
-
 def spent(pid):
     """The processor time that a process has taken, in milliseconds."""
     with open(f"/proc/{pid}/stat") as file:
