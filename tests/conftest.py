@@ -1,4 +1,4 @@
-"""What all tests share: the program that they try, a folder for each test, and the number of checks.
+"""What all tests share: the program that they try, a folder for each test, their order, and the number of checks.
 
 The environment variable GATT_SHELL is the path of the program. If it is not set, the first test that needs it
 compiles it without proofs, unless it is there and its sources have not changed. That takes two minutes of a
@@ -9,6 +9,7 @@ import gc
 import os
 import shutil
 import subprocess
+import sys
 import tempfile
 import warnings
 
@@ -18,6 +19,9 @@ ROOT = os.path.dirname(os.path.dirname(os.path.realpath(__file__)))
 UNPROVED = f"{ROOT}/crates/gatt_shell/out/unproved/gatt_shell"
 
 pytest.register_assert_rewrite("parties")
+
+# Where the compiled tests are saved: each process of a run side by side would else compile all of them.
+sys.pycache_prefix, sys.dont_write_bytecode = f"{ROOT}/tests/out/bytecode", False
 
 
 class Checks:
@@ -51,6 +55,40 @@ def pytest_configure(config):
     config.pluginmanager.register(Checks(config), "checks")
 
 
+def pytest_collection_modifyitems(items):
+    """Has the tests that take longest begin first: a run side by side does not end with them."""
+
+    def seconds(item):
+        mark = item.get_closest_marker("long")
+        return mark.args[0] if mark else 0
+
+    items.sort(key=seconds, reverse=True)
+
+
+@pytest.hookimpl(optionalhook=True)
+def pytest_xdist_make_scheduler(config, log):
+    """Makes a scheduler that has each process know one test besides the one that it plays.
+
+    That of pytest-xdist gives a process many at once: at the end one may have a whole file left, and the
+    others nothing.
+    """
+    from xdist.scheduler import LoadScheduling
+
+    class OneByOne(LoadScheduling):
+        most = 1
+
+        def schedule(self):
+            """Gives each process the first tests by turns, and a second one, without which it does not begin."""
+            super().schedule()
+            self.most = 2
+            super().schedule()
+
+        def _send_tests(self, node, num):
+            super()._send_tests(node, max(0, min(num, self.most - len(self.node2pending[node]))))
+
+    return OneByOne(config, log)
+
+
 def pytest_unconfigure(config):
     if not hasattr(config, "workerinput"):
         shutil.rmtree(os.environ.pop("BUILT_ONCE"), ignore_errors=True)
@@ -71,17 +109,16 @@ def hci_bridge():
 
     Only a kernel with a controller has a user channel: interop/kernel.py tries that one.
     """
+    from parties.building import once, ran
+
     compiler = shutil.which("cc") or shutil.which("gcc") or shutil.which("clang")
     if compiler is None:
         pytest.skip("no C compiler: Debian's gcc and libc6-dev, or clang, are one")
-    with tempfile.TemporaryDirectory() as path:
-        words = [
-            compiler, "-std=c11", "-O1", "-g", "-Wall", "-Wextra", "-Wpedantic", "-Wconversion", "-Werror",
-            "-fsanitize=address,undefined", f"-I{ROOT}/bridge", f"{ROOT}/bridge/hci_bridge.c",
-            f"{ROOT}/tests/c/test_channel.c", "-o", f"{path}/hci_bridge",
-        ]
-        subprocess.run(words, check=True)
-        yield f"{path}/hci_bridge"
+    words = [
+        compiler, "-std=c11", "-O1", "-g", "-Wall", "-Wextra", "-Wpedantic", "-Wconversion", "-Werror",
+        "-fsanitize=address,undefined", "-Ibridge", "bridge/hci_bridge.c", "tests/c/test_channel.c", "-o",
+    ]
+    return once("hci_bridge", lambda path: ran([*words, path], "hci_bridge"))
 
 
 @pytest.fixture

@@ -35,6 +35,7 @@ class Halfway(Controller):
         super().take(packet)
 
 
+@pytest.mark.long(23)
 def test_silent_controllers_connect(folder):
     """Ten controllers connect and say nothing, and then a real one."""
     device, application = waiting(folder, *SHORT)
@@ -85,6 +86,7 @@ def test_silent_controllers_listen(folder):
     device.end()
 
 
+@pytest.mark.long(12)
 def test_a_connection_that_is_never_made(folder):
     """What a device connects to takes no connections and refuses none: applications are answered at once."""
     path, server = f"{folder}/socket", socket.socket()
@@ -151,6 +153,7 @@ def test_a_vanished_controller(folder, has_octets):
     real.close()
 
 
+@pytest.mark.long(11)
 def test_half_an_initialisation(folder):
     """A controller that answers some of the commands only is given up, wherever it stops."""
     device, application = waiting(folder, *SHORT)

@@ -59,6 +59,7 @@ def test_a_signal(lockd, folder):
 
 
 @pytest.mark.parametrize("seed", range(4))
+@pytest.mark.long(10)
 def test_kills(lockd, folder, seed):
     """A phone writes without an end, and the lock is killed at random moments: the next one has each value
     that was acknowledged, or the one that was sent after it."""

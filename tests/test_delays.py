@@ -69,6 +69,7 @@ def test_saves_within_an_initialisation(home):
     assert [it for it in device.log if "given up" in it] == [], "nobody is given up"
 
 
+@pytest.mark.long(11)
 def test_a_device_that_was_stopped(home):
     """A device that was stopped for longer than its patience gives nobody up for that."""
     device = home.device("--patience", "2")

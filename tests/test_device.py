@@ -169,6 +169,7 @@ def play_a_day(folder):
     return capture
 
 
+@pytest.mark.long(15)
 def test_a_day(folder):
     """A day of a device, whose capture has what was exchanged."""
     play_a_day(folder)
@@ -181,6 +182,7 @@ def test_a_day_by_tshark(folder):
     is_read_by_tshark(play_a_day(folder))
 
 
+@pytest.mark.long(31)
 def test_a_late_indication(folder):
     """An indication that is never confirmed is late after 30 seconds."""
     path = f"{folder}/bell.socket"
@@ -202,6 +204,7 @@ def test_a_late_indication(folder):
     assert controller.hears(64, 0.5) is None, "is told"
 
 
+@pytest.mark.long(10)
 def test_a_stranger(folder):
     """Silent strangers are sent away; phones with a key are not."""
     path = f"{folder}/stranger.socket"

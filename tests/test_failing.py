@@ -6,6 +6,7 @@ updates. Then it is killed, and started again without faults.
 
 import concurrent.futures
 import errno
+import json
 import os
 import re
 import shutil
@@ -18,6 +19,7 @@ import pytest
 from parties import DISCONNECT, ROOT, STRANGER, controller_at
 from parties.building import once, ran
 from parties.homes import AT_GUEST, AT_OWNER, AT_STRANGER, Home, guest_comes, owner_comes
+from parties.places import text_of, write_text
 from parties.tables import GUEST_NAME, LONG, OWNER_NAME, VALUE, VALUE_CONFIG, sealed, spelled
 
 # The kinds of faults, with the number of the error; and whether the program ends by it.
@@ -27,8 +29,9 @@ KINDS = [
 ]
 NAMES = ["once-ENOSPC", "once-EIO", "from-ENOSPC", "from-EIO", "short", "before", "after"]
 KILLS = ("before", "after")
-# So many devices are played with at once.
-AT_ONCE = 4
+# So many devices are played with at once, and into so many tests the calls of each fault are divided.
+AT_ONCE = 3
+PARTS = {"state": 4, "rows": 2}
 # The calls of a save in their order, besides the permission of a file that is there already. An empty
 # file is not written to.
 SAVE = "unlink open write sync rename open-folder sync-folder"
@@ -213,23 +216,28 @@ def tracer(folder):
 
 
 def calls_of(room, tracer, saved):
-    """The calls of a play without a fault."""
-    play = Play(tempfile.mkdtemp(dir=room), tracer, saved, "none", 0, 0)
-    play.with_fault()
-    play.without_fault()
-    assert play.wrong == [], f"{saved} without a fault"
-    calls = play.calls()
+    """The calls of a play without a fault, which is played once for all tests."""
+
+    def record(path):
+        play = Play(tempfile.mkdtemp(dir=room), tracer, saved, "none", 0, 0)
+        play.with_fault()
+        play.without_fault()
+        write_text(path, json.dumps([play.wrong, play.calls()]))
+
+    wrong, calls = json.loads(text_of(once(f"calls.{saved}", record)))
+    assert wrong == [], f"{saved} without a fault"
     saves = {it.replace("chmod ", "").strip() for it in re.split(r"(?=\bunlink\b)", " ".join(calls)) if it}
     assert saves - {SAVE, SAVE.replace("write ", "")} == set(), f"{saved}: the order of each save"
     return calls
 
 
+@pytest.mark.long(10)
+@pytest.mark.parametrize("saved, part", [(saved, it) for saved, count in PARTS.items() for it in range(count)])
 @pytest.mark.parametrize("kind, fault", KINDS, ids=NAMES)
-@pytest.mark.parametrize("saved", ["state", "rows"])
-def test_each_call(folder, tracer, saved, kind, fault):
+def test_each_call(folder, tracer, saved, part, kind, fault):
     """What was promised before a fault of any call is there after a start without faults."""
     calls = enumerate(calls_of(folder, tracer, saved), 1)
-    chosen = [number for number, name in calls if kind != "short" or name == "write"]
+    chosen = [number for number, name in calls if kind != "short" or name == "write"][part :: PARTS[saved]]
     with concurrent.futures.ThreadPoolExecutor(AT_ONCE) as pool:
         plays = list(pool.map(lambda number: played(folder, tracer, saved, kind, number, fault), chosen))
     failed = "".join(f"\n{name}: {wrong}" for name, wrong in plays if wrong)

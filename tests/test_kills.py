@@ -123,6 +123,7 @@ class Play:
 
 
 @pytest.mark.parametrize("seed", range(8), ids="seed-{}".format)
+@pytest.mark.long(10)
 def test_a_state(home, seed):
     """Killed at random moments, a device has all that was answered, or what was said after it."""
     killer, play = Killer(seed), Play()

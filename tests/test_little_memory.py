@@ -79,6 +79,7 @@ def asked(folder):
     return device
 
 
+@pytest.mark.long(10)
 def test_requests(asked):
     """A device answers requests without an end, and runs."""
     assert asked.process.poll() is None, "it runs"

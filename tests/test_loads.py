@@ -84,6 +84,7 @@ def test_floods(door, application):
         assert heard[name] == wanted[name], f"{name}: all is answered"
 
 
+@pytest.mark.long(15)
 def test_a_loud_phone(folder):
     """No phone has an application cut off that reads, be it slow; one that reads nothing is cut off."""
     path, count, parts = f"{folder}/loud.socket", 1_700, 17
@@ -146,6 +147,7 @@ def application_of(device, word):
     ("--application", in_pieces, 0.25), ("--application", by_lines, 0.3),
     ("--application-port", in_larger_pieces, 0.25),
 ], ids=["pieces-by-a-path", "lines-by-a-path", "larger-pieces-by-a-port"])
+@pytest.mark.long(26)
 def test_a_slow_application(folder, word, read, pause):
     """An application at a path that reads anything in five seconds is not cut off, nor is one at a port that
     reads more."""
@@ -162,6 +164,7 @@ def test_a_slow_application(folder, word, read, pause):
     flood.end()
 
 
+@pytest.mark.long(30)
 def test_a_deaf_application_at_a_port(folder):
     """An application at a port has 20 seconds, because the system sees its reads late."""
     word = "--application-port"
@@ -200,6 +203,7 @@ def test_a_busy_controller(door, application):
         it.end()
 
 
+@pytest.mark.long(11)
 def test_idle(folder):
     """With no phone nothing wakes the program."""
     device = Door(folder, "--idle", "30").device

@@ -16,7 +16,7 @@ from parties.building import once, ran, run
 from parties.compiling import LINKED
 from parties.emulated import TARGET
 from parties.places import text_of
-from parties.releases import broken_links, checkout_at, copied, logic, made_up_verdict, need, write
+from parties.releases import broken_links, checkout_at, linked, logic, made_up_verdict, need, write
 
 PROGRAM, ARCHIVE = "crates/gatt_shell/out/gatt_shell", "crates/gihandop_c/out/libgihandop_c.a"
 LOG = "crates/gatt_shell/out/build.log"
@@ -64,8 +64,8 @@ def checkout(program):
 
 @pytest.fixture
 def own(checkout, folder):
-    """A copy that a test may change."""
-    return copied(checkout, f"{folder}/own/gihandop")
+    """A copy whose files a test may replace."""
+    return linked(checkout, f"{folder}/own/gihandop")
 
 
 @pytest.fixture
@@ -108,7 +108,10 @@ def test_fault(own, folder, path, change, wanted):
 def test_newer_source(own, folder):
     """tools/release refuses a source that is newer than the verdict."""
     source = "crates/octet_io/src/lib.rt"
-    os.utime(f"{own}/{source}")
+    place = os.path.dirname(f"{own}/{source}")
+    before = os.stat(place).st_mtime_ns
+    write(f"{own}/{source}", text_of(f"{own}/{source}"))
+    os.utime(place, ns=(before, before))
     refuses(own, folder, f"{source} is newer than")
 
 
@@ -120,23 +123,24 @@ def test_refused_gate(checkout, folder, text, wanted):
     refuses(checkout, folder, wanted, "--gate", f"{folder}/gate.log")
 
 
-def test_twice(release, program, folder):
-    """The release of a copy with other paths and times is the same."""
-    other = checkout_at("another-place/deeper", program)
+@pytest.mark.long(20)
+def test_twice(program, folder, request):
+    """The release of a copy with other paths and times, by the log of a gate, is the same."""
+    need("tools/release", "make, gcc, binutils", "make", "cc", "ar")
+    other = linked(checkout_at("another-place/deeper", program), f"{folder}/other/gihandop")
+    verdict = f"== octet_io\n{made_up_verdict()}rt: octet_io proved\n"
+    write(f"{folder}/gate.log", f"{verdict}== gatt_shell\n{text_of(f'{other}/{LOG}')}rt: gatt_shell proved\n")
+    os.remove(f"{other}/{LOG}")
     time.sleep(1.1)
-    ran(["tools/release", f"{folder}/release"], cwd=other)
+    ran(["tools/release", "--gate", f"{folder}/gate.log", f"{folder}/release"], cwd=other)
+    assert not os.path.exists(f"{other}/{LOG}"), "no log is made"
+    # Another test may have made it meanwhile.
+    release = request.getfixturevalue("release")
+    assert sorted(os.listdir(f"{folder}/release")) == sorted(os.listdir(release)), "the names of its files"
     assert sums_of(f"{folder}/release") == sums_of(release), "a release, twice"
 
 
-def test_gate(own, release, folder):
-    """The release by the log of a gate is the same."""
-    verdict = f"== octet_io\n{made_up_verdict()}rt: octet_io proved\n"
-    write(f"{folder}/gate.log", f"{verdict}== gatt_shell\n{text_of(f'{own}/{LOG}')}rt: gatt_shell proved\n")
-    os.remove(f"{own}/{LOG}")
-    ran(["tools/release", "--gate", f"{folder}/gate.log", f"{folder}/release"], cwd=own)
-    assert sums_of(f"{folder}/release") == sums_of(release), "the release of the gate"
-
-
+@pytest.mark.long(12)
 def test_sums(release):
     """SHA256SUMS has the sums of the files."""
     ran(["sha256sum", "--strict", "-c", "SHA256SUMS"], cwd=release)

@@ -5,7 +5,7 @@ import re
 
 import pytest
 
-from parties.building import ran, run
+from parties.building import once, ran, run
 from parties.places import ROOT, write_text
 from parties.rust import AT, MANIFEST, cargo_env, need_rust
 
@@ -23,6 +23,7 @@ BUILT_FOR = {
 }
 
 
+@pytest.mark.long(25)
 def test_tests(folder):
     """Each test of the crate passes, those of its documents and examples too."""
     # Tests of documents need the library after cargo has unlocked its folder, so they have one of their own.
@@ -67,11 +68,12 @@ def test_without_an_archive(folder):
 @pytest.mark.parametrize("machine", BUILT_FOR, ids=["-".join(it) for it in BUILT_FOR])
 def test_build_script(folder, machine):
     """In a folder that has all archives, the build script finds that of a machine, or refuses the machine."""
-    tree, script = f"{folder}/tree", f"{folder}/build_script"
+    tree = f"{folder}/tree"
     for target in ("", "aarch64-unknown-linux-gnu"):
         os.makedirs(f"{tree}/crates/gihandop_c/out/{target}", exist_ok=True)
         write_text(f"{tree}/crates/gihandop_c/out/{target}/libgihandop_c.a", "")
-    ran(["rustc", "--edition", "2024", "-D", "warnings", "-o", script, f"{ROOT}/rust/build.rs"])
+    words = ["rustc", "--edition", "2024", "-D", "warnings", "rust/build.rs", "-o"]
+    script = once("build_script", lambda path: ran([*words, path], "build.rs"))
     env = dict(zip(("CARGO_CFG_TARGET_ARCH", "CARGO_CFG_TARGET_OS"), machine))
     env["HOST"] = "x86_64-unknown-linux-gnu"
     env.update({"CARGO_MANIFEST_DIR": f"{tree}/rust", "PATH": os.environ["PATH"]})

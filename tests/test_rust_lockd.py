@@ -221,6 +221,7 @@ def test_refused(lockd, folder):
 
 
 @pytest.mark.parametrize("seed", range(4))
+@pytest.mark.long(10)
 def test_kills(lockd, folder, seed):
     """A phone writes without an end, until the lock is killed: all that was answered is saved."""
     state = made(f"{folder}/killed")
@@ -256,6 +257,7 @@ def test_kills(lockd, folder, seed):
     assert answered >= ROUNDS // 2, f"the phone wrote: {answered} writes were answered"
 
 
+@pytest.mark.long(31)
 def test_stay(lockd, folder):
     """A phone without a key may stay for a while, and one with a key stays."""
     door = Door(lockd, made(f"{folder}/silent"))

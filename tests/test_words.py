@@ -45,18 +45,19 @@ def filled(name, size):
     return f"{text}#{' ' * (size - len(text.encode()) - 1)}"
 
 
-def made(folder):
-    """Makes the files of a case."""
+def made(folder, words):
+    """Makes the files of a case, and the large ones if its words name them."""
     for name in os.listdir(f"{ROOT}/examples"):
         if name.endswith(".toml"):
             shutil.copy(f"{ROOT}/examples/{name}", folder)
     large = {
-        "at_limit.toml": filled("door.toml", LARGEST),
-        "over_limit.toml": filled("door.toml", LARGEST + 1),
-        "keys_at_limit.toml": filled("keys.toml", LARGEST),
-        "keys_over_limit.toml": filled("keys.toml", LARGEST + 1),
+        "at_limit.toml": ("door.toml", LARGEST),
+        "over_limit.toml": ("door.toml", LARGEST + 1),
+        "keys_at_limit.toml": ("keys.toml", LARGEST),
+        "keys_over_limit.toml": ("keys.toml", LARGEST + 1),
     }
-    for name, text in {**FILES, **large}.items():
+    texts = {name: filled(*it) for name, it in large.items() if name in words.split()}
+    for name, text in {**FILES, **texts}.items():
         with open(f"{folder}/{name}", "w", encoding="utf-8") as file:
             file.write(text)
     os.symlink("rows", f"{folder}/link")
@@ -78,7 +79,7 @@ def is_as_wanted(text, wanted):
 
 @pytest.mark.parametrize(("status", "words", "output", "errors", "rows"), cases())
 def test_words(folder, program, status, words, output, errors, rows):
-    made(folder)
+    made(folder, words)
     before = contents(folder)
     shell = ["bash", "-c", f'"$0" {words}', program]
     ran = subprocess.run(shell, cwd=folder, stdin=subprocess.DEVNULL, capture_output=True, timeout=60)

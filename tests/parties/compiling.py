@@ -8,14 +8,12 @@ such an archive has no plain programs, and none for valgrind.
 import functools
 import os
 import shutil
-import subprocess
-import tempfile
 
 import pytest
 
-from parties.building import is_instrumented, once, ran
+from parties.building import is_instrumented, once, ran, run
 from parties.emulated import TARGET, TARGETS, lay_wrapper, missing_for, output
-from parties.places import ROOT
+from parties.places import ROOT, text_of, write_text
 
 MADE = f"{ROOT}/crates/gihandop_c/out/libgihandop_c.a"
 ARCHIVE = os.path.realpath(os.environ.get("GIHANDOP_ARCHIVE", MADE))
@@ -74,11 +72,12 @@ def archive_for(target):
 @functools.cache
 def has_sanitizers():
     """Tells whether the first compiler has the sanitizers."""
-    with tempfile.TemporaryDirectory() as room:
-        with open(f"{room}/empty.c", "w", encoding="ascii") as file:
-            file.write("int main(void) { return 0; }\n")
-        words = [compilers()[0], *SANITIZERS, "-o", f"{room}/empty", f"{room}/empty.c"]
-        return subprocess.run(words, capture_output=True).returncode == 0
+
+    def build(path):
+        empty = write_text(f"{path}.c", "int main(void) { return 0; }\n")
+        write_text(path, str(run([compilers()[0], *SANITIZERS, "-o", f"{path}.program", empty]).returncode))
+
+    return text_of(once("has_sanitizers", build)) == "0"
 
 
 @functools.cache

@@ -2,9 +2,11 @@
 
 import os
 import shutil
-import subprocess
 
 import pytest
+
+from parties.building import once, ran
+from parties.places import write_text
 
 # Each sync takes SYNC_TAKES milliseconds, and adds a byte to the file SYNCS. No sync succeeds while the file
 # FULL is there.
@@ -35,10 +37,11 @@ class Disk:
         compiler = shutil.which("cc")
         if compiler is None:
             pytest.skip("there is no compiler for C here, which another disk needs")
-        source, library = f"{folder}/disk.c", f"{folder}/disk.so"
-        with open(source, "w") as file:
-            file.write(DISK)
-        subprocess.run([compiler, "-O1", "-shared", "-fPIC", "-o", library, source], check=True)
+
+        def build(path):
+            ran([compiler, "-O1", "-shared", "-fPIC", "-o", path, write_text(f"{path}.c", DISK)], "a disk")
+
+        library = once("disk.so", build)
         self.full, self.counted = f"{folder}/full", f"{folder}/syncs"
         variables = {"LD_PRELOAD": library, "SYNC_TAKES": takes, "FULL": self.full, "SYNCS": self.counted}
         self.through = ["env", *(f"{name}={value}" for name, value in variables.items())]

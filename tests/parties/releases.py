@@ -27,10 +27,13 @@ def need(what, packages, *tools):
 
 
 def write(path, text):
-    """Writes a file, and makes its folder."""
+    """Writes a file, in place of one that is there and with its permission, and makes its folder."""
     os.makedirs(os.path.dirname(path), exist_ok=True)
-    with open(path, "w", encoding="utf-8") as file:
+    with open(f"{path}.written", "w", encoding="utf-8") as file:
         file.write(text)
+    if os.path.exists(path):
+        shutil.copymode(path, f"{path}.written")
+    os.replace(f"{path}.written", path)
 
 
 def files_below(folder):
@@ -90,11 +93,16 @@ def checkout_at(place, program):
     return to
 
 
-def copied(checkout, to):
+def copied(checkout, to, *words):
     """Another copy, which a test may change, with the same times."""
     os.makedirs(os.path.dirname(to), exist_ok=True)
-    subprocess.run(["cp", "-a", checkout, to], check=True)
+    subprocess.run(["cp", "-a", *words, checkout, to], check=True)
     return to
+
+
+def linked(checkout, to):
+    """Another copy in which a test may replace files. It may change none, since they are those of the checkout."""
+    return copied(checkout, to, "-l")
 
 
 def broken_links(folder):
