@@ -9,8 +9,8 @@ import pytest
 
 from parties import DOOR, PROGRAM, text_of
 from parties.key_tool import (
-    CENTRAL, DEVICE, KEYS, LEGACY, LEGACY_INFO, SECURE, TAKEN, accepted, begun, keys, mode_of, own_file, put,
-    refused,
+    CENTRAL, DEVICE, INFO, KEYS, LEGACY, LEGACY_INFO, SECURE, TAKEN, accepted, begun, from_info, keys, mode_of,
+    own_file, put, refused,
 )
 
 
@@ -55,6 +55,19 @@ def test_refused_keys(folder, text, why):
     assert text_of(path) == text, "is not changed"
     ran = subprocess.run([PROGRAM, "check", DOOR[0], path], capture_output=True)
     assert ran.returncode == 1, "gatt_shell"
+
+
+def test_the_program(folder):
+    """The program accepts what tools/keys makes."""
+    path = f"{folder}/checked.toml"
+    for words in (
+        ["new", CENTRAL, "public"], ["new", DEVICE, "random", "--secure"],
+        ["new", DEVICE, "public", "--authenticated", "--size", "7"],
+        *(from_info(f"{INFO}/{bond}-central.info", "central") for bond in ("secure", "legacy")),
+    ):
+        keys(*words, "--add", path)
+    ran = subprocess.run([PROGRAM, "check", DOOR[0], path], capture_output=True, text=True)
+    assert (ran.returncode, ran.stdout, ran.stderr) == (0, "attributes 21\nkeys 5\n", ""), "gatt_shell check"
 
 
 def test_two_keys(folder):

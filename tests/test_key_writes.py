@@ -16,6 +16,8 @@ from parties.key_tool import (
     DEVICE, LEGACY, SECURE, TAKEN, TOOL, accepted, begun, mode_of, own_file, put, refused,
 )
 
+pytestmark = pytest.mark.without_program
+
 
 @pytest.mark.parametrize("option, name, count", [
     ("--output", "new.toml", 1), ("--add", "other.toml", 1), ("--add", "keys.toml", 2),

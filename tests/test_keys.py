@@ -1,14 +1,14 @@
 """Tries tools/keys: new keys, keys from BlueZ and to it, what it refuses, and a Python without tomllib."""
 
-import subprocess
-
 import pytest
 
-from parties import DOOR, PROGRAM, ROOT, text_of
+from parties import ROOT, text_of
 from parties.key_tool import (
     CENTRAL, CONFIRMED, DEVICE, INFO, KEYS, LEGACY, LEGACY_INFO, SECURE, SHORT, accepted, fields_of,
     from_info, keys, put, refused,
 )
+
+pytestmark = pytest.mark.without_program
 
 BONDS = {"secure": SECURE, "legacy": LEGACY, "confirmed": CONFIRMED, "short": SHORT}
 LEGACY_CENTRAL = text_of(f"{INFO}/legacy-central.info")
@@ -231,16 +231,3 @@ def test_refused_without_tomllib(text):
     """A Python without tomllib refuses what it does not understand."""
     with pytest.raises(ValueError):
         KEYS.plain_toml(text)
-
-
-def test_the_program(folder):
-    """The program accepts what tools/keys makes."""
-    path = f"{folder}/checked.toml"
-    for words in (
-        ["new", CENTRAL, "public"], ["new", DEVICE, "random", "--secure"],
-        ["new", DEVICE, "public", "--authenticated", "--size", "7"],
-        *(from_info(f"{INFO}/{bond}-central.info", "central") for bond in ("secure", "legacy")),
-    ):
-        keys(*words, "--add", path)
-    ran = subprocess.run([PROGRAM, "check", DOOR[0], path], capture_output=True, text=True)
-    assert (ran.returncode, ran.stdout, ran.stderr) == (0, "attributes 21\nkeys 5\n", ""), "gatt_shell check"

@@ -220,6 +220,34 @@ def test_blocking(folder):
         gihandop.BlockingDevice(path + "x", retry=None).__enter__()
 
 
+@in_loop
+async def test_a_flood_of_writes(folder):
+    """A phone writes as fast as it can: each write is told, and each answer is found."""
+    path = f"{folder}/door.socket"
+    host = door(path)
+    async with gihandop.Device(path) as device:
+        controller = await apart(controller_at, host)
+        await apart(controller.is_advertised)
+        controller.connect(64, OWNER)
+        await apart(controller.encrypt, 64)
+        writing = asyncio.ensure_future(
+            apart(lambda: [controller.ask(64, f"120a00{at % 2:02x}") for at in range(300)])
+        )
+        for at in range(300):
+            await within(device.update(21, at.to_bytes(2, "big")))
+            assert await within(device.value(21)) == at.to_bytes(2, "big"), "the value in a flood"
+            if at % 50 == 0:
+                assert len(await within(device.connections())) == 1, "who is connected"
+        assert await within(writing) == ["13"] * 300, "all are written"
+        written = []
+        while len(written) < 300:
+            notice = await within(device.__anext__())
+            if isinstance(notice, gihandop.Written):
+                written.append(notice.value[0])
+        assert written == [at % 2 for at in range(300)], "all are told, in order"
+        controller.close()
+
+
 def test_types(folder):
     """mypy finds nothing, if it is there."""
     mypy = [sys.executable, "-m", "mypy"]

@@ -5,13 +5,12 @@ import tracemalloc
 
 import pytest
 
-from parties import OWNER, controller_at
-from parties.asynchronous import (
-    apart, door, error_of, gihandop, heard, in_loop, pretended, rest_of, timed, within,
-)
+from parties.asynchronous import error_of, gihandop, heard, in_loop, pretended, rest_of, timed, within
 
 # Each warning is an error, also one of a socket that is not closed.
-pytestmark = [pytest.mark.filterwarnings("error"), pytest.mark.usefixtures("collected")]
+pytestmark = [
+    pytest.mark.without_program, pytest.mark.filterwarnings("error"), pytest.mark.usefixtures("collected"),
+]
 
 
 @in_loop
@@ -122,31 +121,3 @@ async def test_a_flood(folder):
         assert notices[1:100] == [gihandop.Written(1, 10, value)] * 99, "the next"
         assert isinstance(notices[100], gihandop.Lost) and notices[100].count > 1_000, "how many are lost"
         assert await heard(device, 20) == [gihandop.Written(1, 10, value)] * 20, "and on"
-
-
-@in_loop
-async def test_a_flood_of_writes(folder):
-    """A phone writes as fast as it can: each write is told, and each answer is found."""
-    path = f"{folder}/door.socket"
-    host = door(path)
-    async with gihandop.Device(path) as device:
-        controller = await apart(controller_at, host)
-        await apart(controller.is_advertised)
-        controller.connect(64, OWNER)
-        await apart(controller.encrypt, 64)
-        writing = asyncio.ensure_future(
-            apart(lambda: [controller.ask(64, f"120a00{at % 2:02x}") for at in range(300)])
-        )
-        for at in range(300):
-            await within(device.update(21, at.to_bytes(2, "big")))
-            assert await within(device.value(21)) == at.to_bytes(2, "big"), "the value in a flood"
-            if at % 50 == 0:
-                assert len(await within(device.connections())) == 1, "who is connected"
-        assert await within(writing) == ["13"] * 300, "all are written"
-        written = []
-        while len(written) < 300:
-            notice = await within(device.__anext__())
-            if isinstance(notice, gihandop.Written):
-                written.append(notice.value[0])
-        assert written == [at % 2 for at in range(300)], "all are told, in order"
-        controller.close()
