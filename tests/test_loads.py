@@ -130,15 +130,19 @@ def floods_for_long(controller):
         pass
 
 
-def application_of(device, word):
-    """The stream of an application at a path or a port."""
+def application_of(device, word, is_narrow=False):
+    """The stream of an application at a path or a port. The system takes little for a narrow one."""
     place = device.said("listening for an application: ")
     if word == "--application":
         stream = socket.socket(socket.AF_UNIX)
         stream.connect(place)
     else:
         host, port = place.rsplit(":", 1)
-        stream = socket.create_connection((host, int(port)))
+        stream = socket.socket()
+        if is_narrow:
+            stream.setsockopt(socket.SOL_SOCKET, socket.SO_RCVBUF, 4096)
+            stream.setsockopt(socket.IPPROTO_TCP, socket.TCP_MAXSEG, 536)
+        stream.connect((host, int(port)))
     stream.sendall(b"application\n")
     return stream
 
@@ -164,15 +168,15 @@ def test_a_slow_application(folder, word, read, pause):
     flood.end()
 
 
-@pytest.mark.long(30)
+@pytest.mark.long(22)
 def test_a_deaf_application_at_a_port(folder):
     """An application at a port has 20 seconds, because the system sees its reads late."""
     word = "--application-port"
     device, controller = loud_device(folder, word, PLACES[word])
-    stream, begun = application_of(device, word), time.monotonic()
+    # By default the system takes some megabytes before the device has to wait.
+    stream, begun = application_of(device, word, is_narrow=True), time.monotonic()
     flood = Act(floods_for_long, controller)
     stream.recv(512)
-    # The system takes some megabytes before the device has to wait.
     assert soon(lambda: device.logged("application cut off"), LONG) == [CUT_OFF], "it is cut off"
     assert time.monotonic() - begun > 18, "after 20 seconds"
     device.end()
