@@ -74,6 +74,9 @@ def pytest_xdist_make_scheduler(config, log):
     """
     from xdist.scheduler import LoadScheduling
 
+    if config.getoption("dist") != "load":
+        return None
+
     class OneByOne(LoadScheduling):
         most = 1
 
