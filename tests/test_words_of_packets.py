@@ -5,10 +5,12 @@ The names of PDUs and of error codes are those of the Core Specification, Vol 3 
 Supplement, Part B, 1.2.
 """
 
+import contextlib
 import glob
 import os
 import re
 import subprocess
+import threading
 
 import pytest
 
@@ -134,6 +136,18 @@ def worded(program, text, *words):
     return ran.stdout if isinstance(text, bytes) else ran.stdout.decode()
 
 
+@contextlib.contextmanager
+def started(*words, **how):
+    """Starts a program with pipes, and kills it if it still runs after a minute."""
+    with subprocess.Popen(words, stdin=subprocess.PIPE, stdout=subprocess.PIPE, **how) as it:
+        timer = threading.Timer(60, it.kill)
+        timer.start()
+        try:
+            yield it
+        finally:
+            timer.cancel()
+
+
 def words_of(program, lines, *words):
     """Returns the words of each line, after checking that nothing else has changed."""
     found = worded(program, "".join(f"{it}\n" for it in lines), *words).split("\n")
@@ -256,8 +270,7 @@ def test_an_endless_line(program):
 
 def test_each_line_at_once(program):
     """A line is printed with its words before the next one comes, and a part of a line as it is."""
-    pipes = {"stdin": subprocess.PIPE, "stdout": subprocess.PIPE, "bufsize": 0}
-    with subprocess.Popen([program, "words"], **pipes) as it:
+    with started(program, "words", bufsize=0) as it:
         for line, words in ((b"13\n", b"13  Write Response\n"), (b"0a0300\n", b"0a0300  Read Request: handle 3\n")):
             it.stdin.write(line)
             assert it.stdout.readline() == words
@@ -280,8 +293,7 @@ def test_a_full_disk(program, text):
 
 def test_a_closed_output(program):
     """An output that its reader has closed ends the program, though the input has no end."""
-    with subprocess.Popen([program, "words"], stdin=subprocess.PIPE, stdout=subprocess.PIPE,
-                          stderr=subprocess.PIPE) as it:
+    with started(program, "words", stderr=subprocess.PIPE) as it:
         it.stdout.close()
         with pytest.raises(BrokenPipeError):
             for _ in range(10_000_000):
@@ -404,7 +416,7 @@ def test_two_tables(program):
 
 def test_each_answer_at_once(program):
     """`att --words` prints an answer with its words before the next PDU comes."""
-    with subprocess.Popen([program, "att", "--words"], stdin=subprocess.PIPE, stdout=subprocess.PIPE, text=True) as att:
+    with started(program, "att", "--words", text=True) as att:
         for pdu, answer in (("0a0300", "0b4c6f636b  Read Response: 4c6f636b"), ("0a0600", "0b64  Read Response: 64")):
             att.stdin.write(f"{pdu}\n")
             att.stdin.flush()
