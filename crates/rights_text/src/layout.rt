@@ -31,7 +31,7 @@ impl Layout {
         let mut layout = Layout {
             name: 0,
             value: b"at first".len(),
-            cell: 0,
+            cell: 3,
         };
         for attr in all_attributes(table) {
             layout.widen(alloc, table, columns, attr)?;
