@@ -20,7 +20,7 @@ _gatt_shell() {
         return
         ;;
     --listen | --connect | --application-port | --name | --advertise | --address | --capture-size | --slots | \
-        --idle | --stranger | --patience)
+        --idle | --stranger | --patience | --width)
         return
         ;;
     esac
@@ -32,7 +32,8 @@ _gatt_shell() {
         case $command in
         att) words='--words --help' ;;
         check | tell) words='--help' ;;
-        show | serve) words='--rows --help' ;;
+        show) words='--rows --attributes --width --help' ;;
+        serve) words='--rows --help' ;;
         run) words='--rows --next --notices --echo --words --help' ;;
         words) words='--table --help' ;;
         host)

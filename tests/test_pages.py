@@ -6,7 +6,7 @@ import subprocess
 
 import pytest
 
-from documents import ROOT, blocks, text_of
+from documents import ROOT, text_of
 
 pytestmark = pytest.mark.without_program
 
@@ -27,12 +27,6 @@ def test_the_built_in_table():
     """It is the file, except the line that names its schema."""
     found = re.search(r'DOOR: &str = r#"(.*?)"#;', text_of("crates/att_table/src/examples.rt"), re.DOTALL)
     assert found[1] == re.sub(r"\A#:schema .*\n", "", text_of("examples/door.toml"))
-
-
-def test_the_policy_of_readme():
-    """It is part of the table of the door, line by line."""
-    (shown,) = blocks("toml", text_of("README.md"))
-    assert shown in text_of("examples/door.toml")
 
 
 def sections():
