@@ -30,7 +30,8 @@ def test_tries_once_a_second(home):
     took = time.monotonic() - begun
     assert (set(answers), len(answers) > 20) == ({"20"}, True), "a phone is served meanwhile"
     assert disk.syncs() == before + 3, "three tries"
-    assert 2 <= took < 3, "the third one after two seconds"
+    # The device counts whole milliseconds.
+    assert 1.99 <= took < 3, "the third one after two seconds"
     disk.empty()
     device.said("saved again:")
 
