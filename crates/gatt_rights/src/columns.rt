@@ -22,7 +22,9 @@ pub fn columns_of(alloc: Global, keys: &Keys) -> Result<Vec<Option<KeyFacts>>, A
     Ok(columns)
 }
 
-fn add_columns(columns: &mut Vec<Option<KeyFacts>>, keys: &Keys) -> Result<(), AllocError>
+/// Adds the kinds of keys of another key file. On `Err` memory was refused and the columns are
+/// invalid.
+pub fn add_columns(columns: &mut Vec<Option<KeyFacts>>, keys: &Keys) -> Result<(), AllocError>
     ensures ok { OnOk result (columns.new.items ≡ with_columns columns.old.items keys.now) }
 {
     for at in 0..keys.count() {

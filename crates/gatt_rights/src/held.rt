@@ -143,7 +143,7 @@ fn adds_nothing_at(table: &Table, key: Option<KeyFacts>, handle: u16) -> bool
 }
 
 /// Returns true if a key permits no more than none.
-pub(crate) fn adds_nothing(table: &Table, key: Option<KeyFacts>) -> bool
+pub fn adds_nothing(table: &Table, key: Option<KeyFacts>) -> bool
     ensures { result ≡ adds_nothing table.now.attributes key }
 {
     all_attributes(table)

@@ -7,8 +7,8 @@ mod held;
 mod needs;
 mod rights;
 
-pub use columns::{columns_of, has_key, is_same_column};
+pub use columns::{add_columns, columns_of, has_key, is_same_column};
 pub use finding::{Finding, findings};
-pub use held::may_with;
+pub use held::{adds_nothing, may_with};
 pub use needs::{is_announced, is_heard, is_written};
 pub use rights::{Right, all_attributes, may, standing_of};

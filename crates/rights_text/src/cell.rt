@@ -2,7 +2,7 @@
 
 ghost use Rattle.std.specs.Prelude.{◌≡◌, ◌++◌, ◌&&◌, IfOk, OnOk, false, not, true};
 ghost use Rattle.gatt_rights.specs.Held.{may_with};
-ghost use Rattle.rights_text.specs.Cell.{cell_text, in_parentheses, is_once, letter_if, letters_always, letters_once, letters_where, or_dot};
+ghost use Rattle.rights_text.specs.Cell.{always_of, cell_text, cell_with, in_parentheses, is_once, letter_if, letters_of, once_of, or_dot};
 
 use att_policy::KeyFacts;
 use att_table::Table;
@@ -17,43 +17,73 @@ pub(crate) struct Asked {
     pub handle: u16,
 }
 
+/// The rights to an attribute that a cell shows.
+#[derive(Clone, Copy)]
+pub struct Rights {
+    pub read: bool,
+    pub write: bool,
+    pub command: bool,
+    pub notify: bool,
+    pub indicate: bool,
+}
+
 /// Returns the cell of an attribute and a key.
 pub(crate) fn cell(alloc: Global, table: &Table, asked: Asked) -> Result<Vec<u8>, AllocError>
     ensures { IfOk result
         (λ cell. cell.items ≡ cell_text table.now.attributes asked.handle asked.key) }
 {
+    cell_of(alloc, always(table, asked), once(table, asked))
+}
+
+/// Returns a cell with rights that need no authorization, and others that do.
+///
+/// On `Err` memory was refused.
+pub fn cell_of(alloc: Global, always: Rights, once: Rights) -> Result<Vec<u8>, AllocError>
+    ensures { IfOk result (λ cell. cell.items ≡ cell_with always once) }
+{
     let mut letters = Vec::new(alloc);
-    add_always(&mut letters, table, asked)?;
-    let mut once = Vec::new(alloc);
-    add_once(&mut once, table, asked)?;
-    add_in_parentheses(&mut letters, &once)?;
+    add_letters(&mut letters, always)?;
+    let mut in_parentheses = Vec::new(alloc);
+    add_letters(&mut in_parentheses, once)?;
+    add_in_parentheses(&mut letters, &in_parentheses)?;
     let mut cell = Vec::new(alloc);
     add_or_dot(&mut cell, &letters)?;
     Ok(cell)
 }
 
-#[tactic(auto, unfolding(crate::specs::Cell::letters_where))]
-fn add_always(text: &mut Vec<u8>, table: &Table, asked: Asked) -> Result<(), AllocError>
-    ensures ok { OnOk result (text.new.items ≡ text.old.items
-        ++ letters_always table.now.attributes asked.handle asked.key) }
+#[tactic(auto, unfolding(crate::specs::Cell::letters_of))]
+fn add_letters(text: &mut Vec<u8>, rights: Rights) -> Result<(), AllocError>
+    ensures ok { OnOk result (text.new.items ≡ text.old.items ++ letters_of rights) }
 {
-    add_if(text, is_always(table, asked, Right::Read), b'r')?;
-    add_if(text, is_always(table, asked, Right::Write), b'w')?;
-    add_if(text, is_always(table, asked, Right::Command), b'c')?;
-    add_if(text, is_always(table, asked, Right::Notify), b'n')?;
-    add_if(text, is_always(table, asked, Right::Indicate), b'i')
+    add_if(text, rights.read, b'r')?;
+    add_if(text, rights.write, b'w')?;
+    add_if(text, rights.command, b'c')?;
+    add_if(text, rights.notify, b'n')?;
+    add_if(text, rights.indicate, b'i')
 }
 
-#[tactic(auto, unfolding(crate::specs::Cell::letters_where))]
-fn add_once(text: &mut Vec<u8>, table: &Table, asked: Asked) -> Result<(), AllocError>
-    ensures ok { OnOk result (text.new.items ≡ text.old.items
-        ++ letters_once table.now.attributes asked.handle asked.key) }
+fn always(table: &Table, asked: Asked) -> Rights
+    ensures { result ≡ always_of table.now.attributes asked.handle asked.key }
 {
-    add_if(text, is_once(table, asked, Right::Read), b'r')?;
-    add_if(text, is_once(table, asked, Right::Write), b'w')?;
-    add_if(text, is_once(table, asked, Right::Command), b'c')?;
-    add_if(text, is_once(table, asked, Right::Notify), b'n')?;
-    add_if(text, is_once(table, asked, Right::Indicate), b'i')
+    Rights {
+        read: is_always(table, asked, Right::Read),
+        write: is_always(table, asked, Right::Write),
+        command: is_always(table, asked, Right::Command),
+        notify: is_always(table, asked, Right::Notify),
+        indicate: is_always(table, asked, Right::Indicate),
+    }
+}
+
+fn once(table: &Table, asked: Asked) -> Rights
+    ensures { result ≡ once_of table.now.attributes asked.handle asked.key }
+{
+    Rights {
+        read: is_once(table, asked, Right::Read),
+        write: is_once(table, asked, Right::Write),
+        command: is_once(table, asked, Right::Command),
+        notify: is_once(table, asked, Right::Notify),
+        indicate: is_once(table, asked, Right::Indicate),
+    }
 }
 
 fn is_always(table: &Table, asked: Asked, right: Right) -> bool

@@ -1,12 +1,9 @@
 //! The columns of the matrix and their names.
 
 ghost use Rattle.std.specs.Prelude.{◌≡◌, ◌++◌, IfOk, OnOk};
-ghost use Rattle.gatt_rights.specs.Columns.{columns_among};
 ghost use Rattle.rights_text.specs.Columns.{named_from, next_name};
 
 use att_policy::KeyFacts;
-use gatt_rights::columns_of;
-use le_security::Keys;
 use std::alloc::{AllocError, Global};
 
 /// A column: a name of one letter, and the key that encrypts a link, if one does.
@@ -16,14 +13,12 @@ pub struct Column {
     pub key: Option<KeyFacts>,
 }
 
-/// Returns the columns of a key file: that of no key, and one for each kind of key.
-pub fn named_columns(alloc: Global, keys: &Keys) -> Result<Vec<Column>, AllocError>
-    ensures { IfOk result
-        (λ columns. columns.items ≡ named_from 65 (columns_among keys.now)) }
+/// Returns the columns of kinds of keys, named in their order.
+pub fn named_columns(alloc: Global, kinds: &[Option<KeyFacts>]) -> Result<Vec<Column>, AllocError>
+    ensures { IfOk result (λ columns. columns.items ≡ named_from 65 kinds.now) }
 {
-    let kinds = columns_of(alloc, keys)?;
     let mut columns = Vec::new(alloc);
-    add_columns(&mut columns, &kinds)?;
+    add_columns(&mut columns, kinds)?;
     Ok(columns)
 }
 

@@ -20,12 +20,10 @@ const SIGNS: &[u8] = b"r read  w write  c write without response  n be notified 
 ";
 
 /// Adds the meaning of the letters, and the keys of each column.
+///
+/// On `Err` memory was refused and the text is invalid.
 #[tactic(auto, unfolding(crate::specs::Legend::legend_text))]
-pub(crate) fn add_legend(
-    text: &mut Vec<u8>,
-    keys: &Keys,
-    columns: &[Column],
-) -> Result<(), AllocError>
+pub fn add_legend(text: &mut Vec<u8>, keys: &Keys, columns: &[Column]) -> Result<(), AllocError>
     ensures ok { OnOk result (text.new.items ≡ text.old.items ++ legend_text keys.now columns.now) }
 {
     add_octets(text, SIGNS)?;
@@ -59,7 +57,8 @@ fn add_column(
     add_peers(text, keys, columns, column)
 }
 
-fn add_key(text: &mut Vec<u8>, key: Option<KeyFacts>) -> Result<(), AllocError>
+/// Adds what protects a link: the facts of its key, or none. Errors: as `add_legend`.
+pub fn add_key(text: &mut Vec<u8>, key: Option<KeyFacts>) -> Result<(), AllocError>
     ensures ok { OnOk result (text.new.items ≡ text.old.items ++ key_text key) }
 {
     match key {
@@ -137,7 +136,8 @@ fn add_peer(
     add_octets(text, b"\n")
 }
 
-fn add_peer_words(text: &mut Vec<u8>, peer: &Peer) -> Result<(), AllocError>
+/// Adds the address of a peer with its type. Errors: as `add_legend`.
+pub fn add_peer_words(text: &mut Vec<u8>, peer: &Peer) -> Result<(), AllocError>
     ensures ok { OnOk result (text.new.items ≡ text.old.items ++ peer_words peer.now) }
 {
     add_octets(text, address_type_word(peer.kind).as_bytes())?;

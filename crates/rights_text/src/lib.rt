@@ -10,6 +10,8 @@ mod matrix;
 mod show;
 mod value;
 
-pub use columns::Column;
+pub use cell::{Rights, cell_of};
+pub use columns::{Column, named_columns};
 pub use layout::Layout;
+pub use legend::{add_key, add_legend, add_peer_words};
 pub use show::add_rights;

@@ -1,6 +1,7 @@
 //! The rights of a table, as `show` prints them.
 
 ghost use Rattle.std.specs.Prelude.{◌≡◌, ◌++◌, OnOk};
+ghost use Rattle.gatt_rights.specs.Columns.{columns_among};
 ghost use Rattle.rights_text.specs.Shown.{ShowsRights, columns_for, explained};
 
 use crate::columns::{Column, named_columns};
@@ -8,6 +9,7 @@ use crate::layout::Layout;
 use crate::legend::add_legend;
 use crate::look::add_look;
 use crate::matrix::add_blocks;
+use att_policy::KeyFacts;
 use att_table::Table;
 use gatt_rights::{columns_of, findings};
 use gatt_show::add_octets;
@@ -28,7 +30,8 @@ pub fn add_rights(
 ) -> Result<(), AllocError>
     ensures ok { OnOk result (ShowsRights table.now keys.now text.old.items text.new.items) }
 {
-    let columns = named_columns(alloc, keys)?;
+    let kinds = columns_of(alloc, keys)?;
+    let columns = named_columns(alloc, &kinds)?;
     let layout = Layout::of(alloc, table, &columns)?;
     add_blocks(
         alloc,
@@ -38,7 +41,7 @@ pub fn add_rights(
         &columns,
         layout.most_columns(width),
     )?;
-    add_explanation(alloc, text, table, keys, &columns)
+    add_explanation(alloc, text, table, keys, &kinds, &columns)
 }
 
 fn add_explanation(
@@ -46,14 +49,15 @@ fn add_explanation(
     text: &mut Vec<u8>,
     table: &Table,
     keys: &Keys,
+    kinds: &[Option<KeyFacts>],
     columns: &[Column],
 ) -> Result<(), AllocError>
-    requires { columns.now ≡ columns_for keys.now }
+    requires kinds { kinds.now ≡ columns_among keys.now }
+    requires columns { columns.now ≡ columns_for keys.now }
     ensures ok { OnOk result (text.new.items ≡ text.old.items ++ explained table.now keys.now) }
 {
     add_legend(text, keys, columns)?;
     add_octets(text, b"\n")?;
-    let kinds = columns_of(alloc, keys)?;
-    let found = findings(alloc, table, &kinds)?;
+    let found = findings(alloc, table, kinds)?;
     add_look(text, &found)
 }

@@ -4,5 +4,6 @@
 mod show;
 
 pub use show::{
-    ShowPaths, View, show_files, show_paths, tell_keys_fault, tell_rows_fault, tell_table_fault,
+    ShowPaths, View, read_key_file_at, read_table_at, show_files, show_paths, tell_keys_fault,
+    tell_rows_fault, tell_table_fault,
 };

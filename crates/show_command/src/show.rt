@@ -85,7 +85,11 @@ pub fn show_files<T: Read, K: Read, R: Read, W: Write>(
     print(text.as_slice(), writer)
 }
 
-fn read_table_at<R: Read>(
+/// Reads the table of a table file.
+///
+/// Adds the place and the fault of a refused file to `place`, which is empty if memory is refused
+/// for them.
+pub fn read_table_at<R: Read>(
     alloc: Global,
     reader: &mut R,
     place: &mut Vec<u8>,
@@ -156,7 +160,8 @@ fn read_keys_at<K: Read>(
     }
 }
 
-fn read_key_file_at<K: Read>(
+/// Reads the keys of a key file. The place: as `read_table_at`.
+pub fn read_key_file_at<K: Read>(
     alloc: Global,
     reader: &mut K,
     place: &mut Vec<u8>,

@@ -1,5 +1,8 @@
-use Rattle.std.proofs.Common.{◌≡◌, List, subst, ◌∙◌}
+use Rattle.std.proofs.Common.{◌≡◌, List, Option, ap, subst, ◌∙◌}
 use Rattle.std.proofs.lemmas.Result.{on_ok_weaker}
+use Rattle.att_policy.specs.declared.standing.KeyFacts.{KeyFacts}
+use Rattle.gatt_rights.specs.Columns.{columns_among}
+use Rattle.rights_text.specs.Columns.{named_from}
 use Rattle.rights_text.specs.Matrix.{AddsBlocks}
 use Rattle.rights_text.specs.Shown.{columns_for}
 use Rattle.rights_text.specs.declared.columns.Column.{Column}
@@ -8,7 +11,9 @@ use Rattle.rights_text.proofs.show.add_rights.Goals as goal
 pub returns : goal.returns
 returns c =
     let layout = c.in_ok-layout.layout in
-    let named : c.deref-2.result.now ≡ columns_for c.args.keys.now = c.deref-2.ensures.value ∙ c.in_ok-columns.ensures in
+    let kinds : c.deref.result.now ≡ columns_among c.args.keys.now = c.deref.ensures.value ∙ c.in_ok-kinds.ensures in
+    let named : c.deref-3.result.now ≡ columns_for c.args.keys.now =
+    c.deref-3.ensures.value ∙ c.in_ok-columns.ensures ∙ ap (λ (keys : List (Option KeyFacts)). named_from 65 keys) kinds in
     record {
       ok =
           on_ok_weaker c.add_explanation.result
