@@ -1,0 +1,10 @@
+use Rattle.std.proofs.Common.{◌≡◌, ◌++◌, drop}
+use Rattle.std.specs.List.{flat_map}
+use Rattle.rights_compare.specs.Lines.{gains_line}
+use Rattle.rights_compare.proofs.lines.add_gains.Given as goal
+
+-- what is there and what is left are all
+abbrev pub invariant-loop-attr : goal.invariant-loop-attr
+invariant-loop-attr l =
+    l.text.items ++ flat_map (gains_line l.fn.table.attributes l.fn.other.attributes l.fn.columns) (drop l.attr-index l.attributes)
+    ≡ l.fn.text.items ++ flat_map (gains_line l.fn.table.attributes l.fn.other.attributes l.fn.columns) l.attributes

@@ -1,0 +1,4 @@
+pub mod Compared
+pub mod Gains
+pub mod Lines
+pub mod Pairing
