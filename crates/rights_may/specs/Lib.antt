@@ -1,0 +1,4 @@
+pub mod Answer
+pub mod Links
+pub mod Reason
+pub mod Verdict
