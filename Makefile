@@ -6,7 +6,7 @@
 #     make uninstall          with the same variables, removes the files again
 #
 # Rattle's command rt proves and makes the archive and gatt_shell. This file makes neither: if one is
-# missing, it says what makes it, and installs nothing.
+# missing, or is not the file that was proved from these sources, it says what makes it, and installs nothing.
 
 VERSION = 0.2.0
 
@@ -65,10 +65,16 @@ $(BUILD)/gihandop.pc: c/gihandop.pc.in
 	sed -e 's|@PREFIX@|$(PREFIX)|' -e 's|@LIBDIR@|$(LIBDIR)|' -e 's|@INCLUDEDIR@|$(INCLUDEDIR)|' \
 	    -e 's|@VERSION@|$(VERSION)|' c/gihandop.pc.in > $@
 
+# What was proved: `tools/release --check` refuses an output of which that is not known.
+.PHONY: verdicts
+verdicts: $(ARCHIVE) $(PROGRAM)
+	mkdir -p $(BUILD)
+	tools/release --check $(if $(TARGET),--target $(TARGET)) $(PROGRAM) $(ARCHIVE) > $(BUILD)/VERDICTS
+
 # The units name the programs where they are installed.
 INSTALLED_PATHS = s!/usr/bin/(gatt_shell|hci_bridge)!$(BINDIR)/\1!
 
-install: all
+install: all verdicts
 	$(INSTALL) -d $(DESTDIR)$(BINDIR) $(DESTDIR)$(LIBDIR)/pkgconfig $(DESTDIR)$(INCLUDEDIR) \
 	    $(DESTDIR)$(DATADIR)/gihandop $(DESTDIR)$(DATADIR)/man/man1 $(DESTDIR)$(UNITDIR) $(DESTDIR)$(COMPLETIONDIR)
 	$(INSTALL) -m 755 $(PROGRAM) $(DESTDIR)$(BINDIR)/gatt_shell
@@ -92,6 +98,7 @@ install: all
 	    if test -x $$it; then mode=755; else mode=644; fi; \
 	    $(INSTALL) -D -m $$mode $$it $(DESTDIR)$(DOCDIR)/$$it || exit; \
 	done
+	$(INSTALL) -m 644 $(BUILD)/VERDICTS $(DESTDIR)$(DOCDIR)/VERDICTS
 	sed -E '$(INSTALLED_PATHS)' examples/device/door.service > $(DESTDIR)$(DOCDIR)/examples/device/door.service
 
 uninstall:

@@ -19,6 +19,9 @@ import threading
 import time
 
 ROOT = os.path.dirname(os.path.dirname(os.path.realpath(__file__)))
+sys.path.insert(0, f"{ROOT}/tools")
+import verdicts  # noqa: E402
+
 PROGRAM = "crates/gatt_shell/out/gatt_shell"
 UNPROVED = "crates/gatt_shell/out/unproved/gatt_shell"
 ARCHIVE = "crates/gihandop_c/out/libgihandop_c.a"
@@ -95,8 +98,11 @@ def play():
     """Runs the parts. Those that begin once all is proved run side by side."""
     if not Part("documents", [*TESTS, *FIRST]).has_passed():
         return
-    if not Part("proofs and edits", ["rt", "ci"], is_live=True).has_passed():
+    gate, proofs = verdicts.Gate(), Part("proofs and edits", ["rt", "ci"], is_live=True)
+    if not proofs.has_passed():
         return
+    if why := gate.note(proofs.output):
+        print(f"note: gatt_shell has no note of what it was proved from: {why}: `tools/prove --over-gate gatt_shell` proves it again", flush=True)
     # The launcher notes what the program was proved from: a copy of this checkout is then not proved again.
     if not Part("launcher", ["./gatt_shell", "--version"]).has_passed():
         return

@@ -173,17 +173,34 @@ def test_two_builds(proved):
     assert sorted(os.listdir(proved.out)) == ["gatt_shell", "gatt_shell.proved"], "what they leave"
 
 
+def noted(it):
+    """The note that tools/prove writes beside the program, by the first word of each line."""
+    return dict(line.partition(" ")[::2] for line in text_of(f"{it.program}.verdict").splitlines())
+
+
+def sums_of_launcher(it):
+    """The sums of the sources and of the program that the launcher notes."""
+    return text_of(f"{it.program}.proved").splitlines()[:2]
+
+
 def test_tools_prove(it):
     """With the project's own tools/prove a copy is current too, and an edit is proved with what uses it."""
     with open(f"{it.tree}/crates.txt", "w", encoding="utf-8") as file:
         file.write("octet_io:\nshell_args:\ngatt_shell: octet_io shell_args\n")
-    shutil.copy2(f"{ROOT}/tools/prove", f"{it.tree}/tools/prove")
+    for tool in ("prove", "verdicts.py"):
+        shutil.copy2(f"{ROOT}/tools/{tool}", f"{it.tree}/tools/{tool}")
     errors = it.expect("tools/prove", ["att"], (0, "first", 3))
     assert "proved 3 of 3" in errors, "its progress"
+    assert "no note" not in errors, "what it was proved from"
     copied = it.copy("small-copy", "-r")
+    first = noted(copied)
+    assert first["logic=proved"].endswith("sum=0123 native=nat"), "the verdict of the note"
+    assert (first["kit"], first["target"]) == ("a-kit logic 0123", "x86_64-unknown-linux-gnu"), "its kit"
+    assert [first["sources"], first["output"]] == sums_of_launcher(copied), "its sums are those of the launcher"
     copied.expect("a copy", ["att"], (0, "first", 0))
     append(f"{copied.tree}/{CODE}")
     copied.expect("a copy that is edited", ["att"], (0, "first", 2))
+    assert noted(copied)["sources"] == sums_of_launcher(copied)[0] != first["sources"], "its note"
     append(f"{copied.tree}/{CODE}")
     for _ in range(2):
         words = [f"{copied.tree}/tools/prove", "gatt_shell"]

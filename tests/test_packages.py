@@ -12,7 +12,7 @@ import time
 
 import pytest
 
-from parties.building import once, ran
+from parties.building import is_marked, once, ran, run
 from parties.places import ROOT, text_of
 from parties.releases import checkout_at, copied, files_below, need
 
@@ -88,6 +88,33 @@ def test_licences(packages, package):
     """A package has the licences of others."""
     texts = f"{packages}/unpacked/{package}/usr/share/doc/{package}/LICENSE-THIRD-PARTY"
     assert text_of(texts) == text_of(f"{ROOT}/LICENSE-THIRD-PARTY"), f"{package}: licences"
+
+
+@pytest.mark.parametrize("package", ["gihandop", "libgihandop-dev"])
+def test_verdicts(packages, package):
+    """A package of a proved output says what was proved."""
+    text = text_of(f"{packages}/unpacked/{package}/usr/share/doc/{package}/VERDICTS")
+    for name, path, _ in OUTPUTS[:2]:
+        (output,) = glob.glob(f"{packages}/unpacked/{name}/{path}")
+        assert f"\n    sha256 {ran(['sha256sum', output]).split()[0]}\n" in text, f"the sum of {name}"
+
+
+def test_nothing_left(packages):
+    """The packages leave nothing in the checkout that the next release refuses."""
+    assert ran(["git", "status", "--porcelain"], cwd=f"{packages}/gihandop") == "", "changes"
+    ran(["tools/release", "--check"], cwd=f"{packages}/gihandop")
+
+
+def test_unproved(checkout, program, folder):
+    """There are no packages of a program that is compiled without proofs."""
+    if not is_marked(program):
+        pytest.skip("GATT_SHELL is not the program of tools/unproved")
+    own = copied(checkout, f"{folder}/gihandop")
+    shutil.copy(program, f"{own}/crates/gatt_shell/out/gatt_shell")
+    ended = run(["dpkg-buildpackage", "-b", "-us", "-uc"], cwd=own)
+    assert ended.returncode != 0, "it is refused"
+    assert "is compiled without proofs" in ended.stdout, "its text"
+    assert names_of(folder) == [], "no package is made"
 
 
 def test_modules(packages):

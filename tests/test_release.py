@@ -1,57 +1,58 @@
 """Tries what tools/release makes and refuses, in copies of the checkout, and uses a tarball as its user does.
 
-The release is made twice, in two copies with other paths and times, and has to be the same. If crates/ has
+The proved outputs of the copies are stand-ins, whose notes are made up (parties.releases). The release is made twice, in two copies with other paths and times, and has to be the same. If crates/ has
 outputs for aarch64 too, they are in it.
 """
 
 import glob
 import os
 import re
+import shutil
 import subprocess
+import sys
 import time
 
 import pytest
 
-from parties.building import once, ran, run
+from parties.building import is_marked, once, ran, run
+from parties.compiling import ARCHIVE as GIVEN_ARCHIVE
 from parties.compiling import LINKED
 from parties.emulated import TARGET
 from parties.places import text_of
-from parties.releases import broken_links, checkout_at, linked, logic, made_up_verdict, need, write
+from parties.releases import (
+    broken_links, checkout_at, copied, linked, logic, made_up_verdict, need, write, write_notes,
+)
 
 PROGRAM, ARCHIVE = "crates/gatt_shell/out/gatt_shell", "crates/gihandop_c/out/libgihandop_c.a"
-LOG = "crates/gatt_shell/out/build.log"
+NOTE = f"{PROGRAM}.verdict"
+SOURCE = "crates/host_api/src/app.rt"
 OTHER = "0123456789abcdef"
 BARE = {"PATH": "/usr/bin:/bin"}
+
+
+def with_verdict(**made_up):
+    """A change of a note: it has another verdict."""
+    return lambda text: re.sub(r"(?ms)^axioms .*", "", text) + made_up_verdict(**made_up)
+
+
 # What is wrong in a checkout: its name, the file, the text of it (none if it is removed), and what is
 # printed.
 FAULTS = [
     ("a changed file", "README.md", "changed\n", "README.md"),
     ("a new file", "new.txt", "new\n", "new.txt"),
-    ("a log without a verdict", LOG, "fn a::b: proved\n", "has 0 verdicts"),
-    ("two verdicts", LOG, lambda text: text + made_up_verdict(), "has 2 verdicts"),
-    ("no proof", LOG, lambda _: made_up_verdict("failed"), "in place of one line logic=proved"),
-    ("another kit", LOG, lambda _: made_up_verdict(sum_of_logic=OTHER), f"is of the logic {OTHER}"),
-    ("another processor", LOG, lambda _: made_up_verdict(target=TARGET), "is of aarch64"),
-    ("no log", LOG, None, f"there is no {LOG}"),
+    ("a note without a verdict", NOTE, lambda text: text.partition("axioms ")[0], "has 0 verdicts"),
+    ("two verdicts", NOTE, lambda text: text + made_up_verdict(), "has 2 verdicts"),
+    ("no proof", NOTE, with_verdict(word="failed"), "in place of one line logic=proved"),
+    ("another logic", NOTE, with_verdict(sum_of_logic=OTHER), f"is of the logic {OTHER}"),
+    ("another kit", NOTE, lambda text: text.replace("\nkit ", "\nkit another "), "by another "),
+    ("another processor", NOTE, with_verdict(target=TARGET), "is of aarch64"),
+    ("another target", NOTE, lambda text: text.replace("x86_64", "aarch64"), "is of aarch64"),
+    ("no note", NOTE, None, f"there is no {NOTE}"),
+    ("no note of the archive", f"{ARCHIVE}.verdict", None, f"there is no {ARCHIVE}.verdict"),
     ("no program", PROGRAM, None, "`tools/prove gatt_shell` proves it"),
     ("no archive", ARCHIVE, None, "`tools/prove gihandop_c` proves it"),
-    ("another program", PROGRAM, "#!/bin/sh\necho gatt_shell 0.1.0\n", "is gatt_shell 0.1.0"),
-]
-GATES = [
-    (
-        "an earlier proof", lambda: "rt: gatt_shell is kept: an earlier run proved the same\n",
-        "has no proof of gatt_shell",
-    ),
-    (
-        "a failed gate", lambda: f"== gatt_shell\n{made_up_verdict()}rt: gatt_shell NOT PROVED\n",
-        "has no proof of gatt_shell",
-    ),
-    (
-        "a gate with another kit",
-        lambda: f"== gatt_shell\n{made_up_verdict(sum_of_logic=OTHER)}rt: gatt_shell proved\n",
-        f"is of the logic {OTHER}",
-    ),
-    ("no log of a gate", None, "No such file"),
+    ("another program", PROGRAM, "#!/bin/sh\necho gatt_shell 0.2.0\n", f"{PROGRAM} is not the file that was proved"),
+    ("another archive", ARCHIVE, "!<arch>\n", f"{ARCHIVE} is not the file that was proved"),
 ]
 
 
@@ -105,35 +106,150 @@ def test_fault(own, folder, path, change, wanted):
     refuses(own, folder, wanted)
 
 
-def test_newer_source(own, folder):
-    """tools/release refuses a source that is newer than the verdict."""
-    source = "crates/octet_io/src/lib.rt"
-    place = os.path.dirname(f"{own}/{source}")
-    before = os.stat(place).st_mtime_ns
-    write(f"{own}/{source}", text_of(f"{own}/{source}"))
-    os.utime(place, ns=(before, before))
-    refuses(own, folder, f"{source} is newer than")
+def commit_all(checkout):
+    """Commits all changes of a copy."""
+    names = [it for key in ("name", "email") for it in ("-c", f"user.{key}=a")]
+    ran(["git", *names, "commit", "-qam", "an edit"], cwd=checkout)
 
 
-@pytest.mark.parametrize("text, wanted", [it[1:] for it in GATES], ids=[it[0] for it in GATES])
-def test_refused_gate(checkout, folder, text, wanted):
-    """tools/release refuses a gate that has not proved the program, or no log of one."""
-    if text:
-        write(f"{folder}/gate.log", text())
-    refuses(checkout, folder, wanted, "--gate", f"{folder}/gate.log")
+def test_edited_source(own, folder):
+    """tools/release refuses sources that were changed after the proof, whatever their times are."""
+    times = os.stat(f"{own}/{SOURCE}")
+    write(f"{own}/{SOURCE}", text_of(f"{own}/{SOURCE}").replace("with the handle", "with this handle"))
+    for it in (f"{own}/{SOURCE}", os.path.dirname(f"{own}/{SOURCE}")):
+        os.utime(it, ns=(times.st_atime_ns - 10**14, times.st_mtime_ns - 10**14))
+    commit_all(own)
+    refuses(own, folder, "the sources of gatt_shell are not those that were proved")
+    ended = install(own, folder)
+    assert ended.returncode != 0, "nothing of it is installed"
+
+
+def test_removed_source(own, folder):
+    """tools/release refuses a checkout that lacks a source of the proof."""
+    os.remove(f"{own}/crates/octet_io/src/lib.rt")
+    commit_all(own)
+    refuses(own, folder, "are not those that were proved")
+
+
+def test_times(own, folder):
+    """The sources of a checkout, copied without their times, are those that were proved."""
+    subprocess.run(["cp", "-r", own, f"{folder}/copy"], check=True)
+    for place in (f"{folder}/copy/{SOURCE}", f"{folder}/copy/{os.path.dirname(SOURCE)}"):
+        os.utime(place)
+    for it in (PROGRAM, ARCHIVE):
+        os.utime(f"{folder}/copy/{it}", (0, 0))
+    ran(["tools/release", f"{folder}/release"], cwd=f"{folder}/copy")
+    assert os.path.exists(f"{folder}/release/SHA256SUMS"), "a release of a copy"
+
+
+def install(checkout, folder, *words):
+    """What `make install` below a folder ends with."""
+    words = ["make", "install", f"DESTDIR={folder}/package", f"BUILD={folder}/build", *words]
+    ended = run(words, cwd=checkout)
+    assert os.path.exists(f"{folder}/package") == (ended.returncode == 0), "all is installed, or nothing"
+    return ended
+
+
+def lay_unproved(checkout, program):
+    """Lays the program and an archive without proofs in the places of the proved ones."""
+    for path, source in ((PROGRAM, program), (ARCHIVE, GIVEN_ARCHIVE)):
+        os.remove(f"{checkout}/{path}")
+        shutil.copy(source, f"{checkout}/{path}")
+
+
+@pytest.mark.parametrize("has_notes", [True, False], ids=["notes", "no notes"])
+def test_unproved(own, folder, program, has_notes):
+    """`make install` refuses what is compiled without proofs, in the place of the proved program."""
+    if not is_marked(program):
+        pytest.skip("GATT_SHELL is not the program of tools/unproved")
+    lay_unproved(own, program)
+    if not has_notes:
+        os.remove(f"{own}/{NOTE}")
+    ended = install(own, folder)
+    assert ended.returncode != 0, "it is refused"
+    assert f"{PROGRAM} is compiled without proofs" in ended.stdout, "its text"
+
+
+def test_unproved_archive(own, folder):
+    """`make install` refuses an archive without proofs, also one with a note that has its sum."""
+    if not is_marked(GIVEN_ARCHIVE):
+        pytest.skip("GIHANDOP_ARCHIVE is not the archive of tools/unproved")
+    path = f"{folder}/libgihandop_c.a"
+    shutil.copy(GIVEN_ARCHIVE, path)
+    shutil.copy(f"{own}/{PROGRAM}", f"{folder}/gatt_shell")
+    verdicts = dict.fromkeys(("gatt_shell", "gihandop_c"), made_up_verdict())
+    write_notes(own, f"{folder}/gatt_shell", path, verdicts)
+    ended = install(own, folder, f"PROGRAM={folder}/gatt_shell", f"ARCHIVE={path}")
+    assert ended.returncode != 0, "it is refused"
+    assert f"{path} is compiled without proofs" in ended.stdout, "its text"
+
+
+def test_empty_archive(own, folder):
+    """`make install` refuses an archive that nobody has proved."""
+    os.remove(f"{own}/{ARCHIVE}")
+    ran(["ar", "rcs", f"{own}/{ARCHIVE}"], cwd=own)
+    ended = install(own, folder)
+    assert ended.returncode != 0, "it is refused"
+    assert f"{ARCHIVE} is not the file that was proved" in ended.stdout, "its text"
+
+
+def test_check(checkout):
+    """tools/release --check prints VERDICTS, and changes nothing."""
+    text = ran(["tools/release", "--check"], cwd=checkout)
+    assert ran(["git", "rev-parse", "HEAD"], cwd=checkout).strip() in text, "the commit"
+    assert text == ran(["tools/release", "--check", PROGRAM, ARCHIVE], cwd=checkout), "with the paths"
+    assert ran(["git", "status", "--porcelain"], cwd=checkout) == "", "no file is left"
+
+
+@pytest.mark.parametrize("words", [[], ["--check", "a"], ["--check", "--target", "z80"], ["a", "b"], ["--gate"]], ids=" ".join)
+def test_unknown_words(words):
+    """tools/release refuses words that it does not know."""
+    ended = run(["tools/release", *words])
+    assert (ended.returncode, "usage:" in ended.stdout) == (64, True), ended.stdout
+
+
+GATE = """
+import os, shutil, sys, verdicts
+gate = verdicts.Gate()
+program, note = verdicts.output("gatt_shell"), verdicts.note_of(verdicts.output("gatt_shell"))
+os.remove(note)
+if "edited" in sys.argv:
+    with open(f"{verdicts.ROOT}/crates.txt", "a") as file:
+        file.write("# edited\\n")
+if "changed" in sys.argv:
+    shutil.copy("/bin/true", program)
+print(gate.note(sys.stdin.read()))
+print(verdicts.is_of_gate("gihandop_c"), os.path.exists(note))
+"""
+PROVED = f"== octet_io\nlogic=failed\nrt: octet_io proved\n== gatt_shell\n%srt: gatt_shell proved\n"
+KEPT = "rt: gatt_shell is kept: an earlier run on this machine proved the same files over the same libraries\n"
+# What the gate does: its name, its words, what rt ci prints, and what is said of the note.
+GATES = [
+    ("proved", [], PROVED, ["None", "True True"]),
+    ("kept", [], KEPT, ["None", "True True"]),
+    ("another program is kept", ["changed"], KEPT, ["an earlier run proved it", "True False"]),
+    ("edited meanwhile", ["edited"], PROVED, ["the sources have changed meanwhile", "False False"]),
+    ("not proved", [], PROVED.replace("gatt_shell proved", "gatt_shell NOT PROVED"), ["None", "True True"]),
+]
+
+
+@pytest.mark.parametrize("words, said, wanted", [it[1:] for it in GATES], ids=[it[0] for it in GATES])
+def test_gate(checkout, folder, words, said, wanted):
+    """The gate notes what it has proved, and saves the note of a program that an earlier gate has proved."""
+    own = copied(checkout, f"{folder}/own/gihandop")
+    said = said.replace("%s", made_up_verdict())
+    how = {"cwd": f"{own}/tools", "input": said, "capture_output": True, "text": True}
+    ended = subprocess.run([sys.executable, "-B", "-c", GATE, *words], check=False, **how)
+    assert ended.stdout.splitlines() == wanted, ended.stderr
 
 
 @pytest.mark.long(20)
 def test_twice(program, folder, request):
-    """The release of a copy with other paths and times, by the log of a gate, is the same."""
+    """The release of a copy with other paths and times is the same."""
     need("tools/release", "make, gcc, binutils", "make", "cc", "ar")
     other = linked(checkout_at("another-place/deeper", program), f"{folder}/other/gihandop")
-    verdict = f"== octet_io\n{made_up_verdict()}rt: octet_io proved\n"
-    write(f"{folder}/gate.log", f"{verdict}== gatt_shell\n{text_of(f'{other}/{LOG}')}rt: gatt_shell proved\n")
-    os.remove(f"{other}/{LOG}")
     time.sleep(1.1)
-    ran(["tools/release", "--gate", f"{folder}/gate.log", f"{folder}/release"], cwd=other)
-    assert not os.path.exists(f"{other}/{LOG}"), "no log is made"
+    ran(["tools/release", f"{folder}/release"], cwd=other)
     # Another test may have made it meanwhile.
     release = request.getfixturevalue("release")
     assert sorted(os.listdir(f"{folder}/release")) == sorted(os.listdir(release)), "the names of its files"
@@ -180,7 +296,7 @@ def test_tarball_links(tarball):
 def test_verdicts(tarball):
     """VERDICTS has the sum and the verdict of each output."""
     text = text_of(f"{tarball}/VERDICTS")
-    sums = re.findall(r"(?m)^(\S+/\S+)\n    sha256 (\w+)\n    (logic=proved .*)\n    axioms ", text)
+    sums = re.findall(r"(?m)^(\S+/\S+)\n    sha256 (\w+)\n    sources \w{64}\n    (?:axioms .*\n    )?(logic=proved .*)$", text)
     assert [it[0] for it in sums] == ["bin/gatt_shell", "lib/libgihandop_c.a"], text
     for name, wanted, verdict in sums:
         assert ran(["sha256sum", f"{tarball}/{name}"]).split()[0] == wanted, name

@@ -6,6 +6,8 @@ import subprocess
 
 from parties.places import ROOT
 
+# What tools/unproved leaves in what it makes.
+MARK = b"(not proved)"
 # A failure shows so many characters of what a command prints, the last ones.
 SHOWN = 3_000
 
@@ -43,6 +45,12 @@ def ran(words, what=None, **how):
     ended = run(words, **how)
     assert ended.returncode == 0, f"{what or ' '.join(words)}:\n{ended.stdout[-SHOWN:]}"
     return ended.stdout
+
+
+def is_marked(path):
+    """Tells whether a program or an archive says that it is compiled without proofs."""
+    with open(path, "rb") as file:
+        return MARK in file.read()
 
 
 def is_instrumented(path):

@@ -1,7 +1,7 @@
-"""Copies of the checkout with its outputs, as one makes a release or packages from them.
+"""Copies of the checkout with stand-ins for proved outputs, as one makes a release or packages from them.
 
-The outputs are packed as they are. Their verdicts are made up here, if the logs of tools/prove are not beside
-them.
+A stand-in is the program or the archive that is tried, without the mark of tools/unproved. Its verdict is made up
+here, if the log of tools/prove is not beside what is tried, and so is its note.
 """
 
 import glob
@@ -9,13 +9,22 @@ import os
 import re
 import shutil
 import subprocess
+import sys
 
 import pytest
 
-from parties.building import once, ran, run
+from parties.building import MARK, once, ran, run
 from parties.compiling import ARCHIVE, HAS_ARCHIVE, MISSING
 from parties.places import ROOT, text_of
 
+OUTPUTS = {"gatt_shell": "gatt_shell", "gihandop_c": "libgihandop_c.a"}
+# What a note is written by, from the words of the prover in the environment.
+NOTE = """
+import os, sys, verdicts
+for crate, path in zip(verdicts.OUTPUTS, sys.argv[1:]):
+    why = verdicts.note(crate, None, verdicts.sum_of_sources(crate), os.environ[crate], path)
+    sys.exit(why) if why else None
+"""
 NAMED = {"NAME": "a", "EMAIL": "a@b", "DATE": "2026-01-01T00:00:00Z"}
 
 
@@ -59,8 +68,43 @@ def log_of(source):
     return text if "logic=proved" in text else made_up_verdict()
 
 
+def stand_in(source, to):
+    """Copies an output. A mark becomes spaces, so that the length stays the same."""
+    with open(source, "rb") as file:
+        data = file.read()
+    with open(to, "wb") as file:
+        file.write(data.replace(MARK, b" " * len(MARK)))
+    shutil.copymode(source, to)
+
+
+def write_notes(root, program, archive, logs):
+    """Notes beside two outputs that they were proved from the sources of a checkout, with the texts of these logs."""
+    words = [sys.executable, "-B", "-c", NOTE, program, archive]
+    ran(words, cwd=f"{root}/tools", env={**os.environ, **logs})
+
+
+def lay_stand_ins(root, program, places):
+    """Lays a stand-in for each output, with a note, and returns their paths."""
+    sources = dict(zip(OUTPUTS, (program, ARCHIVE)))
+    paths = {crate: f"{places[crate]}/{OUTPUTS[crate]}" for crate in OUTPUTS}
+    for crate, path in paths.items():
+        os.makedirs(os.path.dirname(path), exist_ok=True)
+        stand_in(sources[crate], path)
+    write_notes(root, *paths.values(), {crate: log_of(it) for crate, it in sources.items()})
+    return list(paths.values())
+
+
+def stand_ins(program):
+    """The paths of stand-ins for the program and the archive of this checkout, made once for all tests."""
+    if not HAS_ARCHIVE:
+        pytest.skip(MISSING)
+    need("a verdict", "none, it is Rattle's", "rt")
+    top = once("stand_ins", lambda path: lay_stand_ins(ROOT, program, dict.fromkeys(OUTPUTS, path)))
+    return [f"{top}/{it}" for it in OUTPUTS.values()]
+
+
 def copy_checkout(to, program):
-    """Copies the files of the checkout as a repository of one commit, and the outputs with their verdicts."""
+    """Copies the files of the checkout as a repository of one commit, and lays stand-ins with their notes."""
     listed = ran(["git", "ls-files", "-coz", "--exclude-standard"])
     for it in listed.split("\0"):
         if it and os.path.lexists(f"{ROOT}/{it}"):
@@ -70,12 +114,7 @@ def copy_checkout(to, program):
     env.update({f"GIT_{who}_{what}": it for who in ("AUTHOR", "COMMITTER") for what, it in NAMED.items()})
     for words in (["init", "-q"], ["add", "-A"], ["commit", "-qm", "a release"]):
         ran(["git", *words], cwd=to, env=env)
-    outputs = (("gatt_shell", program, "gatt_shell"), ("gihandop_c", ARCHIVE, "libgihandop_c.a"))
-    for crate, source, name in outputs:
-        out = f"{to}/crates/{crate}/out"
-        os.makedirs(out, exist_ok=True)
-        shutil.copy(source, f"{out}/{name}")
-        write(f"{out}/build.log", log_of(source))
+    lay_stand_ins(to, program, {crate: f"{to}/crates/{crate}/out" for crate in OUTPUTS})
     for folder in glob.glob(f"{ROOT}/crates/*/out/*-linux-gnu"):
         shutil.copytree(folder, f"{to}/{os.path.relpath(folder, ROOT)}", copy_function=shutil.copy)
 
