@@ -66,6 +66,9 @@ struct gh_host {
    the patch. */
 #define GH_VERSION 2000
 
+/* The version of this header as text. */
+#define GH_VERSION_TEXT "0.2.0"
+
 /* The longest packet of gh_next_out, in octets. */
 #define GH_LONGEST_PACKET 260
 
@@ -447,6 +450,18 @@ uint32_t gh_text(uint32_t status, uint8_t *out, size_t room, size_t *count);
  * differ.
  */
 uint32_t gh_version(void);
+
+/* Only a library that is compiled without proofs has this. gh_version_text asks for it. */
+extern const char gh_not_proved[] __attribute__((weak));
+
+/*
+ * Returns the version of this header as text, GH_VERSION_TEXT. If the library is compiled without proofs,
+ * `(not proved)` follows. It is a function of C, which is not proved.
+ */
+static inline const char *gh_version_text(void)
+{
+    return gh_not_proved != NULL ? GH_VERSION_TEXT " (not proved)" : GH_VERSION_TEXT;
+}
 
 #ifdef __cplusplus
 }

@@ -6,11 +6,11 @@ import shutil
 
 import pytest
 
-from parties.building import ran
+from parties.building import is_marked, ran
 from parties.compiling import (
-    ARCHIVE, FORMS, LINKED, MADE, PROGRAMS, compile_at, compilers, lacks, need_archive, words_of,
+    ARCHIVE, FLAGS, FORMS, LINKED, MADE, PROGRAMS, compile_at, compilers, lacks, need_archive, words_of,
 )
-from parties.places import ROOT, text_of
+from parties.places import ROOT, text_of, write_text
 
 need_archive()
 pytestmark = pytest.mark.without_program
@@ -65,6 +65,29 @@ def test_line_of_the_page(folder, line, name):
         pytest.skip("there is no cc here")
     words = line.replace(f"-o {name}", f"-o {folder}/{name}").replace(MADE.removeprefix(f"{ROOT}/"), ARCHIVE)
     ran([*words.split(), *LINKED], line)
+
+
+@pytest.mark.parametrize("compiler", compilers())
+@pytest.mark.parametrize("flag", ["-O0", "-O2", "-fno-pie"])
+def test_version_text(folder, compiler, flag):
+    """gh_version_text says of an archive that is compiled without proofs that it is not proved."""
+    text = '#include "gihandop.h"\n#include <stdio.h>\nint main(void) { puts(gh_version_text()); return gh_version() != GH_VERSION; }\n'
+    source = write_text(f"{folder}/version.c", text)
+    no_pie = ["-no-pie"] if flag == "-fno-pie" else []
+    words = [compiler, *FLAGS, flag, *no_pie, *LINKED, "-o", f"{folder}/version", source, "c/heap.c", ARCHIVE]
+    ran(words, "a program that prints the version")
+    version = re.search(r"(?m)^VERSION = (\S+)$", text_of(f"{ROOT}/Makefile"))[1]
+    said = f"{version} (not proved)" if is_marked(ARCHIVE) else version
+    assert ran([f"{folder}/version"]) == f"{said}\n", "the version as text"
+
+
+@pytest.mark.parametrize("compiler", compilers())
+def test_version_text_of_the_proved(folder, compiler):
+    """gh_version_text says nothing more of an archive that has no mark."""
+    text = '#include "gihandop.h"\n#include <stdio.h>\nint main(void) { puts(gh_version_text()); return 0; }\n'
+    source = write_text(f"{folder}/version.c", text)
+    ran([compiler, *FLAGS, "-o", f"{folder}/version", source], "a program that prints the version")
+    assert ran([f"{folder}/version"]) == text_of(f"{ROOT}/include/gihandop.h").split("GH_VERSION_TEXT ")[1].split('"')[1] + "\n"
 
 
 def test_header_in_another_language():
