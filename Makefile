@@ -40,7 +40,7 @@ EXAMPLES = $(sort $(shell find examples -type f ! -name '*.pyc'))
 all: $(ARCHIVE) $(PROGRAM) $(BUILD)/libgihandop_heap.a $(BUILD)/gihandop.pc $(BUILD)/hci_bridge
 
 $(ARCHIVE):
-	@echo 'there is no $@: `$(PROVE) gihandop_c` (or, for this machine, `rt lib` in crates/gihandop_c) proves the host and makes it' >&2; exit 1
+	@echo 'there is no $@: `$(PROVE) gihandop_c` proves the host and makes it' >&2; exit 1
 
 $(PROGRAM):
 	@echo 'there is no $@: `$(PROVE) gatt_shell` proves the program and makes it' >&2; exit 1

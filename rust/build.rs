@@ -1,13 +1,18 @@
 //! Finds the archive of the host: in the folder that GIHANDOP_LIB names, in this repository, or where
-//! `pkg-config` says that `make install` left it. If there is none, says how it is made.
+//! `pkg-config` says that `make install` left it. If there is none, warns, and says how it is made: `cargo
+//! doc`, `cargo check` and `cargo clippy` need none. Tells the crate whether the archive is proved.
 
 use std::env;
+use std::fs;
 use std::path::{Path, PathBuf};
 use std::process::Command;
 
 const ARCHIVE: &str = "libgihandop_c.a";
-const MAKER: &str = "`rt lib` in crates/gihandop_c";
+const MAKER: &str = "`tools/prove gihandop_c`";
 const MAKER_FOR_AARCH64: &str = "`tools/prove --target aarch64-unknown-linux-gnu gihandop_c`";
+const UNPROVED: &str = "`tools/unproved gihandop_c` one without proofs, after a minute";
+/// What `tools/unproved` leaves in an archive.
+const MARK: &[u8] = b"(not proved)";
 
 fn main() {
     for name in [
@@ -25,7 +30,7 @@ fn main() {
     let made = made_for(&architecture, &system);
     if named.is_none() && made.is_none() {
         println!(
-            "cargo::error=the archive is for Linux on x86_64 or aarch64, not for {system} on {architecture}"
+            "cargo::warning=the archive is for Linux on x86_64 or aarch64, not for {system} on {architecture}: no program can be linked"
         );
         return;
     }
@@ -37,16 +42,23 @@ fn main() {
     };
     let archive = folder.join(ARCHIVE);
     println!("cargo::rerun-if-changed={}", archive.display());
-    if !archive.is_file() {
-        println!("cargo::error=there is no {}", archive.display());
-        println!("cargo::error={maker} makes it. GIHANDOP_LIB names another folder that has it,");
-        println!(
-            "cargo::error=and `pkg-config` finds one that `make install` has installed: if it"
-        );
-        println!(
-            "cargo::error=is for another processor, only with PKG_CONFIG or PKG_CONFIG_LIBDIR"
-        );
+    let Ok(data) = fs::read(&archive) else {
+        for line in [
+            format!(
+                "there is no {}: no program can be linked",
+                archive.display()
+            ),
+            format!("{maker} makes the archive, and {UNPROVED}. GIHANDOP_LIB names"),
+            "another folder that has it, and `pkg-config` finds one that `make install` has".into(),
+            "installed: if it is for another processor, only with PKG_CONFIG or PKG_CONFIG_LIBDIR"
+                .into(),
+        ] {
+            println!("cargo::warning={line}");
+        }
         return;
+    };
+    if data.windows(MARK.len()).any(|it| it == MARK) {
+        println!("cargo::rustc-env=GIHANDOP_NOT_PROVED=1");
     }
     println!("cargo::rustc-link-search=native={}", folder.display());
     println!("cargo::rustc-link-lib=static=gihandop_c");

@@ -8,13 +8,14 @@ import pytest
 
 from parties.building import is_marked, ran
 from parties.compiling import (
-    ARCHIVE, FLAGS, FORMS, LINKED, MADE, PROGRAMS, compile_at, compilers, lacks, need_archive, words_of,
+    ARCHIVE, FLAGS, FORMS, IS_INSTRUMENTED, LINKED, MADE, PROGRAMS, compile_at, compilers, lacks, need_archive, words_of,
 )
 from parties.places import ROOT, text_of, write_text
 
 need_archive()
 pytestmark = pytest.mark.without_program
 
+UNPROVED_LINE = re.search(r"(?m)^cc -fsanitize=address .*$", text_of(f"{ROOT}/docs/C.md"))[0]
 LINES = re.findall(r"(?m)^    (cc -Iinclude -o (\w+) .*)$", text_of(f"{ROOT}/docs/C.md"))
 
 
@@ -65,6 +66,17 @@ def test_line_of_the_page(folder, line, name):
         pytest.skip("there is no cc here")
     words = line.replace(f"-o {name}", f"-o {folder}/{name}").replace(MADE.removeprefix(f"{ROOT}/"), ARCHIVE)
     ran([*words.split(), *LINKED], line)
+
+
+def test_unproved_line_of_the_page(folder):
+    """The line of docs/C.md for an archive without proofs compiles the example, which runs."""
+    if not IS_INSTRUMENTED or not shutil.which("cc"):
+        pytest.skip("there is no cc here, or GIHANDOP_ARCHIVE is not the archive of tools/unproved")
+    place = "crates/gihandop_c/out/unproved/libgihandop_c.a"
+    words = UNPROVED_LINE.replace("-o first", f"-o {folder}/first").replace(place, ARCHIVE)
+    assert ARCHIVE in words, "the archive of tools/unproved"
+    ran(words.split(), UNPROVED_LINE)
+    ran([f"{folder}/first", "examples/door.toml"])
 
 
 @pytest.mark.parametrize("compiler", compilers())

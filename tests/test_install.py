@@ -55,7 +55,7 @@ def test_without_an_archive(folder, make, program):
     package = f"{folder}/package"
     ended = run(make_words(package, f"{folder}/build", program, f"{folder}/missing.a"))
     assert ended.returncode != 0, "it fails"
-    assert "rt lib" in ended.stdout, "what makes the archive"
+    assert "`tools/prove gihandop_c`" in ended.stdout, "what makes the archive"
     assert not os.path.exists(package), "nothing is installed"
 
 

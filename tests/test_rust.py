@@ -5,7 +5,8 @@ import re
 
 import pytest
 
-from parties.building import once, ran, run
+from parties.building import is_marked, once, ran, run
+from parties.compiling import ARCHIVE
 from parties.places import ROOT, write_text
 from parties.rust import AT, MANIFEST, cargo_env, need_rust
 
@@ -17,9 +18,11 @@ BUILT_FOR = {
     ("x86_64", "linux"): "cargo::rustc-link-search=native={}/crates/gihandop_c/out",
     ("aarch64", "linux"):
         "cargo::rustc-link-search=native={}/crates/gihandop_c/out/aarch64-unknown-linux-gnu",
-    ("arm", "linux"): "cargo::error=the archive is for Linux on x86_64 or aarch64, not for linux on arm",
+    ("arm", "linux"):
+        "cargo::warning=the archive is for Linux on x86_64 or aarch64, not for linux on arm: no program can be linked",
     ("x86_64", "windows"):
-        "cargo::error=the archive is for Linux on x86_64 or aarch64, not for windows on x86_64",
+        "cargo::warning=the archive is for Linux on x86_64 or aarch64, not for windows on x86_64: no program can be"
+        " linked",
 }
 
 
@@ -57,17 +60,42 @@ def test_package():
     ran(["cargo", "--quiet", "package", "--allow-dirty", *AT], env=cargo_env())
 
 
-def test_without_an_archive(folder):
-    """A build without an archive ends with the command that makes one."""
+@pytest.mark.parametrize("words", [["doc", "--no-deps"], ["check", "--all-targets"], ["clippy"], ["build"]], ids=" ".join)
+def test_without_an_archive(folder, words):
+    """What links no program needs no archive: a warning says how it is made."""
+    if run(["cargo", words[0], "--help"]).returncode:
+        pytest.skip(f"there is no cargo {words[0]} here")
     env = cargo_env(CARGO_TARGET_DIR=f"{folder}/target", GIHANDOP_LIB=folder)
-    ended = run(["cargo", "--quiet", "build", *AT], env=env)
-    assert ended.returncode != 0, "it fails"
-    assert "`rt lib` in crates/gihandop_c makes" in ended.stdout, "what makes the archive"
+    said = ran(["cargo", *words, *AT], env=env)
+    for wanted in (f"there is no {folder}/libgihandop_c.a", "`tools/prove gihandop_c`", "`tools/unproved gihandop_c`"):
+        assert wanted in said, "what makes the archive"
+
+
+def test_program_without_an_archive(folder):
+    """A program is not linked without an archive, and the warning comes before what the linker says."""
+    env = cargo_env(CARGO_TARGET_DIR=f"{folder}/target", GIHANDOP_LIB=folder)
+    ended = run(["cargo", "build", "--example", "lockd", *AT], env=env)
+    assert ended.returncode != 0, "it is not linked"
+    assert "no program can be linked" in ended.stdout.partition("gh_open")[0], "why"
+
+
+def test_version_text():
+    """The crate says of an archive that is compiled without proofs that it is not proved."""
+    code = "println!(\"{}\", gihandop::version_text())"
+    path = write_text(f"{os.environ['BUILT_ONCE']}/version_text.rs", f"fn main() {{ {code} }}\n")
+    env = cargo_env()
+    flags = [it for it in env.get("RUSTFLAGS", "").split() if it]
+    ran(["cargo", "--quiet", "build", *AT], env=env)
+    folder = f"{env['CARGO_TARGET_DIR']}/debug"
+    words = ["rustc", "--edition", "2024", *flags, "-L", f"{folder}/deps", "-L", f"native={env['GIHANDOP_LIB']}"]
+    ran([*words, "--extern", f"gihandop={folder}/libgihandop.rlib", "-o", f"{path}.program", path], env=env)
+    said = ran([f"{path}.program"]).split(" ", 1)
+    assert said[1:] == (["(not proved)\n"] if is_marked(ARCHIVE) else []), said
 
 
 @pytest.mark.parametrize("machine", BUILT_FOR, ids=["-".join(it) for it in BUILT_FOR])
 def test_build_script(folder, machine):
-    """In a folder that has all archives, the build script finds that of a machine, or refuses the machine."""
+    """In a folder that has all archives, the build script finds that of a machine, or warns of the machine."""
     tree = f"{folder}/tree"
     for target in ("", "aarch64-unknown-linux-gnu"):
         os.makedirs(f"{tree}/crates/gihandop_c/out/{target}", exist_ok=True)

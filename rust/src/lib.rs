@@ -2,6 +2,18 @@
 //! controller (H4: Core 5.0, Vol 4 Part A). The library behind this crate is written in Rattle. It is
 //! proved what the library makes of bytes and calls; this crate is not proved.
 //!
+//! `cargo doc`, `cargo check` and `cargo clippy` need no library. For a first program compile it without
+//! proofs, which takes a minute, in the repository:
+//!
+//! ```sh
+//! tools/unproved gihandop_c
+//! export GIHANDOP_LIB=$PWD/crates/gihandop_c/out/unproved
+//! export RUSTFLAGS="-Clink-arg=-Wl,--whole-archive,$GIHANDOP_LIB/asan.a,--no-whole-archive -Clink-arg=-lm"
+//! cargo build --manifest-path rust/Cargo.toml --example lockd
+//! ```
+//!
+//! `tools/prove gihandop_c` proves it and makes the library for a product, which needs no variables.
+//!
 //! A phone reads the name of the lock:
 //!
 //! ```
@@ -190,6 +202,15 @@ pub use host::{Config, Files, Host, LONGEST_PACKET, Saves};
 pub use notice::{Notice, Notices, NoticesIter};
 pub use seen::{Connection, Connections, Key, Peer, Uuid};
 pub use serving::Turn;
+
+/// Returns the version of this crate as text. If the library behind it is compiled without proofs,
+/// `(not proved)` follows.
+pub fn version_text() -> &'static str {
+    match option_env!("GIHANDOP_NOT_PROVED") {
+        Some(_) => concat!(env!("CARGO_PKG_VERSION"), " (not proved)"),
+        None => env!("CARGO_PKG_VERSION"),
+    }
+}
 
 /// Returns the version of the library behind this crate: its major and minor number and its patch.
 pub fn version() -> (u32, u32, u32) {

@@ -407,4 +407,6 @@ fn the_version_is_that_of_the_crate() {
     let (major, minor, patch) = gihandop::version();
     let version = format!("{major}.{minor}.{patch}");
     assert_eq!(version, env!("CARGO_PKG_VERSION"));
+    let text = gihandop::version_text();
+    assert!(text == version || text == format!("{version} (not proved)"));
 }
