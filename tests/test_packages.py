@@ -23,7 +23,7 @@ OTHERS = ("/proc", "/sys", "/dev", "/tmp", "/run", "/var/cache", "/var/log", "/v
 OUTPUTS = [
     ("gihandop", "usr/bin/gatt_shell", "crates/gatt_shell/out/gatt_shell"),
     ("libgihandop-dev", "usr/lib/*/libgihandop_c.a", "crates/gihandop_c/out/libgihandop_c.a"),
-    ("python3-gihandop", "usr/lib/python3/dist-packages/gihandop.py", "python/gihandop.py"),
+    ("python3-gihandop", "usr/lib/python3/dist-packages/gihandop/__init__.py", "python/gihandop/__init__.py"),
 ]
 INSIDE = {"PATH": "/usr/sbin:/usr/bin:/sbin:/bin", "DEBIAN_FRONTEND": "noninteractive", "LC_ALL": "C.UTF-8"}
 
@@ -118,9 +118,10 @@ def test_unproved(checkout, program, folder):
 
 
 def test_modules(packages):
-    """The package for Python has one module."""
+    """The package for Python has one module, with its types."""
     modules = files_below(f"{packages}/unpacked/python3-gihandop/usr/lib")
-    assert modules == ["python3/dist-packages/gihandop.py"], "python3-gihandop: modules"
+    wanted = [f"python3/dist-packages/gihandop/{it}" for it in ("__init__.py", "py.typed")]
+    assert modules == wanted, "python3-gihandop: modules"
 
 
 def test_lintian(packages):

@@ -1,8 +1,6 @@
-"""Tries python/gihandop.py with `gatt_shell host`: a phone's day, restarts, and the blocking form."""
+"""Tries the module of python/ with `gatt_shell host`: a phone's day, restarts, and the blocking form."""
 
 import asyncio
-import subprocess
-import sys
 import threading
 import time
 
@@ -82,6 +80,10 @@ async def test_a_day(folder):
             assert await error_of(ask(*words)) == error, f"an error of {words}"
         for ask, words in ((device.find, ("180f", "2a19\nvalue 10")), (device.update, (21, bytes(600)))):
             assert (await error_of(ask(*words)))[0] == "ValueError", "no line"
+        for value, words in (("1", "str: a text becomes bytes by its method encode"), (1, "int"), ([1], "list")):
+            assert await error_of(device.update(21, value)) == ("TypeError", f"a value is bytes, and not {words}")
+        await within(device.update(6, bytearray(b"\x63")))
+        assert await within(device.value(6)) == b"\x63", "what is like bytes"
         assert await within(device.value(10)) == b"\0", "the next answer"
         await within(device.disconnect(1))
         await apart(controller.until, lambda: False, 0.2)
@@ -113,14 +115,17 @@ async def test_restarts(folder):
     assert (await error_of(device.update(6, b"\x5b")))[0] == "Gone", "it is gone"
     assert await error_of(device.value(6)) == ("Gone", "the device is not connected"), "it stays gone"
     assert (await error_of(device.connections()))[0] == "Gone", "for a look"
+    assert await heard(device, 1) == [gihandop.Away()], "the iteration says that it is gone"
+    assert await timed(device.__anext__()) == "TimeoutError", "once"
     host = await apart(door, path)
     second, waiting = await heard(device, 2)
     assert (second.is_new, second.number != first.number) == (True, True), "it is there again"
     assert waiting == gihandop.Waiting(), "as it is"
     assert await within(device.value(6)) == b"\x64", "it has forgotten"
     device._link.abort()
-    found = await heard(device, 2)
-    assert found == [gihandop.Started(second.number, False), gihandop.Waiting()], "the same start"
+    found = await heard(device, 3)
+    wanted = [gihandop.Away(), gihandop.Started(second.number, False), gihandop.Waiting()]
+    assert found == wanted, "the same start"
     assert await within(device.value(6)) == b"\x64", "an answer"
     await within(device.close())
     assert await rest_of(device) == [], "the end"
@@ -246,13 +251,3 @@ async def test_a_flood_of_writes(folder):
                 written.append(notice.value[0])
         assert written == [at % 2 for at in range(300)], "all are told, in order"
         controller.close()
-
-
-def test_types(folder):
-    """mypy finds nothing, if it is there."""
-    mypy = [sys.executable, "-m", "mypy"]
-    if subprocess.run([*mypy, "--version"], capture_output=True, timeout=PATIENCE).returncode:
-        pytest.skip("mypy is not there: Debian's mypy is one")
-    words = [*mypy, "--strict", "--cache-dir", f"{folder}/mypy", f"{ROOT}/python/gihandop.py"]
-    ran = subprocess.run(words, capture_output=True, text=True, timeout=300)
-    assert (ran.returncode, ran.stdout if ran.returncode else "") == (0, ""), "mypy --strict"

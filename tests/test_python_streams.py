@@ -1,4 +1,4 @@
-"""Tries python/gihandop.py with devices that do their worst: lost answers, ends, nonsense, and floods."""
+"""Tries the module of python/ with devices that do their worst: lost answers, ends, nonsense, and floods."""
 
 import asyncio
 import tracemalloc
@@ -68,7 +68,8 @@ async def test_nonsense(folder):
 
     async with pretended(path, raves), gihandop.Device(path, retry=0.05) as device:
         assert await within(device.update(10, b"")) is None, "an answer"
-        assert [it.number for it in await heard(device, 2)] == [7, 7], "two starts"
+        started = gihandop.Started(7, True), gihandop.Started(7, False)
+        assert await heard(device, 3) == [started[0], gihandop.Away(), started[1]], "two starts"
 
 
 @in_loop
@@ -82,7 +83,8 @@ async def test_a_line_without_an_end(folder):
             await writer.drain()
 
     async with pretended(path, never_ends), gihandop.Device(path, retry=0.05) as device:
-        assert [it.number for it in await heard(device, 2)] == [7, 7], "a line without an end"
+        started = gihandop.Started(7, True), gihandop.Started(7, False)
+        assert await heard(device, 3) == [started[0], gihandop.Away(), started[1]], "a line without an end"
 
 
 @in_loop

@@ -283,7 +283,7 @@ def test_tarball_program(tarball):
 
 def test_tarball_python(tarball):
     """The library for Python and the tool for keys of the tarball run."""
-    code = "import sys; sys.path.insert(0, 'python'); import gihandop"
+    code = "import sys; sys.path.insert(0, 'python'); import gihandop; gihandop.Away()"
     ran(["python3", "-B", "-c", code], "the application of the tarball", cwd=tarball, env=BARE)
     ran(["tools/keys", "new", "00:aa:01:00:00:00", "public"], "a key by the tarball", cwd=tarball, env=BARE)
 

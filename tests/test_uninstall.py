@@ -20,7 +20,7 @@ FILES = [
 ]
 DOCUMENTS = [
     "README.md", "VERDICTS", "LICENSE-THIRD-PARTY", "docs/C.md", "examples/door.toml", "examples/device/lock.py",
-    "python/gihandop.py",
+    "python/gihandop/__init__.py", "python/gihandop/py.typed", "python/pyproject.toml",
 ]
 
 

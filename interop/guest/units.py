@@ -41,8 +41,8 @@ def logged(unit):
 def install():
     """Puts the files of the units where they look for them."""
     os.makedirs("/opt/door")
-    for path in ("examples/device/lock.py", "python/gihandop.py"):
-        shutil.copy(f"{PROJECT}/{path}", "/opt/door")
+    shutil.copy(f"{PROJECT}/examples/device/lock.py", "/opt/door")
+    shutil.copytree(f"{PROJECT}/python/gihandop", "/opt/door/gihandop", ignore=shutil.ignore_patterns("__pycache__"))
     os.makedirs("/etc/gihandop")
     shutil.copy(TABLE, "/etc/gihandop/table.toml")
     shutil.copy(KEYS, "/etc/gihandop/keys.toml")

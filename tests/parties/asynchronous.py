@@ -1,4 +1,4 @@
-"""python/gihandop.py in an event loop: how tests wait for it, and devices that a test plays."""
+"""The module of python/ in an event loop: how tests wait for it, and devices that a test plays."""
 
 import asyncio
 import contextlib
@@ -58,7 +58,7 @@ async def error_of(awaited):
     """The kind of the error that something raises, and its words."""
     try:
         return "no error", await within(awaited)
-    except (gihandop.DeviceError, ValueError, OSError) as error:
+    except (gihandop.DeviceError, TypeError, ValueError, OSError) as error:
         return type(error).__name__, str(error)
 
 

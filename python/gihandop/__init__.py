@@ -1,6 +1,6 @@
 """Connects an application to a device that `gatt_shell host` serves.
 
-One file without dependencies, for Python 3.9 or later. docs/PYTHON.md of Gihandop shows its use.
+One module without dependencies, for Python 3.9 or later. docs/PYTHON.md of Gihandop shows its use.
 
     async with gihandop.Device("door.socket") as device:
         async for notice in device:
@@ -17,7 +17,7 @@ from dataclasses import dataclass
 from typing import Any, Callable, Coroutine, Deque, Dict, Iterator, List, Optional, Tuple, TypeVar, Union
 
 __all__ = [
-    "Address", "BlockingDevice", "Configured", "Confirmed", "Connected", "Connection", "Device", "DeviceError",
+    "Address", "Away", "BlockingDevice", "Configured", "Confirmed", "Connected", "Connection", "Device", "DeviceError",
     "Disconnected", "Ending", "Gone", "Lost", "Missed", "NotUnderstood", "Notice", "Refused", "Replaced", "Saved",
     "Secured", "Serving", "Skipped", "Started", "Stopped", "Subscribed", "TimedOut", "Unknown",
     "Unsaved", "Unsecured", "Updated", "Waiting", "WasReplaced", "Written",
@@ -188,6 +188,15 @@ class Started(Notice):
 
 
 @dataclass(frozen=True)
+class Away(Notice):
+    """The device is gone, or has closed the connection to this object, which connects again.
+
+    `Started` follows once it is there again. Until then calls raise `Gone`, and phones that the device
+    still serves are not heard. With `retry=None` the iteration ends by `Gone` in its place.
+    """
+
+
+@dataclass(frozen=True)
 class Serving(Notice):
     """A controller is there: phones can connect."""
 
@@ -309,6 +318,14 @@ def _accepted(answer: str) -> str:
         number, _, words = answer[len("fault ") :].partition(": ")
         raise Refused(int(number), words)
     return answer
+
+
+def _word(value: bytes) -> str:
+    """Returns the word of a value. Errors: TypeError if it is not bytes."""
+    if not isinstance(value, (bytes, bytearray, memoryview)):
+        hint = ": a text becomes bytes by its method encode" if isinstance(value, str) else ""
+        raise TypeError(f"a value is bytes, and not {type(value).__name__}{hint}")
+    return value.hex() or "-"
 
 
 def _line(*words: object) -> bytes:
@@ -467,7 +484,7 @@ class Device:
 
     async def update(self, handle: int, value: bytes) -> None:
         """Gives the attribute at `handle` a value. The device notifies the phones that subscribed."""
-        await self._ask("update", handle, value.hex() or "-")
+        await self._ask("update", handle, _word(value))
 
     async def allow(self, connection: int, milliseconds: Optional[int] = None) -> None:
         """Authorizes a phone for so many milliseconds from now on, or until it disconnects."""
@@ -587,6 +604,10 @@ class Device:
             notice = notice_of(line)
         if isinstance(notice, Replaced):
             self._is_replaced = True
+        self._put(notice)
+
+    def _put(self, notice: Notice) -> None:
+        """Queues a notice for the iteration."""
         # Once some are lost, the queue is read to its half before more are accepted: a slow reader
         # of a flood gets runs of notices, and not a `Lost` for each.
         if self._lost and len(self._notices) <= self.capacity // 2:
@@ -602,6 +623,8 @@ class Device:
         """Accepts that a link has ended."""
         if self._link is link:
             self._link = None
+            if not (self._is_replaced or self._is_stopped or self._is_over or self.retry is None):
+                self._put(Away())
 
     def _absence(self, words: str = "the device is not connected") -> DeviceError:
         """Returns why a question has no answer. The words are for a device that may come back."""
