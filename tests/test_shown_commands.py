@@ -9,6 +9,9 @@ import pytest
 from documents import ROOT, SHOWING, cells, shown_commands, text_of
 from test_shown_devices import HOSTED, SERVED
 
+# It ends with status 3, since the new table opens a right.
+OPENS = "./gatt_shell compare examples/porch.toml examples/porch_next.toml examples/keys.toml"
+
 # Commands, with the file or the text that they print. Of an empty text what they print is not compared.
 PRINTED = {
     "printf '0a0300\\n' | ./gatt_shell att": "0b4c6f636b\n",
@@ -16,6 +19,7 @@ PRINTED = {
     "./gatt_shell att < examples/att_first.txt": "",
     "./gatt_shell check examples/door.toml examples/keys.toml": "attributes 21\nkeys 3\n",
     "./gatt_shell show examples/door.toml examples/keys.toml": "examples/door.shown",
+    OPENS: "",
     "./gatt_shell run examples/door.toml examples/keys.toml examples/bonded.script": "examples/bonded.out",
     "./gatt_shell run examples/door.toml examples/keys.toml examples/bonded.script --echo": (
         "examples/bonded.echoed"
@@ -95,7 +99,7 @@ def run(command, program):
 def printed(command, program):
     """What a command prints that ends well."""
     ran = run(command, program)
-    assert ran.returncode == 0, ran.stderr
+    assert ran.returncode == (3 if command == OPENS else 0), ran.stderr
     return ran.stdout
 
 

@@ -13,6 +13,7 @@ ghost use Rattle.shell_files.specs.Check.{IsCheckFault};
 ghost use Rattle.shell_files.specs.Fault.{exit_status_of};
 
 use arrayvec::ArrayVec;
+use compare_command::ComparePaths;
 use device_host::{OptionTexts, Stop};
 use gatt_commands::{
     Address, KeysPath, NextPath, RowsPath, RunPaths, ScriptPath, ServePaths, ShellFault, Shows,
@@ -169,6 +170,28 @@ fn unreadable(rt: &HostRuntime, paths: ShowPaths<'_>) -> Option<String> {
     None
 }
 
+/// Prints what new files open and close, and returns the exit status.
+fn run_compare(rt: &HostRuntime, paths: ComparePaths<'_>) -> u8 {
+    let mut place = Vec::new(rt.alloc());
+    let writer = &mut io::writer(rt);
+    match compare_command::compare_paths(rt.alloc(), rt, paths, writer, &mut place) {
+        Ok(is_opened) => opened_status(is_opened),
+        Err(ShellFault::Unwritten) => exit_status(rt, Err(ShellFault::Unwritten)),
+        Err(fault) => {
+            tell_at(rt, &fault, place.as_slice());
+            gatt_commands::status(&fault)
+        }
+    }
+}
+
+/// Returns the exit status of a comparison.
+fn opened_status(is_opened: bool) -> u8
+    ensures opened { is_opened ≡ true → result ≡ 3 }
+    ensures nothing { is_opened ≡ false → result ≡ 0 }
+{
+    if is_opened { 3 } else { 0 }
+}
+
 /// Returns the exit status of a command without its lock, after printing why.
 fn unlocked_status(rt: &HostRuntime, unlocked: Unlocked) -> u8
     ensures taken { unlocked ≡ Unlocked.Taken → result ≡ 1 }
@@ -292,6 +315,20 @@ fn carry_out(rt: &HostRuntime, choice: &Choice<'_>) -> u8 {
                 rows: RowsPath(rows),
             };
             show_as(rt, paths, attributes, width)
+        }
+        Choice::Compare {
+            old,
+            new,
+            keys,
+            new_keys,
+        } => {
+            let paths = ComparePaths {
+                old: TablePath(old),
+                new: TablePath(new),
+                keys: KeysPath(keys),
+                new_keys: new_keys.map(KeysPath),
+            };
+            run_compare(rt, paths)
         }
         Choice::Run {
             table,

@@ -7,7 +7,7 @@ use Rattle.shell_args.specs.declared.argument.Takes.{Takes}
 use Rattle.shell_args.specs.declared.argument.Takes.TheVariants.{Path, PathIfAny, Value, Values, Nothing}
 use Rattle.shell_args.specs.declared.subcommand.Subcommand.{Subcommand}
 use Rattle.shell_args.specs.declared.words.Choice.{Choice}
-use Rattle.shell_args.specs.declared.words.Choice.TheVariants.{Att, Check, Show, Run, Words, Serve, Host, Tell}
+use Rattle.shell_args.specs.declared.words.Choice.TheVariants.{Att, Check, Show, Compare, Run, Words, Serve, Host, Tell}
 
 -- A required path.
 abbrev pub file_rule : Text → Rule
@@ -65,6 +65,12 @@ show_shape =
     shape_with (codes "show")
     (file_rule (codes "TABLE") ∷ optional_rule (codes "KEYS") ∷ option_rule (codes "rows")
     ∷ flag_rule (codes "attributes") ∷ option_rule (codes "width") ∷ [])
+
+abbrev pub compare_shape : Shape
+compare_shape =
+    shape_with (codes "compare")
+    (file_rule (codes "OLD") ∷ file_rule (codes "NEW") ∷ file_rule (codes "KEYS")
+    ∷ option_rule (codes "new-keys") ∷ [])
 
 abbrev pub run_shape : Shape
 run_shape = shape_with (codes "run") (
@@ -139,14 +145,17 @@ command_line =
     (with_subcommand
     (with_subcommand
     (with_subcommand
+    (with_subcommand
     (with_subcommand (with_subcommand (with_subcommand (with_subcommand program_line
-    att_shape) check_shape) show_shape) run_shape) words_shape) serve_shape) host_shape) tell_shape
+    att_shape) check_shape) show_shape) compare_shape) run_shape) words_shape) serve_shape)
+    host_shape) tell_shape
 
 -- The name that chooses a command.
 abbrev pub command_name : Choice → List ℕ
 command_name (Att words) = codes "att"
 command_name (Check table keys) = codes "check"
 command_name (Show table keys rows attributes width) = codes "show"
+command_name (Compare old new keys new_keys) = codes "compare"
 command_name (Run table next keys rows script notices echo words) = codes "run"
 command_name (Words table) = codes "words"
 command_name (Serve table keys rows address) = codes "serve"
@@ -181,6 +190,10 @@ HasFilesOf arguments (Show table keys rows attributes width) =
     × IsGivenIfAny (codes "rows") arguments (option_map (λ path. path.now) rows)
     × IsSetIfGiven (codes "attributes") arguments attributes
     × IsGivenIfAny (codes "width") arguments (option_map (λ word. word.now) width)
+HasFilesOf arguments (Compare old new keys new_keys) =
+    IsGiven (codes "OLD") arguments old.now × IsGiven (codes "NEW") arguments new.now
+    × IsGiven (codes "KEYS") arguments keys.now
+    × IsGivenIfAny (codes "new-keys") arguments (option_map (λ path. path.now) new_keys)
 HasFilesOf arguments (Run table next keys rows script notices echo words) =
     IsGiven (codes "TABLE") arguments table.now × IsGiven (codes "KEYS") arguments keys.now
     × IsGiven (codes "SCRIPT") arguments script.now

@@ -10,6 +10,12 @@ pub const TABLE: &str = "TABLE";
 
 pub const KEYS: &str = "KEYS";
 
+pub const OLD: &str = "OLD";
+
+pub const NEW: &str = "NEW";
+
+pub const NEW_KEYS: &str = "new-keys";
+
 pub const SCRIPT: &str = "SCRIPT";
 
 pub const TABLE_OPTION: &str = "table";
@@ -124,6 +130,25 @@ const SHOW_ARGUMENTS: [Argument; 5] = [
         name: WIDTH,
         takes: Takes::Value("COLUMNS"),
         about: "The width of the lines, if it has space for a key [default: 80]",
+    },
+];
+
+const COMPARE_ARGUMENTS: [Argument; 4] = [
+    Argument {
+        name: OLD,
+        takes: Takes::Path,
+        about: "The table file before the change",
+    },
+    Argument {
+        name: NEW,
+        takes: Takes::Path,
+        about: "The table file after it",
+    },
+    KEY_FILE,
+    Argument {
+        name: NEW_KEYS,
+        takes: Takes::Value("FILE"),
+        about: "The key file after the change [default: KEYS]",
     },
 ];
 
@@ -310,7 +335,7 @@ const TELL_ARGUMENTS: [Argument; 5] = [
 ];
 
 /// The commands.
-pub const SUBCOMMANDS: [Subcommand; 8] = [
+pub const SUBCOMMANDS: [Subcommand; 9] = [
     Subcommand {
         name: help::ATT,
         about: help::ATT_ABOUT,
@@ -328,6 +353,12 @@ pub const SUBCOMMANDS: [Subcommand; 8] = [
         about: help::SHOW_ABOUT,
         details: help::SHOW_DETAILS,
         arguments: &SHOW_ARGUMENTS,
+    },
+    Subcommand {
+        name: help::COMPARE,
+        about: help::COMPARE_ABOUT,
+        details: help::COMPARE_DETAILS,
+        arguments: &COMPARE_ARGUMENTS,
     },
     Subcommand {
         name: help::RUN,

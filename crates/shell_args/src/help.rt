@@ -15,6 +15,7 @@ Exit status:
    0  the work is done, or help or the version was asked for
    1  a file is refused, or cannot be read or written
    2  a fault in a run
+   3  `compare` found a right that is opened
   64  the words of the command line are not understood";
 
 pub const ATT: &str = "att";
@@ -61,6 +62,20 @@ effect, a key that is too short. The rows file is only checked. The number of th
 to standard error, as by `check`, with its place and its cause.
 
   gatt_shell show examples/door.toml examples/keys.toml";
+
+pub const COMPARE: &str = "compare";
+
+pub const COMPARE_ABOUT: &str = "Compare two tables: the rights that the new one opens and closes";
+
+pub const COMPARE_DETAILS: &str = "\
+Compare two tables: the rights that the new one opens and closes, and for which keys.
+
+A right is opened if a link has it with NEW and not with OLD: with a kind of key that is in KEYS, or
+with no key. Values and descriptors correspond by their types, in the order of the table. A new key
+of a peer opens rights, too. Other lines name the attributes that are new, gone or moved, and the
+subscriptions that a device drops if NEW replaces OLD. The status is 3 if a right is opened.
+
+  gatt_shell compare examples/porch.toml examples/porch_next.toml examples/keys.toml";
 
 pub const RUN: &str = "run";
 

@@ -1,4 +1,4 @@
-//! The command `show`: its words and its choice.
+//! The commands on what a table permits: their words and their choices.
 
 ghost use Rattle.std.specs.Prelude.{◌≡◌, codes, IfSome};
 ghost use Rattle.clap.specs.Words.{found_of, rows_of};
@@ -20,5 +20,18 @@ pub(crate) fn showing<'a>(matches: &ArgMatches<'a>) -> Option<Choice<'a>>
         rows: matches.get_str(arguments::ROWS),
         attributes: matches.get_flag(arguments::ATTRIBUTES),
         width: matches.get_str(arguments::WIDTH),
+    })
+}
+
+#[tactic(auto, using(crate::proofs::CommandLines::first_in_rows))]
+pub(crate) fn comparing<'a>(matches: &ArgMatches<'a>) -> Option<Choice<'a>>
+    ensures name { IfSome result (λ choice. command_name choice ≡ codes "compare") }
+    ensures files { IfSome result (HasFilesOf (rows_of (found_of matches.now))) }
+{
+    Some(Choice::Compare {
+        old: matches.get_str(arguments::OLD)?,
+        new: matches.get_str(arguments::NEW)?,
+        keys: matches.get_str(arguments::KEYS)?,
+        new_keys: matches.get_str(arguments::NEW_KEYS),
     })
 }

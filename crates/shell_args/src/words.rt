@@ -8,7 +8,7 @@ ghost use Rattle.shell_args.specs.CommandLine.{HasFiles, HasFilesOf, IsAttAlone}
 ghost use Rattle.shell_args.specs.Refusal.{ShowsUnlessMemory, refusal_for};
 
 use crate::host::hosting;
-use crate::show::showing;
+use crate::show::{comparing, showing};
 use crate::subcommand::with_subcommands;
 use crate::{arguments, help};
 use clap::error::ErrorKind;
@@ -39,6 +39,14 @@ pub enum Choice<'a> {
         attributes: bool,
         /// The width of the lines.
         width: Option<&'a str>,
+    },
+    /// Compares two tables.
+    Compare {
+        old: &'a str,
+        new: &'a str,
+        keys: &'a str,
+        /// The key file after the change.
+        new_keys: Option<&'a str>,
     },
     /// Runs a script.
     Run {
@@ -134,6 +142,7 @@ fn choice_of<'a>(name: &str, matches: &ArgMatches<'a>) -> Option<Choice<'a>>
         help::ATT => Some(answering(matches)),
         help::CHECK => checking(matches),
         help::SHOW => showing(matches),
+        help::COMPARE => comparing(matches),
         help::RUN => running(matches),
         help::WORDS => wording(matches),
         help::SERVE => serving(matches),
@@ -289,15 +298,15 @@ pub fn chosen<'a>(alloc: Global, words: &'a [String]) -> Result<Choice<'a>, Refu
     }
 }
 
-/// Returns the parser's error of words that are not understood, for `host`, `show`, `tell` and
-/// `words`.
+/// Returns the parser's error of words that are not understood, for `compare`, `host`, `show`,
+/// `tell` and `words`.
 ///
 /// The other commands print nothing then.
 pub fn complaint(alloc: Global, words: &[String]) -> Option<Error> {
     let name = words.get(1)?;
     if !matches!(
         name.as_str(),
-        help::HOST | help::SHOW | help::TELL | help::WORDS
+        help::COMPARE | help::HOST | help::SHOW | help::TELL | help::WORDS
     ) {
         return None;
     }
