@@ -20,6 +20,13 @@ PRINTED = {
     "./gatt_shell check examples/door.toml examples/keys.toml": "attributes 21\nkeys 3\n",
     "./gatt_shell show examples/door.toml examples/keys.toml": "examples/door.shown",
     OPENS: "",
+    "./gatt_shell may examples/door.toml examples/keys.toml 00:11:22:33:44:55 write 13 --authorized": (
+        "not encrypted  no: `write` needs `encrypted`, Insufficient Encryption (0f)\n"
+        "key of 16, authenticated  yes\n"
+        "key of 7, authenticated  no: `write` needs `key_size = 16`, Insufficient Encryption Key Size (0c)\n"
+    ),
+    "./gatt_shell may examples/door.toml examples/keys.toml stranger read 3 >/dev/null"
+    " && echo everybody reads the name": "everybody reads the name\n",
     "./gatt_shell run examples/door.toml examples/keys.toml examples/bonded.script": "examples/bonded.out",
     "./gatt_shell run examples/door.toml examples/keys.toml examples/bonded.script --echo": (
         "examples/bonded.echoed"
