@@ -19,6 +19,7 @@ COMMANDS = {
     "serve": [*DOOR, "--listen", "127.0.0.1:0"],
     "run": [*DOOR, f"{ROOT}/examples/bonded.script"],
     "show": DOOR,
+    "may": [*DOOR, "stranger", "read", "3"],
     "check": DOOR,
     "att": [],
     "words": DOOR[:1],

@@ -4,6 +4,7 @@
 //! of it.
 #![tactic(auto)]
 
+mod asking;
 mod locking;
 mod telling;
 mod wording;
@@ -21,6 +22,7 @@ use gatt_commands::{
 };
 use itoa::Buffer;
 use locking::{Unlocked, lock_rows};
+use may_command::{MayPaths, MayWords};
 use shell_args::{Choice, Refusal};
 use show_command::{ShowPaths, View};
 use std::fs::File;
@@ -36,7 +38,7 @@ fn tell(rt: &HostRuntime, fault: &ShellFault) {
 }
 
 /// Prints the text and the place of a fault on standard error.
-fn tell_at(rt: &HostRuntime, fault: &ShellFault, place: &[u8]) {
+pub(crate) fn tell_at(rt: &HostRuntime, fault: &ShellFault, place: &[u8]) {
     let mut text = ArrayVec::new();
     gatt_commands::text(fault, &mut text);
     let _ = rt.eprint(str::from_utf8(text.as_slice()).unwrap_or(""));
@@ -45,7 +47,7 @@ fn tell_at(rt: &HostRuntime, fault: &ShellFault, place: &[u8]) {
 }
 
 /// Returns the exit status of a command, after printing its fault.
-fn exit_status(rt: &HostRuntime, ran: Result<(), ShellFault>) -> u8
+pub(crate) fn exit_status(rt: &HostRuntime, ran: Result<(), ShellFault>) -> u8
     ensures done { ran ≡ Ok tt → result ≡ 0 }
     ensures fault { (fault : ShellFault) → ran ≡ Err fault → result ≡ exit_status_of fault }
 {
@@ -145,8 +147,12 @@ fn run_show(rt: &HostRuntime, paths: ShowPaths<'_>, view: View) -> u8 {
         tell_at(rt, fault, place.as_slice());
         return gatt_commands::status(fault);
     }
+    let keys = match paths.keys {
+        Some(KeysPath(path)) => Some(path),
+        None => None,
+    };
     if matches!(&ran, Err(ShellFault::Unreadable))
-        && let Some(place) = unreadable(rt, paths)
+        && let Some(place) = unreadable(rt, &[Some(paths.table.0), keys, paths.rows.0])
     {
         tell_at(rt, &ShellFault::Unreadable, place.as_bytes());
         return gatt_commands::status(&ShellFault::Unreadable);
@@ -154,42 +160,16 @@ fn run_show(rt: &HostRuntime, paths: ShowPaths<'_>, view: View) -> u8 {
     exit_status(rt, ran)
 }
 
-/// Returns which file of `show` cannot be opened, and why.
-fn unreadable(rt: &HostRuntime, paths: ShowPaths<'_>) -> Option<String> {
-    let keys = match paths.keys {
-        Some(KeysPath(path)) => Some(path),
-        None => None,
-    };
-    for path in [Some(paths.table.0), keys, paths.rows.0] {
-        if let Some(path) = path
+/// Returns which of these files cannot be opened, and why.
+pub(crate) fn unreadable(rt: &HostRuntime, paths: &[Option<&str>]) -> Option<String> {
+    for path in paths {
+        if let Some(path) = *path
             && let Err(error) = File::open(rt, path)
         {
             return format!(in rt.alloc(); "{path}: {error}").ok();
         }
     }
     None
-}
-
-/// Prints what new files open and close, and returns the exit status.
-fn run_compare(rt: &HostRuntime, paths: ComparePaths<'_>) -> u8 {
-    let mut place = Vec::new(rt.alloc());
-    let writer = &mut io::writer(rt);
-    match compare_command::compare_paths(rt.alloc(), rt, paths, writer, &mut place) {
-        Ok(is_opened) => opened_status(is_opened),
-        Err(ShellFault::Unwritten) => exit_status(rt, Err(ShellFault::Unwritten)),
-        Err(fault) => {
-            tell_at(rt, &fault, place.as_slice());
-            gatt_commands::status(&fault)
-        }
-    }
-}
-
-/// Returns the exit status of a comparison.
-fn opened_status(is_opened: bool) -> u8
-    ensures opened { is_opened ≡ true → result ≡ 3 }
-    ensures nothing { is_opened ≡ false → result ≡ 0 }
-{
-    if is_opened { 3 } else { 0 }
 }
 
 /// Returns the exit status of a command without its lock, after printing why.
@@ -316,6 +296,28 @@ fn carry_out(rt: &HostRuntime, choice: &Choice<'_>) -> u8 {
             };
             show_as(rt, paths, attributes, width)
         }
+        Choice::May {
+            table,
+            keys,
+            peer,
+            right,
+            handle,
+            authorized,
+            unencrypted,
+        } => {
+            let paths = MayPaths {
+                table: TablePath(table),
+                keys: KeysPath(keys),
+            };
+            let words = MayWords {
+                peer,
+                right,
+                handle,
+                authorized,
+                unencrypted,
+            };
+            asking::run_may(rt, paths, &words)
+        }
         Choice::Compare {
             old,
             new,
@@ -328,7 +330,7 @@ fn carry_out(rt: &HostRuntime, choice: &Choice<'_>) -> u8 {
                 keys: KeysPath(keys),
                 new_keys: new_keys.map(KeysPath),
             };
-            run_compare(rt, paths)
+            asking::run_compare(rt, paths)
         }
         Choice::Run {
             table,

@@ -7,7 +7,7 @@ use Rattle.shell_args.specs.declared.argument.Takes.{Takes}
 use Rattle.shell_args.specs.declared.argument.Takes.TheVariants.{Path, PathIfAny, Value, Values, Nothing}
 use Rattle.shell_args.specs.declared.subcommand.Subcommand.{Subcommand}
 use Rattle.shell_args.specs.declared.words.Choice.{Choice}
-use Rattle.shell_args.specs.declared.words.Choice.TheVariants.{Att, Check, Show, Compare, Run, Words, Serve, Host, Tell}
+use Rattle.shell_args.specs.declared.words.Choice.TheVariants.{Att, Check, Show, May, Compare, Run, Words, Serve, Host, Tell}
 
 -- A required path.
 abbrev pub file_rule : Text → Rule
@@ -65,6 +65,17 @@ show_shape =
     shape_with (codes "show")
     (file_rule (codes "TABLE") ∷ optional_rule (codes "KEYS") ∷ option_rule (codes "rows")
     ∷ flag_rule (codes "attributes") ∷ option_rule (codes "width") ∷ [])
+
+abbrev pub may_shape : Shape
+may_shape = shape_with (codes "may") (
+    file_rule (codes "TABLE")
+    ∷ file_rule (codes "KEYS")
+    ∷ file_rule (codes "PEER")
+    ∷ file_rule (codes "RIGHT")
+    ∷ file_rule (codes "HANDLE")
+    ∷ flag_rule (codes "authorized")
+    ∷ flag_rule (codes "unencrypted")
+    ∷ [])
 
 abbrev pub compare_shape : Shape
 compare_shape =
@@ -146,15 +157,17 @@ command_line =
     (with_subcommand
     (with_subcommand
     (with_subcommand
+    (with_subcommand
     (with_subcommand (with_subcommand (with_subcommand (with_subcommand program_line
-    att_shape) check_shape) show_shape) compare_shape) run_shape) words_shape) serve_shape)
-    host_shape) tell_shape
+    att_shape) check_shape) show_shape) may_shape) compare_shape) run_shape) words_shape)
+    serve_shape) host_shape) tell_shape
 
 -- The name that chooses a command.
 abbrev pub command_name : Choice → List ℕ
 command_name (Att words) = codes "att"
 command_name (Check table keys) = codes "check"
 command_name (Show table keys rows attributes width) = codes "show"
+command_name (May table keys peer right handle authorized unencrypted) = codes "may"
 command_name (Compare old new keys new_keys) = codes "compare"
 command_name (Run table next keys rows script notices echo words) = codes "run"
 command_name (Words table) = codes "words"
@@ -190,6 +203,12 @@ HasFilesOf arguments (Show table keys rows attributes width) =
     × IsGivenIfAny (codes "rows") arguments (option_map (λ path. path.now) rows)
     × IsSetIfGiven (codes "attributes") arguments attributes
     × IsGivenIfAny (codes "width") arguments (option_map (λ word. word.now) width)
+HasFilesOf arguments (May table keys peer right handle authorized unencrypted) =
+    IsGiven (codes "TABLE") arguments table.now × IsGiven (codes "KEYS") arguments keys.now
+    × IsGiven (codes "PEER") arguments peer.now × IsGiven (codes "RIGHT") arguments right.now
+    × IsGiven (codes "HANDLE") arguments handle.now
+    × IsSetIfGiven (codes "authorized") arguments authorized
+    × IsSetIfGiven (codes "unencrypted") arguments unencrypted
 HasFilesOf arguments (Compare old new keys new_keys) =
     IsGiven (codes "OLD") arguments old.now × IsGiven (codes "NEW") arguments new.now
     × IsGiven (codes "KEYS") arguments keys.now

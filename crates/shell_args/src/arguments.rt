@@ -10,6 +10,16 @@ pub const TABLE: &str = "TABLE";
 
 pub const KEYS: &str = "KEYS";
 
+pub const PEER: &str = "PEER";
+
+pub const RIGHT: &str = "RIGHT";
+
+pub const HANDLE: &str = "HANDLE";
+
+pub const AUTHORIZED: &str = "authorized";
+
+pub const UNENCRYPTED: &str = "unencrypted";
+
 pub const OLD: &str = "OLD";
 
 pub const NEW: &str = "NEW";
@@ -130,6 +140,36 @@ const SHOW_ARGUMENTS: [Argument; 5] = [
         name: WIDTH,
         takes: Takes::Value("COLUMNS"),
         about: "The width of the lines, if it has space for a key [default: 80]",
+    },
+];
+
+const MAY_ARGUMENTS: [Argument; 7] = [
+    TABLE_FILE,
+    KEY_FILE,
+    Argument {
+        name: PEER,
+        takes: Takes::Path,
+        about: "A peer with a key in KEYS, by its address, or `stranger`",
+    },
+    Argument {
+        name: RIGHT,
+        takes: Takes::Path,
+        about: "What it wants to do: read, write, command, notify or indicate",
+    },
+    Argument {
+        name: HANDLE,
+        takes: Takes::Path,
+        about: "The handle of the attribute, as `show` prints it",
+    },
+    Argument {
+        name: AUTHORIZED,
+        takes: Takes::Nothing,
+        about: "Answer for a connection that the application authorizes",
+    },
+    Argument {
+        name: UNENCRYPTED,
+        takes: Takes::Nothing,
+        about: "Answer only for the link that is not encrypted",
     },
 ];
 
@@ -335,7 +375,7 @@ const TELL_ARGUMENTS: [Argument; 5] = [
 ];
 
 /// The commands.
-pub const SUBCOMMANDS: [Subcommand; 9] = [
+pub const SUBCOMMANDS: [Subcommand; 10] = [
     Subcommand {
         name: help::ATT,
         about: help::ATT_ABOUT,
@@ -353,6 +393,12 @@ pub const SUBCOMMANDS: [Subcommand; 9] = [
         about: help::SHOW_ABOUT,
         details: help::SHOW_DETAILS,
         arguments: &SHOW_ARGUMENTS,
+    },
+    Subcommand {
+        name: help::MAY,
+        about: help::MAY_ABOUT,
+        details: help::MAY_DETAILS,
+        arguments: &MAY_ARGUMENTS,
     },
     Subcommand {
         name: help::COMPARE,

@@ -15,7 +15,7 @@ Exit status:
    0  the work is done, or help or the version was asked for
    1  a file is refused, or cannot be read or written
    2  a fault in a run
-   3  `compare` found a right that is opened
+   3  the answer of `may` is no, or `compare` found a right that is opened
   64  the words of the command line are not understood";
 
 pub const ATT: &str = "att";
@@ -62,6 +62,21 @@ effect, a key that is too short. The rows file is only checked. The number of th
 to standard error, as by `check`, with its place and its cause.
 
   gatt_shell show examples/door.toml examples/keys.toml";
+
+pub const MAY: &str = "may";
+
+pub const MAY_ABOUT: &str = "Answer whether a peer may use an attribute, and why not";
+
+pub const MAY_DETAILS: &str = "\
+Answer whether a peer may use an attribute, and why not.
+
+PEER is `stranger`, or the address of a peer that has a key in KEYS. RIGHT is read, write, command
+(a write without response), notify or indicate. To be notified a peer has to subscribe, and to meet
+what reading needs. A line for each link that the peer may have, not encrypted and encrypted by each
+kind of its keys, has the answer: `yes`, or `no`, the broken rule and the error code. The status is
+0 if a line says yes, and 3 if none does.
+
+  gatt_shell may examples/door.toml examples/keys.toml stranger read 10";
 
 pub const COMPARE: &str = "compare";
 

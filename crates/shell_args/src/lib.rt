@@ -6,6 +6,7 @@ mod arguments;
 mod given;
 mod help;
 mod host;
+mod may;
 mod show;
 mod subcommand;
 mod words;

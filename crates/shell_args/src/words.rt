@@ -8,6 +8,7 @@ ghost use Rattle.shell_args.specs.CommandLine.{HasFiles, HasFilesOf, IsAttAlone}
 ghost use Rattle.shell_args.specs.Refusal.{ShowsUnlessMemory, refusal_for};
 
 use crate::host::hosting;
+use crate::may::asking;
 use crate::show::{comparing, showing};
 use crate::subcommand::with_subcommands;
 use crate::{arguments, help};
@@ -39,6 +40,19 @@ pub enum Choice<'a> {
         attributes: bool,
         /// The width of the lines.
         width: Option<&'a str>,
+    },
+    /// Answers who may use an attribute.
+    May {
+        table: &'a str,
+        keys: &'a str,
+        /// The peer, or `stranger`.
+        peer: &'a str,
+        right: &'a str,
+        handle: &'a str,
+        /// Set for a connection that the application authorizes.
+        authorized: bool,
+        /// Set to ask only for a link that is not encrypted.
+        unencrypted: bool,
     },
     /// Compares two tables.
     Compare {
@@ -142,6 +156,7 @@ fn choice_of<'a>(name: &str, matches: &ArgMatches<'a>) -> Option<Choice<'a>>
         help::ATT => Some(answering(matches)),
         help::CHECK => checking(matches),
         help::SHOW => showing(matches),
+        help::MAY => asking(matches),
         help::COMPARE => comparing(matches),
         help::RUN => running(matches),
         help::WORDS => wording(matches),
@@ -298,15 +313,15 @@ pub fn chosen<'a>(alloc: Global, words: &'a [String]) -> Result<Choice<'a>, Refu
     }
 }
 
-/// Returns the parser's error of words that are not understood, for `compare`, `host`, `show`,
-/// `tell` and `words`.
+/// Returns the parser's error of words that are not understood, for `compare`, `host`, `may`,
+/// `show`, `tell` and `words`.
 ///
 /// The other commands print nothing then.
 pub fn complaint(alloc: Global, words: &[String]) -> Option<Error> {
     let name = words.get(1)?;
     if !matches!(
         name.as_str(),
-        help::COMPARE | help::HOST | help::SHOW | help::TELL | help::WORDS
+        help::COMPARE | help::HOST | help::MAY | help::SHOW | help::TELL | help::WORDS
     ) {
         return None;
     }

@@ -1,0 +1,73 @@
+//! The commands that answer a question about a policy, with status 3 for one of the answers.
+
+ghost use Rattle.std.specs.Prelude.{◌≡◌, false, true};
+
+use crate::{exit_status, tell_at, unreadable};
+use compare_command::ComparePaths;
+use gatt_commands::{KeysPath, ShellFault};
+use may_command::{MayFault, MayPaths, MayWords};
+use shell_args::Refusal;
+use std::io;
+
+/// Answers whether a peer may use an attribute, and returns the exit status.
+pub(crate) fn run_may(rt: &HostRuntime, paths: MayPaths<'_>, words: &MayWords<'_>) -> u8 {
+    let mut place = Vec::new(rt.alloc());
+    let writer = &mut io::writer(rt);
+    match may_command::ask_paths(rt.alloc(), rt, paths, words, writer, &mut place) {
+        Ok(is_granted) => answer_status(!is_granted),
+        Err(MayFault::Word(wrong)) => {
+            // If this fails, the error cannot be reported at all.
+            let _ = rt.eprintln(wrong.words());
+            Refusal::Misunderstood.status()
+        }
+        Err(MayFault::File(fault)) => {
+            let paths = [Some(paths.table.0), Some(paths.keys.0)];
+            fault_status(rt, &paths, fault, place.as_slice())
+        }
+    }
+}
+
+/// Prints the rights that new files open and close, and returns the exit status.
+pub(crate) fn run_compare(rt: &HostRuntime, paths: ComparePaths<'_>) -> u8 {
+    let mut place = Vec::new(rt.alloc());
+    let writer = &mut io::writer(rt);
+    match compare_command::compare_paths(rt.alloc(), rt, paths, writer, &mut place) {
+        Ok(is_opened) => answer_status(is_opened),
+        Err(fault) => {
+            let new_keys = match paths.new_keys {
+                Some(KeysPath(path)) => Some(path),
+                None => None,
+            };
+            let paths = [
+                Some(paths.old.0),
+                Some(paths.new.0),
+                Some(paths.keys.0),
+                new_keys,
+            ];
+            fault_status(rt, &paths, fault, place.as_slice())
+        }
+    }
+}
+
+/// Returns the exit status of an answer, which a script can ask for.
+fn answer_status(is_warned: bool) -> u8
+    ensures warned { is_warned ≡ true → result ≡ 3 }
+    ensures done { is_warned ≡ false → result ≡ 0 }
+{
+    if is_warned { 3 } else { 0 }
+}
+
+/// Returns the exit status of a fault, after printing it with its place.
+fn fault_status(rt: &HostRuntime, paths: &[Option<&str>], fault: ShellFault, place: &[u8]) -> u8 {
+    if fault == ShellFault::Unreadable
+        && let Some(place) = unreadable(rt, paths)
+    {
+        tell_at(rt, &fault, place.as_bytes());
+        return gatt_commands::status(&fault);
+    }
+    if matches!(fault, ShellFault::Table(_) | ShellFault::Keys(_)) && !place.is_empty() {
+        tell_at(rt, &fault, place);
+        return gatt_commands::status(&fault);
+    }
+    exit_status(rt, Err(fault))
+}
