@@ -190,6 +190,8 @@ LINKS = {
     "long key": (f"connect P 0 {TABLET}\nencrypt P 0202020202020202 514\n", TABLET, 1),
     "short key": (f"connect P 0 {TABLET}\nencrypt P 0303030303030303 771\n", TABLET, 2),
 }
+# Values, descriptors and configurations, a declaration, and a handle that no attribute has.
+HANDLES = {"door": [3, 6, 7, 9, 10, 11, 13, 15, 17, 21, 22], "silent": [2, 3, 4, 5, 7, 8, 9]}
 # The answers to a write that has passed the policy: it is done, or its length or its bits are wrong.
 PASSED = {"13", "0d"}
 
@@ -278,9 +280,9 @@ def code_in(line):
 @pytest.mark.parametrize("link", LINKS)
 @pytest.mark.parametrize("table", ["door", "silent"])
 def test_the_server_answers_so(program, may, folder, table, link, authorized):
-    """Each value and descriptor is read, written and subscribed to: the server's error code is that of the answer."""
+    """Attributes are read, written and subscribed to: the server's error code is that of the answer."""
     begin, peer, place = LINKS[link]
-    handles = range(1, 23 if table == "door" else 10)
+    handles = HANDLES[table]
     script = begin + ("allow P\n" if authorized else "")
     for handle in handles:
         script += f"P < 0a{handle.to_bytes(2, 'little').hex()}\n"

@@ -154,7 +154,7 @@ const MAY_ARGUMENTS: [Argument; 7] = [
     Argument {
         name: RIGHT,
         takes: Takes::Path,
-        about: "What it wants to do: read, write, command, notify or indicate",
+        about: "The right that it asks for: read, write, command, notify or indicate",
     },
     Argument {
         name: HANDLE,
