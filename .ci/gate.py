@@ -26,13 +26,15 @@ PROGRAM = "crates/gatt_shell/out/gatt_shell"
 UNPROVED = "crates/gatt_shell/out/unproved/gatt_shell"
 ARCHIVE = "crates/gihandop_c/out/libgihandop_c.a"
 REFUSED = "crates/refused_memory/out/refused_memory"
+PAGE = "crates/playground/out/page.html"
 AARCH64 = "aarch64-unknown-linux-gnu"
 # The tests wait most of the time.
 TESTS = ["tests/pytest", "-q", "-r", "fEs", "-n", str(3 * (os.cpu_count() or 1))]
 # The tests of what is made of the library for C, and of what is installed.
 ARCHIVED = [f"test_{it}.py" for it in ("c_*", "install", "packages", "release", "rust*", "uninstall")]
 EMULATED = "test_aarch64.py"
-OTHERS = [f"--ignore-glob=*/{it}" for it in (*ARCHIVED, EMULATED)]
+PAGED = "test_page.py"
+OTHERS = [f"--ignore-glob=*/{it}" for it in (*ARCHIVED, EMULATED, PAGED)]
 # Those that need nothing that is proved.
 FIRST = [f"tests/test_{it}.py" for it in ("claims", "launcher", "limits_page", "links", "pages", "traces", "unproved")]
 # rt ci only notes an edit that does not apply or compile. It shows nothing.
@@ -114,11 +116,16 @@ def play():
         "C and Rust", ["nice", "-n", "10", "tools/prove", "--over-gate", "gihandop_c"], [*TESTS, *archived],
         GATT_SHELL=PROGRAM, GIHANDOP_ARCHIVE=ARCHIVE,
     ).start()
+    page = Part(
+        "page in a browser", ["nice", "-n", "10", "tools/page", PAGE], [*TESTS, f"tests/{PAGED}"], unless=69,
+        GATT_SHELL=PROGRAM, GIHANDOP_PAGE=PAGE,
+    ).start()
     tests.thread.join()
     compiled.thread.join()
     if compiled.result == "passed":
         Part("tests without proofs", [*words, "-m", "not without_program"], GATT_SHELL=UNPROVED).has_passed()
     archive.thread.join()
+    page.thread.join()
     if shutil.which("aarch64-linux-gnu-gcc") and shutil.which("qemu-aarch64"):
         prove = ["tools/prove", "--over-gate", "--target", AARCH64]
         play_emulated = [*TESTS, f"tests/{EMULATED}", *archived, "-k", "aarch64"]

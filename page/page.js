@@ -1,0 +1,180 @@
+"use strict";
+const at = (id) => document.getElementById(id);
+const FILES = ["table", "keys", "script"];
+const EXAMPLES = JSON.parse(at("examples").textContent);
+const LETTERS = { r: "read", w: "write", c: "write without response", n: "be notified", i: "be indicated" };
+let compiled, base;
+
+/** Returns the octets of a stream that a text in base64 gives through a decompressor. */
+async function unpacked(text, format) {
+  const octets = Uint8Array.from(atob(text), (it) => it.charCodeAt(0));
+  const stream = new Blob([octets]).stream().pipeThrough(new DecompressionStream(format));
+  return new Uint8Array(await new Response(stream).arrayBuffer());
+}
+
+/** Calls a function of the module over texts, in an instance of its own. Returns its status and its text. */
+function call(name, ...texts) {
+  for (let size = 1 << 20; ; size *= 4) {
+    const { exports } = new WebAssembly.Instance(compiled, {});
+    const words = [];
+    for (const text of texts) {
+      const octets = new TextEncoder().encode(text);
+      const place = exports.page_room(BigInt(octets.length));
+      new Uint8Array(exports.memory.buffer).set(octets, Number(place));
+      words.push(place, BigInt(octets.length));
+    }
+    const out = exports.page_room(BigInt(size)), count = exports.page_room(8n);
+    const status = exports[name](...words, out, BigInt(size), count);
+    const length = Number(new DataView(exports.memory.buffer).getBigUint64(Number(count), true));
+    if (status !== 70 || size > 1 << 26) {
+      return { status, text: new TextDecoder().decode(new Uint8Array(exports.memory.buffer, Number(out), length)) };
+    }
+  }
+}
+
+/** Returns the columns and the rows of the rights of a table. A row is known by its type and its number. */
+function rightsOf(text) {
+  const columns = [], rows = [], seen = {};
+  for (const [kind, ...fields] of text.split("\n").map((line) => line.split("\t"))) {
+    if (kind === "column") {
+      columns.push({ name: fields[0], key: fields[1], peers: [] });
+    } else if (kind === "peer") {
+      columns.find((it) => it.name === fields[0]).peers.push(fields[1]);
+    } else if (kind === "service") {
+      rows.push({ service: fields[0] });
+    } else if (kind === "row") {
+      const [handle, type, length, value, ...cells] = fields;
+      seen[type] = (seen[type] ?? 0) + 1;
+      rows.push({ handle, type, length, value, cells, id: `${type} ${seen[type]}` });
+    }
+  }
+  return { columns, rows };
+}
+
+function element(name, text, values) {
+  const made = Object.assign(document.createElement(name), values);
+  made.append(text ?? "");
+  return made;
+}
+
+/** Returns a value as a text if it is plain, else in hexadecimal; cut if it is long. */
+function shownValue(value) {
+  const text = (value.match(/../g) ?? []).map((it) => String.fromCharCode(parseInt(it, 16))).join("");
+  const whole = value === "" ? "empty" : /^[ -~]{3,}$/.test(text) ? `"${text}"` : value;
+  return whole.length > 24 ? `${whole.slice(0, 22)}..` : whole;
+}
+
+/** Returns the words of a cell, for who hears the page. */
+function wordsOf(cell) {
+  const [, always, once] = cell.match(/^(\w*)(?:\((\w+)\))?$/) ?? [];
+  const words = (letters) => [...(letters ?? "")].map((it) => LETTERS[it]).join(", ");
+  return [words(always), once && `once authorized: ${words(once)}`].filter(Boolean).join("; ") || "nothing";
+}
+
+function cellOf(cell, before) {
+  const made = element("td", null, { className: "cell", title: wordsOf(cell) });
+  made.append(before === undefined || before === cell ? cell : element("mark", `${cell}, was ${before}`));
+  return made;
+}
+
+/** Returns the cell that a row had when the comparison began, for the same kind of key. */
+function cellBefore(row, key) {
+  if (base === undefined) {
+    return undefined;
+  }
+  const column = base.rights.columns.findIndex((it) => it.key === key);
+  const old = base.rights.rows.find((it) => it.id === row.id);
+  return column < 0 ? undefined : (old?.cells[column] ?? ".");
+}
+
+function showMatrix({ columns, rows }) {
+  const head = element("tr");
+  head.append(...["handle", "type", "size", "at first"].map((it) => element("th", it, { scope: "col" })));
+  head.append(...columns.map((it) => element("th", it.name, { scope: "col", className: "cell", title: it.key })));
+  const body = rows.map((row) => {
+    const made = element("tr");
+    if (row.service !== undefined) {
+      made.append(element("th", row.service, { colSpan: 4 + columns.length, scope: "colgroup" }));
+      return made;
+    }
+    made.append(element("td", row.handle), element("th", row.type, { scope: "row" }));
+    made.append(element("td", row.length), element("td", shownValue(row.value), { title: row.value }));
+    made.append(...columns.map((it, index) => cellOf(row.cells[index], cellBefore(row, it.key))));
+    return made;
+  });
+  at("matrix").replaceChildren(head, ...body);
+  at("columns").replaceChildren(
+    ...columns.flatMap((it) => [element("dt", it.name), element("dd", [it.key, ...it.peers].join("; "))]),
+  );
+}
+
+/** Shows a fault at the field of its file, and returns true if there is none. */
+function showFault({ status, text }) {
+  const line = status === 0 || status === 3 ? "" : text.trimEnd().split("\n").pop();
+  for (const file of FILES) {
+    const isHere = line.startsWith(`${file}:`) || (file === "script" && line !== "" && !/^(table|keys):/.test(line));
+    at(`${file}-fault`).textContent = isHere ? line : "";
+    at(file).setAttribute("aria-invalid", isHere);
+  }
+  return line === "";
+}
+
+function update() {
+  const [table, keys, script] = FILES.map((it) => at(it).value);
+  const data = call("page_rights", table, keys);
+  at("answered").classList.toggle("old", data.status !== 0);
+  if (!showFault(data)) {
+    return;
+  }
+  showMatrix(rightsOf(data.text));
+  const shown = call("page_show", table, keys).text.split("Look twice:\n")[1] ?? "Nothing.\n";
+  at("findings").replaceChildren(...shown.trimEnd().split("\n").map((it) => element("li", it.trim())));
+  at("since").hidden = base === undefined;
+  if (base !== undefined) {
+    at("changes").textContent = call("page_compare", base.table, table, keys).text.split("\n\nr read")[0];
+  }
+  const ran = call("page_run", table, keys, script);
+  showFault(ran);
+  at("transcript").textContent = call("page_words", table, ran.text).text;
+}
+
+function fill(files) {
+  FILES.forEach((it) => (at(it).value = files[it] ?? ""));
+  update();
+}
+
+/** Puts the files into the address, without the keys themselves. */
+async function share() {
+  const files = Object.fromEntries(FILES.map((it) => [it, at(it).value]));
+  files.keys = files.keys.replace(/\bltk\s*=\s*(["'])[^"']*\1/g, `ltk = "${"0".repeat(32)}"`);
+  const stream = new Blob([JSON.stringify(files)]).stream().pipeThrough(new CompressionStream("deflate-raw"));
+  const octets = new Uint8Array(await new Response(stream).arrayBuffer());
+  history.replaceState(null, "", `#${encodeURIComponent(btoa(String.fromCharCode(...octets)))}`);
+  at("shared").textContent = "The address of this page holds the table, the keys with zeros in place of each ltk, and the script.";
+}
+
+async function filesOfAddress() {
+  try {
+    const octets = await unpacked(decodeURIComponent(location.hash.slice(1)), "deflate-raw");
+    return JSON.parse(new TextDecoder().decode(octets));
+  } catch {
+    at("shared").textContent = "The address holds no files that can be read; this is an example.";
+    return undefined;
+  }
+}
+
+async function begin() {
+  compiled = await WebAssembly.compile(await unpacked(at("module").textContent, "gzip"));
+  at("example").append(...Object.keys(EXAMPLES).map((it) => element("option", it)));
+  at("example").addEventListener("change", () => fill(EXAMPLES[at("example").value]));
+  FILES.forEach((it) => at(it).addEventListener("input", update));
+  at("share").addEventListener("click", share);
+  at("begin").addEventListener("click", () => {
+    const data = call("page_rights", at("table").value, at("keys").value);
+    base = data.status === 0 ? { table: at("table").value, rights: rightsOf(data.text) } : undefined;
+    update();
+  });
+  fill((location.hash && (await filesOfAddress())) || Object.values(EXAMPLES)[0]);
+}
+
+begin();
