@@ -20,6 +20,7 @@ COMMANDS = {
     "run": [*DOOR, f"{ROOT}/examples/bonded.script"],
     "show": DOOR,
     "may": [*DOOR, "stranger", "read", "3"],
+    "compare": [DOOR[0], *DOOR],
     "check": DOOR,
     "att": [],
     "words": DOOR[:1],
