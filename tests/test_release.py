@@ -142,6 +142,40 @@ def test_times(own, folder):
     assert os.path.exists(f"{folder}/release/SHA256SUMS"), "a release of a copy"
 
 
+PAGE_NOTE = """
+import sys, verdicts
+began = verdicts.sum_of_sources(verdicts.PAGE_CRATE)
+sys.exit(verdicts.note(verdicts.PAGE_CRATE, None, began, sys.stdin.read(), verdicts.PAGE))
+"""
+
+
+@pytest.mark.parametrize(
+    ("path", "wanted"),
+    [
+        (None, None),
+        ("crates/playground/out/page.html", "crates/playground/out/page.html is not the file that was proved"),
+        ("page/page.js", "the sources of playground are not those that were proved"),
+        ("crates/playground/src/finish.rt", "the sources of playground are not those that were proved"),
+        ("crates/playground/out/page.html.verdict", "has 0 verdicts"),
+    ],
+    ids=["as it was proved", "another page", "another script", "another source", "another note"],
+)
+def test_page(own, folder, path, wanted):
+    """The page is a file of the release, if it is what was proved from the sources."""
+    write(f"{own}/crates/playground/out/page.html", "a page\n")
+    words = [sys.executable, "-B", "-c", PAGE_NOTE]
+    subprocess.run(words, cwd=f"{own}/tools", input=made_up_verdict(), text=True, check=True)
+    if path is None:
+        ran(["tools/release", f"{folder}/release"], cwd=own)
+        assert [it for it in os.listdir(f"{folder}/release") if it.endswith(".html")] == ["gihandop-0.2.0.html"]
+        assert "gihandop-0.2.0.html" in sums_of(f"{folder}/release")
+    else:
+        write(f"{own}/{path}", "changed\n")
+        if "/out/" not in path:
+            commit_all(own)
+        refuses(own, folder, wanted)
+
+
 def install(checkout, folder, *words):
     """What `make install` below a folder ends with."""
     words = ["make", "install", f"DESTDIR={folder}/package", f"BUILD={folder}/build", *words]

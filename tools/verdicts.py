@@ -21,7 +21,10 @@ THIS_MACHINE = "x86_64-unknown-linux-gnu"
 OUTPUTS = {"gatt_shell": ("gatt_shell", "bin/gatt_shell"), "gihandop_c": ("libgihandop_c.a", "lib/libgihandop_c.a")}
 # What a program for another target is linked with.
 LINKED = ("c/system.c", "c/heap.c")
-# What tools/unproved leaves in all that it makes.
+# The page in a browser, and what it is made of besides its crate.
+PAGE_CRATE, PAGE = "playground", f"{ROOT}/crates/playground/out/page.html"
+PAGE_PARTS = ("tools/page", "page/heap.c", "page/page.css", "page/page.html", "page/page.js")
+# What tools/unproved and `tools/page --unproved` leave in all that they make.
 MARK = b"(not proved)"
 
 
@@ -71,6 +74,8 @@ def note_of(path):
 
 def prove_words(crate, target=None):
     """Returns the command that proves and makes an output."""
+    if crate == PAGE_CRATE:
+        return f"tools/page {shown(PAGE)}"
     return f"tools/prove{f' --target {target}' if target else ''} {crate}"
 
 
@@ -94,7 +99,7 @@ def crates_below(top):
 def sum_of_sources(crate, target=None):
     """Returns the sum of everything that a crate is proved from, as it is now."""
     paths = [it for it in ("crates.txt", "HANDLES") if os.path.exists(f"{ROOT}/{it}")]
-    paths += LINKED if target and crate == "gatt_shell" else []
+    paths += LINKED if target and crate == "gatt_shell" else PAGE_PARTS if crate == PAGE_CRATE else []
     for name in crates_below(crate):
         for part in PARTS:
             for folder, _, files in os.walk(f"{ROOT}/crates/{name}/{part}"):
@@ -194,7 +199,7 @@ def check(crate, target=None, path=None):
         if MARK in file.read():
             raise Refusal(1, f"{name} is compiled without proofs: {how}")
     if not os.path.isfile(note_of(path)):
-        over = "" if target else f" (after the gate: `tools/prove --over-gate {crate}`)"
+        over = "" if target or crate not in OUTPUTS else f" (after the gate: `tools/prove --over-gate {crate}`)"
         raise Refusal(1, f"there is no {beside}, which says what {name} was proved from: {how}{over}")
     said, values = verdict_in(text_of(note_of(path))), values_of(path)
     lines = [it for it in said if it.startswith("logic=")]
