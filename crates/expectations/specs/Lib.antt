@@ -1,0 +1,5 @@
+pub mod Differences
+pub mod File
+pub mod Meant
+pub mod Named
+pub mod Report
