@@ -1,0 +1,34 @@
+-- The output of `expect` (this profile's own).
+use Rattle.std.specs.Prelude.{◌≡◌, Bool, true, false, List, [], ◌∷◌, length, Option, Ok, IfSome}
+use Rattle.std.specs.Io.KnownBytes.{Appends}
+use Rattle.att_table.specs.Table.{Contents}
+use Rattle.expectations.specs.Differences.{differences_of}
+use Rattle.expectations.specs.File.{expectations_in}
+use Rattle.expectations.specs.Report.{report_text}
+use Rattle.expectations.specs.declared.difference.Difference.{Difference}
+use Rattle.expectations.specs.declared.expectation.Expectation.{Expectation}
+use Rattle.gatt_rights.specs.Columns.{columns_among}
+use Rattle.le_security.specs.declared.entry.Entry.{Entry}
+use Rattle.octet_io.specs.Number.{Octets}
+use Rattle.shell_files.specs.KeyFile.{keys_in}
+use Rattle.shell_files.specs.TableFile.{table_in}
+
+abbrev pub is_none_of : List Difference → Bool
+is_none_of [] = true
+is_none_of (difference ∷ differences) = false
+
+-- The files, if they are known, are accepted. The differences of the table and the keys from the
+-- expectations are printed, and the result is true if there are none.
+pub record IsCompared (holds : Bool) (table_file key_file expectations_file : Option Octets)
+    (held now : Option Octets) : Type 0 where
+  pub table : Contents
+  pub has_table : IfSome table_file (λ octets. table_in octets ≡ Ok table)
+  pub keys : List Entry
+  pub has_keys : IfSome key_file (λ octets. keys_in octets ≡ Ok keys)
+  pub expectations : List Expectation
+  pub has_expectations : IfSome expectations_file
+      (λ octets. expectations_in octets ≡ Ok expectations)
+  pub is_same : holds ≡ is_none_of (differences_of table (columns_among keys) expectations)
+  pub printed : Appends held now
+      (report_text (length expectations)
+      (differences_of table (columns_among keys) expectations))

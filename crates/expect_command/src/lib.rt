@@ -1,0 +1,6 @@
+//! The command `expect`: a table compared with what its author means.
+#![tactic(auto)]
+
+mod expect;
+
+pub use expect::{ExpectFault, ExpectPaths, ExpectationsPath, expect_files, expect_paths};
