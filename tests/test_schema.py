@@ -1,8 +1,8 @@
-"""Checks the JSON schemas of the table file and the key file, which editors read.
+"""Checks the JSON schemas of the table file, the key file and the expectations file, which editors read.
 
 Each example names its schema in its first line, by a path from its folder, and the schema accepts it. Each
 file of REFUSED differs from a good one in one place, and the schema refuses it for that place. `gatt_shell
-show` has to refuse the same files and to accept the good ones.
+show` and `gatt_shell expect` have to refuse the same files and to accept the good ones.
 
 The schemas are of draft 07. Each file is also checked with the rules of draft 2020-12: the verdict has to be
 the same, so that it does not matter which of them an editor knows.
@@ -18,7 +18,7 @@ import pytest
 
 from parties import DOOR, PROGRAM, ROOT, text_of
 
-SCHEMAS = {"table": f"{ROOT}/docs/schema/table.schema.json", "keys": f"{ROOT}/docs/schema/keys.schema.json"}
+SCHEMAS = {kind: f"{ROOT}/docs/schema/{kind}.schema.json" for kind in ("table", "keys", "expectations")}
 EXAMPLES = ["examples/*.toml", "examples/*/*.toml", "interop/*.toml"]
 DIRECTIVE = "#:schema "
 
@@ -63,6 +63,18 @@ ltk = "ffeeddccbbaa99887766554433221100"
 size = 16
 authenticated = true
 secure = true
+""",
+    "expectations": """[[expect]]
+service = "fff0"
+characteristic = "fff1"
+number = 1
+read = "everybody"
+write = { authenticated = true, key_size = 16 }
+
+[[expect]]
+characteristic = "2a19"
+descriptor = "2901"
+notify = "nobody"
 """,
 }
 
@@ -139,6 +151,27 @@ REFUSED = {
         ("ediv = 0", "ediv = 1", "ediv"),
         ('rand = "0000000000000000"', 'rand = "0000000000000001"', "rand"),
     ],
+    "expectations": [
+        (BASE["expectations"], "expected = []\n", "expected"),
+        (BASE["expectations"], "expect = {}\n", "expect"),
+        ('characteristic = "fff1"\n', "", "characteristic"),
+        ('characteristic = "fff1"', "characteristic = 6159", "characteristic"),
+        ('characteristic = "fff1"', 'characteristic = "fff"', "characteristic"),
+        ('service = "fff0"', f'service = "0000fff0{LONG[:-1]}"', "service"),
+        ('service = "fff0"', "service = true", "service"),
+        ('descriptor = "2901"', 'descriptor = "29"', "descriptor"),
+        ("number = 1", "number = 0", "number"),
+        ("number = 1", "number = 1025", "number"),
+        ("number = 1", 'number = "1"', "number"),
+        ('read = "everybody"', 'read = "all"', "read"),
+        ('read = "everybody"', "read = true", "read"),
+        ('read = "everybody"', 'reed = "everybody"', "reed"),
+        ('notify = "nobody"', "notify = []", "notify"),
+        ("key_size = 16", "key_size = 6", "write"),
+        ("key_size = 16", "key_size = 17", "write"),
+        ("authenticated = true", "authenticated = 1", "write"),
+        ("authenticated = true", "authentic = true", "write"),
+    ],
 }
 ACCEPTED = {
     "table": [
@@ -159,6 +192,17 @@ ACCEPTED = {
         ('"c0:00:00:00:00:01"', '"C0:00:00:00:00:0A"'),
         ("secure = true", "secure = false"),
         (BASE["keys"], ""),
+    ],
+    "expectations": [
+        ('characteristic = "fff1"', f'characteristic = "0000FFF1{LONG}"'),
+        ('service = "fff0"', f'service = "urn:uuid:0000fff0{LONG}"'),
+        ("number = 1", "number = 1024"),
+        ('read = "everybody"', "read = {}"),
+        ('read = "everybody"', 'command = "secure"'),
+        ('notify = "nobody"', 'indicate = "authorized"'),
+        ("key_size = 16", "key_size = 7, secure = true, encrypted = false, authorized = true"),
+        (BASE["expectations"], "expect = []\n"),
+        (BASE["expectations"], ""),
     ],
 }
 
@@ -240,10 +284,12 @@ def test_show(folder, kind, old, new, place):
     path = f"{folder}/file.toml"
     with open(path, "w", encoding="utf-8") as file:
         file.write(changed(kind, old, new))
-    words = [path] if kind == "table" else [DOOR[0], path]
+    words = {"table": ["show", path], "keys": ["show", DOOR[0], path], "expectations": ["expect", *DOOR, path]}[kind]
     how = {"stdin": subprocess.DEVNULL, "capture_output": True, "text": True, "timeout": 60}
-    ran = subprocess.run([PROGRAM, "show", *words], **how)
-    assert ran.returncode == bool(place), f"show: {ran.stderr.strip()}"
+    ran = subprocess.run([PROGRAM, *words], **how)
+    # The good expectations are not those of the door.
+    accepted = 3 if kind == "expectations" else 0
+    assert ran.returncode == (1 if place else accepted), f"{words[0]}: {ran.stderr.strip()}"
 
 
 @pytest.mark.parametrize("kind", SCHEMAS)
