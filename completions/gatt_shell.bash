@@ -25,13 +25,13 @@ _gatt_shell() {
         ;;
     esac
     if ((COMP_CWORD == 1)); then
-        words='att check show may compare run words serve host tell help --help --version'
+        words='att check show may compare expect run words serve host tell help --help --version'
     elif [[ $command == help ]]; then
-        words='att check show may compare run words serve host tell help'
+        words='att check show may compare expect run words serve host tell help'
     elif [[ $word == -* ]]; then
         case $command in
         att) words='--words --help' ;;
-        check | tell) words='--help' ;;
+        check | expect | tell) words='--help' ;;
         show) words='--rows --attributes --width --help' ;;
         may) words='--authorized --unencrypted --help' ;;
         compare) words='--new-keys --help' ;;
@@ -49,7 +49,7 @@ _gatt_shell() {
         words='update allow deny disconnect value connections subscriptions find application stop'
     else
         case $command:$COMP_CWORD in
-        may:[23] | check:* | show:* | compare:* | run:* | serve:* | host:* | tell:2) compopt -o default ;;
+        may:[23] | check:* | show:* | compare:* | expect:* | run:* | serve:* | host:* | tell:2) compopt -o default ;;
         esac
         return
     fi

@@ -22,7 +22,7 @@ from parties import PATIENCE, PROGRAM, ROOT, text_of
 SCRIPT = f"{ROOT}/completions/gatt_shell.bash"
 CONTROLLERS = "/sys/class/bluetooth"
 # The commands of the program, besides `help`.
-COMMANDS = ["att", "show", "check", "may", "compare", "run", "words", "serve", "host", "tell"]
+COMMANDS = ["att", "show", "check", "may", "compare", "expect", "run", "words", "serve", "host", "tell"]
 # What the completion leaves to bash, by the name that the help has for a value.
 OFFERED = {"FILE": ["default"], "PATH": ["default"], "DIR": ["dirnames"]}
 # The arguments that are files.

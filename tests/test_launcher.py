@@ -13,7 +13,7 @@ from parties.places import ROOT, text_of
 
 pytestmark = pytest.mark.without_program
 
-COMMANDS = ["att", "check", "show", "may", "compare", "run", "words", "serve", "host", "tell"]
+COMMANDS = ["att", "check", "show", "may", "compare", "expect", "run", "words", "serve", "host", "tell"]
 CRATE = "crates/octet_io"
 LATER = 9
 # Edits after which a program is proved again, of a checkout at a path.

@@ -21,6 +21,7 @@ COMMANDS = {
     "show": DOOR,
     "may": [*DOOR, "stranger", "read", "3"],
     "compare": [DOOR[0], *DOOR],
+    "expect": [*DOOR, f"{ROOT}/examples/door.expect.toml"],
     "check": DOOR,
     "att": [],
     "words": DOOR[:1],

@@ -20,6 +20,9 @@ PRINTED = {
     "./gatt_shell check examples/door.toml examples/keys.toml": "attributes 21\nkeys 3\n",
     "./gatt_shell show examples/door.toml examples/keys.toml": "examples/door.shown",
     OPENS: "",
+    "./gatt_shell expect examples/door.toml examples/keys.toml examples/door.expect.toml": (
+        "All 8 expectations hold.\n"
+    ),
     "./gatt_shell may examples/door.toml examples/keys.toml 00:11:22:33:44:55 write 13 --authorized": (
         "not encrypted  no: `write` needs `encrypted`, Insufficient Encryption (0f)\n"
         "key of 16, authenticated  yes\n"

@@ -4,10 +4,11 @@ ghost use Rattle.std.specs.Prelude.{◌≡◌, false, true};
 
 use crate::{exit_status, tell_at, unreadable};
 use compare_command::ComparePaths;
+use expect_command::{ExpectFault, ExpectPaths};
 use gatt_commands::{KeysPath, ShellFault};
 use may_command::{MayFault, MayPaths, MayWords};
 use shell_args::Refusal;
-use std::io;
+use std::{io, str};
 
 /// Answers whether a peer may use an attribute, and returns the exit status.
 pub(crate) fn run_may(rt: &HostRuntime, paths: MayPaths<'_>, words: &MayWords<'_>) -> u8 {
@@ -44,6 +45,28 @@ pub(crate) fn run_compare(rt: &HostRuntime, paths: ComparePaths<'_>) -> u8 {
                 Some(paths.keys.0),
                 new_keys,
             ];
+            fault_status(rt, &paths, fault, place.as_slice())
+        }
+    }
+}
+
+/// Compares a table with what is meant, and returns the exit status.
+pub(crate) fn run_expect(rt: &HostRuntime, paths: ExpectPaths<'_>) -> u8 {
+    let mut place = Vec::new(rt.alloc());
+    let writer = &mut io::writer(rt);
+    match expect_command::expect_paths(rt.alloc(), rt, paths, writer, &mut place) {
+        Ok(holds) => answer_status(!holds),
+        Err(ExpectFault::Expectations) => {
+            // If this fails, the error cannot be reported at all.
+            let _ = rt.eprint("expect: ");
+            let _ = rt.eprint(paths.expectations.0);
+            let _ = rt.eprint(": ");
+            let _ = rt.eprintln(str::from_utf8(place.as_slice()).unwrap_or(""));
+            1
+        }
+        Err(ExpectFault::Shell(fault)) => {
+            let expectations = Some(paths.expectations.0);
+            let paths = [Some(paths.table.0), Some(paths.keys.0), expectations];
             fault_status(rt, &paths, fault, place.as_slice())
         }
     }

@@ -16,6 +16,7 @@ ghost use Rattle.shell_files.specs.Fault.{exit_status_of};
 use arrayvec::ArrayVec;
 use compare_command::ComparePaths;
 use device_host::{OptionTexts, Stop};
+use expect_command::{ExpectPaths, ExpectationsPath};
 use gatt_commands::{
     Address, KeysPath, NextPath, RowsPath, RunPaths, ScriptPath, ServePaths, ShellFault, Shows,
     TablePath,
@@ -332,6 +333,18 @@ fn carry_out(rt: &HostRuntime, choice: &Choice<'_>) -> u8 {
             };
             asking::run_compare(rt, paths)
         }
+        Choice::Expect {
+            table,
+            keys,
+            expectations,
+        } => asking::run_expect(
+            rt,
+            ExpectPaths {
+                table: TablePath(table),
+                keys: KeysPath(keys),
+                expectations: ExpectationsPath(expectations),
+            },
+        ),
         Choice::Run {
             table,
             next,

@@ -7,7 +7,7 @@ use Rattle.shell_args.specs.declared.argument.Takes.{Takes}
 use Rattle.shell_args.specs.declared.argument.Takes.TheVariants.{Path, PathIfAny, Value, Values, Nothing}
 use Rattle.shell_args.specs.declared.subcommand.Subcommand.{Subcommand}
 use Rattle.shell_args.specs.declared.words.Choice.{Choice}
-use Rattle.shell_args.specs.declared.words.Choice.TheVariants.{Att, Check, Show, May, Compare, Run, Words, Serve, Host, Tell}
+use Rattle.shell_args.specs.declared.words.Choice.TheVariants.{Att, Check, Show, May, Compare, Expect, Run, Words, Serve, Host, Tell}
 
 -- A required path.
 abbrev pub file_rule : Text → Rule
@@ -82,6 +82,11 @@ compare_shape =
     shape_with (codes "compare")
     (file_rule (codes "OLD") ∷ file_rule (codes "NEW") ∷ file_rule (codes "KEYS")
     ∷ option_rule (codes "new-keys") ∷ [])
+
+abbrev pub expect_shape : Shape
+expect_shape =
+    shape_with (codes "expect")
+    (file_rule (codes "TABLE") ∷ file_rule (codes "KEYS") ∷ file_rule (codes "EXPECTATIONS") ∷ [])
 
 abbrev pub run_shape : Shape
 run_shape = shape_with (codes "run") (
@@ -158,9 +163,10 @@ command_line =
     (with_subcommand
     (with_subcommand
     (with_subcommand
+    (with_subcommand
     (with_subcommand (with_subcommand (with_subcommand (with_subcommand program_line
-    att_shape) check_shape) show_shape) may_shape) compare_shape) run_shape) words_shape)
-    serve_shape) host_shape) tell_shape
+    att_shape) check_shape) show_shape) may_shape) compare_shape) expect_shape) run_shape)
+    words_shape) serve_shape) host_shape) tell_shape
 
 -- The name that chooses a command.
 abbrev pub command_name : Choice → List ℕ
@@ -169,6 +175,7 @@ command_name (Check table keys) = codes "check"
 command_name (Show table keys rows attributes width) = codes "show"
 command_name (May table keys peer right handle authorized unencrypted) = codes "may"
 command_name (Compare old new keys new_keys) = codes "compare"
+command_name (Expect table keys expectations) = codes "expect"
 command_name (Run table next keys rows script notices echo words) = codes "run"
 command_name (Words table) = codes "words"
 command_name (Serve table keys rows address) = codes "serve"
@@ -213,6 +220,9 @@ HasFilesOf arguments (Compare old new keys new_keys) =
     IsGiven (codes "OLD") arguments old.now × IsGiven (codes "NEW") arguments new.now
     × IsGiven (codes "KEYS") arguments keys.now
     × IsGivenIfAny (codes "new-keys") arguments (option_map (λ path. path.now) new_keys)
+HasFilesOf arguments (Expect table keys expectations) =
+    IsGiven (codes "TABLE") arguments table.now × IsGiven (codes "KEYS") arguments keys.now
+    × IsGiven (codes "EXPECTATIONS") arguments expectations.now
 HasFilesOf arguments (Run table next keys rows script notices echo words) =
     IsGiven (codes "TABLE") arguments table.now × IsGiven (codes "KEYS") arguments keys.now
     × IsGiven (codes "SCRIPT") arguments script.now

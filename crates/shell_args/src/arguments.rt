@@ -28,6 +28,8 @@ pub const NEW_KEYS: &str = "new-keys";
 
 pub const SCRIPT: &str = "SCRIPT";
 
+pub const EXPECTATIONS: &str = "EXPECTATIONS";
+
 pub const TABLE_OPTION: &str = "table";
 
 pub const ADDRESS: &str = "ADDRESS";
@@ -189,6 +191,16 @@ const COMPARE_ARGUMENTS: [Argument; 4] = [
         name: NEW_KEYS,
         takes: Takes::Value("FILE"),
         about: "The key file after the change [default: KEYS]",
+    },
+];
+
+const EXPECT_ARGUMENTS: [Argument; 3] = [
+    TABLE_FILE,
+    KEY_FILE,
+    Argument {
+        name: EXPECTATIONS,
+        takes: Takes::Path,
+        about: "The expectations file: what each attribute is meant to permit",
     },
 ];
 
@@ -375,7 +387,7 @@ const TELL_ARGUMENTS: [Argument; 5] = [
 ];
 
 /// The commands.
-pub const SUBCOMMANDS: [Subcommand; 10] = [
+pub const SUBCOMMANDS: [Subcommand; 11] = [
     Subcommand {
         name: help::ATT,
         about: help::ATT_ABOUT,
@@ -405,6 +417,12 @@ pub const SUBCOMMANDS: [Subcommand; 10] = [
         about: help::COMPARE_ABOUT,
         details: help::COMPARE_DETAILS,
         arguments: &COMPARE_ARGUMENTS,
+    },
+    Subcommand {
+        name: help::EXPECT,
+        about: help::EXPECT_ABOUT,
+        details: help::EXPECT_DETAILS,
+        arguments: &EXPECT_ARGUMENTS,
     },
     Subcommand {
         name: help::RUN,

@@ -15,7 +15,8 @@ Exit status:
    0  the work is done, or help or the version was asked for
    1  a file is refused, or cannot be read or written
    2  a fault in a run
-   3  the answer of `may` is no, or `compare` found a right that is opened
+   3  the answer of `may` is no, `compare` found a right that is opened, or
+      `expect` a difference
   64  the words of the command line are not understood";
 
 pub const ATT: &str = "att";
@@ -91,6 +92,20 @@ of a peer opens rights, too. Other lines name the attributes that are new, gone 
 subscriptions that a device drops if NEW replaces OLD. The status is 3 if a right is opened.
 
   gatt_shell compare examples/porch.toml examples/porch_next.toml examples/keys.toml";
+
+pub const EXPECT: &str = "expect";
+
+pub const EXPECT_ABOUT: &str = "Compare the rights that a table gives with those that are meant";
+
+pub const EXPECT_DETAILS: &str = "\
+Compare the rights that a table gives with those that are meant.
+
+An expectations file is TOML that states for each value and descriptor who may read, write and
+subscribe (docs/TABLE.md). Each use is compared for no key and for each kind of key in KEYS,
+authorized or not. A line is printed for each difference, and for each attribute that somebody may
+use but no expectation names. The status is 3 then, and 0 if all expectations hold.
+
+  gatt_shell expect examples/door.toml examples/keys.toml examples/door.expect.toml";
 
 pub const RUN: &str = "run";
 

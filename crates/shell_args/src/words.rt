@@ -62,6 +62,12 @@ pub enum Choice<'a> {
         /// The key file after the change.
         new_keys: Option<&'a str>,
     },
+    /// Compares a table with what is meant.
+    Expect {
+        table: &'a str,
+        keys: &'a str,
+        expectations: &'a str,
+    },
     /// Runs a script.
     Run {
         table: &'a str,
@@ -158,6 +164,7 @@ fn choice_of<'a>(name: &str, matches: &ArgMatches<'a>) -> Option<Choice<'a>>
         help::SHOW => showing(matches),
         help::MAY => asking(matches),
         help::COMPARE => comparing(matches),
+        help::EXPECT => expecting(matches),
         help::RUN => running(matches),
         help::WORDS => wording(matches),
         help::SERVE => serving(matches),
@@ -187,6 +194,18 @@ fn checking<'a>(matches: &ArgMatches<'a>) -> Option<Choice<'a>>
     Some(Choice::Check {
         table: matches.get_str(arguments::TABLE)?,
         keys: matches.get_str(arguments::KEYS)?,
+    })
+}
+
+#[tactic(auto, using(crate::proofs::CommandLines::first_in_rows))]
+fn expecting<'a>(matches: &ArgMatches<'a>) -> Option<Choice<'a>>
+    ensures name { IfSome result (λ choice. command_name choice ≡ codes "expect") }
+    ensures files { IfSome result (HasFilesOf (rows_of (found_of matches.now))) }
+{
+    Some(Choice::Expect {
+        table: matches.get_str(arguments::TABLE)?,
+        keys: matches.get_str(arguments::KEYS)?,
+        expectations: matches.get_str(arguments::EXPECTATIONS)?,
     })
 }
 
@@ -313,15 +332,21 @@ pub fn chosen<'a>(alloc: Global, words: &'a [String]) -> Result<Choice<'a>, Refu
     }
 }
 
-/// Returns the parser's error of words that are not understood, for `compare`, `host`, `may`,
-/// `show`, `tell` and `words`.
+/// Returns the parser's error of words that are not understood, for `compare`, `expect`, `host`,
+/// `may`, `show`, `tell` and `words`.
 ///
 /// The other commands print nothing then.
 pub fn complaint(alloc: Global, words: &[String]) -> Option<Error> {
     let name = words.get(1)?;
     if !matches!(
         name.as_str(),
-        help::COMPARE | help::HOST | help::MAY | help::SHOW | help::TELL | help::WORDS
+        help::COMPARE
+            | help::EXPECT
+            | help::HOST
+            | help::MAY
+            | help::SHOW
+            | help::TELL
+            | help::WORDS
     ) {
         return None;
     }
