@@ -1,12 +1,12 @@
-"""Tries pages beside what they show: the built-in table, README's policy, the cases of CONFORMANCE, and the
-pages that a script makes."""
+"""Tries pages beside what they show: the built-in table, README's policy, the cases of CONFORMANCE, the
+quotes of READING, and the pages that a script makes."""
 
 import re
 import subprocess
 
 import pytest
 
-from documents import ROOT, text_of
+from documents import ROOT, cells, text_of
 
 pytestmark = pytest.mark.without_program
 
@@ -59,3 +59,26 @@ def test_cases(name, section):
         printed = behind(printed, re.findall(r"`([^`]*)`", texts))
     cases = set(re.findall(r"GATT/SR/\w+/B[VI]-\d\d-C", script))
     assert sorted(cases - {it[0] for it in rows}) == [], "cases of the script that are in no row"
+
+
+def quotes():
+    """Yields the texts that docs/READING.md quotes, each after the file that it names."""
+    text = text_of("docs/READING.md")
+    for quote, path in re.findall(r"(?m)^\| .* \| `([^`]*)` \| `([^`]*)` \|$", text):
+        yield f"crates/{path}", quote
+    for row in cells(text, "| Rule | The line that fits | Broken? |"):
+        yield "crates/att_policy/specs/Policy.antt", row[1][0]
+    yield from re.findall(r"(?ms)`(crates/[^`]*)`[^`]*:\n\n```\w+\n(.*?)^```$", text)
+
+
+@pytest.mark.parametrize(("path", "quote"), quotes())
+def test_a_quote(path, quote):
+    """It is in the file, letter for letter."""
+    assert quote in text_of(path)
+
+
+def test_each_block_is_quoted():
+    """No block of docs/READING.md but those of the program is without its file."""
+    text = text_of("docs/READING.md")
+    found = len(re.findall(r"(?m)^```(?:antt|rust)$", text))
+    assert found == sum(quote.endswith("\n") for _, quote in quotes())

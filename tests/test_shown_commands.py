@@ -9,8 +9,9 @@ import pytest
 from documents import ROOT, SHOWING, cells, shown_commands, text_of
 from test_shown_devices import HOSTED, SERVED
 
-# It ends with status 3, since the new table opens a right.
+# They end with status 3: the new table opens a right, and the answer is no.
 OPENS = "./gatt_shell compare examples/porch.toml examples/porch_next.toml examples/keys.toml"
+DENIES = "./gatt_shell may examples/door.toml examples/keys.toml stranger write 10"
 
 # Commands, with the file or the text that they print. Of an empty text what they print is not compared.
 PRINTED = {
@@ -23,6 +24,7 @@ PRINTED = {
     "./gatt_shell expect examples/door.toml examples/keys.toml examples/door.expect.toml": (
         "All 8 expectations hold.\n"
     ),
+    DENIES: "not encrypted  no: `write` needs `encrypted`, Insufficient Authentication (05)\n",
     "./gatt_shell may examples/door.toml examples/keys.toml 00:11:22:33:44:55 write 13 --authorized": (
         "not encrypted  no: `write` needs `encrypted`, Insufficient Encryption (0f)\n"
         "key of 16, authenticated  yes\n"
@@ -109,7 +111,7 @@ def run(command, program):
 def printed(command, program):
     """What a command prints that ends well."""
     ran = run(command, program)
-    assert ran.returncode == (3 if command == OPENS else 0), ran.stderr
+    assert ran.returncode == (3 if command in (OPENS, DENIES) else 0), ran.stderr
     return ran.stdout
 
 
