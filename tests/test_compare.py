@@ -4,8 +4,8 @@ The rights are proved to be those of the server; here stand whole lines, the sli
 right, and the exit statuses.
 """
 
+import os
 import subprocess
-import time
 
 import pytest
 
@@ -194,7 +194,8 @@ def test_a_refused_file(program, folder, which, text):
 
 
 def test_a_large_table(compare):
-    begun = time.monotonic()
+    begun = os.times().children_user
     status, lines = compare(LARGE, LARGE.replace("write = { authenticated = true, key_size = 16 }", ""), MANY_KEYS)
     assert (status, len(section_of("Opened:", lines))) == (3, 112)
-    assert time.monotonic() - begun < 10
+    # Without proofs it takes some three seconds of a processor.
+    assert os.times().children_user - begun < 10
