@@ -34,7 +34,7 @@ PROVE = tools/prove$(if $(TARGET), --target $(TARGET))
 UNITS = $(wildcard bridge/*.service)
 # The documents lie as in the repository, with the sources that they link, so that their links lead somewhere.
 DOCUMENTS = README.md CHANGELOG.md CONTRIBUTING.md SECURITY.md LICENSE-APACHE LICENSE-MIT LICENSE-THIRD-PARTY \
-    $(wildcard docs/*.md docs/schema/*.json) $(wildcard python/*.* python/gihandop/*.*) include/gihandop.h c/heap.c rust/examples/lockd.rs
+    $(wildcard docs/*.md docs/*.png docs/schema/*.json) $(wildcard python/*.* python/gihandop/*.*) include/gihandop.h c/heap.c rust/examples/lockd.rs
 EXAMPLES = $(sort $(shell find examples -type f ! -name '*.pyc'))
 
 all: $(ARCHIVE) $(PROGRAM) $(BUILD)/libgihandop_heap.a $(BUILD)/gihandop.pc $(BUILD)/hci_bridge

@@ -181,6 +181,23 @@ def test_it_opens(browser):
     assert [browser.text(f"{it}-fault") for it in ("table", "keys", "script")] == ["", "", ""]
 
 
+def test_the_picture(page, tmp_path):
+    """The tour has a picture of the page after an edit. GIHANDOP_PICTURE=docs/page.png makes it anew."""
+    browser = started(Chromium, tmp_path)
+    try:
+        browser.open(f"file://{page}")
+        browser.wait("document.querySelector('#matrix tr')")
+        browser.click("begin")
+        browser.enter("table", TABLES["door"].replace("write = { authenticated = true }", "write = { encrypted = true }"))
+        browser.evaluate("scrollTo(0, document.getElementById('table').scrollTop = 0)")
+        path = os.environ.get("GIHANDOP_PICTURE", f"{tmp_path}/page.png")
+        browser.save_picture(path, 1200, 1450)
+        with open(path, "rb") as file:
+            assert file.read(8) == b"\x89PNG\r\n\x1a\n"
+    finally:
+        browser.close()
+
+
 def test_an_edit_is_compared(browser):
     browser.click("begin")
     browser.enter("table", TABLES["door"].replace("write = { authenticated = true }", "write = { encrypted = true }"))

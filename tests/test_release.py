@@ -168,7 +168,10 @@ def test_page(own, folder, path, wanted):
     if path is None:
         ran(["tools/release", f"{folder}/release"], cwd=own)
         assert [it for it in os.listdir(f"{folder}/release") if it.endswith(".html")] == ["gihandop-0.2.0.html"]
-        assert "gihandop-0.2.0.html" in sums_of(f"{folder}/release")
+        (sum_of_page,) = re.findall(r"(\w+)  gihandop-0.2.0.html\n", sums_of(f"{folder}/release"))
+        (tarball,) = glob.glob(f"{folder}/release/*-x86_64-linux.tar.gz")
+        verdicts = ran(["tar", "-xzOf", tarball, "--wildcards", "*/doc/gihandop/VERDICTS"])
+        assert f"gihandop-0.2.0.html, whose way to WebAssembly is not proved\n    sha256 {sum_of_page}\n" in verdicts
     else:
         write(f"{own}/{path}", "changed\n")
         if "/out/" not in path:
@@ -330,7 +333,7 @@ def test_tarball_links(tarball):
 def test_verdicts(tarball):
     """VERDICTS has the sum and the verdict of each output."""
     text = text_of(f"{tarball}/VERDICTS")
-    sums = re.findall(r"(?m)^(\S+/\S+)\n    sha256 (\w+)\n    sources \w{64}\n    (?:axioms .*\n    )?(logic=proved .*)$", text)
+    sums = re.findall(r"(?m)^(\S+/\S+)\n    sha256 (\w+)\n    sources \w{64}\n    (?:axioms .*\n    )*(logic=proved .*)$", text)
     assert [it[0] for it in sums] == ["bin/gatt_shell", "lib/libgihandop_c.a"], text
     for name, wanted, verdict in sums:
         assert ran(["sha256sum", f"{tarball}/{name}"]).split()[0] == wanted, name

@@ -20,6 +20,8 @@ PRINTED = {
     "./gatt_shell att < examples/att_first.txt": "",
     "./gatt_shell check examples/door.toml examples/keys.toml": "attributes 21\nkeys 3\n",
     "./gatt_shell show examples/door.toml examples/keys.toml": "examples/door.shown",
+    "./gatt_shell show examples/bell.toml examples/keys.toml": "examples/bell.shown",
+    "./gatt_shell show examples/porch.toml examples/keys.toml": "examples/porch.shown",
     OPENS: "",
     "./gatt_shell expect examples/door.toml examples/keys.toml examples/door.expect.toml": (
         "All 8 expectations hold.\n"

@@ -1,5 +1,6 @@
 """Browsers that a test drives: Chromium by its debugging pipe, Firefox by its protocol Marionette."""
 
+import base64
 import json
 import os
 import shutil
@@ -90,6 +91,13 @@ class Chromium(Browser):
         answer = self.ask("Runtime.evaluate", expression=expression, returnByValue=True, awaitPromise=True)
         assert "exceptionDetails" not in answer, answer
         return answer["result"].get("value")
+
+    def save_picture(self, path, width, height):
+        """Saves what a window of this size shows."""
+        self.ask("Emulation.setDeviceMetricsOverride", width=width, height=height, deviceScaleFactor=1, mobile=False)
+        picture = self.ask("Page.captureScreenshot", format="png")["data"]
+        with open(path, "wb") as file:
+            file.write(base64.b64decode(picture))
 
     def close(self):
         os.close(self.out)
