@@ -141,6 +141,13 @@ def test_a_refused_comparison(module):
     assert (status, text) == (1, "table: fault 11: new: x: there is no such key\n")
 
 
+def test_a_proved_page_has_a_note(page):
+    """Beside a proved page is the note that a release reads; a page without proofs says that it is none."""
+    with open(page, encoding="utf-8") as file:
+        is_proved = "(not proved)" not in file.read()
+    assert os.path.isfile(f"{page}.verdict") == is_proved
+
+
 def test_the_fields(module, told):
     """The fields of the page have the cells, the types and the lengths that `show` prints."""
     status, data = module("page_rights", TABLES["door"], KEYS)
