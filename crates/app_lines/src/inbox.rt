@@ -1,9 +1,9 @@
 //! Input from the application, line by line.
 
-ghost use Rattle.std.specs.Prelude.{◌≡◌, ◌+◌, ◌++◌, [], length, take, nat_le, IfSome, IfNone};
-ghost use Rattle.memchr.specs.Find.{IsFirstByte, is_byte};
-ghost use Rattle.std.specs.Bool.{OnTrue, OnFalse};
-ghost use Rattle.app_lines.specs.Inbox.{NextLine};
+ghost use Rattle.std.specs.Prelude.{◌≡◌, ◌==◌, ◌+◌, [], length, nat_le};
+ghost use Rattle.std.specs.List.{after_first, position_or_len};
+ghost use Rattle.app_lines.specs.Inbox.{found_in, is_feed, joined_if_fits, line_after, line_in, rest_after};
+ghost use Rattle.app_lines.specs.declared.inbox.Found.TheVariants.{Line};
 
 use arrayvec::ArrayVec;
 use memchr::memchr;
@@ -12,17 +12,17 @@ use std::marker::Model;
 /// Maximum bytes of a line.
 pub const LONGEST: usize = 1_100;
 
-/// Capacity in bytes.
-const ROOM: usize = 2_048;
+/// Capacity of an inbox in bytes.
+pub const ROOM: usize = 2_048;
 
-/// Result of `next_line`.
+/// The beginning of an inbox.
 #[derive(Clone, Copy)]
 pub enum Found {
     /// A line.
     Line,
     /// No complete line yet.
     Nothing,
-    /// The line is too long.
+    /// A line of more than `LONGEST` bytes, which may be incomplete.
     TooLong,
 }
 
@@ -57,62 +57,75 @@ impl Inbox {
         self.octets.remaining_capacity()
     }
 
-    /// Returns true if there is a line, or one that is too long.
-    pub fn has_line(&self) -> bool
-        ensures nothing { OnFalse result (NextLine Found.Nothing self.now [] self.now) }
-        ensures something { OnTrue result (¬ NextLine Found.Nothing self.now [] self.now) }
+    /// Returns the kind of its beginning.
+    pub fn found(&self) -> Found
+        ensures { result ≡ found_in self.now }
     {
-        memchr(b'\n', self.octets.as_slice()).is_some() || self.octets.len() > LONGEST
+        let length = self.line_length();
+        if length > LONGEST {
+            Found::TooLong
+        } else if length < self.octets.len() {
+            Found::Line
+        } else {
+            Found::Nothing
+        }
     }
 
-    /// Returns the first line, without its line feed, if there is one.
-    pub fn first_line(&self) -> Option<&[u8]>
-        ensures front { IfSome result (λ line. line.now ≡ take (length line.now) self.now) }
-        ensures line { IfSome result
-            (λ line. IsFirstByte (is_byte 10) self.now (Some (length line.now))) }
-        ensures none { IfNone result (IsFirstByte (is_byte 10) self.now None) }
+    /// Returns the bytes before the first line feed, or all if there is none.
+    pub fn first_line(&self) -> &[u8]
+        ensures { result.now ≡ line_in self.now }
     {
-        let octets = self.octets.as_slice();
-        let end = memchr(b'\n', octets)?;
-        Some(&octets[..end])
+        &self.octets.as_slice()[..self.line_length()]
+    }
+
+    /// Returns true if it has no bytes.
+    pub fn is_empty(&self) -> bool
+        ensures { result ≡ (length self.now == 0) }
+    {
+        self.octets.is_empty()
     }
 
     /// Appends bytes. Returns false and changes nothing if they do not fit.
     pub fn take(&mut self, octets: &[u8]) -> bool
         ensures fits { result ≡ nat_le (length self.old + length octets.now) ROOM }
-        ensures taken { OnTrue result (self.new ≡ self.old ++ octets.now) }
-        ensures unchanged { OnFalse result (self.new ≡ self.old) }
+        ensures taken { self.new ≡ joined_if_fits self.old octets.now }
     {
         self.octets.try_extend_from_slice(octets).is_ok()
     }
 
-    /// Moves the next line to `line`, without its line feed. Changes nothing if there is none.
+    /// Moves the next line to `line`, without its line feed, and returns what it has found. Changes
+    /// nothing unless that is a line.
     pub fn next_line(&mut self, line: &mut ArrayVec<u8, LONGEST>) -> Found
-        ensures { NextLine result self.old line.new.items self.new }
+        ensures found { result ≡ found_in self.old }
+        ensures line { line.new.items ≡ line_after (found_in self.old) self.old line.old.items }
+        ensures rest { self.new ≡ rest_after (found_in self.old) self.old }
     {
-        let said = self.octets.as_slice();
-        let Some(end) = memchr(b'\n', said) else {
-            return if said.len() > LONGEST {
-                Found::TooLong
-            } else {
-                Found::Nothing
-            };
-        };
-        if end > LONGEST {
-            return Found::TooLong;
+        let found = self.found();
+        if let Found::Line = found {
+            self.move_line(line);
         }
-        line.clear();
-        line.try_extend_from_slice(&said[..end]).unwrap();
-        let mut rest = ArrayVec::new();
-        rest.try_extend_from_slice(&said[end + 1..]).unwrap();
-        self.octets = rest;
-        Found::Line
+        found
     }
 
-    /// Drops all bytes.
-    pub fn clear(&mut self)
-        ensures none { self.new ≡ [] }
+    fn move_line(&mut self, line: &mut ArrayVec<u8, LONGEST>)
+        requires { found_in self.old ≡ Line }
+        ensures line { line.new.items ≡ line_in self.old }
+        ensures rest { self.new ≡ after_first is_feed self.old }
     {
-        self.octets.clear();
+        line.clear();
+        line.try_extend_from_slice(self.first_line()).unwrap();
+        let mut rest = ArrayVec::new();
+        rest.try_extend_from_slice(&self.octets.as_slice()[self.line_length() + 1..])
+            .unwrap();
+        self.octets = rest;
+    }
+
+    /// Returns the length of the first line without its line feed, or of all bytes if no line ends.
+    #[tactic(auto, using(crate::proofs::Feeds::first_feed))]
+    fn line_length(&self) -> usize
+        ensures { result ≡ position_or_len is_feed self.now }
+    {
+        let octets = self.octets.as_slice();
+        memchr(b'\n', octets).unwrap_or(octets.len())
     }
 }

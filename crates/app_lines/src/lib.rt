@@ -13,7 +13,7 @@ mod type_text;
 mod wrong;
 
 pub use command::{Command, read_line, without_return};
-pub use inbox::{Found, Inbox, LONGEST};
+pub use inbox::{Found, Inbox, LONGEST, ROOM};
 pub use names::{Named, Names};
 pub use notice_text::{add_line, add_named_line, add_number, add_value, connection_of};
 pub use outbox::Outbox;
