@@ -1,2 +1,9 @@
+pub mod Askers
+pub mod Holder
+pub mod Incoming
+pub mod Lines
+pub mod Missed
+pub mod Outgoing
 pub mod PeerClock
 pub mod Strangers
+pub mod Visitor

@@ -1,58 +1,59 @@
 //! The application, one at a time, and the visitor that may replace it. All times are in
 //! milliseconds.
 
+use crate::askers::{Asker, Askers};
+use crate::holder::Holder;
+use crate::incoming::Incoming;
+use crate::sockets::{is_accepted, read_into, write_from};
 use crate::strangers::sooner;
-use crate::visitor::{Input, Visit, Visitor};
-use app_lines::{Found, Inbox, LONGEST, Outbox};
+use crate::visitor::{Visit, Visitor};
+use app_lines::{Found, LONGEST};
 use arrayvec::ArrayVec;
-use device_io::{Listener, Poller, Retry, Socket, retry_after};
+use device_io::{Listener, Poller, Socket};
 use std::alloc::{AllocError, Global};
 use std::io;
 
-/// The most bytes that may wait for an application.
-///
-/// One read of the controller causes at most 360,000: eight phones each execute 32 prepared writes,
-/// and the rest are Write Commands.
-const LIMIT: usize = 1_048_576;
-
-/// While more bytes wait for the application, neither it nor the controller is read.
-const MANY: usize = 65_536;
-
-/// How long it may accept none of them at a path.
+/// How long an application may accept nothing of what waits for it at a path.
 const SLOW_TIME: u64 = 5_000;
 
-/// How long it may accept none of them at a port.
+/// How long it may accept nothing at a port.
 ///
 /// The other end's system accepts nothing until the application has read some 64 KiB.
 const SLOW_PORT_TIME: u64 = 20_000;
 
-/// The most bytes of a write. The system takes more only once it has read a whole write.
-const PIECE: usize = 1_024;
-
-/// The size of a read, in bytes.
-const ROOM: usize = 512;
-
 /// The most reads of an application that is being replaced.
 const LAST_READS: u32 = 128;
 
-/// The most turns that a visitor waits for an application that keeps sending.
-const MOST_WAITS: u32 = 128;
-
-/// The progress of an application.
-#[derive(Clone, Copy, PartialEq, Eq)]
-enum Stage {
-    /// It lacks the current state.
-    New,
-    /// It has the current state and has sent no line.
-    Silent,
-    Speaks,
+/// A visitor and its socket.
+#[derive(Drop)]
+struct Visiting {
+    socket: Socket,
+    visitor: Visitor,
 }
 
-/// The sender of the line to be answered.
-#[derive(Clone, Copy, PartialEq, Eq)]
-enum Asker {
-    Application,
-    Visitor,
+/// The application and its socket.
+#[derive(Drop)]
+struct Holding {
+    socket: Socket,
+    holder: Holder,
+}
+
+/// The application's place.
+#[derive(Drop)]
+enum Place {
+    /// Nobody is there. `has_read_all` is true unless the last application may have missed lines.
+    Free {
+        has_read_all: bool,
+    },
+    Taken(Holding),
+    /// It is replaced once all its lines are processed, or it was read `last_reads` times.
+    Given {
+        holding: Holding,
+        next: Visiting,
+        last_reads: u32,
+    },
+    /// The application was ended while it was being replaced.
+    Promised(Visiting),
 }
 
 /// The next line, if any, and whether it is the first of its connection.
@@ -67,56 +68,73 @@ const NO_LINE: NextLine = NextLine {
     is_first: false,
 };
 
-/// The application, if any, its input and its output.
+/// The outcome of reading the application.
+#[derive(Clone, Copy)]
+pub(crate) enum Filled {
+    Nothing,
+    /// A visitor has replaced it.
+    Replaced,
+    /// It has closed its connection, and all its lines are processed.
+    Gone,
+}
+
+/// The place of the application, and the visitor.
 #[derive(Drop)]
 pub(crate) struct Application {
+    alloc: Global,
     listener: Option<Listener>,
-    socket: Option<Socket>,
-    input: Input,
-    stage: Stage,
-    /// Set if it accepts no more.
-    is_deaf: bool,
-    /// Set if it closed its connection after reading everything.
-    has_read_all: bool,
-    /// Set if it disconnected and the log does not say so yet.
-    is_gone: bool,
-    /// The visitor that replaces it once all its lines are processed.
-    next: Option<Visitor>,
-    /// The number of reads left until then.
-    last_reads: u32,
-    visitor: Option<Visitor>,
-    asker: Asker,
-    visitor_waits: u32,
+    place: Place,
+    visiting: Option<Visiting>,
+    askers: Askers,
     /// Set if no more lines are read.
     is_held: bool,
     /// Set if a connection waits for the visitor's place.
     is_knocking: bool,
-    inbox: Inbox,
-    outbox: Outbox,
-    /// Since when it has accepted nothing, while many bytes wait.
-    stalled_since: Option<u64>,
+}
+
+impl Visiting {
+    /// Makes it the application.
+    fn begin(self, alloc: Global) -> Holding {
+        Holding {
+            socket: self.socket,
+            holder: Holder::new(alloc, self.visitor.incoming),
+        }
+    }
+}
+
+impl Holding {
+    fn slow_time(&self) -> u64 {
+        match &self.socket {
+            Socket::Port(_) => SLOW_PORT_TIME,
+            Socket::Path(_) => SLOW_TIME,
+        }
+    }
+
+    fn flush(&mut self) {
+        write_from(&mut self.socket, &mut self.holder);
+    }
+
+    /// Reads once, unless a line is there.
+    fn read(&mut self) {
+        if self.holder.has_line() {
+            return;
+        }
+        if !read_into(&mut self.socket, &mut self.holder.incoming) {
+            self.holder.outgoing.deafen();
+        }
+    }
 }
 
 impl Application {
     pub(crate) fn none(alloc: Global) -> Application {
         Application {
+            alloc,
             listener: None,
-            socket: None,
-            input: Input::Waits,
-            stage: Stage::Silent,
-            is_deaf: false,
-            has_read_all: true,
-            is_gone: false,
-            next: None,
-            last_reads: 0,
-            visitor: None,
-            asker: Asker::Application,
-            visitor_waits: 0,
+            place: Place::Free { has_read_all: true },
+            visiting: None,
+            askers: Askers::new(),
             is_held: false,
             is_knocking: false,
-            inbox: Inbox::new(),
-            outbox: Outbox::new(alloc, LIMIT),
-            stalled_since: None,
         }
     }
 
@@ -126,7 +144,7 @@ impl Application {
 
     /// Accepts the next visitor, if there is none. Returns true if it did.
     pub(crate) fn accept(&mut self, poller: &Poller, now: u64) -> io::Result<bool> {
-        self.is_knocking = self.visitor.is_some();
+        self.is_knocking = self.visiting.is_some();
         if self.is_held || self.is_knocking {
             return Ok(false);
         }
@@ -137,7 +155,10 @@ impl Application {
         match accepted {
             Some(socket) => {
                 socket.watch(poller)?;
-                self.visitor = Some(Visitor::new(socket, now));
+                self.visiting = Some(Visiting {
+                    socket,
+                    visitor: Visitor::new(now),
+                });
                 Ok(true)
             }
             None => Ok(false),
@@ -153,39 +174,38 @@ impl Application {
             return false;
         }
         let is_free = self.is_free();
-        let Some(visitor) = &mut self.visitor else {
+        let Some(visiting) = &mut self.visiting else {
             return false;
         };
-        match visitor.next(now, is_free) {
-            Visit::Waits | Visit::Asks => {}
-            Visit::Reads => visitor.read(),
-            Visit::Leaves => self.visitor = None,
-            Visit::Comes => return self.next.is_none() && self.come(),
+        match visiting.visitor.next(now, is_free) {
+            Visit::Stays | Visit::Asks => {}
+            Visit::Reads => {
+                read_into(&mut visiting.socket, &mut visiting.visitor.incoming);
+            }
+            Visit::Leaves => self.visiting = None,
+            Visit::Comes => return self.come(),
         }
         false
     }
 
+    /// Gives the visitor the place, unless another one waits for it.
     fn come(&mut self) -> bool {
-        let Some(visitor) = self.visitor.take() else {
+        if matches!(self.place, Place::Given { .. } | Place::Promised(_)) {
+            return false;
+        }
+        let Some(visiting) = self.visiting.take() else {
             return false;
         };
-        if self.socket.is_none() {
-            self.begin(visitor);
-        } else {
-            self.next = Some(visitor);
-            self.last_reads = LAST_READS;
-            self.reads_again();
-        }
+        self.place = match self.leave_place(false) {
+            Place::Taken(holding) => give(holding, visiting),
+            _ => Place::Taken(visiting.begin(self.alloc)),
+        };
         true
     }
 
-    fn begin(&mut self, visitor: Visitor) {
-        let (socket, inbox) = visitor.into_parts();
-        self.socket = Some(socket);
-        self.inbox = inbox;
-        self.stage = Stage::New;
-        self.has_read_all = false;
-        self.input = Input::Readable;
+    /// Frees the place, and returns who had it.
+    fn leave_place(&mut self, has_read_all: bool) -> Place {
+        std::mem::replace(&mut self.place, Place::Free { has_read_all })
     }
 
     pub(crate) fn hold(&mut self) {
@@ -194,27 +214,22 @@ impl Application {
 
     /// Returns when the visit ends or the application is cut off.
     pub(crate) fn due(&self) -> Option<u64> {
-        let visit = match &self.visitor {
-            Some(visitor) if !self.is_held => Some(visitor.due()),
+        let visit = match &self.visiting {
+            Some(visiting) if !self.is_held => Some(visiting.visitor.due()),
             _ => None,
         };
-        let end = match self.stalled_since {
-            Some(since) => Some(since.saturating_add(self.slow_time())),
-            None => None,
+        let end = match &self.place {
+            Place::Taken(holding) => holding.holder.outgoing.due(holding.slow_time()),
+            _ => None,
         };
         sooner(visit, end)
     }
 
     /// Returns true if so many bytes wait that nothing may be read that causes more.
     pub(crate) fn is_full(&self) -> bool {
-        let takes = self.socket.is_some() && !self.is_deaf && self.next.is_none();
-        takes && self.outbox.waiting().len() > MANY
-    }
-
-    fn slow_time(&self) -> u64 {
-        match &self.socket {
-            Some(Socket::Port(_)) => SLOW_PORT_TIME,
-            _ => SLOW_TIME,
+        match &self.place {
+            Place::Taken(holding) => holding.holder.outgoing.is_full(),
+            _ => false,
         }
     }
 
@@ -225,108 +240,111 @@ impl Application {
         if self.is_full() {
             self.flush();
         }
-        if !self.is_full() {
-            self.stalled_since = None;
-            return false;
+        let is_slow = match &mut self.place {
+            Place::Taken(holding) => {
+                let slow = holding.slow_time();
+                holding.holder.outgoing.watch(now, slow)
+            }
+            _ => false,
+        };
+        if is_slow {
+            self.end();
         }
-        let since = self.stalled_since.unwrap_or(now);
-        self.stalled_since = Some(since);
-        if now.saturating_sub(since) < self.slow_time() {
-            return false;
-        }
-        self.end();
-        true
+        is_slow
     }
 
+    /// Returns true if the application is to be served before the visitor.
     fn is_busy(&self) -> bool {
-        let has_input = self.is_new() || self.is_readable() || self.inbox.has_line();
-        self.next.is_some() || self.socket.is_some() && (has_input || self.is_done())
+        match &self.place {
+            Place::Free { .. } => false,
+            Place::Taken(holding) => holding.holder.is_busy(),
+            Place::Given { .. } | Place::Promised(_) => true,
+        }
     }
 
     fn is_asked_by_visitor(&self) -> bool {
-        match &self.visitor {
-            Some(visitor) => visitor.asks(self.is_free()),
+        match &self.visiting {
+            Some(visiting) => visiting.visitor.is_asking(self.is_free()),
             None => false,
         }
     }
 
     /// Returns true if no application has the place or waits for it.
     fn is_free(&self) -> bool {
-        self.socket.is_none() && self.next.is_none()
+        matches!(self.place, Place::Free { .. })
     }
 
     /// Returns true if the last line was the visitor's.
     pub(crate) fn is_visited(&self) -> bool {
-        self.asker == Asker::Visitor
+        self.askers.asker == Asker::Visitor
+    }
+
+    fn holder(&self) -> Option<&Holder> {
+        match &self.place {
+            Place::Taken(holding) => Some(&holding.holder),
+            Place::Given { holding, .. } => Some(&holding.holder),
+            Place::Free { .. } | Place::Promised(_) => None,
+        }
     }
 
     /// Returns true if it lacks the current state.
     pub(crate) fn is_new(&self) -> bool {
-        self.stage == Stage::New
+        match self.holder() {
+            Some(holder) => holder.is_new,
+            None => false,
+        }
     }
 
     /// Notes that it is sent the current state.
     pub(crate) fn welcome(&mut self) {
-        self.stage = Stage::Silent;
-    }
-
-    fn is_readable(&self) -> bool {
-        self.input == Input::Readable
-    }
-
-    /// Reads it again, unless it sends no more.
-    fn reads_again(&mut self) {
-        if self.input == Input::Waits {
-            self.input = Input::Readable;
+        match &mut self.place {
+            Place::Taken(holding) => holding.holder.is_new = false,
+            Place::Given { holding, .. } => holding.holder.is_new = false,
+            Place::Free { .. } | Place::Promised(_) => {}
         }
     }
 
-    /// Answers the visitor, or closes its connection without an answer.
-    pub(crate) fn answer_visitor(&mut self, text: Option<&[u8]>) {
-        if let Some(visitor) = &mut self.visitor {
-            match text {
-                Some(text) => visitor.answer(text),
-                None => visitor.drop_all(),
-            }
+    /// Answers the visitor. Closes it if it does not accept the whole answer at once.
+    pub(crate) fn answer_visitor(&mut self, text: &[u8]) {
+        if let Some(visiting) = &mut self.visiting
+            && !is_accepted(&mut visiting.socket, text)
+        {
+            self.visiting = None;
         }
+    }
+
+    /// Closes the visitor's connection.
+    pub(crate) fn close_visitor(&mut self) {
+        self.visiting = None;
     }
 
     pub(crate) fn is_there(&self) -> bool {
-        self.socket.is_some()
+        self.holder().is_some()
     }
 
+    /// Ends the application, which may not have read everything.
     pub(crate) fn end(&mut self) {
-        self.socket = None;
-        self.input = Input::Waits;
-        self.is_deaf = false;
-        self.stage = Stage::Silent;
-        self.inbox.clear();
-        self.outbox.clear();
-        self.stalled_since = None;
-    }
-
-    fn lose(&mut self) {
-        self.end();
-        self.is_gone = true;
-    }
-
-    pub(crate) fn is_gone(&self) -> bool {
-        self.is_gone
-    }
-
-    /// Returns true once after the application disconnected.
-    pub(crate) fn is_just_gone(&mut self) -> bool {
-        let is_gone = self.is_gone;
-        self.is_gone = false;
-        is_gone
+        let has_read_all = self.has_read_all();
+        self.place = match self.leave_place(has_read_all) {
+            Place::Given {
+                holding: _holding,
+                next,
+                ..
+            } => Place::Promised(next),
+            Place::Promised(next) => Place::Promised(next),
+            Place::Taken(_holding) => Place::Free { has_read_all },
+            Place::Free { .. } => Place::Free { has_read_all },
+        };
     }
 
     pub(crate) fn is_ready(&mut self) {
-        if self.socket.is_some() {
-            self.reads_again();
+        match &mut self.place {
+            Place::Taken(holding) => holding.holder.incoming.ready(),
+            Place::Given { holding, .. } => holding.holder.incoming.ready(),
+            Place::Free { .. } | Place::Promised(_) => {}
         }
-        if let Some(visitor) = &mut self.visitor {
-            visitor.is_ready();
+        if let Some(visiting) = &mut self.visiting {
+            visiting.visitor.incoming.ready();
         }
         self.flush();
     }
@@ -336,13 +354,17 @@ impl Application {
         if self.is_held {
             return self.is_new();
         }
-        let has_input = !self.is_full() && (self.is_readable() || self.inbox.has_line());
-        has_input || self.is_new() || self.next.is_some() || self.is_done() || self.has_visit()
+        self.has_visit()
+            || match &self.place {
+                Place::Free { .. } => false,
+                Place::Taken(holding) => holding.holder.has_something(),
+                Place::Given { .. } | Place::Promised(_) => true,
+            }
     }
 
     fn has_visit(&self) -> bool {
-        match &self.visitor {
-            Some(visitor) => visitor.has_something(),
+        match &self.visiting {
+            Some(visiting) => visiting.visitor.has_something(),
             None => self.is_knocking,
         }
     }
@@ -351,76 +373,78 @@ impl Application {
         self.is_knocking
     }
 
-    fn is_done(&self) -> bool {
-        self.input == Input::Ended && (self.is_deaf || self.outbox.waiting().is_empty())
-    }
-
-    /// Reads once, unless a whole line is there. Returns true if a visitor replaced the
-    /// application.
+    /// Reads once, unless a line is there, and returns what has happened.
     ///
     /// After its last line, an application that sends no more is closed.
-    pub(crate) fn fill(&mut self) -> bool {
-        if self.is_held || self.is_full() || self.inbox.has_line() {
-            return false;
+    pub(crate) fn fill(&mut self) -> Filled {
+        if self.is_held || self.is_full() {
+            return Filled::Nothing;
         }
-        if self.is_readable() && !self.is_giving_place() {
-            self.last_reads = self.last_reads.saturating_sub(1);
-            self.read();
-            return false;
+        if self.is_giving_place() {
+            self.give_place();
+            return Filled::Replaced;
         }
-        if self.next.is_some() {
-            return self.give_place();
-        }
-        if self.is_done() {
-            self.has_read_all = !self.is_deaf;
-            self.lose();
-        }
-        false
-    }
-
-    /// Returns true if all lines are processed and a visitor waits.
-    pub(crate) fn is_giving_place(&self) -> bool {
-        let is_read = !self.is_readable() || self.last_reads == 0;
-        !self.is_held && self.next.is_some() && is_read && !self.inbox.has_line()
-    }
-
-    fn give_place(&mut self) -> bool {
-        self.flush();
-        self.end();
-        let Some(visitor) = self.next.take() else {
-            return false;
-        };
-        self.begin(visitor);
-        true
-    }
-
-    fn read(&mut self) {
-        let Some(socket) = &mut self.socket else {
-            return;
-        };
-        let mut buffer = [0; ROOM];
-        match socket.read(&mut buffer) {
-            Ok(0) => self.input = Input::Ended,
-            Ok(count) => {
-                // It fits, because no whole line is there.
-                let _ = self.inbox.take(&buffer[..count]);
+        match &mut self.place {
+            Place::Free { .. } | Place::Promised(_) => Filled::Nothing,
+            Place::Given {
+                holding,
+                last_reads,
+                ..
+            } => {
+                *last_reads = last_reads.saturating_sub(1);
+                holding.read();
+                Filled::Nothing
             }
-            Err(error) => match retry_after(&error) {
-                Retry::Now => {}
-                Retry::Later => self.input = Input::Waits,
-                Retry::Never => {
-                    self.deafen();
-                    self.input = Input::Ended;
+            Place::Taken(holding) => {
+                if holding.holder.has_line() {
+                    return Filled::Nothing;
                 }
-            },
+                if holding.holder.is_readable() {
+                    holding.read();
+                    return Filled::Nothing;
+                }
+                if !holding.holder.is_done() {
+                    return Filled::Nothing;
+                }
+                let has_read_all = !holding.holder.outgoing.is_deaf();
+                self.place = Place::Free { has_read_all };
+                Filled::Gone
+            }
         }
     }
 
-    /// Stops writing. Its input is still read to the end, because it may have sent lines before.
-    fn deafen(&mut self) {
-        self.is_deaf = true;
-        self.reads_again();
-        self.outbox.clear();
+    /// Returns true if all lines are processed and a visitor waits for the place.
+    pub(crate) fn is_giving_place(&self) -> bool {
+        if self.is_held {
+            return false;
+        }
+        match &self.place {
+            Place::Free { .. } | Place::Taken(_) => false,
+            Place::Given {
+                holding,
+                last_reads,
+                ..
+            } => {
+                let is_read = !holding.holder.is_readable() || *last_reads == 0;
+                is_read && !holding.holder.has_line()
+            }
+            Place::Promised(_) => true,
+        }
+    }
+
+    fn give_place(&mut self) {
+        self.flush();
+        let has_read_all = self.has_read_all();
+        self.place = match self.leave_place(has_read_all) {
+            Place::Given {
+                holding: _holding,
+                next,
+                ..
+            } => Place::Taken(next.begin(self.alloc)),
+            Place::Promised(next) => Place::Taken(next.begin(self.alloc)),
+            Place::Taken(holding) => Place::Taken(holding),
+            Place::Free { .. } => Place::Free { has_read_all },
+        };
     }
 
     /// Returns the next line of the application or the visitor.
@@ -431,18 +455,9 @@ impl Application {
         if self.is_held {
             return NO_LINE;
         }
-        let is_asked = self.is_asked_by_visitor();
-        let is_first = self.is_busy() && self.visitor_waits < MOST_WAITS;
-        self.visitor_waits = if is_asked && is_first {
-            self.visitor_waits + 1
-        } else {
-            0
-        };
-        self.asker = if is_asked && !is_first {
-            Asker::Visitor
-        } else {
-            Asker::Application
-        };
+        let is_visited = self.is_asked_by_visitor();
+        let is_busy = self.is_busy();
+        self.askers.choose(is_visited, is_busy);
         self.next_line_of_asker(line)
     }
 
@@ -451,14 +466,16 @@ impl Application {
         if self.is_held {
             return false;
         }
-        match self.asker {
-            Asker::Application => self.may_ask() && self.inbox.has_line(),
+        match self.askers.asker {
+            Asker::Application => match &self.place {
+                Place::Taken(holding) => holding.holder.may_ask(),
+                Place::Given { holding, .. } => {
+                    !holding.holder.is_new && holding.holder.has_line()
+                }
+                Place::Free { .. } | Place::Promised(_) => false,
+            },
             Asker::Visitor => self.is_asked_by_visitor(),
         }
-    }
-
-    fn may_ask(&self) -> bool {
-        self.socket.is_some() && !self.is_new() && !self.is_full()
     }
 
     /// Returns the next line of the sender of the last one.
@@ -466,76 +483,75 @@ impl Application {
         if !self.has_next_line() {
             return NO_LINE;
         }
-        match (self.asker, &mut self.visitor) {
-            (Asker::Visitor, Some(visitor)) => {
-                let (found, is_first) = visitor.next_line(line);
-                NextLine { found, is_first }
-            }
-            (Asker::Visitor, None) => NO_LINE,
-            (Asker::Application, _) => {
-                let is_first = self.stage == Stage::Silent;
-                self.stage = Stage::Speaks;
-                NextLine {
-                    found: self.inbox.next_line(line),
-                    is_first,
-                }
-            }
+        match self.askers.asker {
+            Asker::Visitor => match &mut self.visiting {
+                Some(visiting) => take_line(&mut visiting.visitor.incoming, line),
+                None => NO_LINE,
+            },
+            Asker::Application => match &mut self.place {
+                Place::Taken(holding) => take_line(&mut holding.holder.incoming, line),
+                Place::Given { holding, .. } => take_line(&mut holding.holder.incoming, line),
+                Place::Free { .. } | Place::Promised(_) => NO_LINE,
+            },
         }
     }
 
     /// Queues a text. Returns false if too much waits: the application is then cut off, as after
     /// an error.
     pub(crate) fn tell(&mut self, text: &[u8]) -> Result<bool, AllocError> {
-        if self.socket.is_none() || self.is_deaf {
-            return Ok(true);
-        }
-        let pushed = self.outbox.push(text);
-        if !matches!(pushed, Ok(true)) {
+        let queued = match &mut self.place {
+            Place::Taken(holding) => holding.holder.outgoing.queue(text),
+            Place::Given { holding, .. } => holding.holder.outgoing.queue(text),
+            Place::Free { .. } | Place::Promised(_) => Ok(true),
+        };
+        if !matches!(queued, Ok(true)) {
             self.end();
         }
-        pushed
+        queued
     }
 
     /// Returns true if it has the current state and one more line fits.
     pub(crate) fn has_room(&self) -> bool {
-        let takes = self.socket.is_some() && !self.is_new() && !self.is_deaf;
-        takes && self.outbox.waiting().len() < MANY
+        match self.holder() {
+            Some(holder) => !holder.is_new && holder.outgoing.has_room(),
+            None => false,
+        }
     }
 
+    /// Returns true if nobody is there, and the last application has read everything.
     pub(crate) fn has_read_all(&self) -> bool {
-        self.has_read_all
+        match self.place {
+            Place::Free { has_read_all } => has_read_all,
+            _ => false,
+        }
     }
 
+    /// Writes what the application accepts.
     pub(crate) fn flush(&mut self) {
-        for _write in 0..u64::MAX {
-            if !self.write() {
-                return;
-            }
+        match &mut self.place {
+            Place::Taken(holding) => holding.flush(),
+            Place::Given { holding, .. } => holding.flush(),
+            Place::Free { .. } | Place::Promised(_) => {}
         }
     }
+}
 
-    /// Writes once. Returns true if it may accept more.
-    fn write(&mut self) -> bool {
-        let Some(socket) = &mut self.socket else {
-            return false;
-        };
-        let waiting = self.outbox.waiting();
-        if waiting.is_empty() {
-            return false;
-        }
-        match socket.write(&waiting[..waiting.len().min(PIECE)]) {
-            Ok(0) => self.deafen(),
-            Ok(count) => {
-                self.outbox.remove_sent(count);
-                self.stalled_since = None;
-                return true;
-            }
-            Err(error) => match retry_after(&error) {
-                Retry::Now => return true,
-                Retry::Later => {}
-                Retry::Never => self.deafen(),
-            },
-        }
-        false
+/// Begins to give a visitor the place of an application, whose lines are processed first.
+fn give(holding: Holding, next: Visiting) -> Place {
+    let mut holding = holding;
+    holding.holder.incoming.ready();
+    Place::Given {
+        holding,
+        next,
+        last_reads: LAST_READS,
+    }
+}
+
+/// Takes the next line of a connection.
+fn take_line(incoming: &mut Incoming, line: &mut ArrayVec<u8, LONGEST>) -> NextLine {
+    let is_first = incoming.is_silent;
+    NextLine {
+        found: incoming.take_line(line),
+        is_first,
     }
 }

@@ -1,5 +1,9 @@
 //! The lines of the application, and the calls of the host that they make.
 
+ghost use Rattle.std.specs.Prelude.{◌≡◌};
+ghost use Rattle.app_lines.specs.Command.{command_of};
+ghost use Rattle.device_session.specs.Lines.{kind_of, kind_of_command, kind_of_text};
+
 use app_lines::{Command, Fault, Names, read_line, without_return, word_at};
 use arrayvec::ArrayVec;
 use host_api::{App, AppFault};
@@ -45,17 +49,35 @@ pub(crate) enum LineKind {
 }
 
 /// Returns the kind of a line.
-pub(crate) fn line_kind(line: &[u8]) -> LineKind {
-    match read_asked(line) {
-        Asked::Command(command) => match command {
-            Command::Application => LineKind::Claim,
+#[tactic(auto, unfolding(crate::specs::Lines::kind_of))]
+pub(crate) fn line_kind(line: &[u8]) -> LineKind
+    ensures { result ≡ kind_of line.now }
+{
+    kind_of_octets(without_return(line))
+}
+
+fn kind_of_octets(octets: &[u8]) -> LineKind
+    ensures { result ≡ kind_of_text octets.now }
+{
+    match str::from_utf8(octets) {
+        Ok(text) => kind_of_text(text),
+        Err(_) => LineKind::Wrong,
+    }
+}
+
+fn kind_of_text(text: &str) -> LineKind
+    ensures { result ≡ kind_of_command (command_of text.now) }
+{
+    match read_line(text) {
+        Ok(Command::Application) => LineKind::Claim,
+        Ok(
             Command::Update { .. }
             | Command::Allow { .. }
             | Command::Deny { .. }
-            | Command::Disconnect { .. } => LineKind::Call,
-            _ => LineKind::Question,
-        },
-        _ => LineKind::Wrong,
+            | Command::Disconnect { .. },
+        ) => LineKind::Call,
+        Ok(_) => LineKind::Question,
+        Err(_) => LineKind::Wrong,
     }
 }
 

@@ -1,7 +1,7 @@
 //! Output to the application, and the log of it.
 
 use crate::acceptance::Acceptance;
-use crate::application::Application;
+use crate::application::{Application, Filled};
 use crate::asking::Closing;
 use crate::heard::Heard;
 use crate::missed::Missed;
@@ -43,14 +43,14 @@ fn reply_to_visitor<R: Clock + Eprint>(
     text: Result<Vec<u8>, AllocError>,
 ) {
     match text {
-        Ok(text) => application.answer_visitor(Some(text.as_slice())),
+        Ok(text) => application.answer_visitor(text.as_slice()),
         Err(_) => {
             log.say("memory: refused for an answer");
-            application.answer_visitor(None);
+            application.close_visitor();
         }
     }
     if closing != Closing::No {
-        application.answer_visitor(None);
+        application.close_visitor();
     }
 }
 
@@ -164,7 +164,7 @@ fn tell_lines<R: Clock + Eprint>(application: &mut Application, log: &Log<'_, R>
     }
 }
 
-/// Notes that a phone wrote a value, and whether an application was notified.
+/// Notes that a client wrote a value, and whether an application was notified.
 fn note_told<R: Clock + Eprint>(
     application: &Application,
     missed: &mut Missed,
@@ -175,9 +175,9 @@ fn note_told<R: Clock + Eprint>(
         return;
     };
     let noted = if application.is_there() && !application.is_new() {
-        missed.tell(&[attribute])
+        missed.tell(attribute)
     } else {
-        missed.add(&[attribute])
+        missed.add(attribute)
     };
     if noted.is_err() {
         log.say("memory: refused for values that an application missed");
@@ -191,7 +191,6 @@ pub(crate) fn flush<R: Clock + Eprint>(
     log: &Log<'_, R>,
 ) {
     application.flush();
-    tell_gone(application, log);
     if !application.is_there() {
         note_end(missed, application.has_read_all(), log);
     }
@@ -209,14 +208,13 @@ pub(crate) fn fill<R: Clock + Eprint>(
     if application.is_giving_place() {
         tell(alloc, application, log, &Told::Replaced);
     }
-    if application.fill() {
-        note_end(missed, false, log);
-    }
-}
-
-fn tell_gone<R: Clock + Eprint>(application: &mut Application, log: &Log<'_, R>) {
-    if application.is_just_gone() {
-        log.say("application gone");
+    match application.fill() {
+        Filled::Nothing => {}
+        Filled::Replaced => note_end(missed, false, log),
+        Filled::Gone => {
+            log.say("application gone");
+            note_end(missed, application.has_read_all(), log);
+        }
     }
 }
 
@@ -252,7 +250,6 @@ fn attend<R: Clock + Eprint>(
     log: &Log<'_, R>,
     now: u64,
 ) {
-    tell_gone(application, log);
     let was_there = application.is_there();
     let has_read_all = application.has_read_all();
     if application.attend(now) {

@@ -356,7 +356,6 @@ impl<R: Clock + Eprint> Session<'_, R> {
     fn timeout(&self, deadline: Option<u64>) -> Option<Duration> {
         if self.is_controller_readable()
             || self.application.has_something()
-            || self.application.is_gone()
             || self.lacks_application()
         {
             return Some(Duration::from_millis(0));

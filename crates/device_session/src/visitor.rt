@@ -1,48 +1,30 @@
 //! A connection at the application's socket that is not the application. All times are in
 //! milliseconds.
 
+ghost use Rattle.std.specs.Prelude.{◌≡◌};
+ghost use Rattle.app_lines.specs.Inbox.{found_in};
+ghost use Rattle.app_lines.specs.declared.inbox.Found.TheVariants.{Nothing};
+ghost use Rattle.device_session.specs.Visitor.{by_input, by_kind, has_something, is_asking, visit_of, visitor_at, ClaimsRightly, LeavesInTime, WakesInTime};
+ghost use Rattle.device_session.specs.declared.visitor.Visit.TheVariants.{Reads};
+
 use crate::asked::{LineKind, line_kind};
-use app_lines::{Found, Inbox, LONGEST};
-use arrayvec::ArrayVec;
-use device_io::{Retry, Socket, retry_after};
+use crate::incoming::{Incoming, Input};
+use app_lines::Found;
 
-const ROOM: usize = 512;
-
-/// Time after which a visitor becomes the application if it has sent no line, or else is closed.
+/// Time after which a visitor that has sent nothing becomes the application, and another is closed.
 const VISIT: u64 = 1_000;
-
-/// The state of a connection's input.
-#[derive(Clone, Copy, PartialEq, Eq)]
-pub(crate) enum Input {
-    /// It may have sent more.
-    Readable,
-    /// It has sent nothing more yet.
-    Waits,
-    /// It sends no more.
-    Ended,
-}
-
-/// The progress of a visitor.
-#[derive(Clone, Copy, PartialEq, Eq)]
-enum Stage {
-    Silent,
-    Speaks,
-}
 
 /// A connection that is not the application: it asks, or becomes the application.
 #[derive(Drop)]
 pub(crate) struct Visitor {
-    socket: Socket,
-    inbox: Inbox,
+    pub(crate) incoming: Incoming,
     due: u64,
-    input: Input,
-    stage: Stage,
 }
 
 /// The next action of a visitor.
 #[derive(Clone, Copy)]
 pub(crate) enum Visit {
-    Waits,
+    Stays,
     /// It may have sent more.
     Reads,
     /// It has sent a line that is answered.
@@ -53,107 +35,87 @@ pub(crate) enum Visit {
 }
 
 impl Visitor {
-    pub(crate) fn new(socket: Socket, now: u64) -> Visitor {
+    /// Returns a visitor that has just connected.
+    pub(crate) fn new(now: u64) -> Visitor
+        ensures visitor { result ≡ visitor_at now }
+        // For all that it may send:
+        ensures place { ClaimsRightly }
+        ensures in_time { LeavesInTime }
+        ensures wakes { WakesInTime }
+    {
         Visitor {
-            socket,
-            inbox: Inbox::new(),
+            incoming: Incoming::new(),
             due: now.saturating_add(VISIT),
-            input: Input::Readable,
-            stage: Stage::Silent,
         }
     }
 
-    pub(crate) fn due(&self) -> u64 {
+    /// Returns when its time is over.
+    pub(crate) fn due(&self) -> u64
+        ensures { result ≡ self.now.due }
+    {
         self.due
     }
 
-    pub(crate) fn is_ready(&mut self) {
-        if self.input == Input::Waits {
-            self.input = Input::Readable;
+    /// Returns what it does next. Its calls claim the application's place only if that `is_free`.
+    ///
+    /// Once its time is over, the lines that were read are answered, and no more are read.
+    #[tactic(auto, using(crate::proofs::Visits::reads_without_a_line))]
+    pub(crate) fn next(&self, now: u64, is_free: bool) -> Visit
+        ensures visit { result ≡ visit_of self.now now is_free }
+        // There is space for what it reads.
+        ensures reads { result ≡ Reads → found_in self.now.incoming.inbox ≡ Nothing }
+    {
+        match self.incoming.found() {
+            Found::Line => by_kind(line_kind(self.incoming.first_line()), is_free),
+            Found::TooLong => Visit::Asks,
+            Found::Nothing => by_input(
+                self.incoming.input,
+                self.incoming.is_nothing(),
+                self.due <= now,
+            ),
         }
     }
 
-    pub(crate) fn has_something(&self) -> bool {
-        self.input != Input::Waits || self.inbox.has_line()
+    /// Returns true if there is something to do before its time is over.
+    pub(crate) fn has_something(&self) -> bool
+        ensures { result ≡ has_something self.now }
+    {
+        self.incoming.input != Input::Quiet || !matches!(self.incoming.found(), Found::Nothing)
     }
 
     /// Returns true if its next line is answered, and does not claim the application's place.
-    pub(crate) fn asks(&self, is_free: bool) -> bool {
-        self.inbox.has_line() && matches!(self.next_by_line(is_free), Visit::Asks)
-    }
-
-    /// Returns what it does next. Its lines claim the application's place only if that `is_free`.
-    ///
-    /// Once its time is over, the lines that were read are answered, and no more are read.
-    pub(crate) fn next(&self, now: u64, is_free: bool) -> Visit {
-        if self.inbox.has_line() {
-            return self.next_by_line(is_free);
-        }
-        let is_late = self.due <= now;
-        match (self.stage, self.input) {
-            (_, Input::Ended) => Visit::Leaves,
-            (Stage::Speaks, _) if is_late => Visit::Leaves,
-            (_, Input::Readable) => Visit::Reads,
-            (Stage::Silent, Input::Waits) if is_late => Visit::Comes,
-            (_, Input::Waits) => Visit::Waits,
+    pub(crate) fn is_asking(&self, is_free: bool) -> bool
+        ensures { result ≡ is_asking self.now is_free }
+    {
+        match self.incoming.found() {
+            Found::Line => matches!(
+                by_kind(line_kind(self.incoming.first_line()), is_free),
+                Visit::Asks
+            ),
+            Found::TooLong => true,
+            Found::Nothing => false,
         }
     }
+}
 
-    fn next_by_line(&self, is_free: bool) -> Visit {
-        let Some(line) = self.inbox.first_line() else {
-            return Visit::Asks;
-        };
-        match line_kind(line) {
-            LineKind::Claim => Visit::Comes,
-            LineKind::Call if is_free => Visit::Comes,
-            _ => Visit::Asks,
-        }
+fn by_kind(kind: LineKind, is_free: bool) -> Visit
+    ensures { result ≡ by_kind kind is_free }
+{
+    match kind {
+        LineKind::Claim => Visit::Comes,
+        LineKind::Call if is_free => Visit::Comes,
+        _ => Visit::Asks,
     }
+}
 
-    pub(crate) fn read(&mut self) {
-        let mut buffer = [0; ROOM];
-        match self.socket.read(&mut buffer) {
-            Ok(0) => self.end(),
-            Ok(count) => {
-                // It fits, because no whole line is there.
-                let _ = self.inbox.take(&buffer[..count]);
-            }
-            Err(error) => match retry_after(&error) {
-                Retry::Now => {}
-                Retry::Later => self.input = Input::Waits,
-                Retry::Never => self.end(),
-            },
-        }
-    }
-
-    pub(crate) fn end(&mut self) {
-        self.input = Input::Ended;
-    }
-
-    /// Moves its next line to `line`. Returns true if the line is its first.
-    pub(crate) fn next_line(&mut self, line: &mut ArrayVec<u8, LONGEST>) -> (Found, bool) {
-        let is_first = self.stage == Stage::Silent;
-        self.stage = Stage::Speaks;
-        (self.inbox.next_line(line), is_first)
-    }
-
-    /// Answers it. Closes it if it does not accept the whole answer at once.
-    pub(crate) fn answer(&mut self, text: &[u8]) {
-        let is_taken = match self.socket.write(text) {
-            Ok(count) => count == text.len(),
-            Err(_) => false,
-        };
-        if !is_taken {
-            self.drop_all();
-        }
-    }
-
-    pub(crate) fn drop_all(&mut self) {
-        self.inbox.clear();
-        self.end();
-    }
-
-    pub(crate) fn into_parts(self) -> (Socket, Inbox) {
-        (self.socket, self.inbox)
+fn by_input(input: Input, is_nothing: bool, is_late: bool) -> Visit
+    ensures { result ≡ by_input input is_nothing is_late }
+{
+    match input {
+        Input::Ended => Visit::Leaves,
+        _ if is_late && !is_nothing => Visit::Leaves,
+        Input::Readable => Visit::Reads,
+        Input::Quiet if is_late => Visit::Comes,
+        Input::Quiet => Visit::Stays,
     }
 }
