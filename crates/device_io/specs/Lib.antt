@@ -1,1 +1,6 @@
+pub mod Controller
+pub mod Disk
+pub mod DiskCalls
+pub mod DiskCode
+pub mod Outbound
 pub mod Patience

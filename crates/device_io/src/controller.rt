@@ -1,12 +1,17 @@
-//! The controller, its transport, and the bytes that wait for it. All times are in milliseconds.
+//! The controller, its transport, and the ways to reach it. All times are in milliseconds.
+
+ghost use Rattle.std.specs.Prelude.{◌≡◌, ◌∷◌, [], is_some};
+ghost use Rattle.device_io.specs.Controller.{begun_at, is_late};
+ghost use Rattle.device_io.specs.Outbound.{stalled_since};
+ghost use Rattle.device_io.specs.Patience.{given_up_at};
 
 use crate::connector::{CONNECT_TIME, Connector, RETRY_TIME, Reach};
 use crate::log::Log;
 use crate::missed::Missed;
+use crate::outbound::Outbound;
 use crate::patience::given_up_at;
 use crate::poller::{Poller, Source};
 use crate::transport::Transport;
-use app_lines::Outbox;
 use std::alloc::Global;
 use std::fs::{File, Files};
 use std::io;
@@ -17,23 +22,48 @@ use std::time::Clock;
 /// Time between attempts to accept a controller.
 const ACCEPT_TIME: u64 = 1_000;
 
-/// The most bytes that may wait for a controller.
-const LIMIT: usize = 1_048_576;
+/// The progress of a controller that is served.
+#[derive(Clone, Copy)]
+pub(crate) enum Progress {
+    /// It was reached at this time, and is not initialised yet.
+    Begun(u64),
+    Initialised,
+}
 
-/// The current controller, if any, and the way to reach the next one.
+/// A controller that is served.
 #[derive(Drop)]
-pub struct Controller<'a> {
-    connector: Connector<'a>,
-    transport: Option<Transport>,
-    /// The transport while a connection is being made.
-    next: Option<Transport>,
-    /// Set once that connection is made or has failed.
-    is_answered: bool,
-    /// Set if the controller was reached since the last `has_come`.
+struct Served {
+    transport: Transport,
+    outbound: Outbound,
+    progress: Progress,
+    /// Why it can no longer be served, if known.
+    fault: Option<&'static str>,
+    /// Set until `has_come`.
     is_new: bool,
     is_readable: bool,
     /// Set if nothing arrives after the bytes that can be read now.
     is_ending: bool,
+}
+
+/// The controller.
+#[derive(Drop)]
+enum Side {
+    Nobody,
+    /// A connection is being made. It is made, or has failed, once it `is_answered`.
+    Next {
+        transport: Transport,
+        is_answered: bool,
+    },
+    Served(Served),
+}
+
+/// The current controller, if any, and the way to reach the next one.
+#[derive(Drop)]
+pub struct Controller<'a> {
+    alloc: Global,
+    connector: Connector<'a>,
+    patience: u64,
+    side: Side,
     /// Why no controller is reached, as the log says.
     missed: Option<Missed>,
     /// When to try again.
@@ -42,13 +72,98 @@ pub struct Controller<'a> {
     is_held: bool,
     /// Set if a controller connects that is not accepted yet.
     is_knocking: bool,
-    patience: u64,
-    outbox: Outbox,
-    /// Since when it has accepted no waiting bytes.
-    stalled_since: u64,
-    reached_at: u64,
-    is_initialised: bool,
-    fault: Option<&'static str>,
+}
+
+impl Progress {
+    /// Returns when it was reached, if it is not initialised yet.
+    fn begun(self) -> Option<u64>
+        ensures { result ≡ begun_at self }
+    {
+        match self {
+            Progress::Begun(reached_at) => Some(reached_at),
+            Progress::Initialised => None,
+        }
+    }
+}
+
+impl Served {
+    /// Returns when it is given up, unless it makes progress: once it has accepted no waiting bytes
+    /// for `patience`, or was not initialised in that time.
+    fn due(&self, patience: u64) -> Option<u64>
+        ensures { result ≡ given_up_at patience
+            (stalled_since self.now.outbound ∷ begun_at self.now.progress ∷ []) }
+    {
+        given_up_at(
+            patience,
+            self.outbound.stalled_since(),
+            self.progress.begun(),
+        )
+    }
+
+    /// Returns why it is given up at `now`, if it is.
+    fn lapse(&self, patience: u64, now: u64) -> Option<&'static str>
+        ensures { is_some result ≡ is_late (given_up_at patience
+            (stalled_since self.now.outbound ∷ begun_at self.now.progress ∷ [])) now }
+    {
+        if self.due(patience)? > now {
+            return None;
+        }
+        Some(match self.progress {
+            Progress::Initialised => "given up: it takes no octets",
+            Progress::Begun(_) => "given up: it is not initialised in time",
+        })
+    }
+
+    /// Reads once. Returns `None` if nothing can be read yet.
+    fn read(&mut self, poller: &Poller, buffer: &mut [u8]) -> io::Result<Option<usize>> {
+        let read = self.transport.read(buffer)?;
+        let is_short = match read {
+            Some(count) => count < buffer.len() && !self.is_ending,
+            None => true,
+        };
+        if is_short {
+            self.is_readable = false;
+            if read.is_none() || !self.transport.is_emptied() {
+                self.watch_again(poller)?;
+            }
+        }
+        Ok(read)
+    }
+
+    fn watch_again(&self, poller: &Poller) -> io::Result<()> {
+        let source = if self.outbound.waiting().is_empty() {
+            Source::Controller
+        } else {
+            Source::FullController
+        };
+        poller.again(&self.transport, source)
+    }
+
+    /// Queues bytes and writes what it accepts.
+    fn write(&mut self, octets: &[u8], poller: &Poller, now: u64) -> io::Result<()> {
+        let fault = match self.outbound.queue(octets, now) {
+            Ok(true) => return self.write_waiting(poller, now),
+            Ok(false) => "given up: too many octets wait for it",
+            Err(_) => "given up: memory was refused",
+        };
+        self.fault = Some(fault);
+        Err(io::Error::from(ErrorKind::OutOfMemory))
+    }
+
+    fn write_waiting(&mut self, poller: &Poller, now: u64) -> io::Result<()> {
+        for _write in 0..u64::MAX {
+            let rest = self.outbound.waiting();
+            if rest.is_empty() {
+                return Ok(());
+            }
+            let Some(count) = self.transport.write(rest)? else {
+                return self.watch_again(poller);
+            };
+            let count = count.min(rest.len());
+            self.outbound.accepted(count, now);
+        }
+        Ok(())
+    }
 }
 
 impl<'a> Controller<'a> {
@@ -58,19 +173,10 @@ impl<'a> Controller<'a> {
     /// connection is lost after twice that time without any sign of the peer.
     pub fn new(alloc: Global, connector: Connector<'a>, patience: u64) -> Controller<'a> {
         Controller {
+            alloc,
             connector,
             patience,
-            outbox: Outbox::new(alloc, LIMIT),
-            stalled_since: 0,
-            reached_at: 0,
-            is_initialised: false,
-            fault: None,
-            transport: None,
-            next: None,
-            is_answered: false,
-            is_new: false,
-            is_readable: false,
-            is_ending: false,
+            side: Side::Nobody,
             missed: None,
             retry: 0,
             is_held: false,
@@ -80,72 +186,75 @@ impl<'a> Controller<'a> {
 }
 
 impl Controller<'_> {
+    fn served(&self) -> Option<&Served> {
+        match &self.side {
+            Side::Served(served) => Some(served),
+            Side::Nobody | Side::Next { .. } => None,
+        }
+    }
+
     /// Returns true if a controller is served.
     pub fn is_there(&self) -> bool {
-        self.transport.is_some()
+        self.served().is_some()
     }
 
     /// Returns true if it can be read or must be given up.
     pub fn is_readable(&self, now: u64) -> bool {
-        self.is_readable || self.fault.is_some() || self.lapse(now).is_some()
+        match self.served() {
+            Some(served) => {
+                let is_over = served.fault.is_some() || served.lapse(self.patience, now).is_some();
+                served.is_readable || is_over
+            }
+            None => false,
+        }
     }
 
     /// Returns why it can no longer be served, if known.
     pub fn fault(&self) -> Option<&'static str> {
-        self.fault
+        self.served()?.fault
     }
 
     /// Marks it as initialised. Returns true if that is new.
     pub fn note_initialised(&mut self) -> bool {
-        let is_new = self.transport.is_some() && !self.is_initialised;
-        self.is_initialised |= is_new;
-        is_new
+        match &mut self.side {
+            Side::Served(served) => {
+                let is_new = served.progress.begun().is_some();
+                served.progress = Progress::Initialised;
+                is_new
+            }
+            Side::Nobody | Side::Next { .. } => false,
+        }
     }
 
     /// Returns true if an initialised controller is served.
     pub fn is_initialised(&self) -> bool {
-        self.transport.is_some() && self.is_initialised
+        match self.served() {
+            Some(served) => served.progress.begun().is_none(),
+            None => false,
+        }
     }
 
     /// Returns when it is given up, unless it makes progress.
     pub fn due(&self) -> Option<u64> {
-        self.transport.as_ref()?;
-        let stalled_since = if self.outbox.waiting().is_empty() {
-            None
-        } else {
-            Some(self.stalled_since)
-        };
-        let begun = if self.is_initialised {
-            None
-        } else {
-            Some(self.reached_at)
-        };
-        given_up_at(self.patience, stalled_since, begun)
-    }
-
-    /// Returns why it is given up at `now`, if it is.
-    fn lapse(&self, now: u64) -> Option<&'static str> {
-        if self.due()? > now {
-            return None;
-        }
-        if self.is_initialised {
-            Some("given up: it takes no octets")
-        } else {
-            Some("given up: it is not initialised in time")
-        }
+        self.served()?.due(self.patience)
     }
 
     /// Returns true if it was reached since the last call.
     pub fn has_come(&mut self) -> bool {
-        let is_new = self.is_new;
-        self.is_new = false;
-        is_new
+        match &mut self.side {
+            Side::Served(served) => {
+                let is_new = served.is_new;
+                served.is_new = false;
+                is_new
+            }
+            Side::Nobody | Side::Next { .. } => false,
+        }
     }
 
     /// Returns when to try to reach a controller, if necessary.
     pub fn retry(&self) -> Option<u64> {
         let is_due = self.connector.is_tried() || self.is_knocking;
-        if self.transport.is_none() && is_due && !self.is_held {
+        if !self.is_there() && is_due && !self.is_held {
             Some(self.retry)
         } else {
             None
@@ -154,18 +263,21 @@ impl Controller<'_> {
 
     /// Marks it as readable. If `is_ending`, nothing arrives after the bytes that can be read now.
     pub fn is_ready(&mut self, is_ending: bool) {
-        self.is_readable = self.transport.is_some();
-        self.is_ending = self.is_ending || is_ending;
-        self.is_answered = true;
+        match &mut self.side {
+            Side::Nobody => {}
+            Side::Next { is_answered, .. } => *is_answered = true,
+            Side::Served(served) => {
+                served.is_readable = true;
+                served.is_ending = served.is_ending || is_ending;
+            }
+        }
     }
 
     /// Stops serving the controller.
     pub fn lose(&mut self, poller: &Poller) {
-        self.transport = None;
-        self.is_readable = false;
-        self.is_initialised = false;
-        self.fault = None;
-        self.outbox.clear();
+        if self.is_there() {
+            self.side = Side::Nobody;
+        }
         listen_again(&self.connector, poller);
     }
 
@@ -178,94 +290,43 @@ impl Controller<'_> {
         now: u64,
         buffer: &mut [u8],
     ) -> io::Result<Option<usize>> {
-        if let Some(why) = self.lapse(now) {
-            self.fault = Some(why);
-        }
-        if self.fault.is_some() {
-            return Err(io::Error::from(ErrorKind::TimedOut));
-        }
-        let Some(transport) = &mut self.transport else {
-            self.is_readable = false;
+        let patience = self.patience;
+        let Side::Served(served) = &mut self.side else {
             return Ok(None);
         };
-        let read = transport.read(buffer)?;
-        let is_short = match read {
-            Some(count) => count < buffer.len() && !self.is_ending,
-            None => true,
-        };
-        if is_short {
-            self.is_readable = false;
-            if read.is_none() || !transport.is_emptied() {
-                self.watch_again(poller)?;
-            }
+        if let Some(why) = served.lapse(patience, now) {
+            served.fault = Some(why);
         }
-        Ok(read)
-    }
-
-    fn watch_again(&self, poller: &Poller) -> io::Result<()> {
-        let source = if self.outbox.waiting().is_empty() {
-            Source::Controller
-        } else {
-            Source::FullController
-        };
-        match &self.transport {
-            Some(transport) => poller.again(transport, source),
-            None => Ok(()),
+        if served.fault.is_some() {
+            return Err(io::Error::from(ErrorKind::TimedOut));
         }
+        served.read(poller, buffer)
     }
 
     /// Queues bytes and writes what the controller accepts. Returns false if none is there.
     ///
     /// Fails if the controller cannot be written, too many bytes wait, or memory is refused.
     pub fn write(&mut self, octets: &[u8], poller: &Poller, now: u64) -> io::Result<bool> {
-        if self.transport.is_none() {
-            return Ok(false);
-        }
-        if self.outbox.waiting().is_empty() {
-            self.stalled_since = now;
-        }
-        let fault = match self.outbox.push(octets) {
-            Ok(true) => {
-                self.write_waiting(poller, now)?;
-                return Ok(true);
+        match &mut self.side {
+            Side::Served(served) => {
+                served.write(octets, poller, now)?;
+                Ok(true)
             }
-            Ok(false) => "given up: too many octets wait for it",
-            Err(_) => "given up: memory was refused",
-        };
-        self.fault = Some(fault);
-        Err(io::Error::from(ErrorKind::OutOfMemory))
+            Side::Nobody | Side::Next { .. } => Ok(false),
+        }
     }
 
     /// Writes waiting bytes as far as the controller accepts them.
     pub fn flush(&mut self, poller: &Poller, now: u64) {
-        self.is_answered = true;
-        if self.write_waiting(poller, now).is_err() {
-            self.fault = Some("gone: it cannot be written");
-        }
-    }
-
-    fn write_waiting(&mut self, poller: &Poller, now: u64) -> io::Result<()> {
-        if self.outbox.waiting().is_empty() {
-            return Ok(());
-        }
-        for _write in 0..u64::MAX {
-            let Some(transport) = &mut self.transport else {
-                return Ok(());
-            };
-            let rest = self.outbox.waiting();
-            if rest.is_empty() {
-                return Ok(());
-            }
-            let Some(count) = transport.write(rest)? else {
-                return self.watch_again(poller);
-            };
-            let count = count.min(rest.len());
-            self.outbox.remove_sent(count);
-            if count > 0 {
-                self.stalled_since = now;
+        match &mut self.side {
+            Side::Nobody => {}
+            Side::Next { is_answered, .. } => *is_answered = true,
+            Side::Served(served) => {
+                if served.write_waiting(poller, now).is_err() {
+                    served.fault = Some("gone: it cannot be written");
+                }
             }
         }
-        Ok(())
     }
 
     /// Reaches a controller if one connects or if it is time, unless `is_held`.
@@ -275,9 +336,9 @@ impl Controller<'_> {
         self.is_held = is_held;
         self.is_knocking |= connects;
         if is_held {
-            self.next = None;
+            self.abandon();
         }
-        if self.is_answered {
+        if self.is_answered() {
             self.finish(poller, log, now);
         }
         match self.retry() {
@@ -289,10 +350,37 @@ impl Controller<'_> {
         }
     }
 
+    fn is_answered(&self) -> bool {
+        match &self.side {
+            Side::Next { is_answered, .. } => *is_answered,
+            Side::Nobody | Side::Served(_) => false,
+        }
+    }
+
+    /// Abandons a connection that is being made. Returns true if there was one.
+    fn abandon(&mut self) -> bool {
+        let is_next = matches!(self.side, Side::Next { .. });
+        if is_next {
+            self.side = Side::Nobody;
+        }
+        is_next
+    }
+
     fn finish<R: Clock + Eprint>(&mut self, poller: &Poller, log: &Log<'_, R>, now: u64) {
-        let Some(transport) = self.next.take() else {
-            return;
-        };
+        match std::mem::replace(&mut self.side, Side::Nobody) {
+            Side::Nobody => {}
+            Side::Served(served) => self.side = Side::Served(served),
+            Side::Next { transport, .. } => self.finish_with(transport, poller, log, now),
+        }
+    }
+
+    fn finish_with<R: Clock + Eprint>(
+        &mut self,
+        transport: Transport,
+        poller: &Poller,
+        log: &Log<'_, R>,
+        now: u64,
+    ) {
         self.retry = now.saturating_add(RETRY_TIME);
         if let Some(error) = transport.connect_error() {
             return self.miss(Missed::of(&error), log);
@@ -304,7 +392,7 @@ impl Controller<'_> {
     fn reach<
         R: Files<File = File> + Net<Listener = TcpListener, Stream = TcpStream> + Clock + Eprint,
     >(&mut self, poller: &Poller, log: &Log<'_, R>, now: u64) {
-        if self.next.take().is_some() {
+        if self.abandon() {
             self.miss(Missed::Silent, log);
         }
         match self.connector.reach(log.rt) {
@@ -350,8 +438,10 @@ impl Controller<'_> {
         if poller.watch(&transport, Source::NewController).is_err() {
             return self.miss(Missed::Unwatched, log);
         }
-        self.next = Some(transport);
-        self.is_answered = false;
+        self.side = Side::Next {
+            transport,
+            is_answered: false,
+        };
         self.retry = now.saturating_add(CONNECT_TIME);
     }
 
@@ -367,12 +457,15 @@ impl Controller<'_> {
         }
         transport.notice_vanished_peer(self.patience.saturating_mul(2));
         self.missed = None;
-        self.transport = Some(transport);
-        self.reached_at = now;
-        self.is_initialised = false;
-        self.is_new = true;
-        self.is_readable = false;
-        self.is_ending = false;
+        self.side = Side::Served(Served {
+            transport,
+            outbound: Outbound::new(self.alloc),
+            progress: Progress::Begun(now),
+            fault: None,
+            is_new: true,
+            is_readable: false,
+            is_ending: false,
+        });
     }
 
     /// Logs why no controller is reached, unless the log says so already.

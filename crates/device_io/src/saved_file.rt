@@ -1,10 +1,12 @@
 //! A text file that is replaced as a whole.
 
 use crate::file_size::refuse_size;
+use crate::new_file::{NewFile, create_new, remove_left_file, sync_folder};
+use crate::replacing::replace;
+use crate::version::Version;
 use std::alloc::Global;
-use std::fs::{File, Files, Metadata, OpenFile};
+use std::fs::{File, Files};
 use std::io::{ErrorKind, Read, Write};
-use std::os::unix::fs::{MetadataExt, OpenOptionsExt, fchown};
 use std::{fs, io};
 
 const OWNER_ALONE: u32 = 0o600;
@@ -28,29 +30,6 @@ pub struct SavedFile {
 struct Saved {
     text: Vec<u8>,
     version: Version,
-}
-
-/// The identity of a file and of its contents.
-#[derive(Clone, Copy, PartialEq, Eq)]
-struct Version {
-    device: u64,
-    inode: u64,
-    size: u64,
-    /// The time of its last change: seconds, and nanoseconds.
-    seconds: i64,
-    nanoseconds: i64,
-}
-
-impl Version {
-    fn of(found: &Metadata) -> Version {
-        Version {
-            device: found.dev(),
-            inode: found.ino(),
-            size: found.size(),
-            seconds: found.mtime(),
-            nanoseconds: found.mtime_nsec(),
-        }
-    }
 }
 
 impl SavedFile {
@@ -126,13 +105,17 @@ impl SavedFile {
     }
 
     fn replace<R: Files<File = File>>(&mut self, files: &R, text: &[u8]) -> io::Result<Version> {
+        refuse_size(text.len())?;
         let (path, beside) = (self.path.as_str(), self.beside.as_str());
-        remove_left_file(files, beside)?;
-        let version = write_new(files, beside, self.mode, path, text)?;
-        fs::rename(files, beside, path)?;
-        self.known = Some(version);
-        sync_folder(files, path)?;
-        Ok(version)
+        let mut new = NewFile::beside(files, path, beside, self.mode);
+        let replaced = replace(&mut new, text);
+        let renamed = new.renamed();
+        drop(new);
+        if renamed.is_some() {
+            self.known = renamed;
+        }
+        replaced?;
+        renamed.ok_or(io::Error::from(ErrorKind::NotFound))
     }
 
     /// Links or copies the file to `kept`, in the same folder.
@@ -177,34 +160,10 @@ fn move_copy<R: Files<File = File>>(
 fn copy<R: Files<File = File>>(files: &R, alloc: Global, from: &str, to: &str) -> io::Result<()> {
     let mut text = Vec::new(alloc);
     File::open(files, from)?.read_to_end(&mut text)?;
-    write_new(files, to, OWNER_ALONE, from, text.as_slice())?;
-    Ok(())
-}
-
-/// Writes and syncs a new file. It has the permission of the file at `old` if that exists, and as
-/// far as allowed its owner and group, or else the permission `mode`.
-fn write_new<R: Files<File = File>>(
-    files: &R,
-    path: &str,
-    mode: u32,
-    old: &str,
-    text: &[u8],
-) -> io::Result<Version> {
     refuse_size(text.len())?;
-    let mut file = File::options()
-        .write(true)
-        .create_new(true)
-        .mode(mode)
-        .open(files, path)?;
-    if let Ok(old) = fs::metadata(files, old) {
-        // Only root may change the owner; others may choose among their groups.
-        let _ = fchown(&file, None, Some(old.gid()));
-        let _ = fchown(&file, Some(old.uid()), None);
-        file.set_permissions(old.permissions())?;
-    }
-    file.write_all(text)?;
-    file.sync_all()?;
-    Ok(Version::of(&file.metadata()?))
+    let mut file = create_new(files, to, OWNER_ALONE, from)?;
+    file.write_all(text.as_slice())?;
+    file.sync_all()
 }
 
 fn resolve<R: Files>(files: &R, alloc: Global, path: &str) -> io::Result<String> {
@@ -234,20 +193,4 @@ fn read_link<R: Files>(files: &R, alloc: Global, path: &str) -> io::Result<Strin
         Some((folder, _)) => format!(in alloc; "{folder}/{target}")?,
         None => format!(in alloc; "{target}")?,
     })
-}
-
-fn remove_left_file<R: Files>(files: &R, path: &str) -> io::Result<()> {
-    match fs::remove_file(files, path) {
-        Err(error) if error.kind() != ErrorKind::NotFound => Err(error),
-        _ => Ok(()),
-    }
-}
-
-fn sync_folder<R: Files>(files: &R, path: &str) -> io::Result<()> {
-    let folder = match path.rsplit_once('/') {
-        Some(("", _)) => "/",
-        Some((folder, _)) => folder,
-        None => ".",
-    };
-    File::open(files, folder)?.sync_all()
 }
