@@ -1,7 +1,7 @@
-//! The command `att`.
+//! The command `att`: an input in pieces, and inputs and outputs that fail.
 
 use arrayvec::ArrayVec;
-use gatt_commands::{READS, ShellFault, att_lines};
+use shell_files::{READS, ShellFault, att_lines};
 use std::alloc::Global;
 use std::io;
 use std::io::{ErrorKind, Read, Write};
@@ -111,56 +111,6 @@ fn answers_however_the_input_is_cut(rt: HostRuntime) {
         let mut input = in_pieces(INPUT, piece);
         answers(&rt, rt.alloc(), &mut input, OUTPUT, Ok(()));
     }
-}
-
-const ENDS: &[(&[u8], &[u8], Result<(), ShellFault>)] = &[
-    (b"", b"", Ok(())),
-    (b"\n\n", b"", Ok(())),
-    (b"0a0300", b"0b4c6f636b\n", Ok(())),
-    (b"0A0300\n", b"0b4c6f636b\n", Ok(())),
-    (b"0a0", b"", Err(ShellFault::NotHex(1))),
-    (
-        b"\n0a0300\n\n0a030g\n20\n",
-        b"0b4c6f636b\n",
-        Err(ShellFault::NotHex(4)),
-    ),
-    (b"0a0300\r\n", b"", Err(ShellFault::NotHex(1))),
-    (b"20\n 20\n", b"0120000006\n", Err(ShellFault::NotHex(2))),
-];
-
-#[test]
-fn ends_at_the_first_bad_line(rt: HostRuntime) {
-    check_ends(&rt, rt.alloc(), ENDS);
-}
-
-fn check_ends(rt: &impl Abort, alloc: Global, cases: &[(&[u8], &[u8], Result<(), ShellFault>)]) {
-    for &(mut input, output, ended) in cases {
-        answers(rt, alloc, &mut input, output, ended);
-    }
-}
-
-/// A value is written in two parts, and read before and after.
-const LONG_WRITE: &[u8] = b"1615000000426f6c7420776f726e2e2053656e64206120\n\
-    16150012006e6577206f6e652e\n0a1500\n1801\n0a1500\n0c15001600\n";
-
-const LONG_WRITE_ANSWERS: &[u8] = b"1715000000426f6c7420776f726e2e2053656e64206120\n\
-    17150012006e6577206f6e652e\n0b\n19\n\
-    0b426f6c7420776f726e2e2053656e642061206e657720\n0d6f6e652e\n";
-
-#[test]
-fn answers_a_long_write(rt: HostRuntime) {
-    let mut input = LONG_WRITE;
-    answers(&rt, rt.alloc(), &mut input, LONG_WRITE_ANSWERS, Ok(()));
-}
-
-#[test]
-fn takes_lines_of_1040_digits(rt: HostRuntime) {
-    let digits = [b'0'; 1041];
-    let mut longest = &digits[..1040];
-    answers(&rt, rt.alloc(), &mut longest, b"0100000006\n", Ok(()));
-    let mut longer = digits.as_slice();
-    let ended = Err(ShellFault::NotHex(1));
-    answers(&rt, rt.alloc(), &mut longer, b"", ended);
 }
 
 #[test]

@@ -1,7 +1,7 @@
 //! The texts and statuses of faults.
 
 use arrayvec::ArrayVec;
-use gatt_commands::{ShellFault, status, text};
+use shell_files::{ShellFault, status, text};
 use std::process::Abort;
 
 const FAULTS: &[(ShellFault, &str, u8)] = &[

@@ -14,17 +14,15 @@ mod links;
 #[cfg(test)]
 mod look_ups;
 #[cfg(test)]
+mod names;
+#[cfg(test)]
 mod rows;
 #[cfg(test)]
 mod script_acts;
 #[cfg(test)]
-mod script_faults;
-#[cfg(test)]
 mod states;
 #[cfg(test)]
 mod stores;
-#[cfg(test)]
-mod table_faults;
 #[cfg(test)]
 mod tables;
 #[cfg(test)]

@@ -1,15 +1,14 @@
 //! Subscriptions files, fitted to keys and a table.
 
-use super::cases::{Example, assert_case, text_of};
+use super::cases::assert_case;
 use att_table::Table;
 use att_table::examples::PORCH;
-use gatt_subs::{Rows, RowsFault};
+use gatt_subs::Rows;
 use le_hci::{PUBLIC_ADDRESS, Peer, RANDOM_ADDRESS};
 use le_security::Keys;
 use le_security::examples::KEYS;
 use octet_io::ArraySink;
 use std::alloc::Global;
-use std::process::Abort;
 
 const PHONE: Peer = Peer {
     kind: RANDOM_ADDRESS,
@@ -46,64 +45,6 @@ const READ: &[(&str, &str)] = &[
     ),
 ];
 
-const FAULTS: &[(&str, RowsFault)] = &[
-    (
-        "1 c0:00:00:00:00:01 7 1\n1 c0:00:00:00:00:01 7 1\n",
-        RowsFault::Twice(2),
-    ),
-    (
-        "\n1 c0:00:00:00:00:0a 7 1\n1 C0:00:00:00:00:0A 7 2\nbad",
-        RowsFault::Twice(3),
-    ),
-    (
-        "! 1 c0:00:00:00:00:01\n! 1 c0:00:00:00:00:01\n",
-        RowsFault::Twice(2),
-    ),
-    ("\n\nbad\n! \n", RowsFault::BadLine(3)),
-    ("1 c0:00:00:00:00:01 07 1\n", RowsFault::BadLine(1)),
-    ("1 c0:00:00:00:00:01 +7 1\n", RowsFault::BadLine(1)),
-    ("1 c0:00:00:00:00:01 0 1\n", RowsFault::BadLine(1)),
-    ("1 c0:00:00:00:00:01 65536 1\n", RowsFault::BadLine(1)),
-    ("1 c0:00:00:00:00:01 7 0\n", RowsFault::BadLine(1)),
-    ("1 c0:00:00:00:00:01 7 4\n", RowsFault::BadLine(1)),
-    ("1 c0:00:00:00:00:01 7 01\n", RowsFault::BadLine(1)),
-    ("1 c0:00:00:00:00:01 7 1\r\n", RowsFault::BadLine(1)),
-    ("1 c0:00:00:00:00:01 7 1 \n", RowsFault::BadLine(1)),
-    ("1 c0:00:00:00:00:01  7 1\n", RowsFault::BadLine(1)),
-    (" 1 c0:00:00:00:00:01 7 1\n", RowsFault::BadLine(1)),
-    ("1 c0:00:00:00:00:01 7\n", RowsFault::BadLine(1)),
-    ("2 c0:00:00:00:00:01 7 1\n", RowsFault::BadLine(1)),
-    ("1 c0:00:00:00:00:1 7 1\n", RowsFault::BadLine(1)),
-    ("! 2 c0:00:00:00:00:01\n", RowsFault::BadLine(1)),
-    ("! 1 c0:00:00:00:00:01 7\n", RowsFault::BadLine(1)),
-    ("!1 c0:00:00:00:00:01\n", RowsFault::BadLine(1)),
-    (" \n", RowsFault::BadLine(1)),
-];
-
-/// Texts, tables, and the text written after fitting to the table and the door's keys.
-const FITTED: &[(&str, Example, &str)] = &[
-    (BATTERY, Example::Door, BATTERY),
-    ("1 c0:00:00:00:00:01 8 1\n", Example::Door, ""),
-    ("1 c0:00:00:00:00:01 7 2\n", Example::Door, ""),
-    ("1 c0:00:00:00:00:01 7 3\n", Example::Door, ""),
-    ("1 c0:00:00:00:00:09 7 1\n", Example::Door, ""),
-    ("0 c0:00:00:00:00:01 7 1\n", Example::Door, ""),
-    (
-        "1 c0:00:00:00:00:01 11 1\n1 c0:00:00:00:00:01 7 1\n0 00:11:22:33:44:55 11 1\n",
-        Example::Door,
-        "0 00:11:22:33:44:55 11 1\n1 c0:00:00:00:00:01 7 1\n1 c0:00:00:00:00:01 11 1\n",
-    ),
-    (CHANGES, Example::Porch, CHANGES),
-    (
-        "! 1 c0:00:00:00:00:01\n1 c0:00:00:00:00:01 8 1\n",
-        Example::Porch,
-        "1 c0:00:00:00:00:01 8 1\n",
-    ),
-    ("! 1 c0:00:00:00:00:01\n", Example::Porch, ""),
-    ("! 1 c0:00:00:00:00:09\n", Example::Porch, ""),
-    (CHANGES, Example::Door, ""),
-];
-
 fn is_written(rows: &Rows, text: &str) -> bool {
     let mut sink = ArraySink::<512>::new();
     rows.text(&mut sink).is_ok() && sink.octets() == text.as_bytes()
@@ -114,36 +55,11 @@ fn texts(rt: HostRuntime) {
     for &(text, written) in READ {
         assert_case(&rt, reads_as(rt.alloc(), text, written), text);
     }
-    check_faults(&rt, rt.alloc(), FAULTS);
 }
 
 fn reads_as(alloc: Global, text: &str, written: &str) -> bool {
     match Rows::read(alloc, text) {
         Ok(rows) => is_written(&rows, written),
-        Err(_) => false,
-    }
-}
-
-fn check_faults(rt: &impl Abort, alloc: Global, cases: &[(&str, RowsFault)]) {
-    for &(text, fault) in cases {
-        assert_case(rt, Rows::read(alloc, text).err() == Some(fault), text);
-    }
-}
-
-#[test]
-fn fitted(rt: HostRuntime) {
-    for &(text, table, written) in FITTED {
-        assert_case(
-            &rt,
-            fits_as(rt.alloc(), text, text_of(table), written),
-            text,
-        );
-    }
-}
-
-fn fits_as(alloc: Global, text: &str, table: &str, written: &str) -> bool {
-    match Rows::read(alloc, text) {
-        Ok(mut rows) => is_fitted(alloc, &mut rows, table) && is_written(&rows, written),
         Err(_) => false,
     }
 }
