@@ -24,9 +24,11 @@
  * After each call finish() does this:
  *
  *     while (gh_next_notice(&host, &notice) == GH_DONE)
- *         see what a phone did;
+ *         see what a client did;
  *     while (gh_next_out(&host, out, sizeof out, &count) == GH_DONE)
  *         send count bytes of out;
+ *
+ * gihandop_serve.h has this loop as a function, which c/serve.c defines.
  *
  * The program fetches output, one packet a call. So the library has no buffer that can overflow, and a
  * slow controller stops this loop and not the program. While output is pending, the host accepts nothing:
@@ -152,7 +154,7 @@ enum {
     GH_TABLE_NOT_TOML = 101,
     /* a key that has to be there is not; */
     GH_TABLE_MISSING = 102,
-    /* a uuid is none, or is not allowed there; */
+    /* this is no UUID, or it is not allowed there; */
     GH_TABLE_BAD_UUID = 103,
     /* a value is not an even number of hexadecimal digits; */
     GH_TABLE_BAD_HEX = 104,
@@ -212,10 +214,13 @@ enum {
 };
 
 /*
- * Opens a host with the texts of a table file, a key file, rows and values (docs/FORMATS.md). Keys, rows
+ * Opens a host with the texts of a table file, a key file, rows and values (docs/CLI.md). Keys, rows
  * and values may be empty. Rows are what gh_rows_text returned for an earlier host, and values what
  * gh_values_text returned: they are restored before anything is served. Rows of peers without a key, and
  * entries that the table does not support, are dropped.
+ *
+ * The host copies what it needs: once gh_open has returned, the texts and *config may change or be freed.
+ * The same holds for the octets that each other function gets.
  *
  * Sets *left_out to the number of values that do not fit the table: their attribute is gone, or has
  * another type or another length. Such a value stays as in the table file.
@@ -264,7 +269,7 @@ uint32_t gh_take(struct gh_host *host, const uint8_t *octets, size_t length, siz
 uint32_t gh_next_out(struct gh_host *host, uint8_t *out, size_t room, size_t *count);
 
 /*
- * Sets the characteristic value at a handle, for the application. Phones that have subscribed to it are
+ * Sets the characteristic value at a handle, for the application. Clients that have subscribed to it are
  * notified. Returns GH_NO_SUCH_HANDLE, GH_NOT_A_VALUE or GH_BAD_LENGTH if the host refuses it.
  */
 uint32_t gh_update(struct gh_host *host, uint16_t handle, const uint8_t *value, size_t length);
@@ -289,7 +294,7 @@ uint32_t gh_disconnect(struct gh_host *host, uint16_t connection);
 uint32_t gh_tick(struct gh_host *host, uint64_t time);
 
 /*
- * Replaces the table by that of another table file. Phones get Service Changed, and their subscriptions
+ * Replaces the table by that of another table file. Clients get Service Changed, and their subscriptions
  * stay if they fit. Returns a status above GH_BAD_TABLE if the file is refused, and GH_NO_SERVICE_CHANGED
  * if the host refuses the table.
  */
@@ -323,7 +328,7 @@ uint32_t gh_rows_text(struct gh_host *host, uint8_t *out, size_t room, size_t *c
 
 /*
  * Writes the values that differ from those of the table file to out and their length to *count: a values
- * text, for the next gh_open. If all is 0, only the values that a phone may write, else all
+ * text, for the next gh_open. If all is 0, only the values that a client may write, else all
  * characteristic values and descriptors. Returns GH_SHORT_BUFFER if *count is more than room. It needs
  * memory until it returns.
  */
@@ -363,7 +368,7 @@ struct gh_connection {
        each later one. Unlike a handle, no number is used again. */
     uint64_t ordinal;
     /* The time of the last tick before its last ACL data packet, in milliseconds; at first that at which it was
-       accepted. With it you can disconnect silent phones. */
+       accepted. With it you can disconnect silent clients. */
     uint64_t heard;
     /* The place of its slot, from 0. */
     uint8_t slot;

@@ -102,9 +102,23 @@ def test_version_text_of_the_proved(folder, compiler):
     assert ran([f"{folder}/version"]) == text_of(f"{ROOT}/include/gihandop.h").split("GH_VERSION_TEXT ")[1].split('"')[1] + "\n"
 
 
-def test_header_in_another_language():
-    """The header is also one of C++."""
+@pytest.mark.parametrize("header", sorted(os.listdir(f"{ROOT}/include")))
+def test_header_in_another_language(folder, header):
+    """A header is also one of C++, with the first values that it has."""
     if not shutil.which("c++"):
         pytest.skip("there is no c++ here")
-    flags = ["-std=c++17", "-Wall", "-Wextra", "-Werror", "-fsyntax-only"]
-    ran(["c++", *flags, "-x", "c++", "include/gihandop.h"], "the header in C++")
+    flags = ["-std=c++17", "-Wall", "-Wextra", "-Werror", "-fsyntax-only", "-Iinclude"]
+    names = re.findall(r"(?m)^#define GH_(\w+)_INIT\b", text_of(f"{ROOT}/include/{header}"))
+    assert names, "first values"
+    used = "".join(f"extern struct gh_{it.lower()} a_{it};\nstruct gh_{it.lower()} a_{it} = GH_{it}_INIT;\n" for it in names)
+    source = write_text(f"{folder}/used.cc", f'#include "{header}"\n{used}')
+    ran(["c++", *flags, source], f"{header} in C++")
+
+
+def test_serve_in_c99():
+    """c/serve.c is C of 1999 without a warning of conversions."""
+    if not compilers():
+        pytest.skip("there is no compiler here")
+    for compiler in compilers():
+        words = [compiler, "-std=c99", "-Wall", "-Wextra", "-Wpedantic", "-Wconversion", "-Werror", "-fsyntax-only"]
+        ran([*words, "-Iinclude", "c/serve.c"], f"c/serve.c by {compiler}")

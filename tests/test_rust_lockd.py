@@ -196,6 +196,24 @@ def test_no_disk(lockd, folder):
     assert text_of(f"{state}/values") == "21 fff4 33\n", "the last note is saved"
 
 
+def test_a_motor_that_waits(lockd, folder):
+    """The motor does not follow a value that cannot be saved, and does once it is saved."""
+    state = made(f"{folder}/motor")
+    door = Door(lockd, state)
+    assert door.turned() == "motor: shut", "the door begins shut"
+    tablet = door.tablet()
+    os.rename(state, f"{state}.away")
+    tablet.send(WRITE + STATE + b"\x01")
+    found = tablet.receive(), tablet.reason
+    assert found == (None, HOST_ENDED), "a write that is not saved is not answered"
+    assert door.motor.empty(), "the motor waits"
+    os.rename(f"{state}.away", state)
+    assert door.turned() == "motor: open", "once it is saved, the motor turns"
+    assert text_of(f"{state}/values") == "10 fff1 01\n", "and it is saved"
+    door.press("stop\n")
+    assert door.ended()[0] == 0, "stop ends the lock in order"
+
+
 def test_refused(lockd, folder):
     """How the lock ends if it cannot begin."""
     state = made(f"{folder}/refused")

@@ -1,6 +1,6 @@
 /*
- * A door lock: serves phones over a controller, turns a motor, which is a line on standard output, and
- * saves what phones with keys change.
+ * A door lock: serves clients over a controller, turns a motor, which is a line on standard output, and
+ * saves what clients with keys change.
  *
  *     lockd TABLE KEYS LINE [FOLDER]
  *
@@ -9,14 +9,14 @@
  * if they are there. A line on standard input is a button inside: open or shut. Who has no key is sent
  * away after half a minute. SIGTERM and SIGINT end the connections, and then the program.
  *
- * What a phone changes is saved first; then the motor turns, and then the phone is answered. So whenever
- * the power fails, the next start has every value that was acknowledged. If it cannot be saved, the phone
+ * What a client changes is saved first; then the motor turns, and then the client is answered. So whenever
+ * the power fails, the next start has every value that was acknowledged. If it cannot be saved, the client
  * is not answered: no data of its connection are sent any more, the connection is ended, and the lock
- * tries to save again each second. Other phones are served, and may be told a value that is not saved.
+ * tries to save again each second. Other clients are served, and may be told a value that is not saved.
  */
 #define _GNU_SOURCE
 #include "files.h"
-#include "gihandop.h"
+#include "gihandop_serve.h"
 #include "line.h"
 
 #include <errno.h>
@@ -31,7 +31,7 @@
 #include <time.h>
 #include <unistd.h>
 
-/* How long a phone may stay without a key, how long phones may take to go at the end, and after how long
+/* How long a client may stay without a key, how long clients may take to go at the end, and after how long
    the lock tries to save again: ms. */
 enum { PATIENCE = 30000, FAREWELL = 2000, RETRY = 1000 };
 
@@ -48,21 +48,15 @@ struct text {
     bool is_on_disk;
 };
 
-/* What the lock knows of a connection, beside what the host does. */
-struct phone {
-    uint64_t came;     /* when it connected */
-    bool has_changed;  /* it has changed what is saved, since the notices before these */
-    bool is_cut;       /* what it has changed could not be saved: it is not answered, and is to go */
-};
-
 static struct gh_host host = GH_HOST_INIT;
+static struct gh_server server = GH_SERVER_INIT;
 static int line = -1;
 static const char *folder;           /* or NULL, if nothing is saved */
 static struct text values, rows;
 static bool is_behind;               /* they say less than the host, since they could not be saved */
-static uint16_t state;               /* the handle of the value that a phone opens the door by */
+static uint16_t state;               /* the handle of the value that a client opens the door by */
 static int motor = -1;               /* where it is: 1 open, 0 shut, -1 before it has turned */
-static struct phone phones[CONNECTIONS];
+static uint64_t came[CONNECTIONS];   /* when each connection was accepted */
 static uint8_t octets[4096];         /* what the controller sent, and how much of it is taken in */
 static size_t octets_count, octets_taken;
 static char panel[64];               /* what the panel said, and is not done yet */
@@ -129,14 +123,9 @@ static bool save(void)
     return is_saved;
 }
 
-/* Turns the motor to where the lock's state says. */
-static void turn_motor(void)
+/* Turns the motor to where it is not yet. */
+static void turn_motor(bool is_open)
 {
-    uint8_t value[GH_LONGEST_VALUE];
-    size_t length;
-    if (gh_value(&host, state, value, sizeof value, &length) != GH_DONE)
-        return;
-    bool is_open = length == 1 && value[0] == 1;
     if (motor == is_open)
         return;
     motor = is_open;
@@ -144,145 +133,105 @@ static void turn_motor(void)
     fflush(stdout);
 }
 
-/* Notes whom a failed save leaves without an answer. */
-static void note_changes(bool is_saved)
+/* Turns the motor to where the lock's state says. */
+static void obey_state(void)
 {
-    struct gh_connection phone = GH_CONNECTION_INIT;
-    for (size_t place = 0; gh_connection(&host, place, &phone) == GH_DONE; place++) {
-        struct phone *known = &phones[phone.handle % CONNECTIONS];
-        known->is_cut |= known->has_changed && !is_saved;
-        known->has_changed = false;
-    }
+    uint8_t value[GH_LONGEST_VALUE];
+    size_t length;
+    if (gh_value(&host, state, value, sizeof value, &length) == GH_DONE)
+        turn_motor(length == 1 && value[0] == 1);
 }
 
-/* Hears what phones did, saves what they have changed, and then does what they ask of the lock. */
-static void hear(void)
+/* Notes when a client has come. */
+static void hear(struct gh_server *by, const struct gh_notice *notice)
 {
-    struct gh_notice notice = GH_NOTICE_INIT;
-    uint32_t status;
-    bool is_any = false;
-    while ((status = gh_next_notice(&host, &notice)) == GH_DONE) {
-        struct phone *phone = &phones[notice.connection % CONNECTIONS];
-        is_any = true;
-        if (notice.kind == GH_CONNECTED)
-            *phone = (struct phone){.came = now()};
-        if (notice.kind == GH_WRITTEN || notice.kind == GH_CONFIGURED || notice.kind == GH_CONFIRMED)
-            phone->has_changed = true;
-    }
-    if (status != GH_NOTHING)
-        fail("notices", status);
-    if (!is_any)
-        return;
-    bool is_saved = save();
-    note_changes(is_saved);
-    if (is_saved)
-        turn_motor();
+    (void)by;
+    if (notice->kind == GH_CONNECTED)
+        came[notice->connection % CONNECTIONS] = now();
 }
 
-/* Whether a packet is data of a connection that is cut off: Core 5.0, Vol 2 Part E, 5.4.2. */
-static bool is_withheld(const uint8_t *packet)
+/* Saves what clients have changed, and then does what they ask of the lock. */
+static bool save_and_obey(struct gh_server *by)
 {
-    return packet[0] == 0x02 && phones[(packet[1] | packet[2] << 8) % CONNECTIONS].is_cut;
-}
-
-/* Writes what is owed, and says whether all of it is out: it is not where the line is full. */
-static bool send_owed(void)
-{
-    static uint8_t packet[GH_LONGEST_PACKET];
-    static size_t count, at;
-    for (;;) {
-        if (at == count) {
-            at = 0;
-            do
-                if (gh_next_out(&host, packet, sizeof packet, &count) != GH_DONE)
-                    return true;
-            while (is_withheld(packet));
-        }
-        ssize_t sent = write(line, packet + at, count - at);
-        if (sent < 0 && (errno == EAGAIN || errno == EWOULDBLOCK))
-            return false;
-        if (sent < 0 && errno != EINTR)
-            fail_by_system("the controller");
-        at += sent > 0 ? (size_t)sent : 0;
-    }
-}
-
-/* Whether a connection is to go: any at the end, else one that is cut off or stayed without a key. */
-static bool is_unwanted(const struct gh_connection *phone, uint64_t time, bool all)
-{
-    const struct phone *known = &phones[phone->handle % CONNECTIONS];
-    return all || known->is_cut || (phone->key_size == 0 && known->came + PATIENCE < time);
-}
-
-/* Ends a connection that is to go, if there is one. */
-static bool send_away(uint64_t time, bool all)
-{
-    struct gh_connection phone = GH_CONNECTION_INIT;
-    for (size_t place = 0; gh_connection(&host, place, &phone) == GH_DONE; place++)
-        if (!phone.ending && is_unwanted(&phone, time, all))
-            return gh_disconnect(&host, phone.handle) == GH_DONE;
-    return false;
-}
-
-/* Does the next thing that the panel says, if it says a whole line. */
-static bool press(void)
-{
-    char *end = memchr(panel, '\n', panel_length);
-    if (end == NULL)
+    (void)by;
+    if (!save())
         return false;
-    *end = '\0';
-    uint8_t value = strcmp(panel, "open") == 0;
-    if (value == 1 || strcmp(panel, "shut") == 0) {
-        uint32_t status = gh_update(&host, state, &value, 1);
-        if (status != GH_DONE)
-            fail("the lock's state", status);
-        /* Whoever stands at the door does not wait for the disk. */
-        save();
-        turn_motor();
-    }
-    panel_length -= (size_t)(end + 1 - panel);
-    memmove(panel, end + 1, panel_length);
+    obey_state();
     return true;
 }
 
-/* Takes in one thing, if there is one. All that is owed is out. */
+/* Writes to the controller as much as the line accepts. */
+static size_t send_some(struct gh_server *by, const uint8_t *packet, size_t length)
+{
+    (void)by;
+    ssize_t sent;
+    do
+        sent = write(line, packet, length);
+    while (sent < 0 && errno == EINTR);
+    if (sent < 0 && errno != EAGAIN && errno != EWOULDBLOCK)
+        fail_by_system("the controller");
+    return sent > 0 ? (size_t)sent : 0;
+}
+
+/* Ends the connections that are to go: all at the end, else those that stayed without a key. */
+static void send_away(uint64_t time, bool all)
+{
+    struct gh_connection client = GH_CONNECTION_INIT;
+    for (size_t place = 0; gh_connection(&host, place, &client) == GH_DONE; place++) {
+        bool is_late = client.key_size == 0 && came[client.handle % CONNECTIONS] + PATIENCE < time;
+        if (!client.ending && (all || is_late))
+            gh_later_disconnect(&server, client.handle);
+    }
+}
+
+/* Does what the panel says in whole lines. Whoever stands at the door does not wait for the disk. */
+static void press(void)
+{
+    char *end;
+    while ((end = memchr(panel, '\n', panel_length)) != NULL) {
+        *end = '\0';
+        uint8_t value = strcmp(panel, "open") == 0;
+        if (value == 1 || strcmp(panel, "shut") == 0) {
+            turn_motor(value == 1);
+            gh_later_update(&server, state, &value, 1);
+        }
+        panel_length -= (size_t)(end + 1 - panel);
+        memmove(panel, end + 1, panel_length);
+    }
+}
+
+/* Does all that there is to do, and says whether all that is owed is out: it is not where the line is full. */
 static bool act(uint64_t time, bool is_ending)
 {
-    static uint64_t told, tried;
-    if (told < time) {
-        told = time;
-        gh_tick(&host, time);
-        hear();
-    } else if (is_behind && tried + RETRY <= time) {
-        tried = time;
-        if (save())
-            turn_motor();
-    } else if (send_away(time, is_ending)) {
-        return true;
-    } else if (octets_taken < octets_count) {
-        size_t used, left = octets_count - octets_taken;
-        uint32_t status = gh_take(&host, octets + octets_taken, left, &used);
-        if (status != GH_DONE)
-            fail("the host has stopped", status);
-        octets_taken += used;
-        hear();
-    } else {
-        return press();
+    static uint64_t tried;
+    size_t used;
+    uint32_t status = gh_serve(&server, time, octets + octets_taken, octets_count - octets_taken, &used);
+    octets_taken += used;
+    if (status == GH_DONE) {
+        send_away(time, is_ending);
+        press();
+        status = gh_serve(&server, time, GH_EMPTY, 0, &used);
     }
-    return true;
+    if (status != GH_DONE && status != GH_OUTPUT_OWED)
+        fail("serving", status);
+    if (is_behind && tried + RETRY <= time) {
+        tried = time;
+        save_and_obey(&server);
+    }
+    return status == GH_DONE;
 }
 
 /* How long nothing has to be done, in milliseconds, unless something comes; -1 is for ever. */
 static int leisure(uint64_t time, uint64_t end)
 {
-    struct gh_connection phone = GH_CONNECTION_INIT;
+    struct gh_connection client = GH_CONNECTION_INIT;
     uint64_t deadline;
     if (end != 0)
-        return (int)(end - time);
-    if (gh_connection(&host, 0, &phone) != GH_DONE)
+        return end > time ? (int)(end - time) : 0;
+    if (gh_connection(&host, 0, &client) != GH_DONE)
         return is_behind ? RETRY : -1;
-    if (gh_deadline(&host, &deadline) == GH_DONE && deadline > time && deadline < time + 1000)
-        return (int)(deadline - time);
+    if (gh_deadline(&host, &deadline) == GH_DONE && deadline < time + 1000)
+        return deadline > time ? (int)(deadline - time) : 0;
     return 1000;
 }
 
@@ -296,25 +245,23 @@ static bool read_some(const struct pollfd *polled, void *into, size_t room, size
     return got != 0;
 }
 
-/* Serves until the controller goes, or a signal has come and the phones are gone. Says whether the
+/* Serves until the controller goes, or a signal has come and the clients are gone. Says whether the
    controller is there and waits for the next packet. */
 static bool serve(int signals)
 {
-    struct gh_connection phone = GH_CONNECTION_INIT;
+    struct gh_connection client = GH_CONNECTION_INIT;
     struct pollfd polled[3] = {{line, 0, 0}, {STDIN_FILENO, 0, 0}, {signals, POLLIN, 0}};
     uint64_t end = 0;
     for (;;) {
-        bool is_out = send_owed();
         uint64_t time = now();
+        bool is_out = act(time, end != 0);
         if (end != 0 && time >= end)
             return is_out;
-        if (is_out && act(time, end != 0))
-            continue;
-        if (is_out && end != 0 && gh_connection(&host, 0, &phone) != GH_DONE)
+        if (is_out && end != 0 && gh_connection(&host, 0, &client) != GH_DONE)
             return true;
         polled[0].events = is_out ? POLLIN : POLLOUT;
         polled[1].events = is_out ? POLLIN : 0;
-        if (poll(polled, 3, leisure(time, end)) < 0) {
+        if (poll(polled, 3, leisure(now(), end)) < 0) {
             if (errno != EINTR)
                 fail_by_system("poll");
             continue;
@@ -325,7 +272,7 @@ static bool serve(int signals)
         }
         if (!is_out)
             continue;
-        /* All that had come is taken in. */
+        /* All that had come is accepted. */
         octets_taken = 0;
         if (!read_some(&polled[0], octets, sizeof octets, &octets_count))
             return false;
@@ -384,7 +331,11 @@ static void open_host(const char *table_path, const char *keys_path)
     status = gh_find(&host, lock, sizeof lock, lock_state, sizeof lock_state, 1, &state);
     if (status != GH_DONE)
         fail("the lock's state", status);
-    turn_motor();
+    obey_state();
+    server.host = &host;
+    server.heard = hear;
+    server.save = save_and_obey;
+    server.send = send_some;
 }
 
 int main(int argc, char **argv)

@@ -1,5 +1,5 @@
-//! A door lock: serves phones over a controller, turns a motor, which is a line on standard output,
-//! and saves what phones have changed before it answers them.
+//! A door lock: serves clients over a controller, turns a motor, which is a line on standard output,
+//! and saves what clients have changed before it answers them.
 //!
 //!     cargo run --example lockd -- TABLE KEYS STATE CONTROLLER
 //!
@@ -9,13 +9,14 @@
 //! `stty -F /dev/ttyUSB0 115200 raw -echo crtscts clocal`.
 //!
 //! Standard input is a panel inside the house. Its lines are `open`, `shut`, `allow SECONDS`, which
-//! authorizes all phones that are connected, and `stop`, which ends the connections and the program.
+//! authorizes all clients that are connected, and `stop`, which ends the connections and the program.
 //! SIGTERM ends the program at once, since the standard library has no handler for it. Nothing is
-//! lost that a phone was told, but the controller may go on to advertise and to hold connections
+//! lost that a client was told, but the controller may go on to advertise and to hold connections
 //! until the next start resets it.
 //!
-//! If the state cannot be saved, the phone is not answered, and is disconnected; the program serves
-//! the others, and tries again each second. A phone without a key is disconnected after half a
+//! What a client changes is saved first; then the motor turns, and then the client is answered. If the
+//! state cannot be saved, the client is not answered, and is disconnected; the program serves the
+//! others, and tries again each second. A client without a key is disconnected after half a
 //! minute. The program ends with status 1 if the controller ends, if one at a socket takes nothing
 //! for five seconds, if the host stops, or if a file cannot be read at the start.
 
@@ -33,11 +34,11 @@ use std::sync::mpsc::{Receiver, RecvTimeoutError, SyncSender, sync_channel};
 use std::thread;
 use std::time::{Duration, Instant};
 
-/// How long a phone may stay without a key, in milliseconds.
+/// How long a client may stay without a key, in milliseconds.
 const PATIENCE: u64 = 30_000;
 /// How long the program waits before it tries again to save, in milliseconds.
 const RETRY: u64 = 1000;
-/// How long phones may take to disconnect at the end, in milliseconds.
+/// How long clients may take to disconnect at the end, in milliseconds.
 const FAREWELL: u64 = 2000;
 /// How long the controller may take nothing.
 const STALL: Duration = Duration::from_secs(5);
@@ -129,6 +130,8 @@ struct Lock {
     /// The handle of the value that opens the door.
     door: u16,
     begin: Instant,
+    /// Whether the motor has opened the door, or nothing before it has turned.
+    motor: Option<bool>,
     /// The connections without a key, each with the time at which it is disconnected.
     strangers: Vec<(u16, u64)>,
 }
@@ -139,7 +142,7 @@ impl Lock {
         self.begin.elapsed().as_millis() as u64
     }
 
-    /// Does what phones ask of the lock, and saves what they or the panel have changed.
+    /// Saves what clients or the panel have changed, and then does what clients ask of the lock.
     fn take_part(&mut self, turn: &mut Turn<'_>) -> io::Result<()> {
         for notice in turn.notices() {
             match notice {
@@ -150,17 +153,31 @@ impl Lock {
                 Notice::Secured { connection, .. } | Notice::Disconnected { connection } => {
                     self.strangers.retain(|it| it.0 != connection);
                 }
-                Notice::Written {
-                    attribute, value, ..
-                } if attribute == self.door => turn_motor(value),
                 _ => {}
             }
         }
-        if let Err(error) = self.state.save(turn.host()) {
-            eprintln!("lockd: cannot save: {error}");
-            turn.withhold();
+        match self.state.save(turn.host()) {
+            Ok(()) => self.obey(turn.host()),
+            Err(error) => {
+                eprintln!("lockd: cannot save: {error}");
+                turn.withhold();
+            }
         }
         Ok(())
+    }
+
+    /// Turns the motor to where the value says.
+    fn obey(&mut self, host: &Host) {
+        let value = host.value(self.door);
+        self.turn_motor(value.as_deref() == Some(&[1]));
+    }
+
+    /// Turns the motor to where it is not yet.
+    fn turn_motor(&mut self, is_open: bool) {
+        if self.motor != Some(is_open) {
+            self.motor = Some(is_open);
+            println!("motor: {}", if is_open { "open" } else { "shut" });
+        }
     }
 
     /// Removes a connection that has had no key for too long, if there is one, and returns it.
@@ -177,10 +194,6 @@ impl Lock {
         let longest = if self.state.is_behind { RETRY } else { 60_000 };
         first.map_or(longest, |time| time.saturating_sub(self.now()).min(longest))
     }
-}
-
-fn turn_motor(value: &[u8]) {
-    println!("motor: {}", if value == [1] { "open" } else { "shut" });
 }
 
 /// A host with its lock and the way to its controller.
@@ -212,7 +225,7 @@ impl Daemon {
 
     /// Serves until the panel says `stop`.
     fn serve(&mut self, events: &Receiver<Event>) -> io::Result<()> {
-        turn_motor(&self.host.value(self.lock.door).unwrap_or_default());
+        self.lock.obey(&self.host);
         self.finish()?;
         loop {
             let wait = Duration::from_millis(self.lock.leisure(&self.host));
@@ -231,6 +244,7 @@ impl Daemon {
             }
             if self.lock.state.is_behind && self.lock.state.save(&self.host).is_ok() {
                 eprintln!("lockd: all is saved");
+                self.lock.obey(&self.host);
             }
         }
     }
@@ -246,12 +260,13 @@ impl Daemon {
                 return Ok(());
             }
         };
-        turn_motor(&value);
+        // Whoever stands at the door does not wait for the disk.
+        self.lock.turn_motor(value == [1]);
         self.host.update(self.lock.door, &value)?;
         self.finish()
     }
 
-    /// Authorizes all phones that are connected for some seconds.
+    /// Authorizes all clients that are connected for some seconds.
     fn allow(&mut self, seconds: &str) -> io::Result<()> {
         let Ok(seconds) = seconds.parse::<u32>() else {
             eprintln!("lockd: no number of seconds: {seconds}");
@@ -367,6 +382,7 @@ fn run(table: &str, keys: &str, folder: &str, controller: &str) -> Result<(), Bo
         state,
         door,
         begin: Instant::now(),
+        motor: None,
         strangers: Vec::new(),
     };
     let mut daemon = Daemon {

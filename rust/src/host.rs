@@ -57,7 +57,7 @@ impl Config {
     }
 }
 
-/// The texts of a host's files: `docs/FORMATS.md`.
+/// The texts of a host's files: `docs/CLI.md` names the page of each.
 #[derive(Clone, Copy, Debug, Default, PartialEq, Eq)]
 pub struct Files<'a> {
     /// The table file: what is served, and who may use it.
@@ -75,7 +75,7 @@ pub struct Files<'a> {
 /// Which values are saved, if they differ from those of the table file.
 #[derive(Clone, Copy, Debug, PartialEq, Eq, Hash)]
 pub enum Saves {
-    /// The characteristic values and descriptors that a phone may write.
+    /// The characteristic values and descriptors that a client may write.
     Writable,
     /// All characteristic values and descriptors.
     All,
@@ -330,7 +330,7 @@ impl Host {
         result_of(unsafe { ffi::gh_tick(self.raw(), time) }, 0)
     }
 
-    /// Replaces the table by that of another table file. Subscriptions stay if they fit, and phones
+    /// Replaces the table by that of another table file. Subscriptions stay if they fit, and clients
     /// are told that the table has changed: [`Host::rows`] says who still has to be told, so save it
     /// before you send anything.
     ///

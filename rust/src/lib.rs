@@ -14,7 +14,7 @@
 //!
 //! `tools/prove gihandop_c` proves it and makes the library for a product, which needs no variables.
 //!
-//! A phone reads the name of the lock:
+//! A client reads the name of the lock:
 //!
 //! ```
 //! use gihandop::{Config, Files, Host, Notice, Turn, Uuid};
@@ -78,7 +78,7 @@
 //! [`Host::serve`] serves a reader and a writer, [`Host::feed`] the bytes that a program has read.
 //! Both call a closure, the application, with a [`Turn`]: what one packet has caused. The host sends
 //! the answer after the closure has returned `Ok`. So a program that saves its state in the closure
-//! has saved each change before the phone learns of it:
+//! has saved each change before the client learns of it:
 //!
 //! ```no_run
 //! # use gihandop::{Config, Files, Host, Notice, Saves, Uuid};
@@ -135,7 +135,7 @@
 //! The closure's error may be of any type that an [`Error`] and a [`std::io::Error`] convert to. Name
 //! the type, as here, if nothing else does. After an error the host has ended ([`Host::feed`]):
 //! nothing of this turn is sent. So return one only if the program cannot go on, and never because of
-//! what a phone has written. [`Turn::withhold`] ends only the connections whose changes cannot be
+//! what a client has written. [`Turn::withhold`] ends only the connections whose changes cannot be
 //! saved.
 //!
 //! # A loop with a clock

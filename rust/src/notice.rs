@@ -20,7 +20,7 @@ pub enum Notice<'a> {
     /// Its link has no key any more.
     Unsecured { connection: u16 },
     /// It wrote a characteristic value or a descriptor. `value` is the whole value after that, at
-    /// most 512 bytes, even if the phone wrote a part of it. A packet that writes parts of an
+    /// most 512 bytes, even if the client wrote a part of it. A packet that writes parts of an
     /// attribute several times (Execute Write) causes one notice, with the value after the last
     /// part. Writing the bytes that were there already causes a notice too.
     Written {

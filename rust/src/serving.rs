@@ -1,4 +1,4 @@
-//! A host serves its controller, and notifies an application before it answers a phone.
+//! A host serves its controller, and notifies an application before it answers a client.
 
 use crate::{Error, Host, Notices};
 use std::collections::VecDeque;
@@ -49,7 +49,7 @@ impl<'a> Turn<'a> {
 
     /// Asks for [`Host::update`]. If the host refuses it, the function that called the application
     /// goes on, and returns the error at its end: [`Error::NoSuchHandle`], [`Error::NotAValue`] or
-    /// [`Error::BadLength`], with the handle. Phones cannot cause that.
+    /// [`Error::BadLength`], with the handle. Clients cannot cause that.
     ///
     /// Ask only if a notice is a reason to. An application that changes a value in each turn never
     /// returns to its caller, since each change has a turn. The same holds for one that changes a
@@ -74,13 +74,13 @@ impl<'a> Turn<'a> {
         self.queue.calls.push_back(Call::Disconnect { connection });
     }
 
-    /// Answers nothing to the phones that changed something in this turn
+    /// Answers nothing to the clients that changed something in this turn
     /// ([`Notice::is_change`](crate::Notice::is_change)), and disconnects them. Use it if their
-    /// changes cannot be saved: such a phone does not learn that its change was accepted, and the
+    /// changes cannot be saved: such a client does not learn that its change was accepted, and the
     /// host goes on to serve all others.
     ///
     /// The packets of this turn are sent, except the data packets for these connections. The changes
-    /// stay in the host: other phones may read them, and are notified of them. If no phone changed
+    /// stay in the host: other clients may read them, and are notified of them. If no client changed
     /// anything, `withhold` does nothing.
     pub fn withhold(&mut self) {
         for connection in self.notices.iter().filter(|it| it.is_change()) {
@@ -107,12 +107,12 @@ impl Host {
     /// 1. It accepts the packet.
     /// 2. If the packet has notices, it calls the application, once, with a [`Turn`]. It also does
     ///    after a call that has changed a value or the table.
-    /// 3. It sends what the packet causes, for example the answer to a phone.
+    /// 3. It sends what the packet causes, for example the answer to a client.
     /// 4. It makes each call that the application has asked for, and does 2 to 4 for the call.
     ///
     /// First it does 2 to 4 for the notices and packets of an earlier call, as [`Host::finish`]
     /// does. So an application that saves in step 2 what has changed, and returns an error if it
-    /// cannot, has saved each change before the phone is answered.
+    /// cannot, has saved each change before the client is answered.
     ///
     /// # Errors
     ///

@@ -5,6 +5,7 @@
  */
 #include "controller.h"
 
+#include <stdlib.h>
 #include <string.h>
 
 static struct file table, keys, porch, none;
@@ -92,6 +93,59 @@ static void notices(void)
     settle(&host, NULL);
     CHECK(noticed_count == 1 && noticed[0].kind == GH_DISCONNECTED && noticed[0].connection == 64);
     CHECK(gh_connection(&host, 0, &seen) == GH_NOTHING);
+    gh_close(&host);
+}
+
+/* A copy of a file that is its own block of memory. */
+static uint8_t *copy(const struct file *file)
+{
+    uint8_t *octets = malloc(file->length);
+    CHECK(octets != NULL);
+    memcpy(octets, file->octets, file->length);
+    return octets;
+}
+
+/* Overwrites and frees octets: what still reads them reads others, and an instrumented program ends. */
+static void waste(uint8_t *octets, size_t length)
+{
+    memset(octets, 0xFF, length);
+    free(octets);
+}
+
+/* The host has copies of all that it needs. */
+static void copies(void)
+{
+    static const uint8_t read[] = {0x0A, 3, 0}, name[] = {0x0B, 'L', 'o', 'c', 'k'};
+    struct gh_host host = GH_HOST_INIT;
+    struct gh_config config = GH_CONFIG_INIT;
+    struct heard heard;
+    uint8_t *texts[] = {copy(&table), copy(&keys), malloc(16), malloc(16)};
+    size_t left_out, used;
+    memcpy(texts[3], "10 fff1 01\n", 11);
+    CHECK(gh_open(&host, texts[0], table.length, texts[1], keys.length, texts[2], 0, texts[3], 11, &config, &left_out)
+          == GH_DONE);
+    waste(texts[0], table.length);
+    waste(texts[1], keys.length);
+    waste(texts[2], 16);
+    waste(texts[3], 16);
+    memset(&config, 0xFF, sizeof config);
+    settle(&host, NULL);
+    connect_phone(&host, 64);
+    encrypt(&host, 64);
+    CHECK(noticed_count == 1 && noticed[0].kind == GH_SECURED);
+    say(&host, 64, read, sizeof read, &heard);
+    CHECK(is_heard(&heard, name, sizeof name));
+    CHECK(gh_value(&host, 10, out, sizeof out, &used) == GH_DONE && used == 1 && out[0] == 1);
+    /* A value, and a part of a packet. */
+    uint8_t *value = malloc(3), *part = malloc(9);
+    memcpy(value, "abc", 3);
+    CHECK(gh_update(&host, 21, value, 3) == GH_DONE);
+    waste(value, 3);
+    memcpy(part, "\x02\x40\x20\x07\x00\x03\x00\x04\x00", 9);
+    CHECK(gh_take(&host, part, 9, &used) == GH_DONE && used == 9);
+    waste(part, 9);
+    CHECK(bring(&host, (const uint8_t *)"\x0A\x15\x00", 3, &heard) == GH_DONE);
+    CHECK(is_heard(&heard, (const uint8_t *)"\x0B" "abc", 4));
     gh_close(&host);
 }
 
@@ -231,6 +285,7 @@ int main(int argc, char **argv)
     read_file(argv[3], &porch);
     refused_calls();
     notices();
+    copies();
     arrivals();
     authorization();
     faults();
