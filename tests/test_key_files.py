@@ -9,7 +9,7 @@ import pytest
 
 from parties import DOOR, PROGRAM, text_of
 from parties.key_tool import (
-    CENTRAL, DEVICE, INFO, KEYS, LEGACY, LEGACY_INFO, SECURE, TAKEN, accepted, begun, from_info, keys, mode_of,
+    CENTRAL, DEVICE, INFO, KEYS, LEGACY, LEGACY_INFO, SECURE, SHORT, TAKEN, accepted, begun, from_info, keys, mode_of,
     own_file, put, refused,
 )
 
@@ -52,7 +52,10 @@ def test_refused_keys(folder, text, why):
     path = put(f"{folder}/bad.toml", text)
     refused(why, "to-bluez", path, CENTRAL, "public")
     refused(why, "new", CENTRAL, "public", "--add", path)
-    assert text_of(path) == text, "is not changed"
+    other = own_file(f"{folder}/other.toml", LEGACY)
+    for words in (["list", path], ["check", path], ["remove", path, CENTRAL, "public"], ["add", path, other], ["add", other, path]):
+        refused(why, *words)
+    assert (text_of(path), text_of(other)) == (text, LEGACY), "is not changed"
     ran = subprocess.run([PROGRAM, "check", DOOR[0], path], capture_output=True)
     assert ran.returncode == 1, "gatt_shell"
 
@@ -77,6 +80,96 @@ def test_two_keys(folder):
     assert accepted("to-bluez", path, CENTRAL, "public", "--entry", "2") == LEGACY_INFO, "the second"
     refused("those are: 1, 2", "to-bluez", path, CENTRAL, "public", "--entry", "3")
     refused(f"has no key of random {CENTRAL}", "to-bluez", path, CENTRAL, "random")
+
+
+# A key file with comments, three entries of two centrals, and an entry that is its last.
+FIRST = LEGACY.replace("24400", "1")
+SECOND = "# The second key.\n  # It is old.\n" + LEGACY.replace(CENTRAL, DEVICE) + "# of the second key\n"
+THIRD = LEGACY.replace("24400", "2").replace("[[key]]", "[[ key ]] # the third")
+HEAD = "# All keys.\n"
+
+
+@pytest.mark.parametrize("words, left", [
+    ([CENTRAL, "public", "--entry", "1"], HEAD + f"{SECOND}\n{THIRD}"),
+    ([CENTRAL.upper(), "public", "--entry", "3"], f"{HEAD}{FIRST}\n{SECOND}"),
+    ([DEVICE, "public"], f"{HEAD}{FIRST}\n{THIRD}"),
+    ([DEVICE, "public", "--entry", "2"], f"{HEAD}{FIRST}\n{THIRD}"),
+    ([DEVICE, "public", "--all"], f"{HEAD}{FIRST}\n{THIRD}"),
+    ([CENTRAL, "public", "--all"], HEAD + SECOND),
+], ids=["first", "last", "only", "only_entry", "only_all", "all"])
+def test_remove(folder, words, left):
+    """An entry is removed with its comments, and the rest stays as it is written."""
+    path = own_file(f"{folder}/keys.toml", f"{HEAD}{FIRST}\n{SECOND}\n{THIRD}")
+    accepted("remove", path, *words)
+    assert text_of(path) == left, "what is left"
+    assert mode_of(path) == 0o600, "the permission stays"
+    assert sorted(os.listdir(folder)) == ["keys.toml", "keys.toml.lock"], "no other file is left"
+
+
+def test_remove_the_last(folder):
+    """A file of which the only entry is removed is a key file without keys, also through a link."""
+    path = own_file(f"{folder}/keys.toml", LEGACY.rstrip("\n"))
+    os.symlink("keys.toml", f"{folder}/link")
+    accepted("remove", f"{folder}/link", CENTRAL, "public")
+    assert (os.path.islink(f"{folder}/link"), text_of(path)) == (True, "\n"), "nothing is left"
+    ran = subprocess.run([PROGRAM, "check", DOOR[0], path], capture_output=True, text=True)
+    assert (ran.returncode, ran.stdout) == (0, "attributes 21\nkeys 0\n"), "gatt_shell check"
+
+
+@pytest.mark.parametrize("words, why", [
+    ([CENTRAL, "public"], f"has several keys of public {CENTRAL}: choose one of 1, 3 by --entry, or all by --all"),
+    ([CENTRAL, "public", "--entry", "2"], f"key 2 is none of public {CENTRAL}: those are: 1, 3"),
+    ([CENTRAL, "public", "--entry", "0"], f"key 0 is none of public {CENTRAL}: those are: 1, 3"),
+    ([CENTRAL, "random"], f"has no key of random {CENTRAL}"),
+    ([CENTRAL, "random", "--all"], f"has no key of random {CENTRAL}"),
+    ([CENTRAL, "random", "--entry", "1"], f"key 1 is none of random {CENTRAL}: those are: none"),
+], ids=["two", "another", "zero", "kind", "kind_all", "kind_entry"])
+def test_refused_remove(folder, words, why):
+    """A removal that is not clear is refused, and changes nothing."""
+    text = f"{HEAD}{FIRST}\n{SECOND}\n{THIRD}"
+    path = own_file(f"{folder}/keys.toml", text)
+    refused(why, "remove", path, *words)
+    assert text_of(path) == text, "nothing is changed"
+
+
+@pytest.mark.skipif(KEYS.tomllib is None, reason="this Python reads no such file")
+@pytest.mark.parametrize("text", [
+    "key = [{ " + ", ".join(LEGACY.strip().splitlines()[1:]) + " }]\n",
+    LEGACY.replace("[[key]]", '[["key"]]'),
+], ids=["inline", "quoted"])
+def test_remove_of_other_forms(folder, text):
+    """An entry that does not begin with a line [[key]] is not removed."""
+    path = own_file(f"{folder}/keys.toml", text)
+    assert accepted("check", path) == "keys 1\n", "it is a key file"
+    refused("remove the entry in an editor", "remove", path, CENTRAL, "public")
+    assert text_of(path) == text, "nothing is changed"
+
+
+def test_add(folder):
+    """The entries of another file, or of standard input, are added, or none of them."""
+    path, other = f"{folder}/keys.toml", own_file(f"{folder}/other.toml", f"{SECURE}\n{LEGACY}")
+    accepted("add", path, other)
+    assert (text_of(path), mode_of(path)) == (f"{SECURE}\n{LEGACY}", 0o600), "to a file that is not there"
+    refused("key 3: key 1 has the same", "add", path, other)
+    own_file(other, f"{SHORT}\n{SECURE}")
+    refused("key 4: key 1 has the same", "add", path, other)
+    refused("has no key", "add", path, own_file(f"{folder}/none.toml", "# none\n"))
+    refused("cannot be read", "add", path, f"{folder}/nothing.toml")
+    assert text_of(path) == f"{SECURE}\n{LEGACY}", "nothing is changed"
+    for words in (["add", path], ["add", path, "-"]):
+        with begun(*words, stdin=subprocess.PIPE) as call:
+            told = call.communicate(SHORT)[1]
+        found = call.returncode, told.replace("/dev/stdin", "-")
+        due = (0, "") if words == ["add", path] else (1, f"tools/keys: {path}: key 4: key 3 has the same address, kind, rand and ediv\n")
+        assert found == due, "of standard input, once"
+    assert text_of(path) == f"{SECURE}\n{LEGACY}\n{SHORT}", "three keys"
+
+
+def test_add_notes(folder):
+    """A key of a private address is added with a note."""
+    other = own_file(f"{folder}/other.toml", LEGACY.replace("public", "random"))
+    status, _, told = keys("add", f"{folder}/keys.toml", other)
+    assert (status, told.startswith(f"note: {CENTRAL} is a private address")) == (0, True), "a note"
 
 
 @pytest.fixture
@@ -185,6 +278,7 @@ def test_a_lock_that_is_held(path, lock, monkeypatch):
     monkeypatch.setattr(KEYS, "QUIET", 10)
     why = f"{path}: is not changed: another call has had {path}.lock for"
     refused(why, "new", DEVICE, "public", "--add", path, status=75)
+    refused(why, "remove", path, CENTRAL, "public", status=75)
     assert text_of(path) == LEGACY, "nothing is changed"
 
 
@@ -211,4 +305,6 @@ def test_no_key_file(folder, make):
     """A link to nothing, or a pipe, is no key file, and gets no lock."""
     make(f"{folder}/place")
     refused(f"{folder}/place: is no file", "new", DEVICE, "public", "--add", f"{folder}/place")
+    refused(f"{folder}/place: is no file", "remove", f"{folder}/place", DEVICE, "public")
+    refused(f"{folder}/missing: is no file", "remove", f"{folder}/missing", DEVICE, "public")
     assert os.listdir(folder) == ["place"], "no lock is made"

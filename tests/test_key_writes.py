@@ -13,7 +13,7 @@ import pytest
 
 from parties import text_of
 from parties.key_tool import (
-    DEVICE, LEGACY, SECURE, TAKEN, TOOL, accepted, begun, mode_of, own_file, put, refused,
+    CENTRAL, DEVICE, LEGACY, SECURE, SHORT, TAKEN, TOOL, accepted, begun, mode_of, own_file, put, refused,
 )
 
 pytestmark = pytest.mark.without_program
@@ -35,6 +35,22 @@ def test_a_full_disk(folder, option, name, count):
     assert text_of(path) == LEGACY, "no file is changed"
     accepted("new", DEVICE, "public", option, place)
     assert text_of(place).count("[[key]]") == count, "the next call"
+
+
+@pytest.mark.parametrize("command", ["remove", "add"])
+def test_a_full_disk_of_a_command(folder, command):
+    """A removal, or an addition, that may write no byte to a file loses nothing, and the next one does."""
+    path, other = own_file(f"{folder}/keys.toml", f"{LEGACY}\n{SECURE}"), own_file(f"{folder}/other.toml", SHORT)
+    words = {"remove": [CENTRAL, "public", "--entry", "1"], "add": [other]}[command]
+    full = lambda: resource.setrlimit(resource.RLIMIT_FSIZE, (0, resource.RLIM_INFINITY))
+    call = begun(command, path, *words, preexec_fn=full)
+    message = call.communicate()[1]
+    told = f"tools/keys: {path}: cannot be written: {os.strerror(errno.EFBIG)}\n"
+    assert (call.returncode, message) == (1, told), "is refused"
+    assert sorted(os.listdir(folder)) == ["keys.toml", "keys.toml.lock", "other.toml"], "what is left"
+    assert text_of(path) == f"{LEGACY}\n{SECURE}", "the file is not changed"
+    accepted(command, path, *words)
+    assert text_of(path) == (SECURE if command == "remove" else f"{LEGACY}\n{SECURE}\n{SHORT}"), "the next call"
 
 
 def interrupt(number, line, words):
@@ -70,12 +86,13 @@ def interrupt(number, line, words):
     return os.waitstatus_to_exitcode(os.waitpid(child, 0)[1])
 
 
-@pytest.mark.parametrize("option, before", [
-    ("--output", None), ("--add", None), ("--add", SECURE),
-], ids=["output", "add_to_none", "add"])
-def test_an_end_at_each_line(folder, option, before):
+@pytest.mark.parametrize("words, before", [
+    ([*TAKEN, "--output"], None), ([*TAKEN, "--add"], None), ([*TAKEN, "--add"], SECURE), (["remove"], f"{SECURE}\n{LEGACY}"),
+], ids=["output", "add_to_none", "add", "remove"])
+def test_an_end_at_each_line(folder, words, before):
     """SIGTERM at a line that writes a file leaves the old file or the new one, and no other."""
-    after = f"{before}\n{LEGACY}" if before else LEGACY
+    is_removal = words == ["remove"]
+    after = LEGACY if is_removal or not before else f"{before}\n{LEGACY}"
     texts, status, line, room = set(), None, 0, f"{folder}/signals"
     path = f"{room}/keys.toml"
     while status != 0 and line < 200:
@@ -83,7 +100,7 @@ def test_an_end_at_each_line(folder, option, before):
         os.makedirs(room)
         if before:
             put(path, before)
-        status = interrupt(signal.SIGTERM, line, [*TAKEN, option, path])
+        status = interrupt(signal.SIGTERM, line, [*words, path, *([CENTRAL, "public", "--entry", "1"] if is_removal else [])])
         left = set(os.listdir(room)) - {"keys.toml", "keys.toml.lock"}
         assert status in (0, -signal.SIGTERM), f"line {line}: the status"
         assert left == set(), f"line {line}: what is left"

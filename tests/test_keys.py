@@ -1,21 +1,32 @@
-"""Tries tools/keys: new keys, keys from BlueZ and to it, what it refuses, and a Python without tomllib."""
+"""Tries tools/keys: new keys, keys from BlueZ and to it, lists, what it refuses, and a Python without tomllib."""
+
+import os
 
 import pytest
 
 from parties import ROOT, text_of
 from parties.key_tool import (
-    CENTRAL, CONFIRMED, DEVICE, INFO, KEYS, LEGACY, LEGACY_INFO, SECURE, SHORT, accepted, fields_of,
-    from_info, keys, put, refused,
+    CENTRAL, CONFIRMED, DEVICE, INFO, KEYS, LEGACY, LEGACY_INFO, SECURE, SHORT, accepted, begun, fields_of,
+    from_info, keys, own_file, put, refused,
 )
 
 pytestmark = pytest.mark.without_program
 
+# The entries of examples/keys.toml and one of LE Secure Connections.
+LISTED = f"""entry  address            kind    rand              ediv  size  authenticated  secure
+1      c0:00:00:00:00:01  random  0101010101010101  257   16    false          false
+2      00:11:22:33:44:55  public  0202020202020202  514   16    true           false
+3      00:11:22:33:44:55  public  0303030303030303  771   7     true           false
+4      {CENTRAL}  public  0000000000000000  0     16    false          true
+"""
 BONDS = {"secure": SECURE, "legacy": LEGACY, "confirmed": CONFIRMED, "short": SHORT}
 LEGACY_CENTRAL = text_of(f"{INFO}/legacy-central.info")
 SECURE_PERIPHERAL = text_of(f"{INFO}/secure-peripheral.info")
 
 
-@pytest.mark.parametrize("words", ["--help", "new --help", "from-bluez --help", "to-bluez -h"])
+@pytest.mark.parametrize("words", [
+    "--help", *(f"{it} --help" for it in ("new", "add", "list", "check", "remove", "from-bluez")), "to-bluez -h",
+])
 def test_help(words):
     """A command says how it is called."""
     status, printed, told = keys(*words.split())
@@ -29,7 +40,17 @@ def test_help(words):
     (["new", CENTRAL[1:], "public"], "is no address"),
     (["new", CENTRAL, "static"], "'static'"),
     (["from-bluez", f"{INFO}/legacy-central.info", CENTRAL, "public"], "--role"),
-], ids=["no_words", "command", "size", "address", "kind", "no_role"])
+    (["add"], "KEYS"),
+    (["list"], "KEYS"),
+    (["check", "a", "b"], "b"),
+    (["remove", "a", CENTRAL], "KIND"),
+    (["remove", "a", CENTRAL[1:], "public"], "is no address"),
+    (["remove", "a", CENTRAL, "public", "--entry", "one"], "'one'"),
+    (["remove", "a", CENTRAL, "public", "--entry", "1", "--all"], "not allowed with argument"),
+], ids=[
+    "no_words", "command", "size", "address", "kind", "no_role", "add", "list", "check", "remove", "remove_address",
+    "remove_entry", "remove_all",
+])
 def test_words(words, why):
     """Words that are not understood are refused."""
     refused(why, *words, status=64)
@@ -63,6 +84,34 @@ def test_a_private_address():
     status, printed, told = keys("new", "7f:00:00:00:00:01", "random")
     assert (status, printed.startswith("[[key]]")) == (0, True), "is made"
     assert told.startswith("note: 7f:00:00:00:00:01 is a private address"), "a note"
+
+
+def test_list(folder):
+    """A line for each entry has all of it except the key, and the numbers are those of --entry."""
+    path = own_file(f"{folder}/keys.toml", text_of(f"{ROOT}/examples/keys.toml") + SECURE)
+    assert accepted("list", path) == LISTED, "the lines"
+    heads = accepted("list", own_file(f"{folder}/none.toml", ""))
+    assert heads.split() == LISTED.splitlines()[0].split() and heads.count("\n") == 1, "no entries"
+
+
+def test_check(folder):
+    """A file that the device accepts is counted, and what a user has to know of it is noted."""
+    path = own_file(f"{folder}/keys.toml", f"{SECURE}\n{LEGACY}")
+    assert accepted("check", path) == "keys 2\n", "two keys"
+    assert accepted("check", own_file(f"{folder}/none.toml", "")) == "keys 0\n", "none"
+    os.chmod(put(path, LEGACY.replace("public", "random")), 0o640)
+    status, printed, told = keys("check", path)
+    wanted = [f"note: {CENTRAL} is a private address", f"note: {path} can be used by others than its owner"]
+    assert (status, printed) == (0, "keys 1\n"), "a private address, and a file that others may read"
+    assert [it[:len(due)] for it, due in zip(told.splitlines(), wanted)] == wanted, "two notes"
+
+
+def test_no_output():
+    """What cannot be printed is a refusal, and no trace of Python."""
+    with open("/dev/full", "w", encoding="utf-8") as full:
+        with begun("new", CENTRAL, "public", stdout=full) as call:
+            told = call.communicate()[1]
+    assert (call.returncode, told) == (1, "tools/keys: standard output: No space left on device\n"), "a full disk"
 
 
 @pytest.mark.parametrize("role", ["central", "peripheral"])
@@ -188,7 +237,8 @@ LEGACY_FILE = f"{INFO}/legacy-central.info"
     [PASTED], ["new", PASTED, "public"], ["new", CENTRAL, PASTED], ["new", CENTRAL, "public", PASTED],
     ["new", CENTRAL, "public", "--size", PASTED],
     ["to-bluez", LEGACY_FILE, CENTRAL, "public", "--entry", PASTED],
-], ids=["command", "address", "kind", "another_word", "size", "entry"])
+    ["remove", LEGACY_FILE, PASTED, "public"], ["remove", LEGACY_FILE, CENTRAL, "public", "--entry", PASTED],
+], ids=["command", "address", "kind", "another_word", "size", "entry", "remove", "remove_entry"])
 def test_a_pasted_word(words):
     """A key in the place of another word is not printed."""
     refused("[hexadecimal digits]", *words, status=64)
@@ -197,6 +247,9 @@ def test_a_pasted_word(words):
 def test_a_pasted_name():
     """A key in the place of a file's name is not printed."""
     refused("[hexadecimal digits]: cannot be read", "to-bluez", PASTED, CENTRAL, "public")
+    refused("[hexadecimal digits]: is no file", "remove", PASTED, CENTRAL, "public")
+    for words in (["list", PASTED], ["check", PASTED], ["add", LEGACY_FILE, PASTED]):
+        refused("[hexadecimal digits]: cannot be read", *words)
 
 
 @pytest.mark.parametrize("text", [
