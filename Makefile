@@ -1,4 +1,4 @@
-# Installs the programs gatt_shell and hci_bridge, the library for C, the documents and the examples.
+# Installs the programs gatt_shell, hci_bridge and gihandop-keys, the library for C, the documents and the examples.
 #
 #     make install            in /usr/local, or in PREFIX
 #     make install DESTDIR=/tmp/package PREFIX=/usr LIBDIR=/usr/lib/x86_64-linux-gnu
@@ -18,6 +18,8 @@ DATADIR = $(PREFIX)/share
 DOCDIR = $(DATADIR)/doc/gihandop
 UNITDIR = $(PREFIX)/lib/systemd/system
 COMPLETIONDIR = $(DATADIR)/bash-completion/completions
+ZSHDIR = $(DATADIR)/zsh/site-functions
+FISHDIR = $(DATADIR)/fish/vendor_completions.d
 DESTDIR =
 
 CFLAGS = -O2
@@ -32,12 +34,15 @@ BUILD = $(OUT)
 
 PROVE = tools/prove$(if $(TARGET), --target $(TARGET))
 UNITS = $(wildcard bridge/*.service)
+FISH = $(wildcard completions/*.fish)
 # The documents lie as in the repository, with the sources that they link, so that their links lead somewhere.
 DOCUMENTS = README.md CHANGELOG.md CONTRIBUTING.md SECURITY.md LICENSE-APACHE LICENSE-MIT LICENSE-THIRD-PARTY \
-    $(wildcard docs/*.md docs/*.png docs/schema/*.json) $(wildcard python/*.* python/gihandop/*.*) include/gihandop.h c/heap.c rust/examples/lockd.rs
+    $(wildcard docs/*.md docs/*.png docs/schema/*.json) $(wildcard python/*.* python/gihandop/*.*) \
+    include/gihandop.h include/gihandop_serve.h c/heap.c c/serve.c rust/examples/lockd.rs
 EXAMPLES = $(sort $(shell find examples -type f ! -name '*.pyc'))
 
-all: $(ARCHIVE) $(PROGRAM) $(BUILD)/libgihandop_heap.a $(BUILD)/gihandop.pc $(BUILD)/hci_bridge
+all: $(ARCHIVE) $(PROGRAM) $(BUILD)/libgihandop_heap.a $(BUILD)/libgihandop_serve.a $(BUILD)/gihandop.pc \
+    $(BUILD)/hci_bridge
 
 $(ARCHIVE):
 	@echo 'there is no $@: `$(PROVE) gihandop_c` proves the host and makes it' >&2; exit 1
@@ -51,6 +56,13 @@ $(BUILD)/libgihandop_heap.a: c/heap.c
 	$(CC) -std=c11 $(CPPFLAGS) $(CFLAGS) -c -o $(BUILD)/heap.o c/heap.c
 	rm -f $@
 	$(AR) rcsD $@ $(BUILD)/heap.o
+
+# The loop of gihandop_serve.h.
+$(BUILD)/libgihandop_serve.a: c/serve.c include/gihandop_serve.h include/gihandop.h
+	mkdir -p $(BUILD)
+	$(CC) -std=c11 $(CPPFLAGS) $(CFLAGS) -Iinclude -c -o $(BUILD)/serve.o c/serve.c
+	rm -f $@
+	$(AR) rcsD $@ $(BUILD)/serve.o
 
 # The serial line to a controller of Linux.
 $(BUILD)/hci_bridge: bridge/hci_bridge.c bridge/user_channel.c bridge/channel.h
@@ -81,15 +93,22 @@ install: all verdicts
 	$(INSTALL) -m 755 $(BUILD)/hci_bridge $(DESTDIR)$(BINDIR)/hci_bridge
 	$(INSTALL) -m 644 $(ARCHIVE) $(DESTDIR)$(LIBDIR)/libgihandop_c.a
 	$(INSTALL) -m 644 $(BUILD)/libgihandop_heap.a $(DESTDIR)$(LIBDIR)/libgihandop_heap.a
+	$(INSTALL) -m 644 $(BUILD)/libgihandop_serve.a $(DESTDIR)$(LIBDIR)/libgihandop_serve.a
 	$(INSTALL) -m 644 $(BUILD)/gihandop.pc $(DESTDIR)$(LIBDIR)/pkgconfig/gihandop.pc
-	$(INSTALL) -m 644 include/gihandop.h $(DESTDIR)$(INCLUDEDIR)/gihandop.h
-	$(INSTALL) -m 644 c/heap.c $(DESTDIR)$(DATADIR)/gihandop/heap.c
-	$(INSTALL) -D -m 755 tools/keys $(DESTDIR)$(DATADIR)/gihandop/tools/keys
+	$(INSTALL) -m 644 include/gihandop.h include/gihandop_serve.h $(DESTDIR)$(INCLUDEDIR)
+	$(INSTALL) -m 644 c/heap.c c/serve.c $(DESTDIR)$(DATADIR)/gihandop
+	$(INSTALL) -m 755 tools/keys $(DESTDIR)$(BINDIR)/gihandop-keys
+	$(INSTALL) -d $(DESTDIR)$(DATADIR)/gihandop/tools
+	ln -sfr $(DESTDIR)$(BINDIR)/gihandop-keys $(DESTDIR)$(DATADIR)/gihandop/tools/keys
 	for page in $(MANUAL); do \
 	    $(INSTALL) -D -m 644 $$page $(DESTDIR)$(DATADIR)/man/man$${page##*.}/$${page##*/} || exit; \
 	done
 	$(INSTALL) -m 644 completions/gatt_shell.bash $(DESTDIR)$(COMPLETIONDIR)/gatt_shell
 	ln -sf gatt_shell $(DESTDIR)$(COMPLETIONDIR)/hci_bridge
+	ln -sf gatt_shell $(DESTDIR)$(COMPLETIONDIR)/gihandop-keys
+	$(INSTALL) -D -m 644 completions/_gatt_shell $(DESTDIR)$(ZSHDIR)/_gatt_shell
+	$(INSTALL) -d $(DESTDIR)$(FISHDIR)
+	$(INSTALL) -m 644 $(FISH) $(DESTDIR)$(FISHDIR)
 	for it in $(UNITS); do \
 	    sed -E '$(INSTALLED_PATHS)' $$it > $(BUILD)/unit && \
 	    $(INSTALL) -m 644 $(BUILD)/unit $(DESTDIR)$(UNITDIR)/$${it##*/} || exit; \
@@ -102,11 +121,14 @@ install: all verdicts
 	sed -E '$(INSTALLED_PATHS)' examples/device/door.service > $(DESTDIR)$(DOCDIR)/examples/device/door.service
 
 uninstall:
-	rm -f $(DESTDIR)$(BINDIR)/gatt_shell $(DESTDIR)$(BINDIR)/hci_bridge $(DESTDIR)$(LIBDIR)/libgihandop_c.a \
-	    $(DESTDIR)$(LIBDIR)/libgihandop_heap.a $(DESTDIR)$(LIBDIR)/pkgconfig/gihandop.pc \
-	    $(DESTDIR)$(INCLUDEDIR)/gihandop.h
+	rm -f $(DESTDIR)$(BINDIR)/gatt_shell $(DESTDIR)$(BINDIR)/hci_bridge $(DESTDIR)$(BINDIR)/gihandop-keys \
+	    $(DESTDIR)$(LIBDIR)/libgihandop_c.a \
+	    $(DESTDIR)$(LIBDIR)/libgihandop_heap.a $(DESTDIR)$(LIBDIR)/libgihandop_serve.a \
+	    $(DESTDIR)$(LIBDIR)/pkgconfig/gihandop.pc $(DESTDIR)$(INCLUDEDIR)/gihandop.h \
+	    $(DESTDIR)$(INCLUDEDIR)/gihandop_serve.h
 	for page in $(MANUAL); do rm -f $(DESTDIR)$(DATADIR)/man/man$${page##*.}/$${page##*/}; done
-	rm -f $(DESTDIR)$(COMPLETIONDIR)/gatt_shell $(DESTDIR)$(COMPLETIONDIR)/hci_bridge \
+	rm -f $(addprefix $(DESTDIR)$(COMPLETIONDIR)/,gatt_shell hci_bridge gihandop-keys) \
+	    $(DESTDIR)$(ZSHDIR)/_gatt_shell $(patsubst completions/%,$(DESTDIR)$(FISHDIR)/%,$(FISH)) \
 	    $(patsubst bridge/%,$(DESTDIR)$(UNITDIR)/%,$(UNITS))
 	rm -rf $(DESTDIR)$(DATADIR)/gihandop $(DESTDIR)$(DOCDIR)
 

@@ -1,5 +1,5 @@
-# Completes the words of gatt_shell and hci_bridge in bash. Bash loads it by the name of the command, from
-# share/bash-completion/completions. tests/test_completion.py compares it with the help of each command.
+# Completes the words of gatt_shell, hci_bridge and gihandop-keys in bash. Bash loads it by the name of the command,
+# from share/bash-completion/completions. tests/test_completion.py compares it with the help of each command.
 
 _gatt_shell() {
     local word=$2 before=$3 command=${COMP_WORDS[1]-} words
@@ -73,5 +73,44 @@ _hci_bridge() {
     mapfile -t COMPREPLY < <(compgen -W "$words" -- "$word")
 }
 
+_gihandop_keys() {
+    local word=$2 before=$3 command=${COMP_WORDS[1]-} words=''
+    COMPREPLY=()
+    if [[ $word == = ]]; then
+        word=''
+    elif [[ $before == = ]]; then
+        before=${COMP_WORDS[COMP_CWORD - 2]}
+    fi
+    case $before in
+    --add | --output)
+        compopt -o default
+        return
+        ;;
+    --size | --entry) return ;;
+    --role) words='central peripheral' ;;
+    --device-kind) words='public random' ;;
+    *)
+        if ((COMP_CWORD == 1)); then
+            words='new add list check remove from-bluez to-bluez --help'
+        elif [[ $word == -* ]]; then
+            case $command in
+            new) words='--authenticated --secure --size --add --output --help' ;;
+            add | list | check) words='--help' ;;
+            remove) words='--entry --all --help' ;;
+            from-bluez) words='--role --add --output --help' ;;
+            to-bluez) words='--entry --device-kind --output --help' ;;
+            esac
+        else
+            case $command:$COMP_CWORD in
+            add:[23] | list:2 | check:2 | remove:2 | from-bluez:2 | to-bluez:2) compopt -o default ;;
+            new:3 | remove:4 | from-bluez:4 | to-bluez:4) words='public random' ;;
+            esac
+        fi
+        ;;
+    esac
+    mapfile -t COMPREPLY < <(compgen -W "$words" -- "$word")
+}
+
 complete -F _gatt_shell gatt_shell
 complete -F _hci_bridge hci_bridge
+complete -F _gihandop_keys gihandop-keys

@@ -7,14 +7,16 @@ import shutil
 import pytest
 
 from parties.building import is_marked, once, ran, run
-from parties.compiling import ARCHIVE, DOOR, LINKED, compilers
+from parties.compiling import ARCHIVE, LINKED, PROGRAMS, compilers
 from parties.places import ROOT, text_of
 from parties.releases import stand_ins
 from parties.rust import cargo_env, lacks
 
 FILES = [
-    "usr/bin/gatt_shell", "usr/bin/hci_bridge", "usr/include/gihandop.h", "usr/lib/libgihandop_c.a",
-    "usr/lib/libgihandop_heap.a", "usr/lib/pkgconfig/gihandop.pc", "usr/share/gihandop/heap.c",
+    "usr/bin/gatt_shell", "usr/bin/hci_bridge", "usr/bin/gihandop-keys", "usr/include/gihandop.h",
+    "usr/include/gihandop_serve.h",
+    "usr/lib/libgihandop_c.a", "usr/lib/libgihandop_heap.a", "usr/lib/libgihandop_serve.a",
+    "usr/lib/pkgconfig/gihandop.pc", "usr/share/gihandop/heap.c", "usr/share/gihandop/serve.c",
     *(f"usr/share/man/man{it[-1]}/{it}" for it in os.listdir(f"{ROOT}/docs/man")),
 ]
 
@@ -70,12 +72,27 @@ def test_program(package):
     ran([f"{package}/usr/bin/gatt_shell", "--version"])
 
 
-def test_a_program_in_c(folder, pc):
-    """A program in C is compiled by what pkg-config says, and runs."""
+def test_keys(package, folder):
+    """The tool for keys runs by its name on PATH, which its messages have, and by the one of the documents."""
+    path = f"{folder}/keys.toml"
+    env = {**os.environ, "PATH": f"{package}/usr/bin:{os.environ['PATH']}"}
+    ran(["gihandop-keys", "new", "00:aa:01:00:00:00", "public", "--add", path], env=env)
+    assert "1      00:aa:01:00:00:00  public" in ran(["gihandop-keys", "list", path], env=env), "it runs"
+    assert ran(["gihandop-keys", "--help"], env=env).startswith("usage: gihandop-keys "), "its help"
+    ended = run(["gihandop-keys", "list", f"{folder}/none"], env=env)
+    assert (ended.returncode, ended.stdout.startswith("gihandop-keys: ")) == (1, True), "its name in a message"
+    assert "tools/keys" not in ran(["gihandop-keys", "new", "--help"], env=env), "only its name"
+    assert ran([f"{package}/usr/share/gihandop/tools/keys", "check", path]) == "keys 1\n", "the other name"
+
+
+def test_programs_in_c(folder, pc):
+    """Programs in C are compiled by what pkg-config says, and run."""
     flags = ran(["pkg-config", "--cflags", "--libs", "gihandop"], env={**os.environ, **pc}).split()
-    words = [compilers()[0], "-o", f"{folder}/by_pc", "examples/c/first.c", *flags, *LINKED]
-    ran(words, "a program by gihandop.pc")
-    ran([f"{folder}/by_pc", DOOR], "and it runs")
+    for name in ("first", "serve"):
+        sources = [it for it in PROGRAMS[name][0] if it != "c/serve.c"]
+        words = [compilers()[0], "-o", f"{folder}/{name}", "-Itests/c", *sources, *flags, *LINKED]
+        ran(words, f"{name} by gihandop.pc")
+        ran([f"{folder}/{name}", *PROGRAMS[name][2]], "and it runs")
 
 
 def test_version(pc, program):

@@ -83,6 +83,15 @@ def test_output(packages, checkout, package, path, output):
     ran(["cmp", found[0], f"{checkout}/{output}"])
 
 
+def test_keys(packages):
+    """The tool for keys has the Python of Debian, and runs."""
+    tool = f"{packages}/unpacked/gihandop/usr/bin/gihandop-keys"
+    assert re.match("#! ?/usr/bin/python3\n", text_of(tool)), "its Python"
+    assert ran([tool, "--help"]).startswith("usage: gihandop-keys "), "it runs"
+    (package,) = glob.glob(f"{packages}/gihandop_*.deb")
+    assert "python3:any" in ran(["dpkg-deb", "-f", package, "Depends"]), "what it depends on"
+
+
 @pytest.mark.parametrize("package", ["gihandop", "libgihandop-dev"])
 def test_licences(packages, package):
     """A package has the licences of others."""

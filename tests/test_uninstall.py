@@ -14,9 +14,12 @@ PREFIXES = ["/usr", "/opt/lock"]
 UNITS = [f"lib/systemd/system/{os.path.basename(it)}" for it in glob.glob(f"{ROOT}/bridge/*.service")]
 DOOR_UNIT = "share/doc/gihandop/examples/device/door.service"
 FILES = [
-    "bin/gatt_shell", "bin/hci_bridge", "include/gihandop.h", "lib/libgihandop_c.a", "lib/libgihandop_heap.a",
-    "lib/pkgconfig/gihandop.pc", "share/gihandop/heap.c", "share/gihandop/tools/keys",
-    "share/man/man1/gatt_shell.1", "share/bash-completion/completions/gatt_shell", *UNITS,
+    "bin/gatt_shell", "bin/hci_bridge", "bin/gihandop-keys", "include/gihandop.h", "include/gihandop_serve.h",
+    "lib/libgihandop_c.a", "lib/libgihandop_heap.a", "lib/libgihandop_serve.a", "lib/pkgconfig/gihandop.pc", "share/gihandop/heap.c",
+    "share/gihandop/serve.c", "share/gihandop/tools/keys",
+    "share/man/man1/gatt_shell.1", "share/man/man1/gihandop-keys.1", "share/bash-completion/completions/gatt_shell",
+    "share/bash-completion/completions/gihandop-keys", "share/zsh/site-functions/_gatt_shell",
+    *(f"share/fish/vendor_completions.d/{it}.fish" for it in ("gatt_shell", "hci_bridge", "gihandop-keys")), *UNITS,
 ]
 DOCUMENTS = [
     "README.md", "VERDICTS", "LICENSE-THIRD-PARTY", "docs/C.md", "examples/door.toml", "examples/device/lock.py",
