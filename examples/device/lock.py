@@ -24,10 +24,12 @@ class Lock:
     def __init__(self, device):
         self.device = device
         self.state = None
+        self.saved = asyncio.Event()
+        self.saved.set()
         self.presses = asyncio.Queue()
 
     def turn(self, state):
-        """Turns the motor."""
+        """Turns the motor to a state, in which it may be already."""
         self.state = state
         print("the motor opens the door" if state == OPEN else "the motor closes the door", flush=True)
 
@@ -40,7 +42,7 @@ class Lock:
             asyncio.get_running_loop().remove_reader(sys.stdin)
 
     async def serve_button(self):
-        """Turns the motor at each press, and notifies the phones."""
+        """Turns the motor at each press, and notifies the clients."""
         while True:
             await self.presses.get()
             self.turn(CLOSED if self.state == OPEN else OPEN)
@@ -49,23 +51,43 @@ class Lock:
             except gihandop.Gone:
                 return
 
-    async def run(self):
-        """Serves the button and the device until the device ends."""
-        self.handle = await self.device.find("fff0", "fff1")
-        self.state = await self.device.value(self.handle)
-        print("the door is open" if self.state == OPEN else "the door is closed", flush=True)
-        await self.device.update(await self.device.find("180f", "2a19"), bytes([90]))
+    async def begin(self):
+        """Reads the state, and then presses of the button. A state that is not saved may not last."""
+        try:
+            state = await self.device.value(self.handle)
+            while not self.saved.is_set():
+                await self.saved.wait()
+                state = await self.device.value(self.handle)
+        except gihandop.Gone:
+            return
+        if self.state is None:
+            self.state = state
+            print("the door is open" if state == OPEN else "the door is closed", flush=True)
         try:
             asyncio.get_running_loop().add_reader(sys.stdin, self.press)
         except PermissionError:
             pass  # A file, or /dev/null, has no presses to wait for.
-        button = asyncio.create_task(self.serve_button())
+
+    def hear(self, notice):
+        """Turns the motor as clients have asked, also while this program was not there."""
+        if isinstance(notice, gihandop.Unsaved):
+            self.saved.clear()
+        elif isinstance(notice, gihandop.Saved):
+            self.saved.set()
+        elif isinstance(notice, (gihandop.Written, gihandop.Missed)) and notice.handle == self.handle:
+            self.turn(notice.value)
+
+    async def run(self):
+        """Serves the button and the device until the device ends."""
+        self.handle = await self.device.find("fff0", "fff1")
+        await self.device.update(await self.device.find("180f", "2a19"), bytes([90]))
+        tasks = [asyncio.create_task(it) for it in (self.begin(), self.serve_button())]
         try:
             async for notice in self.device:
-                if isinstance(notice, gihandop.Written) and notice.handle == self.handle:
-                    self.turn(notice.value)
+                self.hear(notice)
         finally:
-            button.cancel()
+            for it in tasks:
+                it.cancel()
 
 
 async def serve(path):

@@ -4,7 +4,8 @@
 usage: phones.py HOST:PORT SCRIPT      where `gatt_shell host .. --listen HOST:PORT` listens
 
 The script is one of `gatt_shell run`. Of its lines those of phones are played: `connect`, `drop`,
-`encrypt`, `clear`, and what a phone sends. What each phone receives is printed as `run` prints it.
+`encrypt`, `clear`, and what a phone sends. `tick` waits: `tick 1000`, and then `tick 5000`, wait for one
+second, and then for four more. What each phone receives is printed as `run` prints it.
 The other lines are an application's, and are skipped. If the device or the script fails, one line
 on standard error says why, and the status is 1.
 """
@@ -12,6 +13,7 @@ on standard error says why, and the status is 1.
 import select
 import socket
 import sys
+import time
 
 # What a controller returns beside its status, by the command.
 RETURNED = {0x1005: bytes.fromhex("fb000008000000"), 0x2002: bytes.fromhex("fb0008")}
@@ -27,6 +29,8 @@ class Controller:
         host, port = address.rsplit(":", 1)
         self.stream = socket.create_connection((host.strip("[]"), int(port)))
         self.octets, self.phones = b"", {}
+        # The last time of the script, in milliseconds.
+        self.time = 0
 
     def event(self, code, parameters):
         self.stream.sendall(bytes([4, code, len(parameters)]) + parameters)
@@ -51,9 +55,12 @@ class Controller:
         if opcode == KEY_REPLY:
             self.event(0x08, b"\0" + handle + b"\1")
 
-    def until_quiet(self):
-        """Processes the packets of the device until no more come."""
-        while select.select([self.stream], [], [], QUIET)[0]:
+    def until_quiet(self, seconds=0.0):
+        """Processes the packets of the device for so many seconds, and until no more come."""
+        end = time.monotonic() + seconds
+        while (is_there := select.select([self.stream], [], [], QUIET)[0]) or time.monotonic() < end:
+            if not is_there:
+                continue
             more = self.stream.recv(4096)
             if not more:
                 raise ConnectionError("the device closed the connection")
@@ -80,9 +87,16 @@ class Controller:
             raise ValueError(f"{name} is not connected")
         return self.phones[name].to_bytes(2, "little")
 
+    def wait(self, milliseconds):
+        """Waits as long as the time of the script goes on."""
+        self.time, before = max(self.time, milliseconds), self.time
+        self.until_quiet((self.time - before) / 1000)
+
     def play(self, words):
-        """Plays a line of a phone. Returns whether it is one."""
+        """Plays a line of a phone, or one of the time. Returns whether it is one."""
         match words:
+            case ["tick", milliseconds]:
+                self.wait(int(milliseconds))
             case ["connect", name, kind, address]:
                 handle = self.phones[name] = next(it for it in range(64, 128) if it not in self.phones.values())
                 peer = bytes([int(kind)]) + bytes.fromhex(address.replace(":", ""))[::-1]

@@ -70,7 +70,7 @@ class Notice:
 
 @dataclass(frozen=True)
 class Connected(Notice):
-    """A phone connected. `kind` is 0 for a public address, 1 for a random one."""
+    """A client connected. `kind` is 0 for a public address, 1 for a random one."""
 
     connection: int
     kind: int
@@ -79,14 +79,14 @@ class Connected(Notice):
 
 @dataclass(frozen=True)
 class Disconnected(Notice):
-    """A phone is gone."""
+    """A client is gone."""
 
     connection: int
 
 
 @dataclass(frozen=True)
 class Secured(Notice):
-    """The link of a phone has a key of `key_size` bytes."""
+    """The link of a client has a key of `key_size` bytes."""
 
     connection: int
     key_size: int
@@ -96,14 +96,14 @@ class Secured(Notice):
 
 @dataclass(frozen=True)
 class Unsecured(Notice):
-    """The link of a phone has no key any more."""
+    """The link of a client has no key any more."""
 
     connection: int
 
 
 @dataclass(frozen=True)
 class Written(Notice):
-    """A phone wrote a value."""
+    """A client wrote a value."""
 
     connection: int
     handle: int
@@ -112,7 +112,7 @@ class Written(Notice):
 
 @dataclass(frozen=True)
 class Configured(Notice):
-    """A phone wrote a client characteristic configuration: 1 notifications, 2 indications, 3 both."""
+    """A client wrote a client characteristic configuration: 1 notifications, 2 indications, 3 both."""
 
     connection: int
     handle: int
@@ -121,7 +121,7 @@ class Configured(Notice):
 
 @dataclass(frozen=True)
 class Subscribed(Notice):
-    """A subscription of a phone is in force, with the bits of `Configured`."""
+    """A subscription of a client is in force, with the bits of `Configured`."""
 
     connection: int
     handle: int
@@ -130,7 +130,7 @@ class Subscribed(Notice):
 
 @dataclass(frozen=True)
 class Confirmed(Notice):
-    """A phone confirmed an indication of the value at `handle`."""
+    """A client confirmed an indication of the value at `handle`."""
 
     connection: int
     handle: int
@@ -138,14 +138,14 @@ class Confirmed(Notice):
 
 @dataclass(frozen=True)
 class TimedOut(Notice):
-    """A phone did not confirm an indication in time."""
+    """A client did not confirm an indication in time."""
 
     connection: int
 
 
 @dataclass(frozen=True)
 class Ending(Notice):
-    """The device disconnects a phone, for a reason of HCI."""
+    """The device disconnects a client, for a reason of HCI."""
 
     connection: int
     reason: int
@@ -161,7 +161,7 @@ class Skipped(Notice):
 
 @dataclass(frozen=True)
 class Missed(Notice):
-    """Phones wrote this value while no application read it."""
+    """Clients wrote this value while no application read it."""
 
     handle: int
     value: bytes
@@ -191,14 +191,14 @@ class Started(Notice):
 class Away(Notice):
     """The device is gone, or has closed the connection to this object, which connects again.
 
-    `Started` follows once it is there again. Until then calls raise `Gone`, and phones that the device
+    `Started` follows once it is there again. Until then calls raise `Gone`, and clients that the device
     still serves are not heard. With `retry=None` the iteration ends by `Gone` in its place.
     """
 
 
 @dataclass(frozen=True)
 class Serving(Notice):
-    """A controller is there: phones can connect."""
+    """A controller is there: clients can connect."""
 
 
 @dataclass(frozen=True)
@@ -246,7 +246,7 @@ class Unknown(Notice):
 
 @dataclass(frozen=True)
 class Connection:
-    """A phone that is connected, and its key if its link has one."""
+    """A client that is connected, and its key if its link has one."""
 
     connection: int
     kind: int
@@ -483,19 +483,19 @@ class Device:
             await self._news.wait()
 
     async def update(self, handle: int, value: bytes) -> None:
-        """Gives the attribute at `handle` a value. The device notifies the phones that subscribed."""
+        """Gives the attribute at `handle` a value. The device notifies the clients that subscribed."""
         await self._ask("update", handle, _word(value))
 
     async def allow(self, connection: int, milliseconds: Optional[int] = None) -> None:
-        """Authorizes a phone for so many milliseconds from now on, or until it disconnects."""
+        """Authorizes a client for so many milliseconds from now on, or until it disconnects."""
         await self._ask("allow", connection, *([] if milliseconds is None else [milliseconds]))
 
     async def deny(self, connection: int) -> None:
-        """Ends the authorization of a phone. Answers that were queued before are still sent."""
+        """Ends the authorization of a client. Answers that were queued before are still sent."""
         await self._ask("deny", connection)
 
     async def disconnect(self, connection: int) -> None:
-        """Disconnects a phone."""
+        """Disconnects a client."""
         await self._ask("disconnect", connection)
 
     async def value(self, handle: int) -> bytes:
@@ -507,7 +507,7 @@ class Device:
         return int((await self._ask("find", service, characteristic, n)).split(" ")[1])
 
     async def connections(self) -> List[Connection]:
-        """Returns the phones that are connected."""
+        """Returns the clients that are connected."""
         found: Dict[int, Connection] = {}
         for notice in await self._look("connections"):
             if isinstance(notice, Connected):
@@ -518,7 +518,7 @@ class Device:
         return list(found.values())
 
     async def subscriptions(self, connection: int) -> List[Subscribed]:
-        """Returns the subscriptions of a phone that are in force."""
+        """Returns the subscriptions of a client that are in force."""
         return [it for it in await self._look("subscriptions", connection) if isinstance(it, Subscribed)]
 
     async def stop(self) -> None:
