@@ -1,11 +1,16 @@
 """Tries the examples of an application and of a controller, with a device."""
 
+import os
+import select
 import socket
 import subprocess
+import time
 
 import pytest
 
 from parties import DOOR, PATIENCE, ROOT, Application, Device, text_of
+from parties.disks import Disk
+from parties.doors import Door
 from parties.places import write_text
 
 LOCK, PHONES = f"{ROOT}/examples/device/lock.py", f"{ROOT}/examples/device/phones.py"
@@ -30,6 +35,48 @@ def test_a_lock(door):
     assert lock.stderr.read() == f"lock.py: {door.path}: the device closed the connection\n", "it says so"
 
 
+@pytest.fixture
+def lock_at():
+    """Starts the example of an application at a socket, and ends it."""
+    locks = []
+
+    def begin(path):
+        locks.append(subprocess.Popen([LOCK, path], text=True, stdin=subprocess.PIPE, stdout=subprocess.PIPE))
+        return locks[-1]
+
+    yield begin
+    for it in locks:
+        it.kill()
+        it.communicate()
+
+
+def test_a_lock_that_was_away(door, lock_at):
+    """What phones wrote while the application was not there turns the motor when it comes."""
+    door.owner_comes(65)
+    assert door.controller.ask(65, "120a0001") == "13", "it is opened"
+    lock = lock_at(door.path)
+    assert lock.stdout.readline() == "the motor opens the door\n", "it is told that it has missed that"
+    assert door.controller.ask(65, "120a0000") == "13", "it is shut"
+    assert lock.stdout.readline() == "the motor closes the door\n", "once"
+
+
+def test_a_lock_at_a_full_disk(folder, lock_at):
+    """The motor does not follow a value that is not saved, and does once it is."""
+    disk, state = Disk(folder), f"{folder}/state"
+    os.mkdir(state)
+    door = Door(folder, "--state", state, through=disk.through)
+    door.owner_comes(65)
+    disk.fill()
+    door.controller.say(65, "120a0001")
+    assert door.device.said("not saved:"), "the state is not saved"
+    lock = lock_at(door.path)
+    # The lock says `application`, and then asks for the value.
+    door.device.said("application")
+    assert not select.select([lock.stdout], [], [], 2)[0], "the motor waits"
+    disk.empty()
+    assert lock.stdout.readline() in ("the motor opens the door\n", "the door is open\n"), "the state is saved"
+
+
 def test_a_visit(folder):
     """The example of a controller plays a phone's visit, by a script of `run`."""
     path = f"{folder}/visit.socket"
@@ -50,6 +97,38 @@ def test_a_visit(folder):
     came = ["+ waiting", "+ serving", "+ connected 1 0 00:11:22:33:44:55"]
     assert lines[:3] == came, "the application hears"
     assert lines[3:] == ["+ secured 1 16 1 0", "+ written 1 10 01", "+ unsecured 1"], "of the phone"
+
+
+WAITING = """connect Q 0 00:11:22:33:44:55
+encrypt Q 0202020202020202 514
+tick 1000
+Q < 0a0d00
+tick 5000
+Q < 0a0d00
+tick 10
+Q < 0a0300
+"""
+
+
+@pytest.mark.long(10)
+def test_a_time(folder):
+    """The example of a controller waits at a `tick`, by which an authorization ends."""
+    path = f"{folder}/time.socket"
+    device = Device(*DOOR, "--listen", "127.0.0.1:0", "--application", path)
+    address = "{}:{}".format(*device.port())
+    application = Application(path)
+    begun = time.monotonic()
+    visit = subprocess.Popen(
+        [PHONES, address, write_text(f"{folder}/time.script", WAITING)], stdout=subprocess.PIPE, stdin=subprocess.DEVNULL, text=True
+    )
+    while not application.line().startswith("+ secured 1"):
+        pass
+    assert application.ask("allow 1 3000") == "ok", "the phone is authorized"
+    printed = visit.communicate(timeout=2 * PATIENCE)[0]
+    assert time.monotonic() - begun > 5, "it has waited"
+    heard = [it for it in printed.splitlines() if it.startswith("Q ")]
+    assert heard == ["Q > 0b31323334", "Q > 010a0d0008", "Q > 0b4c6f636b"], "what the phone hears"
+    assert "skipped" not in printed and "passed over" not in printed, "no line is skipped"
 
 
 # Of each the example, its words, and the beginning of its line.

@@ -182,13 +182,15 @@ size = 7
 authenticated = false
 """
 
-# A link by the lines of a script, and by the words of the question. The name of the phone is P.
+# The links of a peer, by the lines of a script, in the order of the lines of an answer. The name of the phone is P.
 LINKS = {
-    "stranger": ("connect P 1 c0:00:00:00:00:0a\n", "stranger", 0),
-    "phone": (f"connect P 1 {PHONE}\n", PHONE, 0),
-    "key of 16": (f"connect P 1 {PHONE}\nencrypt P 0101010101010101 257\n", PHONE, 1),
-    "long key": (f"connect P 0 {TABLET}\nencrypt P 0202020202020202 514\n", TABLET, 1),
-    "short key": (f"connect P 0 {TABLET}\nencrypt P 0303030303030303 771\n", TABLET, 2),
+    "stranger": ["connect P 1 c0:00:00:00:00:0a\n"],
+    PHONE: [f"connect P 1 {PHONE}\n", f"connect P 1 {PHONE}\nencrypt P 0101010101010101 257\n"],
+    TABLET: [
+        f"connect P 0 {TABLET}\n",
+        f"connect P 0 {TABLET}\nencrypt P 0202020202020202 514\n",
+        f"connect P 0 {TABLET}\nencrypt P 0303030303030303 771\n",
+    ],
 }
 # Values, descriptors and configurations, a declaration, and a handle that no attribute has.
 HANDLES = {"door": [3, 6, 7, 9, 10, 11, 13, 15, 17, 21, 22], "silent": [2, 3, 4, 5, 7, 8, 9]}
@@ -277,29 +279,36 @@ def code_in(line):
 
 
 @pytest.mark.parametrize("authorized", [False, True], ids=["denied", "authorized"])
-@pytest.mark.parametrize("link", LINKS)
+@pytest.mark.parametrize("peer", LINKS)
 @pytest.mark.parametrize("table", ["door", "silent"])
-def test_the_server_answers_so(program, may, folder, table, link, authorized):
-    """Attributes are read, written and subscribed to: the server's error code is that of the answer."""
-    begin, peer, place = LINKS[link]
-    handles = HANDLES[table]
-    script = begin + ("allow P\n" if authorized else "")
-    for handle in handles:
-        script += f"P < 0a{handle.to_bytes(2, 'little').hex()}\n"
-        script += f"P < 12{handle.to_bytes(2, 'little').hex()}" + 20 * "00" + "\n"
-        script += f"P < 12{(handle + 1).to_bytes(2, 'little').hex()}0100\n"
-    with open(f"{folder}/asked.script", "w", encoding="utf-8") as file:
-        file.write(script)
+def test_the_server_answers_so(program, may, folder, table, peer, authorized):
+    """Attributes are read, written and subscribed to by each link of a peer: the server's error code is that of the
+    answer."""
     words = ["--authorized"] if authorized else []
-    answers = {}
-    for right in ("read", "write", "notify"):
-        for handle in handles:
-            answers[right, handle] = may(table, [peer, right, str(handle), *words])[1].splitlines()[place]
+    # One question has the answers for all links.
+    answers = {
+        (right, handle): may(table, [peer, right, str(handle), *words])[1].splitlines()
+        for right in ("read", "write", "notify")
+        for handle in HANDLES[table]
+    }
     path = f"{folder}/silent.toml" if table == "silent" else f"{ROOT}/examples/{table}.toml"
-    ran = subprocess.run([program, "run", path, KEYS, f"{folder}/asked.script"], capture_output=True, text=True)
-    assert (ran.returncode, ran.stderr) == (0, "")
-    printed = [line.removeprefix("P > ") for line in ran.stdout.splitlines() if not line.startswith("P > 1b")]
-    assert len(printed) == 3 * len(handles)
+    for place, begin in enumerate(LINKS[peer]):
+        script = begin + ("allow P\n" if authorized else "")
+        for handle in HANDLES[table]:
+            script += f"P < 0a{handle.to_bytes(2, 'little').hex()}\n"
+            script += f"P < 12{handle.to_bytes(2, 'little').hex()}" + 20 * "00" + "\n"
+            script += f"P < 12{(handle + 1).to_bytes(2, 'little').hex()}0100\n"
+        with open(f"{folder}/asked.script", "w", encoding="utf-8") as file:
+            file.write(script)
+        ran = subprocess.run([program, "run", path, KEYS, f"{folder}/asked.script"], capture_output=True, text=True)
+        assert (ran.returncode, ran.stderr) == (0, "")
+        printed = [line.removeprefix("P > ") for line in ran.stdout.splitlines() if not line.startswith("P > 1b")]
+        assert len(printed) == 3 * len(HANDLES[table])
+        compare_with({it: lines[place] for it, lines in answers.items()}, HANDLES[table], printed)
+
+
+def compare_with(answers, handles, printed):
+    """Holds the answers for one link against what the server sends to it: three packets for each handle."""
     for at, handle in enumerate(handles):
         read, written, subscribed = printed[3 * at : 3 * at + 3]
         assert code_in(answers["read", handle]) == (read[8:] if read.startswith("01") else None)

@@ -154,7 +154,7 @@ def first_at(path):
 @pytest.mark.skipif(shutil.which("socat") is None, reason="there is no socat here")
 def test_socat(folder, serve):
     """The lines with socat join a pseudo-terminal to the program, which leaves its rows when they end."""
-    lines = re.findall(r"(?m)^    (socat .*/tmp/line.*)$", text_of("docs/SERVE.md"))
+    lines = re.findall(r"(?m)^    (socat .*/tmp/line.*)$", text_of("docs/CLI.md"))
     port = free_port()
     pair, joining = (it.replace("/tmp/", f"{folder}/").replace("5000", str(port)) for it in lines)
     serving = serve(SERVED[1], port)

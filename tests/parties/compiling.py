@@ -34,17 +34,18 @@ POOL = [
     "-include", "tests/c/pool.h",
     "-DGH_MALLOC=pool_take", "-DGH_REALLOC=pool_resize", "-DGH_FREE=pool_give_back",
 ]
-DOOR, KEYS, PORCH, NEXT = (f"examples/{it}.toml" for it in ("door", "keys", "porch", "porch_next"))
+DOOR, KEYS, BELL, PORCH, NEXT = (f"examples/{it}.toml" for it in ("door", "keys", "bell", "porch", "porch_next"))
 # Each program: its sources and further flags, and the words that it is run with, if it ends by itself.
 PROGRAMS = {
     "first": (["examples/c/first.c"], [], [DOOR]),
     "edges": (["tests/c/edges.c", "tests/c/controller.c"], [], [DOOR, KEYS]),
     "calls": (["tests/c/calls.c", "tests/c/controller.c"], [], [DOOR, KEYS, PORCH]),
     "values": (["tests/c/values.c", "tests/c/controller.c"], [], [DOOR, KEYS]),
+    "serve": (["tests/c/serve.c", "tests/c/controller.c", "c/serve.c"], [], [DOOR, KEYS, BELL, PORCH, NEXT]),
     "memory": (["tests/c/memory.c", "tests/c/controller.c"], POOL, [PORCH, KEYS, NEXT]),
     "stack": (["tests/c/stack.c", "tests/c/controller.c"], ["-pthread"], [PORCH, KEYS, NEXT]),
     "obey": (["tests/c/obey.c", "tests/c/controller.c"], [], None),
-    "lockd": (["examples/c/lockd.c", "examples/c/line.c", "examples/c/files.c"], [], None),
+    "lockd": (["examples/c/lockd.c", "examples/c/line.c", "examples/c/files.c", "c/serve.c"], [], None),
 }
 
 

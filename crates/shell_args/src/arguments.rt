@@ -210,7 +210,7 @@ const RUN_ARGUMENTS: [Argument; 8] = [
     Argument {
         name: SCRIPT,
         takes: Takes::Path,
-        about: "The script: what phones and the application do, line by line",
+        about: "The script: what clients and the application do, line by line",
     },
     ROWS_FILE,
     Argument {
@@ -329,22 +329,22 @@ const HOST_ARGUMENTS: [Argument; 23] = [
     Argument {
         name: LOG_VALUES,
         takes: Takes::Nothing,
-        about: "Log also the bytes that phones write, which can be secret",
+        about: "Log also the bytes that clients write, which can be secret",
     },
     Argument {
         name: SLOTS,
         takes: Takes::Value("N"),
-        about: "How many phones may be connected at once, from 1 to 8 [default: 4]",
+        about: "How many clients may be connected at once, from 1 to 8 [default: 4]",
     },
     Argument {
         name: IDLE,
         takes: Takes::Value("SECONDS"),
-        about: "Disconnect a phone without a key after so many silent seconds [default: never]",
+        about: "Disconnect a client without a key after so many silent seconds [default: never]",
     },
     Argument {
         name: STRANGER,
         takes: Takes::Value("SECONDS"),
-        about: "Disconnect a phone without a key after so many seconds [default: never]",
+        about: "Disconnect a client without a key after so many seconds [default: never]",
     },
     Argument {
         name: PATIENCE,

@@ -45,7 +45,8 @@ Check a table file and a key file, and count their attributes and keys.
 
 A table file is TOML that describes services, characteristics and descriptors (docs/TABLE.md). A
 key file is TOML with the long-term keys of known peers (docs/KEYS-FILE.md). The table file is
-checked first. The number of the first fault goes to standard error, and nothing else is printed.
+checked first. The number of the first fault goes to standard error, and nothing else is printed:
+`gatt_shell show` names its place.
 
   gatt_shell check examples/door.toml examples/keys.toml";
 
@@ -109,20 +110,20 @@ use but no expectation names. The status is 3 then, and 0 if all expectations ho
 
 pub const RUN: &str = "run";
 
-pub const RUN_ABOUT: &str = "Run a script of phones against a host and a simulated controller";
+pub const RUN_ABOUT: &str = "Run a script of clients against a host and a simulated controller";
 
 pub const RUN_DETAILS: &str = "\
-Run a script of phones against a host and a simulated controller, in memory.
+Run a script of clients against a host and a simulated controller, in memory.
 
-Each line of a script is an act of a phone or of the application. A phone connects, sends a PDU,
-encrypts its link or disconnects. The application updates a value, authorizes a phone, passes the
-time or replaces the table. After each line the program prints what was refused, what each phone
+Each line of a script is an act of a client or of the application. A client connects, sends a PDU,
+encrypts its link or disconnects. The application updates a value, authorizes a client, passes the
+time or replaces the table. After each line the program prints what was refused, what each client
 received, and which connection the host ended. With --notices it also prints the notices to the
 application, and with --echo the line itself first. With --words each PDU is followed by what
 it says. docs/SCRIPTS.md has all lines and their output.
 
 The rows file has the subscriptions of peers with keys. It is read first and written at the end. A
-missing one is empty.
+missing one is empty. If the table, key or rows file is refused, `gatt_shell show` names the place.
 
   gatt_shell run examples/door.toml examples/keys.toml examples/first_contact.script";
 
@@ -148,26 +149,27 @@ pub const SERVE_DETAILS: &str = "\
 Serve a controller over one TCP connection.
 
 The connection carries H4, the UART transport of a Bluetooth controller. The program serves the
-first connection until it ends, and then ends itself. At most four phones are connected at once.
-docs/SERVE.md joins it to a controller on a serial line, and docs/CLI.md has the faults that end it.
+first connection until it ends, and then ends itself. At most four clients are connected at once.
+docs/CLI.md joins it to a controller on a serial line, and has the faults that end it.
 
 The rows file has the subscriptions of peers with keys. It is read first and written at the end. A
-missing one is empty.
+missing one is empty. If the table, key or rows file is refused, `gatt_shell show` names the place.
 
   gatt_shell serve examples/door.toml examples/keys.toml 127.0.0.1:5000";
 
 pub const HOST: &str = "host";
 
-pub const HOST_ABOUT: &str = "Serve one controller after another, with an application";
+pub const HOST_ABOUT: &str = "Serve a device: its clients, by one controller after another";
 
 pub const HOST_DETAILS: &str = "\
-Serve one controller after another, with an application.
+Serve a device: its clients, by one controller after another.
 
-The connection of a controller carries H4. If the controller goes, or the host stops with a fault,
-the next one is served with the same values and subscriptions. An application connects to a socket,
-and exchanges lines with the device (docs/DEVICE.md). With --state the device saves values and
-subscriptions before it answers a phone, and a restart begins with them. The log is on standard
-error. A script can wait for its line `ready`.
+One of --listen, --connect and --serial leads to the controller. Its connection carries H4. If
+the controller goes, or the host stops with a fault, the next one is served with the same values and
+subscriptions. An application connects to a socket, and exchanges lines with the device
+(docs/DEVICE.md). With --state the device saves values and subscriptions before it answers a client,
+and a restart begins with them. The log is on standard error. A script can wait for its line
+`ready`. The status is 2 if a socket cannot be opened, or with --once if the host has stopped.
 
   mkdir -p door.state
   gatt_shell host examples/door.toml examples/keys.toml --listen 127.0.0.1:5000 \\
