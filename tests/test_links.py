@@ -1,7 +1,8 @@
-"""Tries the links of the documents: each resolves, and each page links the glossary's terms.
+"""Tries the links of the documents: each resolves, and each page links the words that are Gihandop's own.
 
-A page links a term at its first use outside headings, code and other links, except API, CONTRACTS and
-what docs/model makes. Words that are also everyday English (EVERYDAY) are linked by hand, at most once.
+These are the rows with an anchor of "Words of Gihandop" in the glossary. A page links one at its first use
+outside headings, code and other links, and once, except API, CONTRACTS and what docs/model makes. Words
+that are also everyday English (EVERYDAY) are linked by hand. No page links a word of the trade.
 """
 
 import os
@@ -13,15 +14,7 @@ from documents import PAGES, ROOT, text_of
 
 pytestmark = pytest.mark.without_program
 
-EVERYDAY = (
-    "application byte connection event host item key kit link listener policy rule run service share standing"
-    " table"
-).split()
-# Names in which a term is only a part.
-NAMES = (
-    r"Service Changed|Attribute (?:Protocol|Profile|Not Found)|Read By \w+ Type|Handle Value \w+"
-    r"|Secure Connections|BSD-3-Clause"
-)
+EVERYDAY = "event item kit listener row rule run share standing table".split()
 # Pages that link no terms.
 APART = ("docs/GLOSSARY.md", "docs/API.md", "docs/CONTRACTS.md", "CHANGELOG.md")
 
@@ -42,8 +35,9 @@ def anchors(text):
 
 
 def terms():
-    """The anchors of the glossary, and the terms at each."""
-    return re.findall(r'(?m)^\| <a id="(.*?)"></a>(.*?) \|', text_of("docs/GLOSSARY.md"))
+    """The words that are linked: the anchor and the text of each."""
+    own = text_of("docs/GLOSSARY.md").split("\n## Words of Gihandop\n")[1].split("\n## ")[0]
+    return re.findall(r'(?m)^\| <a id="(.*?)"></a>(.*?) \|', own)
 
 
 @pytest.mark.parametrize("page", PAGES)
@@ -59,10 +53,18 @@ def test_a_page_leads_somewhere(page):
 @pytest.mark.parametrize("page", [it for it in PAGES if it not in APART])
 def test_a_page_links_terms(page):
     text = blanked(r"(?s)<!-- docs/model makes.*?<!-- docs/model ends", without_code(text_of(page)))
-    prose = blanked(rf"(?m)^#.*$|^\|.*\n(?=\|-)|\[[^]]*\]\([^)]*\)|\b(?:{NAMES})\b", text)
-    for anchor, words in terms():
-        links = [it.start() for it in re.finditer(rf"\]\([^)]*GLOSSARY\.md#{re.escape(anchor)}\)", text)]
-        used = re.search(rf"(?i:\b({'|'.join(map(re.escape, re.split('[,:] ', words)))})s?\b)", prose)
-        assert len(links) < 2, f"{anchor} is linked more than once"
+    prose = blanked(r"(?m)^#.*$|^\|.*\n(?=\|-)|\[[^]]*\]\([^)]*\)|\bBSD-3-Clause\b", text)
+    links = [(it[1], it.start()) for it in re.finditer(r"\]\([^)]*GLOSSARY\.md#([^)]*)\)", text)]
+    places = dict(links)
+    for anchor, _ in links:
+        assert anchor in dict(terms()), f"{anchor} is linked, and is no word of Gihandop's own"
+        assert [it[0] for it in links].count(anchor) == 1, f"{anchor} is linked more than once"
+    for anchor, word in terms():
+        used = re.search(rf"(?i:\b{word}s?\b)", prose)
         if used and anchor not in EVERYDAY:
-            assert links and links[0] < used.start(), f"{used[0]} is not linked at its first use"
+            assert places.get(anchor, len(text)) < used.start(), f"{used[0]} is not linked at its first use"
+
+
+def test_the_glossary():
+    """The everyday words are among those that are linked."""
+    assert sorted(set(EVERYDAY) - set(dict(terms()))) == []

@@ -1,7 +1,7 @@
 """Tries docs/TRACEABILITY.md: it has a clause or a test for each rule of docs/PROFILE.md, and they exist.
 
 A clause is one of the contract of a function in the crate that is named before it, a test a function of
-that crate of tests, and a case one of docs/CONFORMANCE.md.
+that crate of tests or of a file in tests/, and a case one of docs/CONFORMANCE.md.
 """
 
 import glob
@@ -58,6 +58,9 @@ def test_a_rule(rule, clauses, tests):
             assert is_there, f"{function} of {crate} has no clause {name}"
     for crate, function, _ in named(re.sub(r"GATT/[\w/-]+(?:, )?", "", tests)):
         module, _, name = function.rpartition("::")
+        if crate == "tests":
+            assert re.search(rf"(?m)^def {name}\(", text_of(f"tests/{module}.py")), f"there is no test {function}"
+            continue
         source = sources_of(crate).get(module, "")
         assert re.search(rf"#\[test\]\s+(?:pub )?fn {name}\b", source), f"{crate} has no test {function}"
     cases = set(re.findall(CASE, text_of("docs/CONFORMANCE.md")))

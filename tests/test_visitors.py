@@ -89,17 +89,28 @@ def test_a_deaf_look(door):
 
 
 def test_a_silent_connection(door):
-    """A connection that is silent keeps nobody out, and becomes the application after a second."""
+    """A connection that sends nothing keeps nobody out, and is the application after a second."""
     one = door.application()
     assert one.line() == "+ serving", "an application"
     with reach(door.path) as silent:
-        silent.sendall(b"val")
         begun = time.monotonic()
         assert look(door.path, "value 10") == ["value 10 00"], "a silent one keeps none out"
         assert time.monotonic() - begun < 5, "for long"
         assert one.lines(2) == ["+ replaced", "END"], "it is the application now"
-        silent.sendall(b"ue 10\n")
+        silent.sendall(b"value 10\n")
         assert silent.makefile().readline()[:10] == "+ started ", "and is told what stands"
+
+
+def test_an_unfinished_line(door):
+    """A connection that sends octets and no line is closed after a second, and displaces nobody."""
+    one = door.application()
+    assert one.line() == "+ serving", "an application"
+    with reach(door.path) as unfinished:
+        begun = time.monotonic()
+        unfinished.sendall(b"val")
+        assert unfinished.makefile().read() == "", "it is closed without an answer"
+        assert 0.5 < time.monotonic() - begun < 5, "after a second"
+    assert one.ask("value 10") == "value 10 00", "it is the application still"
 
 
 def test_two_applications(door):
