@@ -23,7 +23,7 @@ pub enum Told<'a> {
     Replaced,
     /// Unique number of this start of the device.
     Started(u64),
-    /// A phone wrote the value at a handle while no application was connected. Holds the current
+    /// A client wrote the value at a handle while no application was connected. Holds the current
     /// value.
     Missed { handle: u16, value: &'a [u8] },
     /// Another connection updated the value at a handle.

@@ -7,7 +7,7 @@ use crate::text::Text;
 /// The most bytes of a line that is read: a PDU of 517 octets and a name need 1,045.
 pub(crate) const LONGEST: usize = 2_048;
 
-/// The most characters of a phone's name.
+/// The most characters of a client's name.
 const LONGEST_NAME: usize = 8;
 
 /// Adds two spaces and the words of the PDU in a line. Adds nothing if it has none.

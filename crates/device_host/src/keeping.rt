@@ -34,7 +34,7 @@ pub(crate) struct Served {
 }
 
 impl Contents {
-    /// Returns true if values that phones write are saved.
+    /// Returns true if values that clients write are saved.
     pub(crate) fn has_values(&self) -> bool {
         matches!(self, Contents::State(_))
     }
@@ -143,7 +143,7 @@ impl Keeping {
         self.is_due |= self.contents.has(table, handle);
     }
 
-    /// Notes that phones changed something that is saved.
+    /// Notes that clients changed something that is saved.
     pub(crate) fn note_change(&mut self) {
         self.is_due = true;
     }

@@ -13,7 +13,7 @@ pub(crate) struct Hearing {
     pub(crate) unsaved: Unsaved,
     /// Set if the turn changed something that is saved.
     pub(crate) is_change: bool,
-    /// Set if values that phones write are saved.
+    /// Set if values that clients write are saved.
     saves_values: bool,
     /// All notices so far, of all turns.
     pub(crate) received: Received,

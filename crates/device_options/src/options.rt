@@ -5,7 +5,7 @@ use crate::texts::OptionTexts;
 use gatt_laws::MAX_SLOTS;
 use std::net::SocketAddr;
 
-/// The default number of phones connected at once.
+/// The default number of clients connected at once.
 const SLOTS: usize = 4;
 
 /// The default time limit for a controller, in milliseconds.
@@ -39,7 +39,7 @@ pub enum Saved<'a> {
     Subscriptions(&'a str),
     State {
         folder: &'a str,
-        /// Set if values that no phone may write are saved too.
+        /// Set if values that no client may write are saved too.
         all_values: bool,
     },
 }
@@ -78,7 +78,7 @@ pub struct FileOptions<'a> {
 /// The settings of a host, besides its files.
 #[derive(Drop)]
 pub struct HostSettings {
-    /// The number of phones that may be connected at once.
+    /// The number of clients that may be connected at once.
     pub slots: usize,
     /// The static random address, least significant octet first.
     pub address: Option<[u8; 6]>,
@@ -103,14 +103,14 @@ pub struct HostOptions<'a> {
     pub application: ApplicationAddress<'a>,
     /// Set to serve controllers only while an application is connected.
     pub wait_for_application: bool,
-    /// The longest silence of a phone without a key, in milliseconds.
+    /// The longest silence of a client without a key, in milliseconds.
     pub idle: Option<u64>,
-    /// The longest stay of a phone without a key, in milliseconds.
+    /// The longest stay of a client without a key, in milliseconds.
     pub stranger: Option<u64>,
     /// Time limit for a controller to make progress, in milliseconds.
     pub patience: u64,
     pub host: HostSettings,
-    /// Set to log the values that phones write.
+    /// Set to log the values that clients write.
     pub log_values: bool,
     /// Set to end after the first controller.
     pub once: bool,

@@ -34,9 +34,9 @@ pub struct OptionTexts<'a> {
     pub capture_size: Option<&'a str>,
     pub log_values: bool,
     pub slots: Option<&'a str>,
-    /// The longest silence of a phone without a key, in seconds.
+    /// The longest silence of a client without a key, in seconds.
     pub idle: Option<&'a str>,
-    /// The longest stay of a phone without a key, in seconds.
+    /// The longest stay of a client without a key, in seconds.
     pub stranger: Option<&'a str>,
     /// Time limit for a controller to make progress, in seconds.
     pub patience: Option<&'a str>,

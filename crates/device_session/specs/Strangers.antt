@@ -1,4 +1,4 @@
--- Phones without a key that are disconnected after a time limit: a choice of this profile.
+-- Clients without a key that are disconnected after a time limit: a choice of this profile.
 -- `heard` of a connection is the host's time. All other times are those of the peers' clock.
 use Rattle.std.specs.Prelude.{ℕ, ◌+◌, ◌-◌, ◌^◌, ◌==◌, ◌&&◌, ◌||◌, Bool, false, if◌then◌else◌, is_some, List, map, min, nat_le, unwrap_or, Option, Some, None}
 use Rattle.std.specs.List.{find}
@@ -24,7 +24,7 @@ sooner_of (Some one) (Some other) = Some (min one other)
 sooner_of (Some one) None = Some one
 sooner_of None other = other
 
--- The time at which a phone has been silent, or known, for too long.
+-- The time at which a client has been silent, or known, for too long.
 abbrev pub due_of : Limits → Stranger → Option ℕ
 due_of limits stranger =
     sooner_of (time_after stranger.heard limits.silent)

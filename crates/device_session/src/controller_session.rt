@@ -1,4 +1,4 @@
-//! The controller, the capture of its packets, and the phones without a key.
+//! The controller, the capture of its packets, and the clients without a key.
 
 use crate::strangers::{Limits, Strangers, sooner};
 use device_io::{Connector, Controller, Log, Poller, Recording};

@@ -6,7 +6,7 @@ use app_lines::{Names, Told, add_named_line, add_number, add_told, connection_of
 use host_api::Notice;
 use std::alloc::{AllocError, Global};
 
-/// The changes by phones that a device saves.
+/// The changes by clients that a device saves.
 #[derive(Clone, Copy, PartialEq, Eq)]
 pub enum SavedChanges {
     Nothing,
@@ -38,7 +38,7 @@ pub struct Heard {
     subscribed: Subscribed,
     /// The connections that got a key in the turn.
     secured: Vec<u16>,
-    /// The values that phones wrote in the turn, and that are not saved.
+    /// The values that clients wrote in the turn, and that are not saved.
     pub(crate) written: Vec<u16>,
     /// Set if memory was refused.
     pub(crate) is_refused: bool,

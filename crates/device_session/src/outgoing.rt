@@ -10,7 +10,7 @@ use std::alloc::{AllocError, Global};
 
 /// The most bytes that may wait for an application.
 ///
-/// One read of the controller causes at most 360,000: eight phones each execute 32 prepared writes,
+/// One read of the controller causes at most 360,000: 8 clients each execute 32 prepared writes,
 /// and the rest are Write Commands.
 const LIMIT: usize = 1_048_576;
 

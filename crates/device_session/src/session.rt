@@ -99,7 +99,7 @@ impl<'a, R> Session<'a, R> {
 
     /// Returns the next call of the host, if any.
     ///
-    /// It disconnects a phone without a key after its time limit, or is what the application asks.
+    /// It disconnects a client without a key after its time limit, or is what the application asks.
     /// Its value lies in a prefix of `buffer`.
     pub fn next_call<'b>(&mut self, buffer: &'b mut [u8]) -> Option<App<'b>> {
         if let Some(handle) = self.controller.strangers.next_due(self.clock.time()) {
@@ -174,12 +174,12 @@ impl<'a, R> Session<'a, R> {
         self.application.hold();
     }
 
-    /// Returns true if phones without a key have a time limit.
+    /// Returns true if clients without a key have a time limit.
     pub fn looks_for_strangers(&self) -> bool {
         self.controller.strangers.are_limited()
     }
 
-    /// Updates the phones without a key.
+    /// Updates the clients without a key.
     pub fn look_for_strangers(&mut self, keyless: &ArrayVec<Keyless, MAX_SLOTS>) {
         self.controller.strangers.look(keyless, self.clock.time());
     }
@@ -219,7 +219,7 @@ impl<'a, R> Session<'a, R> {
 impl<R: Clock + Eprint> Session<'_, R> {
     /// Returns true if the controller is read now. It takes turns with other input.
     ///
-    /// It is not read while too much waits for the application, so that no phone can cause that to
+    /// It is not read while too much waits for the application, so that no client can cause that to
     /// be cut off.
     pub fn is_controller_next(&mut self) -> bool {
         let has_other = self.controller.strangers.is_due(self.clock.time())
@@ -273,7 +273,7 @@ impl<R: Clock + Eprint> Session<'_, R> {
 
     /// Sends the notices of a turn to the application and the log.
     ///
-    /// If the changes of phones are not saved, the lines about them wait.
+    /// If the changes of clients are not saved, the lines about them wait.
     pub fn tell_heard(&mut self, heard: &Heard, is_saved: bool) {
         tell_heard(
             &mut self.application,

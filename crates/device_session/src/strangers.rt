@@ -1,4 +1,4 @@
-//! Phones without a key, and when each is disconnected. All times are in milliseconds, by the clock
+//! Clients without a key, and when each is disconnected. All times are milliseconds by the clock
 //! of the peers' time limits unless another clock is named.
 
 ghost use Rattle.std.specs.Prelude.{◌≡◌, []};
@@ -41,7 +41,7 @@ impl Keyless {
     }
 }
 
-/// A phone without a key.
+/// A client without a key.
 #[derive(Clone, Copy, Default)]
 pub struct Stranger {
     pub connection: Keyless,
@@ -51,7 +51,7 @@ pub struct Stranger {
     pub found: u64,
 }
 
-/// Time limits for a phone without a key.
+/// Time limits for a client without a key.
 #[derive(Clone, Copy)]
 pub struct Limits {
     /// The longest silence.
@@ -125,7 +125,7 @@ impl Strangers {
         self.limits.silent.is_some() || self.limits.staying.is_some()
     }
 
-    /// Updates the phones from the connections without a key.
+    /// Updates the clients from the connections without a key.
     pub(crate) fn look(&mut self, keyless: &ArrayVec<Keyless, MAX_SLOTS>, now: u64)
         ensures limits { self.new.limits ≡ self.old.limits }
         ensures known { self.new.known.items
@@ -147,7 +147,7 @@ impl Strangers {
         first_due(self.known.as_slice(), &self.limits, now).is_some()
     }
 
-    /// Removes the next phone to be disconnected and returns its handle.
+    /// Removes the next client to be disconnected and returns its handle.
     pub(crate) fn next_due(&mut self, now: u64) -> Option<u16>
         ensures { result ≡ option_map (λ stranger. stranger.connection.handle)
             (first_due self.old.limits now self.old.known.items) }

@@ -8,7 +8,7 @@ use scripts::{Act, Payload, Script, ScriptedAct};
 use std::alloc::Global;
 use std::process::Abort;
 
-/// An expected act, its phone first.
+/// An expected act, its client first.
 enum Wanted<'a> {
     Connect(u8, Peer),
     Drop(u8),
@@ -33,7 +33,7 @@ const TABLET: Peer = Peer {
     address: [0x55, 0x44, 0x33, 0x22, 0x11, 0x00],
 };
 
-/// Lines of phones and their controller.
+/// Lines of clients and their controller.
 const LINES: &[(&str, &[Wanted<'static>])] = &[
     (
         "connect Q 0 00:11:22:33:44:55",

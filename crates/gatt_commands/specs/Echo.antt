@@ -28,7 +28,7 @@ lines_left text = option_map_or (λ text. lines_of_script text.now) text []
 abbrev pub lines_shown : Bool → Octets → List Octets
 lines_shown shows text = if shows then lines_of_script text else []
 
--- The output besides the frames of phones: notices if requested, and the remaining script.
+-- The output besides the frames of clients: notices if requested, and the remaining script.
 pub record Shown : Type 0 where
   pub notices : Bool
   pub lines : List Octets

@@ -13,7 +13,7 @@ use Rattle.gatt_commands.specs.declared.refused.Refused.{Refused}
 use Rattle.gatt_commands.specs.declared.refused.Refused.TheVariants.{Call, Act}
 use Rattle.octet_io.specs.Number.{Octets}
 
--- A refused act names one of `count` phones.
+-- A refused act names one of `count` clients.
 abbrev pub IsOfPhone : ℕ → Refused → Type 0
 IsOfPhone count (Call number) = Unit {0}
 IsOfPhone count (Act phone number) = phone < count
@@ -53,14 +53,14 @@ ended_text name ended = option_map_or (ended_line name) ended []
 abbrev pub phone_text : Octets → Phone → Octets
 phone_text name phone = heard_lines name phone.heard ++ ended_text name phone.ended
 
--- A printed phone has nothing left to print.
+-- A printed client has nothing left to print.
 abbrev pub told_phone : Phone → Phone
 told_phone phone = record phone { heard = []; ended = None }
 
 abbrev pub with_told_phone : Simulated → ℕ → Simulated
 with_told_phone old phone = with_phone old phone (told_phone (phone_at old phone))
 
--- Phones with names, in order.
+-- Clients with names, in order.
 abbrev pub phones_text : List Octets → List Phone → Octets
 phones_text [] phones = []
 phones_text (name ∷ names) [] = []
@@ -80,7 +80,7 @@ refused_line names (Call number) = codes "fault " ++ decimal number ++ line_feed
 refused_line names (Act phone number) =
     slice_index_or names phone [] ++ codes " refused " ++ decimal number ++ line_feed
 
--- The refusal precedes the phones.
+-- The refusal precedes the clients.
 abbrev pub refused_text : List Octets → Option Refused → Octets
 refused_text names refused = option_map_or (refused_line names) refused []
 

@@ -1,4 +1,4 @@
--- The phones of a run receive what the host sent to them (this profile's own).
+-- The clients of a run receive what the host sent to them (this profile's own).
 use Rattle.std.specs.Prelude.{◌≡◌, ℕ, ◌<◌, nat_lt, ◌++◌, if◌then◌else◌, Bool, true, List, [], ◌∷◌, take, length, Option, Some, None}
 use Rattle.std.specs.List.{flat_map}
 use Rattle.att_table.specs.Table.{Contents}
@@ -46,7 +46,7 @@ packets_taken config [] = []
 packets_taken config (call ∷ earlier) =
     packets_taken config earlier ++ taken_by (after_calls config earlier) call
 
--- The acts of its phones, refused ones included.
+-- The acts of its clients, refused ones included.
 abbrev pub acts_by : SimulatedCall → List by_phone.SimulatedAct
 acts_by (Acts act) = act ∷ []
 acts_by _ = []
@@ -74,14 +74,14 @@ others_in input = flat_map other_in input
 abbrev pub read_of : Told → List Packet
 read_of told = take 1 (division (sent_octets (sent_of told))).packets
 
--- The acts, requests to the host, and printed frames per phone of the lines so far.
+-- The acts, requests to the host, and printed frames per client of the lines so far.
 pub record SoFar : Type 0 where
   pub acts : List by_phone.SimulatedAct
   pub asked : List Item
   pub heard : ℕ → List Octets
 
 -- Host and controller are joined from a start on. The controller accepted what the host sent; the
--- host received what the controller sent and the application requested. Each phone received the
+-- host received what the controller sent and the application requested. Each client received the
 -- frames accepted for its connections, waiting ones included.
 pub record IsJoined (start : Start) (host : HostModel) (sim : Simulated) (so_far : SoFar) : Type 0
   where
@@ -131,7 +131,7 @@ after_line_done old act so_far =
           ++ asked_by_line old act;
     }
 
--- The printed frames of a phone, if it has a name.
+-- The printed frames of a client, if it has a name.
 abbrev pub printed_of : ℕ → Simulated → ℕ → List Octets
 printed_of count quiet phone = if nat_lt phone count then (phone_at quiet phone).heard else []
 

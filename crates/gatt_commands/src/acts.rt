@@ -18,7 +18,7 @@ use gatt_host::{App, Host};
 use scripts::{Act, ScriptedAct};
 use sim_controller::{PhoneAct, Sim, SimFault};
 
-/// The connection handle of the first phone; those of the others follow it.
+/// The connection handle of the first client; those of the others follow it.
 pub(crate) const FIRST_HANDLE: u16 = 0x40;
 
 /// Does what a line says, and records the host's notices, unless it is refused.

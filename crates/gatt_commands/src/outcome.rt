@@ -16,7 +16,7 @@ use shell_files::{ShellFault, print, print_hex_line, print_number_line};
 use sim_controller::Sim;
 use std::io::Write;
 
-/// Prints a line's refusal, then each phone's frames and the end of its connection.
+/// Prints a line's refusal, then each client's frames and the end of its connection.
 #[tactic(auto, using(shell_files::proofs::Fronts::at_error, shell_files::proofs::Fronts::front_first, shell_files::proofs::Fronts::front_then, shell_files::proofs::Fronts::front_rest))]
 pub fn print_outcome<W: Write>(
     sim: &mut Sim,
@@ -40,7 +40,7 @@ pub fn print_outcome<W: Write>(
     print_phones(sim, names, writer)
 }
 
-/// Prints the frames of each phone that has a name, in order of numbers.
+/// Prints the frames of each client that has a name, in order of numbers.
 fn print_phones<W: Write>(
     sim: &mut Sim,
     names: &[Name<'_>],

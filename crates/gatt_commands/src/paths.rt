@@ -29,7 +29,7 @@ pub struct RunPaths<'a> {
     pub keys: KeysPath<'a>,
     pub rows: RowsPath<'a>,
     pub script: ScriptPath<'a>,
-    /// The output besides the frames of phones.
+    /// The output besides the frames of clients.
     pub shows: Shows,
 }
 

@@ -5,6 +5,6 @@
 pub enum Refused {
     /// The host refused a call of the application.
     Call(u8),
-    /// The controller refused an act of a phone.
+    /// The controller refused an act of a client.
     Act { phone: u8, number: u8 },
 }

@@ -31,7 +31,7 @@ use std::io::{Read, Write};
 /// Runs a script with a host over a simulated controller, and saves subscriptions.
 ///
 /// Reads table, replacing table, keys, subscriptions and script in this order, each only if those
-/// before it are accepted. `shows` selects the output besides the frames of phones.
+/// before it are accepted. `shows` selects the output besides the frames of clients.
 pub fn run_script<T: Read, N: Read, K: Read, R: Read, S: Read, V: RowsStore, W: Write>(
     alloc: Global,
     table: &mut T,

@@ -11,7 +11,7 @@ use memchr::memchr;
 use shell_files::{ShellFault, print};
 use std::io::Write;
 
-/// The output of a run besides the frames of its phones.
+/// The output of a run besides the frames of its clients.
 #[derive(Clone, Copy)]
 pub struct Shows {
     /// The notices to the application, after the outcome of each line.
@@ -20,7 +20,7 @@ pub struct Shows {
     pub lines: bool,
 }
 
-/// The output of the lines that are left, besides the frames of phones.
+/// The output of the lines that are left, besides the frames of clients.
 #[derive(Clone, Copy)]
 pub(crate) struct Shown<'a> {
     /// True if the notices to the application are shown.

@@ -84,7 +84,7 @@ pub record KeepsThePolicy : Type 0 where
   -- another is unconfirmed, or if 8 PDUs or more were queued before packets were given; fewer may
   -- be left then.
   pub waits : WaitsOnlyBehindABacklog
-  -- No data of a phone stops the host.
+  -- No data of a client stops the host.
   pub takes_all : TakesAllData
   -- The same in smaller pieces, for any table and row: values are sent unasked, and written, only
   -- if they then may be.

@@ -1,4 +1,4 @@
--- No phone changes by its requests what decides its rights: the guards of the table, the keys of
+-- No client changes by its requests what decides its rights: the guards of the table, the keys of
 -- peers, its authorization, the key of its link, and the time.
 use Rattle.std.specs.Prelude.{◌≡◌, false}
 use Rattle.gatt_laws.specs.laws.RowNotices.{is_replacement}

@@ -1,4 +1,4 @@
--- No phone stops the host: it accepts any data of a connection.
+-- No client stops the host: it accepts any data of a connection.
 use Rattle.std.specs.Prelude.{◌≡◌, ℕ, Ok}
 use Rattle.gatt_laws.specs.machine.Context.{serving}
 use Rattle.gatt_laws.specs.machine.Packets.{Fragments, data_event, recombinations_of, packet_event}

@@ -35,7 +35,7 @@ enum Happens {
     Presses,
 }
 
-/// A phone with a key opens, shuts, and reads the code in time.
+/// A client with a key opens, shuts, and reads the code in time.
 const KNOWN: &[Happens] = &[
     Happens::Sends(
         1_000,
@@ -59,7 +59,7 @@ const KNOWN: &[Happens] = &[
     Happens::Asks(60_000, "120a0000", "13"),
 ];
 
-/// A phone without a key is disconnected after half a minute.
+/// A client without a key is disconnected after half a minute.
 const STRANGER: &[Happens] = &[
     Happens::Sends(
         1_000,

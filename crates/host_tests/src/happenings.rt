@@ -57,7 +57,7 @@ impl Happenings for Listed {
     }
 }
 
-/// A phone connects, with a tick in the middle of that event, confirms an indication, and is
+/// A client connects, with a tick in the middle of that event, confirms an indication, and is
 /// disconnected.
 const DAY: &[Turn] = &[
     (

@@ -62,7 +62,7 @@ const WROTE: Notice<'static> = Notice::Written {
     value: b"a",
 };
 
-/// A phone connects, writes a value, reads one, executes two writes, and disconnects.
+/// A client connects, writes a value, reads one, executes two writes, and disconnects.
 const TOLD: &[Notice<'static>] = &[
     CAME,
     WROTE,

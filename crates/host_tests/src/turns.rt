@@ -1,4 +1,4 @@
-//! Turns of a device that cannot save the changes of some phones.
+//! Turns of a device that cannot save the changes of some clients.
 
 ghost use Rattle.std.specs.Prelude.{None, Some};
 
@@ -111,8 +111,8 @@ impl Outside<Hearing> for Listed {
     }
 }
 
-/// The changes of the first phone cannot be saved, so it gets no response and no indication. The
-/// second phone gets its MTU once a controller is there, before the command that ends the first
+/// The changes of the first client cannot be saved, so it gets no response and no indication. The
+/// second client gets its MTU once a controller is there, before the command that ends the first
 /// connection.
 const TURNS: &[Turn] = &[
     (
@@ -181,7 +181,7 @@ fn withheld_while_nothing_is_saved(rt: HostRuntime) {
     assert!(rt; serves(&rt, rt.alloc()));
 }
 
-/// The controller completes Reset and connects a phone, and then says nothing more.
+/// The controller completes Reset and connects a client, and then says nothing more.
 const RECORDED: &[recorded::Turn] = &[
     (
         Next::Octets(b"\x04\x0E\x04\x01\x03\x0C\x00"),

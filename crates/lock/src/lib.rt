@@ -1,5 +1,5 @@
-//! A door lock as an application of the host. A phone turns the bolt by writing a value of the
-//! table. A button inside lets connected phones read the code for five seconds. Phones without a
+//! A door lock as an application of the host. A client turns the bolt by writing a value of the
+//! table. A button inside lets connected clients read the code for five seconds. Clients without a
 //! key are disconnected after a while.
 #![tactic(auto)]
 
@@ -12,7 +12,7 @@ const STATE: u16 = 10;
 /// Time to read the code after the button, in milliseconds.
 const LEAVE: u64 = 5_000;
 
-/// Time that a phone without a key may stay, in milliseconds.
+/// Time that a client without a key may stay, in milliseconds.
 const PATIENCE: u64 = 30_000;
 
 /// Turns the bolt of a door.
@@ -29,7 +29,7 @@ struct Phone {
     known: bool,
 }
 
-/// A lock with the phones at the door.
+/// A lock with the clients at the door.
 #[derive(Drop)]
 pub struct Lock<M> {
     motor: M,
@@ -55,7 +55,7 @@ impl<M: Motor> Listener for Lock<M> {
 }
 
 impl<M: Motor> Lock<M> {
-    /// Creates a lock without phones.
+    /// Creates a lock without clients.
     pub fn new(motor: M) -> Lock<M> {
         Lock {
             motor,
@@ -69,7 +69,7 @@ impl<M: Motor> Lock<M> {
         &self.motor
     }
 
-    /// Sets the time, in milliseconds, processes bytes and writes the answers. Disconnects phones
+    /// Sets the time, in milliseconds, processes bytes and writes the answers. Disconnects clients
     /// that stayed too long without a key.
     pub fn serve<W: Sink>(
         &mut self,
@@ -89,7 +89,7 @@ impl<M: Motor> Lock<M> {
         Ok(())
     }
 
-    /// Handles the button: authorizes all connected phones.
+    /// Handles the button: authorizes all connected clients.
     pub fn press<W: Sink>(&mut self, host: &mut Host, out: &mut W) -> Result<(), HostFault> {
         let until = self.now.saturating_add(LEAVE);
         for place in 0..MAX_SLOTS {
@@ -115,7 +115,7 @@ impl<M: Motor> Lock<M> {
         self.phones.get(place).copied()
     }
 
-    /// Returns the connection of a phone that stayed too long without a key.
+    /// Returns the connection of a client that stayed too long without a key.
     fn stranger(&self, place: usize) -> Option<u16> {
         let phone = self.phone(place)?;
         let late = self.now.saturating_sub(phone.since) > PATIENCE;

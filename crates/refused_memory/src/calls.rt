@@ -15,7 +15,7 @@ use octet_io::ArraySink;
 use sim_controller::{Sim, SimConfig, SimFault};
 use std::alloc::{AllocError, Global};
 
-/// A subscription of a phone with a key to the battery level of the door lock.
+/// A subscription of a client with a key to the battery level of the door lock.
 const SUBSCRIPTION: &str = "1 c0:00:00:00:00:01 7 1\n";
 
 const PHONE: Peer = Peer {

@@ -22,7 +22,7 @@ is_value_or_descriptor Value = true
 is_value_or_descriptor Configuration = false
 is_value_or_descriptor Descriptor = true
 
--- A phone may write the value by a Write Request, a prepared write or a Write Command.
+-- A client may write the value by a Write Request, a prepared write or a Write Command.
 abbrev pub is_writable : Guard → Bool
 is_writable guard =
     has_property guard.properties (property_of Write)

@@ -10,7 +10,7 @@ use bitflags::Flags;
 /// The values that a device saves if they differ from its table file.
 #[derive(Clone, Copy, Debug, PartialEq, Eq)]
 pub enum Saves {
-    /// Characteristic values and descriptors that a phone may write.
+    /// Characteristic values and descriptors that a client may write.
     Writable,
     /// All characteristic values and descriptors.
     All,

@@ -1,4 +1,4 @@
--- The names of phones (this profile's own).
+-- The names of clients (this profile's own).
 use Rattle.std.specs.Prelude.{Bool, ◌&&◌, ◌||◌, not, nat_lt, nat_le, if◌then◌else◌, length, codes, Option, Some, None}
 use Rattle.std.specs.Char.{is_ascii_alphanumeric}
 use Rattle.std.specs.List.{list_all}

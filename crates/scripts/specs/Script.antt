@@ -13,7 +13,7 @@ use Rattle.scripts.specs.declared.script_fault.ScriptFault.{ScriptFault}
 use Rattle.scripts.specs.declared.script_fault.ScriptFault.TheVariants.{BadLine}
 use Rattle.scripts.specs.Line.{line_of}
 
--- The acts in order, and the phones' names by number.
+-- The acts in order, and the clients' names by number.
 pub record Acts : Type 0 where
   pub acts : List Act
   pub names : List Octets

@@ -3,7 +3,7 @@
 use crate::payload::Payload;
 use le_hci::Peer;
 
-/// An act of a phone.
+/// An act of a client.
 #[derive(Drop)]
 pub enum ScriptedAct<'a> {
     /// Connects as this peer.
@@ -32,11 +32,11 @@ pub enum ScriptedAct<'a> {
     },
 }
 
-/// The act of a line. Phones have numbers from 0.
+/// The act of a line. Clients have numbers from 0.
 #[derive(Drop)]
 pub enum Act<'a> {
     Phone { phone: u8, act: ScriptedAct<'a> },
-    /// Authorizes a phone's connection before a time in milliseconds. 0 revokes it.
+    /// Authorizes a client's connection before a time in milliseconds. 0 revokes it.
     Authorize { phone: u8, until: u64 },
     /// Updates the value at a handle.
     Update { handle: u16, value: Payload<'a> },

@@ -1,4 +1,4 @@
-//! Scripts of phones and an application, which are read completely before any act.
+//! Scripts of clients and an application, which are read completely before any act.
 #![tactic(auto)]
 
 mod act;

@@ -1,4 +1,4 @@
-//! Names of phones.
+//! Names of clients.
 
 ghost use Rattle.std.specs.Prelude.{◌≡◌};
 ghost use Rattle.std.specs.Char.{is_ascii_alphanumeric};
@@ -9,7 +9,7 @@ use std::marker::Model;
 
 const MAX_NAME: usize = 8;
 
-/// A phone's name: 1 to `MAX_NAME` ASCII letters and digits, except command words.
+/// A client's name: 1 to `MAX_NAME` ASCII letters and digits, except command words.
 #[derive(Drop)]
 pub struct Name<'a> {
     text: &'a str,

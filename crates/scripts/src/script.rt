@@ -15,14 +15,14 @@ use crate::script_fault::ScriptFault;
 use std::alloc::{AllocError, Global};
 use std::marker::Model;
 
-/// Maximum number of phones in a script.
+/// Maximum number of clients in a script.
 pub const MAX_PHONES: usize = 8;
 
 /// The acts of a script, in order.
 #[derive(Drop)]
 pub struct Script<'a> {
     acts: Vec<Act<'a>>,
-    /// The phones' names, by number.
+    /// The clients' names, by number.
     names: Vec<Name<'a>>,
 }
 
@@ -77,7 +77,7 @@ impl<'a> Script<'a> {
         &self.acts
     }
 
-    /// Returns the phones' names, by number.
+    /// Returns the clients' names, by number.
     pub fn names(&self) -> &[Name<'a>]
         ensures { result.now ≡ self.now.names }
     {
@@ -122,7 +122,7 @@ impl<'a> Script<'a> {
     }
 }
 
-/// Returns a phone's number, and adds its name if it is new.
+/// Returns a client's number, and adds its name if it is new.
 fn take_name<'a>(names: &mut Vec<Name<'a>>, name: Name<'a>, number: u64) -> Result<u8, ScriptFault>
     ensures few { phone_number_in names.old.items name.entry < MAX_PHONES
         → Leaves OutOfMemory (Ok (with_name names.old.items name.entry)) result names.new.items }

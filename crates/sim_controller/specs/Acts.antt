@@ -1,4 +1,4 @@
--- The effects of acts of phones (this profile's own).
+-- The effects of acts of clients (this profile's own).
 use Rattle.std.specs.Prelude.{ℕ, Bool, true, false, ◌&&◌, not, if◌then◌else◌, List, [], ◌∷◌, find, Option, Some, None, Result}
 use Rattle.std.specs.Option.{option_map}
 use Rattle.octet_io.specs.Number.{Octets}

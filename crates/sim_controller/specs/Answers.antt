@@ -54,11 +54,11 @@ answer_to_command config (RefuseKey handle) =
 abbrev pub end_by_host : ℕ → Told
 end_by_host phone = told.DisconnectionComplete phone LOCAL_HOST_TERMINATED
 
--- Any key is accepted as the phone's.
+-- Any key is accepted as the client's.
 abbrev pub encryption_on : ℕ → Told
 encryption_on phone = told.EncryptionChange phone 0x01
 
--- The events after the response, if the phone is connected.
+-- The events after the response, if the client is connected.
 abbrev pub events_after : List Phone → Asked → List Told
 events_after phones (Disconnect handle reason) =
     option_to_list (option_map end_by_host (phone_here phones handle))
@@ -96,7 +96,7 @@ TellsAnswer asked old new result =
     IsDone (if is_too_much old answer then Some Full else None) (with_told old answer) old new
     result
 
--- A packet for a phone is completed, unless its packets are held.
+-- A packet for a client is completed, unless its packets are held.
 abbrev pub completions_for : Simulated → ℕ → List Told
 completions_for old phone =
     if is_held (phone_at old phone).link then [] else told.CompletedPackets phone 1 ∷ []
@@ -104,7 +104,7 @@ completions_for old phone =
 abbrev pub completion_fault : Simulated → ℕ → Option SimFault
 completion_fault old phone = if is_too_much old (completions_for old phone) then Some Full else None
 
--- Data for a phone that is not connected are dropped, and not completed.
+-- Data for a client that is not connected are dropped, and not completed.
 abbrev pub data_fault : Simulated → Option ℕ → Fragment → Option SimFault
 data_fault old None fragment = None
 data_fault old (Some phone) fragment =

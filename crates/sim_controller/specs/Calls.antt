@@ -16,7 +16,7 @@ use Rattle.sim_controller.specs.Simulated.{Simulated, simulated_at_start, phone_
 use Rattle.sim_controller.specs.Told as packets
 use Rattle.sim_controller.specs.Told.{Sent, sent_of, sent_octets, sent_packet}
 
--- A call: an act, a packet of the host, or a request for a packet, a frame of a phone, or the
+-- A call: an act, a packet of the host, or a request for a packet, a frame of a client, or the
 -- reason of its disconnection.
 pub data SimulatedCall : Type 0 where
   Acts : (act : SimulatedAct) → SimulatedCall

@@ -1,4 +1,4 @@
--- The frames of phones as packets to the host (Core 5.0, Vol 3 Part A, 3.1 and 7.2.1).
+-- The frames of clients as packets to the host (Core 5.0, Vol 3 Part A, 3.1 and 7.2.1).
 use Rattle.std.specs.Prelude.{ℕ, List, map}
 use Rattle.octet_io.specs.Number.{Octets}
 use Rattle.le_acl.specs.Fragment.{Fragment, Beginning, Continuation}
@@ -10,7 +10,7 @@ abbrev pub told_fragment : ℕ → Fragment → Told
 told_fragment phone (Beginning octets) = told.Beginning phone (record { items = octets })
 told_fragment phone (Continuation octets) = told.Continuation phone (record { items = octets })
 
--- A frame of a phone, in fragments of at most `cut` octets.
+-- A frame of a client, in fragments of at most `cut` octets.
 unfoldable pub told_frame : ℕ → ℕ → Octets → List Told
 told_frame phone cut frame = map (told_fragment phone) (fragments_of_pieces (pieces cut frame))
 

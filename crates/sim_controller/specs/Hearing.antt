@@ -1,4 +1,4 @@
--- The frames that a phone receives, whatever the calls (this profile's own, by Core 5.0, Vol 3 Part
+-- The frames that a client receives, for any calls (this profile's own, by Core 5.0, Vol 3 Part
 -- A, 7.2.1).
 use Rattle.std.specs.Prelude.{◌≡◌, ℕ, ◌<◌, ◌==◌, if◌then◌else◌, Bool, false, List, [], ◌∷◌, ◌++◌, take, Option, Some, None}
 use Rattle.std.specs.Option.{option_to_list}
@@ -23,7 +23,7 @@ fragment_in old phone (Some (Command asked)) = None
 fragment_in old phone (Some (Data handle fragment)) =
     fragment_to phone fragment (phone_here old.phones handle)
 
--- The fragment for a phone in a call.
+-- The fragment for a client in a call.
 abbrev pub handed_by : Simulated → ℕ → SimulatedCall → Option Fragment
 handed_by old phone (Acts act) = None
 handed_by old phone (Takes octets) =
@@ -41,7 +41,7 @@ abbrev pub connects : Simulated → ℕ → SimulatedCall → Bool
 connects old phone (Acts act) = if_accepted (act_fault old act) (is_connect_of phone act) false
 connects old phone _ = false
 
--- The fragments for a phone since it connected, newest first.
+-- The fragments for a client since it connected, newest first.
 abbrev pub fragments_for : SimConfig → ℕ → List SimulatedCall → List Fragment
 fragments_for config phone [] = []
 fragments_for config phone (call ∷ earlier) =
@@ -49,7 +49,7 @@ fragments_for config phone (call ∷ earlier) =
     else option_to_list (handed_by (after_calls config earlier) phone call)
     ++ fragments_for config phone earlier
 
--- The frames made of the fragments for a phone.
+-- The frames made of the fragments for a client.
 abbrev pub frames_by : Option Fragment → List Fragment → List Octets
 frames_by None older = []
 frames_by (Some fragment) older = option_to_list (frame_at (fragment ∷ older))
@@ -70,7 +70,7 @@ frames_heard_in config phone [] = []
 frames_heard_in config phone (call ∷ earlier) =
     frames_heard_in config phone earlier ++ frames_heard_by (after_calls config earlier) phone call
 
--- The frames that a phone received, and those queued, are those of the host's data, in order.
+-- The frames that a client received, and those queued, are those of the host's data, in order.
 abbrev pub HearsItsFrames : SimConfig → Type 0
 HearsItsFrames config = (phone : ℕ) (calls : List SimulatedCall) → phone < PHONES
     → frames_heard_in config phone calls ++ (phone_at (after_calls config calls) phone).heard

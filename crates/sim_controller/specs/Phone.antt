@@ -1,4 +1,4 @@
--- A phone, as the controller sees it (this profile's own).
+-- A client, as the controller sees it (this profile's own).
 use Rattle.std.specs.Prelude.{ℕ, ◌+◌, nat_lt, Bool, true, false, List, [], ◌++◌, drop, length, Option, Some, None}
 use Rattle.std.specs.Option.{option_map, option_to_list}
 use Rattle.octet_io.specs.Number.{Octets}
@@ -39,7 +39,7 @@ abbrev pub assembled_in : Option Link → Fragment → Assembly
 assembled_in link (Beginning octets) = assembled_of octets
 assembled_in link (Continuation octets) = with_more (unfinished_in link) octets
 
--- A complete frame is queued, if the phone is connected.
+-- A complete frame is queued, if the client is connected.
 abbrev pub link_with : Link → Assembly → Link
 link_with link assembly = record link { unfinished = assembly.unfinished }
 

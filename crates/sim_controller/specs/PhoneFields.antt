@@ -1,4 +1,4 @@
--- The fields of a phone as one value (code only).
+-- The fields of a client as one value (code only).
 use Rattle.std.specs.Prelude.{◌≡◌, ℕ, ◌≤◌, List, length, map, Option}
 use Rattle.std.specs.Option.{option_map}
 use Rattle.arrayvec.specs.ArrayVec.{ArrayVec}

@@ -1,4 +1,4 @@
--- The phones by number, and their connection handles (this profile's own).
+-- The clients by number, and their connection handles (this profile's own).
 use Rattle.std.specs.Prelude.{ℕ, ◌+◌, ◌-◌, nat_le, nat_lt, ◌&&◌, if◌then◌else◌, Option, Some, None}
 use Rattle.sim_controller.specs.declared.handle.TheConstants.{PHONES}
 

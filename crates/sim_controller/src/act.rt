@@ -1,6 +1,6 @@
 use le_hci::Peer;
 
-/// An act of a phone. Phones have the numbers 0 to `PHONES` - 1.
+/// An act of a client. Clients have the numbers 0 to `PHONES` - 1.
 #[derive(Clone, Copy)]
 pub enum PhoneAct<'a> {
     /// Connects as this peer. The controller stops advertising.
@@ -28,11 +28,11 @@ pub enum PhoneAct<'a> {
         cid: u16,
         payload: &'a [u8],
     },
-    /// Stops the automatic completion of packets for the phone.
+    /// Stops the automatic completion of packets for the client.
     Hold {
         phone: u8,
     },
-    /// Completes this number of packets for the phone.
+    /// Completes this number of packets for the client.
     Done {
         phone: u8,
         packets: u16,

@@ -10,7 +10,7 @@ use le_hci::opcode;
 /// Status of a successful command (Core 5.0, Vol 2 Part D, 1.3).
 const SUCCESS: u8 = 0x00;
 
-/// Returns the response to a command, whether its phone is connected or not.
+/// Returns the response to a command, whether its client is connected or not.
 pub(crate) fn answer_to(config: &SimConfig, asked: Asked) -> Told
     ensures { result ≡ answer_to_command config.now asked }
 {

@@ -5,13 +5,13 @@ ghost use Rattle.sim_controller.specs.SimFault.{sim_fault_number};
 /// first is returned.
 #[derive(Clone, Copy, Debug, PartialEq, Eq)]
 pub enum SimFault {
-    /// The phone is not connected.
+    /// The client is not connected.
     NotHere,
-    /// The phone is already connected.
+    /// The client is already connected.
     AlreadyHere,
     /// The controller does not advertise.
     NotAdvertising,
-    /// The queue of packets to the host, or of frames to a phone, would exceed its limit.
+    /// The queue of packets to the host, or of frames to a client, would exceed its limit.
     Full,
     /// The packet is not a known command and not an ACL packet.
     BadPacket,

@@ -30,7 +30,7 @@ pub(crate) fn frame_of(cid: u16, payload: &[u8]) -> ArrayVec<u8, MAX_FRAME>
     frame
 }
 
-/// Queues a frame of a phone in fragments of at most `cut` octets. Fails if they do not all fit.
+/// Queues a frame of a client in fragments of at most `cut` octets. Fails if they do not all fit.
 #[tactic(auto, using(crate::proofs::Pieces::frame_length, crate::proofs::Pieces::frame_step, crate::proofs::Pieces::frame_count))]
 pub(crate) fn tell_frame(
     waiting: &mut HeapCircularBuffer<Told>,

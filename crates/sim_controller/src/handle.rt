@@ -2,10 +2,10 @@ ghost use Rattle.std.specs.Prelude.{◌≡◌, ◌<◌, IfSome};
 ghost use Rattle.sim_controller.specs.Phones.{handle_of_phone, phone_with};
 ghost use Rattle.sim_controller.specs.declared.handle.TheConstants.{PHONES};
 
-/// Number of phones.
+/// Number of clients.
 pub const PHONES: u8 = 8;
 
-/// Connection handle of phone 0. The others have the following handles.
+/// Connection handle of client 0. The others have the following handles.
 const FIRST_HANDLE: u16 = 0x0040;
 
 pub(crate) fn handle_of(phone: u8) -> u16

@@ -1,4 +1,4 @@
-//! A simulated controller with phones: its packets to the host are the acts of its phones and its
+//! A simulated controller with clients: its packets to the host are the acts of its clients and its
 //! responses to the host, in order.
 #![tactic(auto)]
 

@@ -12,23 +12,23 @@ use le_acl::MAX_FRAME;
 use std::alloc::{AllocError, Global};
 use std::marker::Model;
 
-/// Maximum number of frames queued for a phone.
+/// Maximum number of frames queued for a client.
 const MAX_FRAMES: usize = 16;
 
-/// State of a phone's connection.
+/// State of a client's connection.
 #[derive(Drop)]
 struct Link {
     /// True if packets are not completed automatically.
     held: bool,
-    /// Octets of an unfinished frame to the phone.
+    /// Octets of an unfinished frame to the client.
     unfinished: Option<ArrayVec<u8, MAX_FRAME>>,
 }
 
-/// A phone, as the controller sees it.
+/// A client, as the controller sees it.
 #[derive(Drop)]
 pub(crate) struct Phone {
     link: Option<Link>,
-    /// Frames that the phone has not received yet.
+    /// Frames that the client has not received yet.
     heard: HeapCircularBuffer<ArrayVec<u8, MAX_FRAME>>,
     /// Reason of the host's Disconnect, until it is reported.
     ended: Option<u8>,

@@ -1,4 +1,4 @@
-//! The phones of a controller, by number.
+//! The clients of a controller, by number.
 
 ghost use Rattle.std.specs.Prelude.{◌≡◌, ◌<◌, length, replicate, IfSome, IfOk};
 ghost use Rattle.sim_controller.specs.Answers.{phone_here};
@@ -19,7 +19,7 @@ pub(crate) fn absent_phones(alloc: Global) -> Result<Vec<Phone>, AllocError>
     Ok(phones)
 }
 
-/// Returns the connected phone with a connection handle.
+/// Returns the connected client with a connection handle.
 pub(crate) fn here_with(phones: &[Phone], handle: u16) -> Option<u8>
     requires { length phones.now ≡ PHONES }
     ensures exact { result ≡ phone_here phones.now handle }

@@ -34,7 +34,7 @@ use le_hci::reason::{LOCAL_HOST_TERMINATED, REMOTE_USER_TERMINATED};
 use std::alloc::{AllocError, Global};
 use std::marker::Model;
 
-/// A controller with `PHONES` phones. It allocates no memory after `new`.
+/// A controller with `PHONES` clients. It allocates no memory after `new`.
 #[derive(Drop)]
 pub struct Sim {
     config: SimConfig,
@@ -83,7 +83,7 @@ impl Sim {
         })
     }
 
-    /// Executes an act of a phone. A fault changes nothing.
+    /// Executes an act of a client. A fault changes nothing.
     pub fn act(&mut self, act: PhoneAct<'_>) -> Result<(), SimFault>
         requires phone { phone_in (act_of act) < PHONES }
         requires payload { length (payload_in (act_of act)) ≤ MAX_PDU }
@@ -311,7 +311,7 @@ impl Sim {
         Ok(())
     }
 
-    /// Completes a packet for a phone, unless its packets are held.
+    /// Completes a packet for a client, unless its packets are held.
     fn complete(&mut self, phone: u8) -> Result<(), SimFault>
         requires { phone < PHONES }
         ensures { IsDone (completion_fault self.old phone)
@@ -326,7 +326,7 @@ impl Sim {
         )
     }
 
-    /// Writes the next frame for a phone, with its header, to `out`. Returns false and changes
+    /// Writes the next frame for a client, with its header, to `out`. Returns false and changes
     /// nothing if there is none.
     pub fn heard(&mut self, phone: u8, out: &mut ArrayVec<u8, MAX_FRAME>) -> bool
         requires { phone < PHONES }
@@ -341,7 +341,7 @@ impl Sim {
         self.phones[usize::from(phone)].hear(out)
     }
 
-    /// Returns, once, the reason of the Disconnect that ended a phone's connection.
+    /// Returns, once, the reason of the Disconnect that ended a client's connection.
     pub fn ended(&mut self, phone: u8) -> Option<u8>
         requires { phone < PHONES }
         ensures reason { result ≡ (phone_at self.old phone).ended }

@@ -1,4 +1,4 @@
-//! Steps with a simulated controller, for host and phones.
+//! Steps with a simulated controller, for host and clients.
 
 ghost use Rattle.octet_io.specs.declared.pdu.TheConstants.{MAX_PDU};
 ghost use Rattle.sim_controller.specs.Acts.{act_of, payload_in, phone_in};
@@ -21,7 +21,7 @@ pub enum Step<'a> {
     Host(&'a [u8], Option<SimFault>),
     /// Next packet to the host, or empty.
     Given(&'a [u8]),
-    /// Next frame that a phone receives, or empty.
+    /// Next frame that a client receives, or empty.
     Heard(u8, &'a [u8]),
     /// Reason of a Disconnect, reported once.
     Ended(u8, Option<u8>),
@@ -164,7 +164,7 @@ pub const READ: PhoneAct<'static> = PhoneAct::Send {
     payload: &[0x0A, 0x03, 0x00],
 };
 
-/// Number Of Completed Packets: one for phone 0.
+/// Number Of Completed Packets: one for client 0.
 pub const COMPLETED: [u8; 8] = [0x04, 0x13, 0x05, 0x01, 0x40, 0x00, 0x01, 0x00];
 
 pub const BEGINNING: [u8; 10] = [0x02, 0x40, 0x00, 0x05, 0x00, 0x03, 0x00, 0x04, 0x00, 0x0B];

@@ -1,4 +1,4 @@
-//! Packets from a simulated controller to its host and phones.
+//! Packets from a simulated controller to its host and clients.
 
 use super::simulation::{
     BEGINNING, COMPLETED, CONFIG, CONNECT, CONNECTED, CONNECTING, CONTINUATION, Case, ENABLE,
@@ -152,7 +152,7 @@ const ANSWER_IN_TWO: &[Step<'static>] = &[
     Step::Heard(0, &[]),
 ];
 
-/// Only the phone completes held packets. A hold ends with its connection.
+/// Only the client completes held packets. A hold ends with its connection.
 const HELD: &[Step<'static>] = &[
     Step::Act(PhoneAct::Hold { phone: 0 }, None),
     Step::Host(&BEGINNING, None),
@@ -233,7 +233,7 @@ const ENDED: &[Step<'static>] = &[
     Step::Act(PhoneAct::Drop { phone: 0 }, Some(SimFault::NotHere)),
 ];
 
-/// Phone 1 is not connected.
+/// Client 1 is not connected.
 const ABSENT: &[Step<'static>] = &[
     Step::Host(&[0x01, 0x06, 0x04, 0x03, 0x41, 0x00, 0x13], None),
     Step::Given(&[0x04, 0x0F, 0x04, 0x00, 0x01, 0x06, 0x04]),
