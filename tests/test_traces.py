@@ -1,4 +1,5 @@
 """Tries docs/TRACEABILITY.md: it has a clause or a test for each rule of docs/PROFILE.md, and they exist.
+A comment of a crate names each rule at a definition that states it, and no other rule.
 
 A clause is one of the contract of a function in the crate that is named before it, a test a function of
 that crate of tests or of a file in tests/, and a case one of docs/CONFORMANCE.md.
@@ -16,6 +17,7 @@ pytestmark = pytest.mark.without_program
 
 NAMES = r"(?:`[\w:]+`(?:, )?)+"
 CASE = r"GATT/SR/\w+/B[VI]-\d\d-C"
+RULES = re.findall(r"\*\*(P-[A-Z]+-\d+)", text_of("docs/PROFILE.md"))
 ROWS = re.findall(r"(?m)^\| (P-[A-Z]+-\d+) \| (.*?) \| (.*) \|$", text_of("docs/TRACEABILITY.md"))
 
 
@@ -43,9 +45,28 @@ def named(cell):
             yield crate, function, re.findall(r"\w+", found[3] or "")
 
 
+def rules_in_comments():
+    """The rules that comments of the crates name, each with the places of the comments."""
+    found = {}
+    for kind, mark in (("antt", "--"), ("rt", "//")):
+        for path in glob.glob(f"crates/*/*/**/*.{kind}", root_dir=ROOT, recursive=True):
+            if path.split("/")[2] == "out":
+                continue
+            for number, line in enumerate(text_of(path).splitlines(), 1):
+                for rule in re.findall(r"\bP-[A-Z]+-\d+\b", line.partition(mark)[2]):
+                    found.setdefault(rule, []).append(f"{path}:{number}")
+    return found
+
+
 def test_the_rules():
-    rules = re.findall(r"\*\*(P-[A-Z]+-\d+)", text_of("docs/PROFILE.md"))
-    assert rules == [rule for rule, _, _ in ROWS], "those of PROFILE, in their order"
+    assert RULES == [rule for rule, _, _ in ROWS], "those of PROFILE, in their order"
+
+
+def test_the_comments():
+    found = rules_in_comments()
+    assert [rule for rule in RULES if rule not in found] == [], "no comment in crates/ names these rules"
+    others = {rule: places for rule, places in found.items() if rule not in RULES}
+    assert others == {}, "comments in crates/ name rules that PROFILE does not have"
 
 
 @pytest.mark.parametrize(("rule", "clauses", "tests"), ROWS, ids=[it[0] for it in ROWS])

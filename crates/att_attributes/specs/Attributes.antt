@@ -66,7 +66,7 @@ configuration_bits_at attributes handle =
     option_map_or (λ (attr : Attr). configuration_bits_of attr.guard.properties)
     (attribute_at attributes (handle - 1)) 0
 
--- The handles count from the first one without gaps.
+-- The handles count from the first one without gaps. (P-TAB-2)
 abbrev pub HaveHandlesFrom : Handle → List Attr → Type 0
 HaveHandlesFrom first [] = Unit
 HaveHandlesFrom first (attr ∷ rest) = (attr.handle ≡ first) × HaveHandlesFrom (first + 1) rest

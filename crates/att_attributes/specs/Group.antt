@@ -17,7 +17,7 @@ last_before test handle [] = handle
 last_before test handle (next ∷ rest) =
     if test next.kind then handle else last_before test next.handle rest
 
--- The last handle of the group of an attribute; its own handle if it begins no group.
+-- The last handle of the group of an attribute; its own handle if it begins no group. (P-LIST-7)
 abbrev pub group_end_of : Attr → List Attr → Handle
 group_end_of attr rest =
     if is_service_type attr.kind then last_before is_service_type attr.handle rest

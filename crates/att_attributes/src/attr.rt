@@ -1,6 +1,6 @@
 use att_policy::Guard;
 
-/// The fixed part of an attribute (Core 5.0, Vol 3 Part F, 3.2).
+/// The fixed part of an attribute (Core 5.0, Vol 3 Part F, 3.2). (P-TAB-1)
 #[derive(Clone, Copy, PartialEq, Eq)]
 pub struct Attr {
     /// The handle, from 1.

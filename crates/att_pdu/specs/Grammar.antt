@@ -37,7 +37,7 @@ abbrev pub is_command : Opcode → Bool
 is_command opcode = not (bit_and opcode COMMAND_FLAG == 0)
 
 -- The fault of a PDU that begins with this opcode but is no valid request (Core 5.0, Vol 3 Part F,
--- 3.3).
+-- 3.3). (P-ATT-2, P-ATT-3, P-ATT-4)
 unfoldable pub fault_of : Opcode → PduFault
 fault_of opcode =
     if is_request opcode then Invalid opcode

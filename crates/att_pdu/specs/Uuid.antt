@@ -7,7 +7,7 @@ use Rattle.att_pdu.specs.declared.uuid.Uuid.{Uuid}
 use Rattle.att_pdu.specs.declared.uuid.Uuid.TheVariants.{Short, Long}
 use Rattle.octet_io.specs.Number.{Octets, two_octets, from_two}
 
--- The number by which types are compared (Core 5.0, Vol 3 Part B, 2.5.1).
+-- The number by which types are compared (Core 5.0, Vol 3 Part B, 2.5.1). (P-LIST-2)
 abbrev pub uuid_number : Uuid → AttributeType
 uuid_number (Short short) = of_16_bits short
 uuid_number (Long long) = long

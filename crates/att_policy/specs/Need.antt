@@ -1,4 +1,4 @@
--- The requirements of a `Need` with all that its fields imply (this profile's own).
+-- The requirements of a `Need` with all that its fields imply (this profile's own). (P-POL-1)
 use Rattle.std.specs.Prelude.{ℕ, Bool, ◌||◌, is_some, unwrap_or, if◌then◌else◌}
 use Rattle.att_policy.specs.declared.guard.Need.{Need}
 

@@ -43,7 +43,7 @@ has_secure_key standing = option_map_or (λ (key : KeyFacts). key.secure) standi
 abbrev pub size_of_key : Standing → ℕ
 size_of_key standing = option_map_or (λ (key : KeyFacts). key.size) standing.key 0
 
--- The connection fails a rule of `rules_of_need`.
+-- The connection fails a rule of `rules_of_need`. (P-POL-1, P-POL-3)
 abbrev pub is_unmet : Need → Standing → Rule → Bool
 is_unmet need standing HandleExists = false
 is_unmet need standing Property = false
@@ -84,7 +84,7 @@ not_permitted_code Write = WRITE_NOT_PERMITTED
 not_permitted_code Command = WRITE_NOT_PERMITTED
 
 -- The error code of a broken rule: a peer with a key must encrypt, any other must authenticate
--- (Core 5.0, Vol 3 Part C, 10.3.1).
+-- (Core 5.0, Vol 3 Part C, 10.3.1). (P-POL-2)
 abbrev pub code_of : Access → Standing → Rule → Code
 code_of access standing HandleExists = INVALID_HANDLE
 code_of access standing Property = not_permitted_code access
@@ -98,7 +98,7 @@ code_of access standing Authorization = INSUFFICIENT_AUTHORIZATION
 abbrev pub first_unmet_rule_of : Need → Standing → Option Rule
 first_unmet_rule_of need standing = find (is_unmet need standing) rules_of_need
 
--- The first rule that an access breaks; `first_broken_of` adds its error code.
+-- The first rule that an access breaks; `first_broken_of` adds its error code. (P-POL-2)
 abbrev pub first_broken_rule_of : Access → Option Guard → Standing → Option Rule
 first_broken_rule_of access guard standing = find (is_broken access guard standing) rules_in_order
 
@@ -124,13 +124,14 @@ pub record IsFirstBroken (access : Access) (guard : Option Guard) (standing : St
       → is_broken access guard standing earlier ≡ false
 
 -- The bits that a client characteristic configuration may have (Core 5.0, Vol 3 Part G, 3.3.3.3).
+-- (P-WRITE-5)
 abbrev pub configuration_bits_of : Properties → ℕ
 configuration_bits_of properties =
     (if has_property properties NOTIFY then NOTIFICATION else 0)
     + (if has_property properties INDICATE then INDICATION else 0)
 
 -- A client with these bits may be notified: one is allowed and the requirements for reading are
--- met. The read property is not required (this profile's own).
+-- met. The read property is not required (this profile's own). (P-SUB-1)
 abbrev pub may_hear_of : Guard → ℕ → Standing → Bool
 may_hear_of guard bits standing =
     not (bit_and bits (configuration_bits_of guard.properties) == 0)

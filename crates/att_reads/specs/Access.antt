@@ -17,12 +17,14 @@ abbrev pub refusal_at : List Attr → Standing → Handle → Option Code
 refusal_at attributes standing handle =
     option_map (λ broken. broken.1) (first_broken_of Read (guard_at attributes handle) standing)
 
+-- (P-ATT-6)
 abbrev pub read_refusal : List Attr → Standing → Handle → Option Refusal
 read_refusal attributes standing handle =
     option_map (λ code. record { handle = handle; code = code })
     (refusal_at attributes standing handle)
 
 -- The value that a client reads; its configurations are its own (Core 5.0, Vol 3 Part G, 3.3.3.3).
+-- (P-TAB-5)
 abbrev pub value_for : Contents → Row → Handle → Octets
 value_for table row handle =
     if is_configuration_at table.attributes handle then bits_at row handle ∷ 0 ∷ []

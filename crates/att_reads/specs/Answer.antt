@@ -22,7 +22,7 @@ use Rattle.att_reads.specs.Listing.{Candidate, first_refusal, size_of_first, ele
 use Rattle.att_reads.specs.Refusals.{unless_refused, range_refusal, group_type_refusal, not_found, offset_refusal}
 use Rattle.octet_io.specs.Number.{Octets}
 
--- Find Information needs no permission (3.4.3.1).
+-- Find Information needs no permission (3.4.3.1). (P-LIST-3)
 abbrev pub information_of : Attr → Candidate
 information_of attr =
     record { refusal = None; element = OfAttribute attr.handle (type_octets attr.kind) }
@@ -31,6 +31,7 @@ information_of attr =
 abbrev pub information_format : ℕ → ℕ
 information_format size = if size == 4 then 1 else 2
 
+-- (P-LIST-3)
 unfoldable pub information_answer : Contents → Mtu → Handle → Handle → Response
 information_answer table mtu first last =
     let types = map information_of (attributes_in table.attributes first last) in
@@ -39,6 +40,7 @@ information_answer table mtu first last =
     (FindInformationResponse (information_format (size_of_first types)) (elements_within mtu types))
 
 -- Find By Type Value (3.4.3.3) skips attributes that the client may not read (this profile's own).
+-- (P-LIST-6)
 abbrev pub is_match : Contents → Row → Standing → Octets → Handle → Bool
 is_match table row standing value handle =
     is_none (refusal_at table.attributes standing handle)
@@ -52,6 +54,7 @@ with_groups table mtu octets found =
     octets ++ flat_map (λ handle. element_octets (group_of table handle))
     (take ((mtu - length octets) / 4) found)
 
+-- (P-LIST-6)
 unfoldable pub found_answer : Contents → Row → Standing → Mtu → Handle → Handle → AttributeType
     → Octets → Response
 found_answer table row standing mtu first last type value =
@@ -62,7 +65,7 @@ found_answer table row standing mtu first last type value =
     (range_refusal first last ∷ not_found first found ∷ [])
     (FindByTypeValueResponse (map (group_of table) (take ((mtu - 1) / 4) found)))
 
--- Read By Type Request (3.4.4.1).
+-- Read By Type Request (3.4.4.1). (P-LIST-4)
 unfoldable pub values_answer : Contents → Row → Standing → Mtu → Handle → Handle → AttributeType
     → Response
 values_answer table row standing mtu first last type =
@@ -80,7 +83,7 @@ value_answer table row standing mtu handle =
     (read_refusal table.attributes standing handle ∷ [])
     (ReadResponse (take (mtu - 1) (value_for table row handle)))
 
--- Read Blob Request (3.4.4.5); an offset at the end reads an empty part.
+-- Read Blob Request (3.4.4.5); an offset at the end reads an empty part. (P-READ-1)
 unfoldable pub part_answer : Contents → Row → Standing → Mtu → Handle → ℕ → Response
 part_answer table row standing mtu handle offset =
     let value = value_for table row handle in
@@ -88,14 +91,14 @@ part_answer table row standing mtu handle offset =
     (read_refusal table.attributes standing handle ∷ offset_refusal handle offset value ∷ [])
     (ReadBlobResponse (take (mtu - 1) (drop offset value)))
 
--- Read Multiple Request (3.4.4.7).
+-- Read Multiple Request (3.4.4.7). (P-READ-2)
 unfoldable pub multiple_answer : Contents → Row → Standing → Mtu → List Handle → Response
 multiple_answer table row standing mtu handles =
     unless_refused READ_MULTIPLE_REQUEST
     (map (read_refusal table.attributes standing) handles)
     (ReadMultipleResponse (take (mtu - 1) (flat_map (value_for table row) handles)))
 
--- Read By Group Type Request (3.4.4.9).
+-- Read By Group Type Request (3.4.4.9). (P-LIST-5)
 unfoldable pub groups_answer : Contents → Row → Standing → Mtu → Handle → Handle → AttributeType
     → Response
 groups_answer table row standing mtu first last type =

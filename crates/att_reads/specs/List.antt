@@ -24,6 +24,7 @@ head_of Values = 2
 head_of Groups = 4
 
 -- A value is cut to what fits after its handles in the response and in an element.
+-- (P-LIST-4, P-LIST-5)
 abbrev pub cut_of : Listing → Mtu → ℕ
 cut_of listing mtu = min (mtu - 2 - head_of listing) (MAX_ELEMENT - head_of listing)
 

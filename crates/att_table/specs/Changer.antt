@@ -25,7 +25,7 @@ declares_generic_attribute table attr =
     (attr.kind == PRIMARY_SERVICE)
     && bytes_eq (value_at table.values attr.handle) (two_octets GENERIC_ATTRIBUTE_SERVICE)
 
--- A changer: an indicated, fixed Service Changed value of two handles in that service.
+-- A changer: an indicated, fixed Service Changed value of two handles in that service. (P-SUB-9)
 abbrev pub is_changer : Contents → Attr → Bool
 is_changer table attr =
     is_value attr.role && (attr.kind == SERVICE_CHANGED)

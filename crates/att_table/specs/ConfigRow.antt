@@ -8,7 +8,7 @@ use Rattle.att_attributes.specs.declared.attr.Attr.{Attr}
 use Rattle.att_attributes.specs.Attributes.{configuration_bits_at, is_configuration_at, type_at}
 use Rattle.att_numbers.specs.declared.limit.TheConstants.{MAX_CONFIGURATIONS}
 
--- The bits at a handle, 0 without an entry.
+-- The bits at a handle, 0 without an entry. (P-TAB-5)
 abbrev pub bits_at : Row → Handle → ℕ
 bits_at [] handle = 0
 bits_at (entry ∷ row) handle = if entry.0 == handle then entry.1 else bits_at row handle
@@ -50,7 +50,7 @@ abbrev pub has_its_meaning : List Attr → List Attr → Handle → Bool
 has_its_meaning old new handle =
     is_configuration_at old handle && (type_at old (handle - 1) == type_at new (handle - 1))
 
--- The entries that remain after a table is replaced, each whole (this profile's own).
+-- The entries that remain after a table is replaced, each whole (this profile's own). (P-SUB-8)
 abbrev pub kept_row : List Attr → List Attr → Row → Row
 kept_row old new row =
     filter (λ entry. is_supported new entry && has_its_meaning old new entry.0) row

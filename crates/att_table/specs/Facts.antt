@@ -8,12 +8,12 @@ use Rattle.att_table.specs.ConfigRow.{HasRowRoom}
 use Rattle.att_table.specs.Table.{Contents, value_at}
 use Rattle.att_numbers.specs.declared.limit.TheConstants.{MAX_ATTRIBUTES, MAX_CONFIGURATIONS, MAX_TABLE_OCTETS, MAX_VALUE}
 
--- The handles count from 1, and each has a value.
+-- The handles count from 1, and each has a value. (P-TAB-2)
 pub record IsTable (table : Contents) : Type 0 where
   pub handles : HaveHandlesFrom 1 table.attributes
   pub most : length table.attributes ≤ MAX_ATTRIBUTES
   pub one_value_each : length table.values ≡ length table.attributes
-  -- No value exceeds its largest length; a fixed value has that length.
+  -- No value exceeds its largest length; a fixed value has that length. (P-TAB-3)
   pub largest : All (λ (attr : Attr). attr.largest ≤ MAX_VALUE) table.attributes
   pub within : (handle : Handle) → 0 < handle → length (value_at table.values handle)
       ≤ largest_at table.attributes handle

@@ -13,6 +13,7 @@ use Rattle.att_attributes.specs.declared.type_index.Run.{Run}
 use Rattle.att_attributes.specs.OfType.{handles_by_type, runs_by_type}
 use Rattle.att_numbers.specs.declared.limit.TheConstants.{MAX_CONFIGURATIONS, MAX_DECLARATION, MAX_VALUE, MAX_VALUES_OCTETS}
 
+-- (P-TAB-1)
 pub record Contents : Type 0 where
   pub attributes : List Attr
   pub values : Values
@@ -23,7 +24,7 @@ value_at values handle = slice_index_or values (handle - 1) []
 abbrev pub with_value : Values → Handle → Octets → Values
 with_value values handle value = slice_set values (handle - 1) value
 
--- The largest length that a write may give a value; a fixed value keeps its length.
+-- The largest length that a write may give a value; a fixed value keeps its length. (P-TAB-3)
 abbrev pub room_at : Contents → Handle → ℕ
 room_at table handle =
     if is_fixed_at table.attributes handle then length (value_at table.values handle)

@@ -18,7 +18,7 @@ IsUsed cells handle = (0 < handle) × (handle ≤ length cells)
 abbrev pub cell_at : List Cell → Handle → Cell
 cell_at cells handle = slice_index_or cells (handle - 1) no_cell
 
--- A value after a part is written at an offset; `keep` keeps the octets after the part.
+-- A value after a part is written at an offset; `keep` keeps the octets after the part. (P-WRITE-2)
 abbrev pub value_with_part : Bool → Octets → ℕ → Octets → Octets
 value_with_part keep value offset part =
     take offset value ++ part ++ (if keep then drop (offset + length part) value else [])

@@ -23,7 +23,7 @@ abbrev pub first_octet : Octets → ℕ
 first_octet [] = 0
 first_octet (octet ∷ rest) = octet
 
--- A write ends a variable value; a fixed value keeps the octets after it.
+-- A write ends a variable value; a fixed value keeps the octets after it. (P-WRITE-2)
 abbrev pub after_entry : List Attr → Stored → Entry → Stored
 after_entry attributes stored entry =
     if is_configuration_at attributes entry.handle
@@ -39,7 +39,7 @@ abbrev pub unless_entry_refused : Entry → Option Code → Result Stored Refusa
 unless_entry_refused entry (Some code) result = Err (record { handle = entry.handle; code = code })
 unless_entry_refused entry None result = result
 
--- The entries are checked and written in order, each after those before it.
+-- The entries are checked and written in order, each after those before it. (P-PREP-3)
 unfoldable pub after_entries : Access → List Attr → Standing → Stored → List Entry
     → Result Stored Refusal
 after_entries access attributes standing stored [] = Ok stored
@@ -48,7 +48,7 @@ after_entries access attributes standing stored (entry ∷ rest) =
     (entry_fault access attributes standing (length (value_at stored.values entry.handle)) entry)
     (after_entries access attributes standing (after_entry attributes stored entry) rest)
 
--- If one entry is rejected, nothing changes.
+-- If one entry is rejected, nothing changes. (P-WRITE-4)
 abbrev pub stored_after : Stored → Result Stored Refusal → Stored
 stored_after stored (Ok new) = new
 stored_after stored (Err refusal) = stored

@@ -20,7 +20,7 @@ has_bits_within bits (low ∷ high ∷ []) = (bit_and low bits == low) && (high 
 has_bits_within bits octets = false
 
 -- A configuration is written whole, with allowed bits; the error code for others is this profile's
--- own.
+-- own. (P-ATT-7, P-WRITE-5)
 abbrev pub configuration_fault : List Attr → Entry → Option Code
 configuration_fault attributes entry =
     if not (entry.offset == 0) then Some INVALID_OFFSET
@@ -28,13 +28,13 @@ configuration_fault attributes entry =
     else if has_bits_within (configuration_bits_at attributes entry.handle) entry.part then None
     else Some OUT_OF_RANGE
 
--- The largest length of a value of this length; a fixed value keeps its length.
+-- The largest length of a value of this length; a fixed value keeps its length. (P-WRITE-1)
 abbrev pub room_for : List Attr → Handle → ℕ → ℕ
 room_for attributes handle size =
     if is_fixed_at attributes handle then size
     else option_map_or (λ (attr : Attr). attr.largest) (attribute_at attributes handle) 0
 
--- Any other value: its offset is checked before its length.
+-- Any other value: its offset is checked before its length. (P-ATT-7, P-WRITE-1)
 abbrev pub value_fault : List Attr → ℕ → Entry → Option Code
 value_fault attributes size entry =
     if nat_lt size entry.offset then Some INVALID_OFFSET
@@ -52,7 +52,7 @@ abbrev pub unless_broken : Option (Rule × Code) → Option Code → Option Code
 unless_broken (Some broken) fault = Some broken.1
 unless_broken None fault = fault
 
--- The error code for an entry, if it is rejected; `size` is the value's length.
+-- The error code for an entry, if it is rejected; `size` is the value's length. (P-ATT-6, P-PREP-3)
 abbrev pub entry_fault : Access → List Attr → Standing → ℕ → Entry → Option Code
 entry_fault access attributes standing size entry =
     unless_broken (first_broken_of access (guard_at attributes entry.handle) standing)

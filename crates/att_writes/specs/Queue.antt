@@ -22,6 +22,7 @@ use Rattle.att_writes.specs.declared.queue.TheConstants.{MAX_PREPARED, MAX_PREPA
 abbrev pub prepared_octets : List Entry → ℕ
 prepared_octets entries = sum_by (λ (entry : Entry). length entry.part) entries
 
+-- (P-PREP-1)
 abbrev pub has_queue_room : List Entry → Octets → Bool
 has_queue_room entries part =
     nat_lt (length entries) MAX_PREPARED
@@ -54,11 +55,12 @@ pub record PartsAreLaidOut (places : List Place) (octets : Octets) (used place_r
     pub has_place_room : MAX_PREPARED ≤ place_room
     pub has_octet_room : length octets ≡ MAX_PREPARED_OCTETS
 
--- The policy is checked before the space in the queue.
+-- The policy is checked before the space in the queue. (P-PREP-2)
 abbrev pub broken_or_full : Option (Rule × Code) → Bool → Option Code
 broken_or_full (Some broken) fits = Some broken.1
 broken_or_full None fits = if fits then None else Some PREPARE_QUEUE_FULL
 
+-- (P-PREP-2)
 abbrev pub prepare_fault : List Attr → Standing → List Entry → Entry → Option Code
 prepare_fault attributes standing entries entry =
     broken_or_full (first_broken_of Write (guard_at attributes entry.handle) standing)

@@ -42,7 +42,7 @@ abbrev pub prepare_response : Entry → Option Code → Response
 prepare_response entry (Some code) = ErrorResponse PREPARE_WRITE_REQUEST entry.handle code
 prepare_response entry None = PrepareWriteResponse entry.handle entry.offset entry.part
 
--- An Execute Write Request cancels the queue, or writes all of it or nothing (3.4.6.3).
+-- An Execute Write Request cancels the queue, or writes all of it or nothing (3.4.6.3). (P-PREP-4)
 abbrev pub execute_response : Contents → Row → Standing → List Entry → ExecuteFlags → Response
 execute_response table row standing queue flags.Cancel = ExecuteWriteResponse
 execute_response table row standing queue flags.Write =
@@ -52,7 +52,7 @@ execute_response table row standing queue flags.Write =
 abbrev pub entry_at : Handle → ℕ → Octets → Entry
 entry_at handle offset part = record { handle = handle; offset = offset; part = part }
 
--- The response to a request; a confirmation or command has none.
+-- The response to a request; a confirmation or command has none. (P-WRITE-3)
 abbrev pub response_to : Contents → Row → Bearer → Asked → Option Response
 response_to table row conn (ExchangeMtuRequest client_rx_mtu) =
     Some (ExchangeMtuResponse conn.rx_mtu)
@@ -65,7 +65,7 @@ response_to table row conn (ExecuteWriteRequest flags) =
     Some (execute_response table row conn.standing conn.queue flags)
 response_to table row conn asked = read_answer table row conn.standing conn.mtu asked
 
--- The response to a PDU, if there is one.
+-- The response to a PDU, if there is one. (P-ATT-2, P-ATT-3, P-ATT-4)
 abbrev pub answer_to : Contents → Row → Bearer → Question → Option Response
 answer_to table row conn (Ok asked) = response_to table row conn asked
 answer_to table row conn (Err Ignored) = None
@@ -77,7 +77,7 @@ pub record Writing : Type 0 where
   pub access : Access
   pub entries : List Entry
 
--- An execution writes the queue.
+-- An execution writes the queue. (P-WRITE-3)
 abbrev pub writing_asked : List Entry → Question → Option Writing
 writing_asked queue (Ok (WriteRequest handle value)) =
     Some (record { access = Write; entries = whole_value handle value ∷ [] })
@@ -108,7 +108,7 @@ handles_by table row conn asked =
     handles_after table row conn.standing (writing_asked conn.queue asked)
 
 -- The connection afterwards, independent of values and rows: an exchange sets the ATT_MTU, an
--- accepted part joins the queue, and an execution empties it.
+-- accepted part joins the queue, and an execution empties it. (P-PREP-4)
 abbrev pub conn_after : List Attr → Bearer → Question → Bearer
 conn_after attributes conn (Ok (ExchangeMtuRequest client_rx_mtu)) =
     after_exchange conn client_rx_mtu

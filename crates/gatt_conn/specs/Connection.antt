@@ -25,7 +25,7 @@ new_connection rx_mtu = record {
 }
 
 -- The ATT_MTU is the lesser MTU of both sides, but no less than `MIN_MTU` (Core 5.0, Vol 3 Part F,
--- 3.4.2.2).
+-- 3.4.2.2). (P-ATT-1)
 abbrev pub mtu_between : Mtu → Mtu → Mtu
 mtu_between client_rx_mtu server_rx_mtu = max MIN_MTU (min client_rx_mtu server_rx_mtu)
 

@@ -41,7 +41,7 @@ abbrev pub first_exchange : List Said → Option Mtu
 first_exchange [] = None
 first_exchange (said ∷ earlier) = option_or (first_exchange earlier) (exchanged_by said)
 
--- The ATT_MTU of a connection to a server with this MTU.
+-- The ATT_MTU of a connection to a server with this MTU. (P-ATT-1)
 abbrev pub mtu_in : Mtu → List Said → Mtu
 mtu_in rx_mtu all =
     option_map_or (λ client_rx_mtu. mtu_between client_rx_mtu rx_mtu) (first_exchange all) MIN_MTU

@@ -48,25 +48,27 @@ hears pending attributes row standing handle =
     not pending.timed_out && may_hear_at attributes row standing handle
 
 -- A value waits if the client may be notified of it, requested indications, and none timed out.
+-- (P-SUB-4)
 abbrev pub after_notify : Indications → List Attr → Row → Standing → Handle → Indications
 after_notify pending attributes row standing handle =
     if hears pending attributes row standing handle && wants_indications row handle
     then record pending { waiting = with_handle pending.waiting handle } else pending
 
 -- A value of which the client may be notified is notified if the client did not request indications
--- and the backlog is below the limit.
+-- and the backlog is below the limit. (P-SUB-4)
 abbrev pub is_notified : Indications → List Attr → Row → Standing → Handle → Backlog → Bool
 is_notified pending attributes row standing handle backlog =
     hears pending attributes row standing handle && not (wants_indications row handle)
     && nat_lt backlog MAX_BACKLOG
 
 -- An indication may be sent if none is unconfirmed and the backlog is below the limit.
+-- (P-SUB-5, P-SUB-6)
 abbrev pub may_indicate : Indications → Backlog → Bool
 may_indicate pending backlog =
     not (is_some pending.unconfirmed) && not pending.timed_out && nat_lt backlog MAX_BACKLOG
 
 -- The waiting handles from the first that must be indicated; those before it may no longer be, and
--- are dropped.
+-- are dropped. (P-SUB-5)
 abbrev pub from_due : (Handle → Bool) → List Handle → List Handle
 from_due is_due [] = []
 from_due is_due (handle ∷ rest) = if is_due handle then handle ∷ rest else from_due is_due rest
@@ -99,6 +101,7 @@ after_indicate pending attributes row standing backlog now =
     })
     else pending
 
+-- (P-SUB-6)
 abbrev pub after_confirmation : Indications → Indications
 after_confirmation pending = record pending { unconfirmed = None }
 
@@ -110,13 +113,14 @@ abbrev pub confirmed_handle : Indications → Option Handle
 confirmed_handle pending = option_and_then handle_if_current pending.unconfirmed
 
 -- After 30 seconds without confirmation, no notification or indication is sent (Core 5.0, Vol 3
--- Part F, 3.3.3).
+-- Part F, 3.3.3). (P-SUB-7)
 abbrev pub is_late : Milliseconds → Unconfirmed → Bool
 is_late now unconfirmed = nat_le (unconfirmed.since + CONFIRMATION_TIMEOUT) now
 
 abbrev pub times_out : Indications → Milliseconds → Bool
 times_out pending now = option_map_or (is_late now) pending.unconfirmed false
 
+-- (P-SUB-7)
 abbrev pub after_tick : Indications → Milliseconds → Indications
 after_tick pending now =
     if times_out pending now

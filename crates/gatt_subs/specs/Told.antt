@@ -11,7 +11,7 @@ use Rattle.octet_io.specs.Number.{Octets}
 use Rattle.gatt_subs.specs.Hearing.{may_hear_at}
 use Rattle.gatt_subs.specs.Indications.{Indications, Backlog, Milliseconds, is_notified, after_notify, indicated_handle, after_indicate}
 
--- A value is cut to what fits after opcode and handle.
+-- A value is cut to what fits after opcode and handle. (P-SUB-2)
 abbrev pub value_front : Values → Handle → Mtu → Octets
 value_front values handle mtu = take (mtu - 3) (value_at values handle)
 

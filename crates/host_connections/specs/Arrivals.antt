@@ -3,7 +3,7 @@ use Rattle.std.specs.Prelude.{ℕ, ◌+◌, ◌-◌, ◌^◌, min, set, replicat
 use Rattle.gatt_laws.specs.declared.TheConstants.{MAX_SLOTS}
 use Rattle.host_connections.specs.declared.arrivals.Arrivals.{Arrivals}
 
--- The ordinal of one more connection, at most 2^64 - 1.
+-- The ordinal of one more connection, at most 2^64 - 1. (P-ALL-4)
 abbrev pub counted_on : ℕ → ℕ
 counted_on accepted = min (accepted + 1) (2 ^ 64 - 1)
 

@@ -18,7 +18,7 @@ flag_of (Beginning octets) = FIRST_NOT_FLUSHED
 flag_of (Continuation octets) = CONTINUATION
 
 -- The fragment from the controller, by its boundary and broadcast flags; `FIRST_NOT_FLUSHED` also
--- begins a frame, and other flags are ignored (this profile's own).
+-- begins a frame, and other flags are ignored (this profile's own). (P-WIRE-5)
 abbrev pub fragment_of : ℕ → ℕ → Octets → Option Fragment
 fragment_of boundary broadcast octets =
     if broadcast == 0

@@ -45,6 +45,7 @@ abbrev pub of_run : Option (List Octets) → Option Octets
 of_run None = None
 of_run (Some run) = frame_in run
 
+-- (P-WIRE-5)
 unfoldable pub frame_at : List Fragment → Option Octets
 frame_at fragments = of_run (newest_run fragments)
 

@@ -4,7 +4,7 @@ use Rattle.std.specs.Option.{option_to_list}
 use Rattle.le_acl.specs.Packets.{Pdu, packets_of, total}
 use Rattle.le_acl.specs.Outgoing.{Outgoing, outgoing_after, none_queued, with_pdu, next_of, may_give, after_next, with_completed}
 
--- The number of packets that may be sent: a share beyond those completed.
+-- The number of packets that may be sent: a share beyond those completed. (P-WIRE-6)
 abbrev pub packets_allowed : ℕ → ℕ → List Pdu → ℕ → ℕ
 packets_allowed share size pdus done = min (total size pdus) (share + done)
 

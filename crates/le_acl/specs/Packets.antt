@@ -26,7 +26,7 @@ abbrev pub fragments_of_pieces : List Octets → List Fragment
 fragments_of_pieces [] = []
 fragments_of_pieces (piece ∷ others) = Beginning piece ∷ map Continuation others
 
--- The packets of a PDU, each with at most `size` octets of data.
+-- The packets of a PDU, each with at most `size` octets of data. (P-WIRE-6)
 abbrev pub fragments_of : ℕ → Pdu → List Fragment
 fragments_of size pdu = fragments_of_pieces (pieces size (frame_octets pdu))
 

@@ -6,7 +6,7 @@ use Rattle.le_acl.specs.declared.sender.TheConstants.{MAX_ACL_LEN}
 abbrev pub usable : ℕ → ℕ → ℕ
 usable slots packets = min slots packets
 
--- The number of packets of one connection that may be outstanding.
+-- The number of packets of one connection that may be outstanding. (P-ALL-2)
 abbrev pub share : ℕ → ℕ → ℕ
 share slots packets = packets / usable slots packets
 

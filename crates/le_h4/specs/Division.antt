@@ -20,6 +20,7 @@ abbrev pub lost : ℕ → Division
 lost indicator = record { packets = []; end = Lost indicator }
 
 -- An ACL packet with more than `MAX_ACL_DATA` octets of data is skipped (this profile's own).
+-- (P-WIRE-1)
 abbrev pub is_long : Packet → Bool
 is_long (AclPacket handle pb bc octets) = nat_lt MAX_ACL_DATA (length octets)
 is_long (EventPacket octets) = false

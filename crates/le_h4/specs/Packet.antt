@@ -48,6 +48,7 @@ event_form (code ∷ size ∷ octets) =
     with_data (λ parameters. EventPacket (code ∷ size ∷ parameters)) size octets
 event_form _ = NoneYet
 
+-- (P-WIRE-1)
 abbrev pub first_of : Octets → First
 first_of [] = NoneYet
 first_of (indicator ∷ octets) =

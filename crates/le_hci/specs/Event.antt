@@ -22,7 +22,7 @@ pub data Reported : Type 0 where
   LongTermKeyRequest : (handle : ℕ) (random_number : Octets) (diversifier : ℕ) → Reported
   Other : Reported
 
--- The handle in two octets, without the upper four bits (this profile's own).
+-- The handle in two octets, without the upper four bits (this profile's own). (P-WIRE-2)
 abbrev pub handle_of : ℕ → ℕ → ℕ
 handle_of low high = from_two low high % 4096
 
@@ -134,7 +134,7 @@ key_request_of _ = None
 abbrev pub long_term_key_request : Octets → Option Reported
 long_term_key_request octets = option_and_then key_request_of (fields (2 ∷ 8 ∷ 2 ∷ []) octets)
 
--- The event by its code; unknown events may have any parameters.
+-- The event by its code; unknown events may have any parameters. (P-WIRE-3)
 abbrev pub subevent_form : ℕ → Octets → Option Reported
 subevent_form code parameters =
     if code == LE_CONNECTION_COMPLETE then connection_complete parameters
@@ -145,6 +145,7 @@ abbrev pub le_meta_form : Octets → Option Reported
 le_meta_form (code ∷ parameters) = subevent_form code parameters
 le_meta_form [] = None
 
+-- (P-WIRE-3)
 abbrev pub reported_form : ℕ → Octets → Option Reported
 reported_form code parameters =
     if code == DISCONNECTION_COMPLETE then disconnection_complete parameters
@@ -162,6 +163,7 @@ abbrev pub read_or_bad : ℕ → Option Reported → Result Reported BadEvent
 read_or_bad code None = Err (record { 0 = code })
 read_or_bad code (Some event) = Ok event
 
+-- (P-WIRE-2)
 abbrev pub event_of : Octets → Result Reported BadEvent
 event_of [] = Err (record { 0 = 0 })
 event_of (code ∷ []) = Err (record { 0 = code })

@@ -93,5 +93,6 @@ outcome_by None state returned = Ok state
 outcome_by (Some opcode) state returned =
     handed_back state (next_by state (returned_values opcode returned))
 
+-- (P-WIRE-4)
 abbrev pub init_outcome : Init → Octets → Result Init (InitFault × Init)
 init_outcome state = outcome_by (opcode_awaited state) state

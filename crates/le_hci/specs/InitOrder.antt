@@ -24,7 +24,7 @@ advertising_commands address advertising =
     LeSetAdvertisingParameters (own_address_type_of address) ∷ LeSetAdvertisingData advertising
     ∷ LeSetAdvertiseEnable ∷ []
 
--- All commands, in order.
+-- All commands, in order. (P-WIRE-4)
 abbrev pub commands_in_order : Option Octets → Octets → Bool → List Commanded
 commands_in_order address advertising shared =
     Reset ∷ SetEventMask event_mask ∷ LeSetEventMask le_event_mask ∷ LeReadBufferSize

@@ -7,7 +7,7 @@ use Rattle.le_l2cap.specs.declared.pairing.TheConstants.{PAIRING_REQUEST}
 abbrev pub pairing_failed : Octets
 pairing_failed = 0x05 ∷ 0x05 ∷ []
 
--- A Pairing Request is rejected; all else is ignored.
+-- A Pairing Request is rejected; all else is ignored. (P-WIRE-7)
 abbrev pub pairing_answer : Octets → Option Octets
 pairing_answer [] = None
 pairing_answer (code ∷ parameters) = if code == PAIRING_REQUEST then Some pairing_failed else None

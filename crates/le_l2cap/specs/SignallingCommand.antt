@@ -30,6 +30,7 @@ abbrev pub is_ignored_code : ℕ → Bool
 is_ignored_code code = list_any (λ ignored. code == ignored) ignored_codes
 
 -- The identifier of a payload that is one whole command and is rejected (this profile's own).
+-- (P-WIRE-7)
 abbrev pub rejected_identifier : Octets → Option ℕ
 rejected_identifier (code ∷ identifier ∷ length_low ∷ length_high ∷ payload) =
     if length payload == from_two length_low length_high && not (identifier == 0)

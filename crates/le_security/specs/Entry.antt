@@ -6,7 +6,7 @@ use Rattle.octet_io.specs.Number.{Octets}
 use Rattle.le_hci.specs.declared.peer.Peer.{Peer}
 use Rattle.le_security.specs.declared.entry.Entry.{Entry}
 
--- A peer is identified by address type and address.
+-- A peer is identified by address type and address. (P-KEY-1)
 abbrev pub same_peer : Peer → Peer → Bool
 same_peer one other = (one.kind == other.kind) && bytes_eq one.address other.address
 

@@ -30,6 +30,6 @@ keys_read text = do
   members ← require (parse_document text) NotToml
   keys_of members
 
--- The entries of a key file with these bytes.
+-- The entries of a key file with these bytes. (P-KEY-1)
 unfoldable pub keys_in : Octets → Result (List Entry) KeyFault
 keys_in bytes = as_text keys_read NotToml bytes

@@ -23,7 +23,7 @@ has_answer entries entry =
 abbrev pub is_known : List Entry → Peer → Bool
 is_known entries peer = list_any (λ (entry : Entry). same_peer entry.peer peer) entries
 
--- The key for a request.
+-- The key for a request. (P-KEY-2)
 abbrev pub key_asked_for : List Entry → Peer → Octets → ℕ → Option Key
 key_asked_for entries peer random_number diversifier =
     option_map (λ (entry : Entry). entry.key) (find (is_for peer random_number diversifier) entries)

@@ -16,7 +16,7 @@ no_key = record { asked = None; key = None }
 abbrev pub with_asked : Linking → Option KeyFacts → Linking
 with_asked old answer = record old { asked = answer }
 
--- An event sets the key only if the last request was answered.
+-- An event sets the key only if the last request was answered. (P-KEY-3, P-KEY-4)
 abbrev pub with_key : Linking → Bool → Linking
 with_key old encrypted = record old { key = if encrypted then old.asked else None }
 
@@ -26,6 +26,7 @@ after_encryption old status enabled = with_key old ((status == 0) && not (enable
 abbrev pub after_refresh : Linking → ℕ → Linking
 after_refresh old status = with_key old (status == 0)
 
+-- (P-KEY-5)
 abbrev pub link_change_of : Linking → Linking → LinkChange
 link_change_of old new = if is_some new.key then Raised else if is_some old.key then Lost else Same
 
@@ -39,7 +40,7 @@ after_step old (Request answer) = with_asked old answer
 after_step old (Encryption status enabled) = after_encryption old status enabled
 after_step old (Refresh status) = after_refresh old status
 
--- The answer to the last request; steps are newest first.
+-- The answer to the last request; steps are newest first. (P-KEY-2)
 abbrev pub last_asked : List Step → Option KeyFacts
 last_asked [] = None
 last_asked (Request answer ∷ older) = answer
@@ -47,6 +48,7 @@ last_asked (Encryption status enabled ∷ older) = last_asked older
 last_asked (Refresh status ∷ older) = last_asked older
 
 -- The last encryption event decides; it uses the answer to the request before it.
+-- (P-KEY-3, P-KEY-4)
 abbrev pub key_after : List Step → Option KeyFacts
 key_after [] = None
 key_after (Request answer ∷ older) = key_after older

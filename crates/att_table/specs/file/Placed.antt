@@ -21,7 +21,7 @@ add table attr value = do
   _ ← unless (is_within_limits (table.attributes ++ attr ∷ [])) TooMany
   Ok (record { attributes = table.attributes ++ attr ∷ []; values = table.values ++ value ∷ [] })
 
--- A declaration, which every client may read.
+-- A declaration, which every client may read. (P-TAB-4)
 abbrev pub declaration : Handle → AttributeType → ℕ → Attr
 declaration handle kind length = record {
   handle = handle;

@@ -46,6 +46,7 @@ abbrev pub disconnect_event : {C : Type 0} → Option C → Result (Happening C)
 disconnect_event None = Err NoSuchConnection
 disconnect_event (Some connection) = Ok (Of connection Ended)
 
+-- (P-ALL-7)
 abbrev pub call_meaning : {C : Type 0} → Context C → Call → Result (Happening C) Refused
 call_meaning context (UpdateCall handle value) =
     update_event handle value (attribute_at context.attributes handle)
@@ -54,7 +55,7 @@ call_meaning context (DisconnectCall handle) = disconnect_event (context.serving
 call_meaning context (TickCall time) =
     if nat_lt time context.time then Err TimeWentBack else Ok (Tick time)
 
--- A table may replace another if both have a changer, at the same handle.
+-- A table may replace another if both have a changer, at the same handle. (P-ALL-7)
 abbrev pub same_changer : Option Handle → Option Handle → Bool
 same_changer (Some old) (Some new) = old == new
 same_changer _ _ = false

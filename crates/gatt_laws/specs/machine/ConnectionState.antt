@@ -93,7 +93,7 @@ standing_of shared connection =
     }
 
 -- The row of the peer's bond while the link has a key, else the connection's own (this profile's
--- own, by Core 5.0, Vol 3 Part G, 3.3.3.3).
+-- own, by Core 5.0, Vol 3 Part G, 3.3.3.3). (P-SUB-1)
 abbrev pub row_in_force : Row → ConnectionState → Row
 row_in_force bond connection = if is_some (key_of connection) then bond else connection.row
 
@@ -135,7 +135,7 @@ after_giving shared connection =
     }
     else connection
 
--- Ending drops what a connection prepared, what waits for it and the key reply.
+-- Ending drops what a connection prepared, what waits for it and the key reply. (P-ALL-5)
 abbrev pub after_ending : ConnectionState → ℕ → ConnectionState
 after_ending connection reason = record connection {
   mark = Ending;

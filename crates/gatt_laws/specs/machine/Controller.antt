@@ -28,7 +28,7 @@ Slots = List (Option Ordinal)
 abbrev pub has_free : Slots → Bool
 has_free slots = list_any (λ slot. is_none slot) slots
 
--- A connection takes the lowest free slot.
+-- A connection takes the lowest free slot. (P-ALL-2)
 abbrev pub with_taken : Ordinal → Slots → Slots
 with_taken ordinal [] = []
 with_taken ordinal (None ∷ slots) = Some ordinal ∷ slots
@@ -68,12 +68,13 @@ command_of_init controller =
     if controller.awaiting then [] else option_to_list (command_awaited controller.init)
 
 -- Advertising is enabled if it is off and a slot is free; after a refusal, only once a connection
--- has ended.
+-- has ended. (P-ALL-6)
 abbrev pub enabling : Controller → Slots → List Commanded
 enabling controller slots =
     if has_free slots && not controller.advertising && not controller.refused
     then LeSetAdvertiseEnable ∷ [] else []
 
+-- (P-ALL-6)
 unfoldable pub commands_due : Controller → (Ordinal → ConnectionState) → Slots → List Commanded
 commands_due controller connections slots =
     command_of_init controller ++ commands_for connections slots ++ enabling controller slots

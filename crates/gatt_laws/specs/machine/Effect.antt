@@ -47,7 +47,7 @@ effect_on_connection shared bond owed connection =
 
 -- The reasons of a Disconnect: Authentication Failure if a link lost its encryption, Remote User
 -- Terminated Connection if an answer finds no space or the application ends the connection (Core
--- 5.0, Vol 2 Part D, 2; the choice is this profile's own).
+-- 5.0, Vol 2 Part D, 2; the choice is this profile's own). (P-ALL-5)
 abbrev pub authentication_failure : ℕ
 authentication_failure = AUTHENTICATION_FAILURE
 
@@ -88,6 +88,7 @@ with_confirmation pdu connection =
           else connection.pending;
     }
 
+-- (P-SUB-3)
 abbrev pub served : SharedState → Row → Bool → ConnectionState → Octets → Question → Effect
 served shared bond owed connection pdu asked =
     let conn = bearer_of shared connection in
@@ -135,7 +136,7 @@ abbrev pub with_step : ConnectionState → Step → ConnectionState
 with_step connection step = record connection { steps = step ∷ connection.steps }
 
 -- A connection whose link loses its key is ended; if the link gains one, a pending Service Changed
--- is notified.
+-- is notified. (P-KEY-5)
 abbrev pub lost_encryption : Option KeyFacts → Option KeyFacts → Bool
 lost_encryption old new = is_some old && not (is_some new)
 
@@ -187,7 +188,7 @@ effect_of shared bond owed connection own =
     if is_live connection.mark then live_effect shared bond owed connection own
     else effect_on_connection shared bond owed connection
 
--- The handles that a served PDU writes, each once.
+-- The handles that a served PDU writes, each once. (P-NOTE-4, P-NOTE-5, P-NOTE-11)
 abbrev pub handles_written : SharedState → Row → ConnectionState → Own → List Handle
 handles_written shared bond connection (Asks pdu) =
     let asked = request_of pdu (connection_mtu shared connection) in

@@ -56,7 +56,7 @@ heard_in_turn attributes values hearer now (handle ∷ handles) =
     after_responses first.responses
     (heard_in_turn attributes values (hearer_after hearer first) now handles)
 
--- A value is skipped if it would be notified, but MAX_BACKLOG PDUs or more are queued.
+-- A value is skipped if it would be notified, but MAX_BACKLOG PDUs or more are queued. (P-NOTE-9)
 abbrev pub is_skipped : List Attr → Hearer → Handle → Bool
 is_skipped attributes hearer handle =
     hearer.live && hears hearer.pending attributes hearer.row hearer.standing handle

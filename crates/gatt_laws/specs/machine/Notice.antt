@@ -50,6 +50,7 @@ are_same_facts one other =
     (one.size == other.size) && are_both one.authenticated other.authenticated
     && are_both one.secure other.secure
 
+-- (P-NOTE-3)
 abbrev pub link_told : ℕ → Option KeyFacts → Option KeyFacts → List Notice
 link_told handle None None = []
 link_told handle None (Some new) = Secured handle new ∷ []
@@ -57,18 +58,20 @@ link_told handle (Some old) None = Unsecured handle ∷ []
 link_told handle (Some old) (Some new) =
     if are_same_facts old new then [] else Secured handle new ∷ []
 
--- A configuration has the bits of the row in force afterwards.
+-- A configuration has the bits of the row in force afterwards. (P-NOTE-4, P-NOTE-5)
 abbrev pub write_told : List Attr → Row → ℕ → Handle → Notice
 write_told attributes row handle attribute =
     if is_configuration_at attributes attribute
     then Configured handle attribute (bits_at row attribute) else Written handle attribute
 
 -- A confirmation of an indication from before a replacement of the table causes no notice.
+-- (P-NOTE-6)
 abbrev pub confirmation_told : ℕ → Option Unconfirmed → List Notice
 confirmation_told handle None = []
 confirmation_told handle (Some unconfirmed) =
     if unconfirmed.outdated then [] else Confirmed handle unconfirmed.handle ∷ []
 
+-- (P-NOTE-8)
 abbrev pub end_told : ℕ → ConnectionState → List Notice
 end_told handle new =
     if is_live new.mark then [] else map (Ending handle) (option_to_list new.reason)
@@ -88,6 +91,7 @@ live_told shared bond connection (Refreshed status) effect =
 live_told shared bond connection own effect = []
 
 -- The notice of the connection's end is the last.
+-- (P-NOTE-1, P-NOTE-2, P-NOTE-8, P-NOTE-10, P-NOTE-11)
 abbrev pub own_told : SharedState → Row → ConnectionState → Own → Effect → List Notice
 own_told shared bond connection (event.Connected handle peer) effect =
     if is_there connection.mark then [] else Connected handle peer ∷ []
@@ -98,6 +102,7 @@ own_told shared bond connection own effect =
     then live_told shared bond connection own effect ++ end_told connection.handle effect.connection
     else []
 
+-- (P-NOTE-7)
 abbrev pub late_told : ℕ → ConnectionState → List Notice
 late_told time connection =
     if option_map_or (is_late time) connection.pending.unconfirmed false
@@ -129,6 +134,7 @@ slot_skips_told change None = []
 slot_skips_told change (Some ordinal) =
     map (Skipped (change.state.connections ordinal).handle) (values_skipped change ordinal)
 
+-- (P-NOTE-9)
 abbrev pub skips_told : Change → List Notice
 skips_told change = flat_map (slot_skips_told change) change.state.slots
 
@@ -136,7 +142,7 @@ skips_told change = flat_map (slot_skips_told change) change.state.slots
 unfoldable pub noticed : State → Event → List Notice
 noticed state event = event_told state event ++ skips_told (change_of state event)
 
--- An item that means no event gives nothing.
+-- An item that means no event gives nothing. (P-NOTE-10)
 abbrev pub of_item : {A : Type 0} → (State → Event → List A) → Run → Item → List A
 of_item of_event run item = option_map_or (of_event run.intake.state) (event_at run.intake item) []
 

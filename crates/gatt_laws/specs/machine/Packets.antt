@@ -87,7 +87,7 @@ abbrev pub last_connection_handle : ℕ
 last_connection_handle = LAST_CONNECTION_HANDLE
 
 -- A connection is accepted if it was made, this side is the peripheral, its handle is valid and
--- unused, and a slot is free.
+-- unused, and a slot is free. (P-ALL-3)
 abbrev pub connection_complete_event : {C : Type 0} → Context C → ℕ → ℕ → ℕ → Peer → Happening C
 connection_complete_event context status handle role peer =
     if (status == 0) && (role == peripheral) && nat_le handle last_connection_handle
@@ -119,7 +119,7 @@ connection_event context (event.LongTermKeyRequest handle random_number diversif
     own_event (context.serving handle) (KeyAsked random_number diversifier)
 connection_event context _ = Nothing
 
--- Events about connections are ignored until the controller is initialised.
+-- Events about connections are ignored until the controller is initialised. (P-ALL-3)
 abbrev pub connection_event_if_ready : {C : Type 0} → Context C → Reported → Happening C
 connection_event_if_ready context reported =
     if is_ready context.controller then connection_event context reported else Nothing
@@ -215,7 +215,7 @@ abbrev pub Heard : Type 0
 Heard = Ordinal → ℕ
 
 -- The connection that a packet comes from: the one that serves by its handle, whatever it contains,
--- or the one that its event makes (this profile's own).
+-- or the one that its event makes (this profile's own). (P-ALL-4)
 abbrev pub connection_heard : State → Packet → Event → Option Ordinal
 connection_heard state (AclPacket handle boundary broadcast octets) event = serving state handle
 connection_heard state packet (Of ordinal (Connected handle peer)) = Some ordinal

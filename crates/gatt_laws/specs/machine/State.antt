@@ -142,7 +142,7 @@ announced table =
 
 -- A connection that serves loses what it prepared and what waits for it, and its unconfirmed
 -- indication becomes outdated. Each row retains a configuration if the new table has one at the
--- same handle, of the same value type, and supports its bits.
+-- same handle, of the same value type, and supports its bits. (P-SUB-8)
 abbrev pub connection_dropped : ConnectionState → ConnectionState
 connection_dropped connection =
     if is_live connection.mark
@@ -162,6 +162,7 @@ bonds_replaced old new bonds peer = kept_row old.attributes new.attributes (bond
 abbrev pub owed_by : Option Handle → Bonds → ServiceChangedPending
 owed_by changer bonds peer = wants_changes changer (bonds peer)
 
+-- (P-SUB-9)
 abbrev pub after_replaced : State → Contents → State
 after_replaced state table = record state {
   shared = record state.shared { table = announced table; changer = changer_of table };
@@ -171,7 +172,7 @@ after_replaced state table = record state {
       λ ordinal. connection_after_replacement state.shared.table table (state.connections ordinal);
 }
 
--- The change of each event before its end.
+-- The change of each event before its end. (P-SUB-3)
 unfoldable pub change_of : State → Event → Change
 change_of state (Of ordinal own) = own_change state ordinal own
 change_of state (Completed entries) = record {
@@ -205,7 +206,7 @@ change_of state (Replaced table) =
     }
 change_of state Nothing = record { state = state; to_notify = none_to_notify }
 
--- The end of an event: values are notified, an indication is sent, and packets are given.
+-- The end of an event: values are notified, an indication is sent, and packets are given. (P-ALL-1)
 abbrev pub finished : SharedState → Bonds → List Handle → ConnectionState → ConnectionState
 finished shared bonds handles connection =
     after_giving shared (after_hearing shared (bonds connection.peer) handles connection)
@@ -248,7 +249,7 @@ slot_out old new None = []
 slot_out old new (Some ordinal) =
     packets_given new.shared (old.connections ordinal) (new.connections ordinal)
 
--- The commands that the controller accepts, then the packets of the slots in their order.
+-- The commands that the controller accepts, then the packets of the slots in their order. (P-ALL-1)
 unfoldable pub out : State → Event → List Octets
 out state event =
     let new = before_commands state event in
