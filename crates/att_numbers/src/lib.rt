@@ -5,3 +5,6 @@ pub mod attribute_type;
 pub mod error_code;
 pub mod limit;
 pub mod opcode;
+mod refusal;
+
+pub use refusal::Refusal;

@@ -8,7 +8,7 @@ mod appending;
 
 use crate::buffer::{replace_all, resize, write, write_both};
 use att_numbers::limit::MAX_VALUE;
-use att_numbers::opcode;
+use att_numbers::{Refusal, opcode};
 use octet_io::{MAX_PDU, PduOctets, write_front};
 
 /// The least ATT_MTU of an LE link in octets (Core 5.0, Vol 3 Part G, 5.2.1).
@@ -123,14 +123,15 @@ impl<'a> PduBuf<'a> {
     }
 
     /// Replaces the PDU by an Error Response (Core 5.0, Vol 3 Part F, 3.4.1.1).
-    pub fn error(&mut self, request_opcode: u8, handle: u16, code: u8)
-        ensures error { contents self.new ≡ sent (ErrorResponse request_opcode handle code) }
+    pub fn error(&mut self, refusal: Refusal)
+        ensures error { contents self.new
+            ≡ sent (ErrorResponse refusal.opcode refusal.handle refusal.code) }
         ensures same_buffer { IsSameBuffer self.old self.new }
     {
         if self.keeps_length(ERROR_SIZE) {
-            self.put_error(request_opcode, handle, code);
+            self.put_error(refusal);
         } else {
-            self.put_error_anew(request_opcode, handle, code);
+            self.put_error_anew(refusal);
         }
     }
 
@@ -145,20 +146,28 @@ impl<'a> PduBuf<'a> {
 
     /// Writes an Error Response after a resize; out of line, to save registers.
     #[inline(never)]
-    fn put_error_anew(&mut self, request_opcode: u8, handle: u16, code: u8)
-        ensures error { contents self.new ≡ sent (ErrorResponse request_opcode handle code) }
+    fn put_error_anew(&mut self, refusal: Refusal)
+        ensures error { contents self.new
+            ≡ sent (ErrorResponse refusal.opcode refusal.handle refusal.code) }
         ensures same_buffer { IsSameBuffer self.old self.new }
     {
-        self.put_error(request_opcode, handle, code);
+        self.put_error(refusal);
     }
 
     #[inline(always)]
-    fn put_error(&mut self, request_opcode: u8, handle: u16, code: u8)
-        ensures error { contents self.new ≡ sent (ErrorResponse request_opcode handle code) }
+    fn put_error(&mut self, refusal: Refusal)
+        ensures error { contents self.new
+            ≡ sent (ErrorResponse refusal.opcode refusal.handle refusal.code) }
         ensures same_buffer { IsSameBuffer self.old self.new }
     {
-        let [low, high] = handle.to_le_bytes();
-        let error: [u8; ERROR_SIZE] = [opcode::ERROR_RESPONSE, request_opcode, low, high, code];
+        let [low, high] = refusal.handle.to_le_bytes();
+        let error: [u8; ERROR_SIZE] = [
+            opcode::ERROR_RESPONSE,
+            refusal.opcode,
+            low,
+            high,
+            refusal.code,
+        ];
         self.replace(&error, &[]);
     }
 

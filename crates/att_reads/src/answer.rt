@@ -10,7 +10,7 @@ ghost use Rattle.att_reads.specs.Answer.{information_answer, found_answer, value
 use crate::list::Listing;
 use crate::reader::Reader;
 use crate::{find, list, value};
-use att_numbers::{error_code, opcode};
+use att_numbers::{Refusal, error_code, opcode};
 use att_pdu::{PduBuf, Request, Uuid};
 use att_policy::Standing;
 use att_table::{ConfigRow, Table, Uncounted, is_service};
@@ -101,11 +101,11 @@ fn find_information(table: &Table, first: u16, last: u16, out: &mut PduBuf<'_>)
     ensures same_buffer { IsSameBuffer out.old out.new }
 {
     if !is_range(first, last) {
-        out.error(
-            opcode::FIND_INFORMATION_REQUEST,
-            first,
-            error_code::INVALID_HANDLE,
-        );
+        out.error(Refusal {
+            opcode: opcode::FIND_INFORMATION_REQUEST,
+            handle: first,
+            code: error_code::INVALID_HANDLE,
+        });
         return;
     }
     find::information(table.in_range(first, last), first, out);
@@ -126,11 +126,11 @@ fn find_by_type_value(
     ensures same_buffer { IsSameBuffer out.old out.new }
 {
     if !is_range(first, last) {
-        out.error(
-            opcode::FIND_BY_TYPE_VALUE_REQUEST,
-            first,
-            error_code::INVALID_HANDLE,
-        );
+        out.error(Refusal {
+            opcode: opcode::FIND_BY_TYPE_VALUE_REQUEST,
+            handle: first,
+            code: error_code::INVALID_HANDLE,
+        });
         return;
     }
     let attribute_type = Uuid::Short(attribute_type).number();
@@ -154,11 +154,11 @@ fn read_by_type(
     ensures same_buffer { IsSameBuffer out.old out.new }
 {
     if !is_range(first, last) {
-        out.error(
-            opcode::READ_BY_TYPE_REQUEST,
-            first,
-            error_code::INVALID_HANDLE,
-        );
+        out.error(Refusal {
+            opcode: opcode::READ_BY_TYPE_REQUEST,
+            handle: first,
+            code: error_code::INVALID_HANDLE,
+        });
         return;
     }
     let handles = reader
@@ -182,19 +182,19 @@ fn read_by_group_type(
     ensures same_buffer { IsSameBuffer out.old out.new }
 {
     if !is_range(first, last) {
-        out.error(
-            opcode::READ_BY_GROUP_TYPE_REQUEST,
-            first,
-            error_code::INVALID_HANDLE,
-        );
+        out.error(Refusal {
+            opcode: opcode::READ_BY_GROUP_TYPE_REQUEST,
+            handle: first,
+            code: error_code::INVALID_HANDLE,
+        });
         return;
     }
     if !is_service(attribute_type) {
-        out.error(
-            opcode::READ_BY_GROUP_TYPE_REQUEST,
-            first,
-            error_code::UNSUPPORTED_GROUP_TYPE,
-        );
+        out.error(Refusal {
+            opcode: opcode::READ_BY_GROUP_TYPE_REQUEST,
+            handle: first,
+            code: error_code::UNSUPPORTED_GROUP_TYPE,
+        });
         return;
     }
     let handles = reader

@@ -15,7 +15,7 @@ ghost use Rattle.att_reads.specs.Refusals.{unless_refused, not_found};
 
 use crate::list::fitting;
 use crate::reader::Reader;
-use att_numbers::{error_code, opcode};
+use att_numbers::{Refusal, error_code, opcode};
 use att_pdu::PduBuf;
 use att_table::{Attr, Table, is_of_16_bits};
 
@@ -34,11 +34,11 @@ pub fn information(attributes: &[Attr], start: u16, out: &mut PduBuf<'_>)
     ensures same_buffer { IsSameBuffer out.old out.new }
 {
     let Some(first) = attributes.first() else {
-        out.error(
-            opcode::FIND_INFORMATION_REQUEST,
-            start,
-            error_code::ATTRIBUTE_NOT_FOUND,
-        );
+        out.error(Refusal {
+            opcode: opcode::FIND_INFORMATION_REQUEST,
+            handle: start,
+            code: error_code::ATTRIBUTE_NOT_FOUND,
+        });
         return;
     };
     // Inlined once per size, so neither copy tests for the other.
@@ -184,11 +184,11 @@ fn find_none(start: u16, out: &mut PduBuf<'_>)
         ≡ sent (ErrorResponse FIND_BY_TYPE_VALUE_REQUEST start ATTRIBUTE_NOT_FOUND) }
     ensures same_buffer { IsSameBuffer out.old out.new }
 {
-    out.error(
-        opcode::FIND_BY_TYPE_VALUE_REQUEST,
-        start,
-        error_code::ATTRIBUTE_NOT_FOUND,
-    );
+    out.error(Refusal {
+        opcode: opcode::FIND_BY_TYPE_VALUE_REQUEST,
+        handle: start,
+        code: error_code::ATTRIBUTE_NOT_FOUND,
+    });
 }
 
 /// Appends the groups that match, if they fit; returns true if any matches.

@@ -10,7 +10,7 @@ ghost use Rattle.att_reads.specs.List.{listing_request, head_of, cut_of, element
 ghost use Rattle.att_reads.specs.Listing.{with_listed, PutsNext};
 
 use crate::reader::Reader;
-use att_numbers::{error_code, opcode};
+use att_numbers::{Refusal, error_code, opcode};
 use att_pdu::PduBuf;
 use att_table::Table;
 
@@ -102,7 +102,11 @@ pub fn answer(
     ensures same_buffer { IsSameBuffer out.old out.new }
 {
     let [first, rest @ ..] = handles else {
-        out.error(listing.request(), start, error_code::ATTRIBUTE_NOT_FOUND);
+        out.error(Refusal {
+            opcode: listing.request(),
+            handle: start,
+            code: error_code::ATTRIBUTE_NOT_FOUND,
+        });
         return;
     };
     match reader.read(*first) {
@@ -115,7 +119,11 @@ pub fn answer(
             begin(listing, reader.table, *first, front, out);
             put_all(listing, reader, &rest[..more], cut, size, out);
         }
-        Err(code) => out.error(listing.request(), *first, code),
+        Err(code) => out.error(Refusal {
+            opcode: listing.request(),
+            handle: *first,
+            code,
+        }),
     }
 }
 

@@ -9,7 +9,7 @@ ghost use Rattle.att_reads.specs.Answer.{value_answer, part_answer, multiple_ans
 ghost use Rattle.att_reads.specs.Refusals.{unless_refused, offset_refusal};
 
 use crate::reader::Reader;
-use att_numbers::{error_code, opcode};
+use att_numbers::{Refusal, error_code, opcode};
 use att_pdu::PduBuf;
 use att_policy::Standing;
 use att_table::{ConfigRow, Table};
@@ -50,7 +50,11 @@ fn read_guarded(
     };
     match reader.read_one(handle) {
         Ok(value) => out.replace_by_front(opcode::READ_RESPONSE, value),
-        Err(code) => out.error(opcode::READ_REQUEST, handle, code),
+        Err(code) => out.error(Refusal {
+            opcode: opcode::READ_REQUEST,
+            handle,
+            code,
+        }),
     }
 }
 
@@ -99,7 +103,11 @@ fn read_blob_guarded(
     };
     match reader.read_one(handle) {
         Ok(value) => part(value, handle, offset, out),
-        Err(code) => out.error(opcode::READ_BLOB_REQUEST, handle, code),
+        Err(code) => out.error(Refusal {
+            opcode: opcode::READ_BLOB_REQUEST,
+            handle,
+            code,
+        }),
     }
 }
 
@@ -113,11 +121,11 @@ fn part(value: &[u8], handle: u16, offset: u16, out: &mut PduBuf<'_>)
 {
     match value.get(usize::from(offset)..) {
         Some(part) => out.replace_by_front(opcode::READ_BLOB_RESPONSE, part),
-        None => out.error(
-            opcode::READ_BLOB_REQUEST,
+        None => out.error(Refusal {
+            opcode: opcode::READ_BLOB_REQUEST,
             handle,
-            error_code::INVALID_OFFSET,
-        ),
+            code: error_code::INVALID_OFFSET,
+        }),
     }
 }
 
@@ -151,5 +159,9 @@ fn refuse_multiple(handle: u16, code: u8, out: &mut PduBuf<'_>)
         ≡ sent (ErrorResponse READ_MULTIPLE_REQUEST handle code) }
     ensures same_buffer { IsSameBuffer out.old out.new }
 {
-    out.error(opcode::READ_MULTIPLE_REQUEST, handle, code);
+    out.error(Refusal {
+        opcode: opcode::READ_MULTIPLE_REQUEST,
+        handle,
+        code,
+    });
 }

@@ -1,5 +1,6 @@
 -- The queue of prepared writes of a client (Core 5.0, Vol 3 Part F, 3.4.6).
 use Rattle.std.specs.Prelude.{◌≡◌, ℕ, ◌+◌, ◌≤◌, Bool, ◌==◌, ◌&&◌, not, nat_lt, nat_le, if◌then◌else◌, List, [], ◌∷◌, ◌++◌, length, map, take, drop, filter, sum_by, Option, Some, None, Result, Ok, Err}
+use Rattle.att_numbers.specs.declared.refusal.Refusal as numbers
 use Rattle.att_numbers.specs.Types.{Handle, Code}
 use Rattle.att_numbers.specs.declared.error_code.TheConstants.{PREPARE_QUEUE_FULL}
 use Rattle.att_numbers.specs.declared.opcode.TheConstants.{PREPARE_WRITE_REQUEST}
@@ -11,8 +12,6 @@ use Rattle.att_attributes.specs.declared.attr.Attr.{Attr}
 use Rattle.att_attributes.specs.Attributes.{guard_at}
 use Rattle.att_policy.specs.Refusal.{Refusal}
 use Rattle.att_writes.specs.Applied.{Stored}
-use Rattle.att_writes.specs.declared.outcome.Outcome.{Outcome}
-use Rattle.att_writes.specs.declared.outcome.Outcome.TheVariants.{Queued, Denied}
 use Rattle.att_writes.specs.declared.queue.Place.{Place}
 use Rattle.att_writes.specs.Entry.{Entry}
 use Rattle.octet_io.specs.Number.{Octets}
@@ -70,9 +69,10 @@ abbrev pub queue_after : List Entry → Entry → Option Code → List Entry
 queue_after entries entry (Some code) = entries
 queue_after entries entry None = entries ++ entry ∷ []
 
-abbrev pub prepare_outcome : Entry → Option Code → Outcome
-prepare_outcome entry (Some code) = Denied PREPARE_WRITE_REQUEST entry.handle code
-prepare_outcome entry None = Queued
+abbrev pub prepare_outcome : Entry → Option Code → Result Unit numbers.Refusal
+prepare_outcome entry (Some code) =
+    Err (record { opcode = PREPARE_WRITE_REQUEST; handle = entry.handle; code = code })
+prepare_outcome entry None = Ok tt
 
 abbrev pub touched_by : List Entry → Result Stored Refusal → List Handle
 touched_by entries (Ok stored) = handles_of_entries entries

@@ -2,7 +2,7 @@
 
 ghost use Rattle.std.specs.Prelude.{◌≡◌, ◌≤◌, [], length, map, IfSome, IsNone, Err, Ok};
 ghost use Rattle.att_numbers.specs.Types.{Row};
-ghost use Rattle.att_numbers.specs.declared.opcode.TheConstants.{EXECUTE_WRITE_REQUEST};
+ghost use Rattle.att_numbers.specs.declared.opcode.TheConstants.{EXECUTE_WRITE_REQUEST, PREPARE_WRITE_REQUEST};
 ghost use Rattle.att_table.specs.ConfigRow.{IsRowOf};
 ghost use Rattle.att_writes.specs.declared.queue.Place.{Place};
 ghost use Rattle.att_writes.specs.Applied.{applied_to, written_to, stored_in};
@@ -14,10 +14,9 @@ ghost use Rattle.att_writes.specs.declared.queue.TheConstants.{MAX_PREPARED};
 
 use crate::entry::EntryRef;
 use crate::fault::fault_of;
-use crate::outcome::Outcome;
 use crate::queue::{Place, Queue, Touched};
 use crate::writes::put;
-use att_numbers::{error_code, opcode};
+use att_numbers::{Refusal, error_code, opcode};
 use att_policy::{Access, Standing, first_broken};
 use att_table::{ConfigRow, Table};
 
@@ -31,7 +30,7 @@ pub fn prepare(
     handle: u16,
     offset: u16,
     part: &[u8],
-) -> Outcome
+) -> Result<(), Refusal>
     ensures outcome { result
         ≡ prepare_outcome (record { handle = handle; offset = offset; part = part.now })
         (prepare_fault table.now.attributes standing.entry.now queue.old
@@ -43,21 +42,29 @@ pub fn prepare(
 {
     let guard = table.get(handle).map(|attr| &attr.guard);
     if let Some((_, code)) = first_broken(Access::Write, guard, standing) {
-        return Outcome::Denied(opcode::PREPARE_WRITE_REQUEST, handle, code);
+        return Err(refused_to_queue(handle, code));
     }
     if !queue.has_room(part) {
-        return Outcome::Denied(
-            opcode::PREPARE_WRITE_REQUEST,
-            handle,
-            error_code::PREPARE_QUEUE_FULL,
-        );
+        return Err(refused_to_queue(handle, error_code::PREPARE_QUEUE_FULL));
     }
     queue.push(EntryRef {
         handle,
         offset,
         part,
     });
-    Outcome::Queued
+    Ok(())
+}
+
+fn refused_to_queue(handle: u16, code: u8) -> Refusal
+    ensures opcode { result.opcode ≡ PREPARE_WRITE_REQUEST }
+    ensures handle { result.handle ≡ handle }
+    ensures code { result.code ≡ code }
+{
+    Refusal {
+        opcode: opcode::PREPARE_WRITE_REQUEST,
+        handle,
+        code,
+    }
 }
 
 /// Executes all prepared writes in order, or rejects all and changes nothing.
@@ -70,7 +77,7 @@ pub fn execute(
     standing: &Standing,
     queue: &mut Queue,
     touched: &mut Touched,
-) -> Outcome
+) -> Result<(), Refusal>
     requires row { IsRowOf table.old.attributes row.old }
     ensures outcome { result
         ≡ write_outcome EXECUTE_WRITE_REQUEST
@@ -86,30 +93,30 @@ pub fn execute(
     touched.clear();
     let (places, octets) = queue.parts();
     let outcome = match first_refused(table, standing, places, octets) {
-        Some((handle, code)) => Outcome::Denied(opcode::EXECUTE_WRITE_REQUEST, handle, code),
+        Some(refusal) => Err(refusal),
         None => {
             put_all(table, row, places, octets);
             touch_all(places, touched);
-            Outcome::Written
+            Ok(())
         }
     };
     queue.clear();
     outcome
 }
 
-/// Returns the handle and error code of the first rejected entry. `octets` has the parts in
-/// sequence.
+/// Returns the refusal of the first rejected entry. `octets` has the parts in sequence.
 fn first_refused(
     table: &Table,
     standing: &Standing,
     places: &[Place],
     octets: &[u8],
-) -> Option<(u16, u8)>
+) -> Option<Refusal>
     requires { sizes_of places.now ≡ length octets.now }
+    ensures opcode { IfSome result (λ refusal. refusal.opcode ≡ EXECUTE_WRITE_REQUEST) }
     ensures refused { IfSome result (λ refusal. (row : Row)
         → applied_to Access.Write table.now row standing.entry.now
         (entries_in places.now octets.now)
-        ≡ Err (record { handle = refusal.0; code = refusal.1 })) }
+        ≡ Err (record { handle = refusal.handle; code = refusal.code })) }
     ensures written { IsNone result → (row : Row)
         → applied_to Access.Write table.now row standing.entry.now
         (entries_in places.now octets.now)
@@ -125,7 +132,11 @@ fn first_refused(
         rest = after;
         let earlier = &places[..index];
         if let Some(code) = fault_of(Access::Write, table, standing, earlier, place.entry(part)) {
-            return Some((place.handle, code));
+            return Some(Refusal {
+                opcode: opcode::EXECUTE_WRITE_REQUEST,
+                handle: place.handle,
+                code,
+            });
         }
     }
     None

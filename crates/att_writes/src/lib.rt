@@ -4,11 +4,9 @@
 mod entry;
 mod execution;
 mod fault;
-mod outcome;
 mod queue;
 mod writes;
 
 pub use execution::{cancel, execute, prepare};
-pub use outcome::Outcome;
 pub use queue::{MAX_PREPARED, Queue, Touched};
 pub use writes::{command, write};

@@ -12,8 +12,7 @@ ghost use Rattle.att_writes.specs.Outcome.{write_outcome};
 
 use crate::entry::EntryRef;
 use crate::fault::fault_of;
-use crate::outcome::Outcome;
-use att_numbers::opcode;
+use att_numbers::{Refusal, opcode};
 use att_policy::{Access, Standing};
 use att_table::{ConfigRow, Role, Table};
 
@@ -27,7 +26,7 @@ pub fn write(
     standing: &Standing,
     handle: u16,
     value: &[u8],
-) -> Outcome
+) -> Result<(), Refusal>
     requires row { IsRowOf table.old.attributes row.old }
     ensures outcome { result
         ≡ write_outcome WRITE_REQUEST
@@ -58,7 +57,7 @@ pub fn command(
     standing: &Standing,
     handle: u16,
     value: &[u8],
-) -> Outcome
+) -> Result<(), Refusal>
     requires row { IsRowOf table.old.attributes row.old }
     ensures outcome { result
         ≡ write_outcome WRITE_COMMAND
@@ -92,7 +91,7 @@ fn write_at_once(
     row: &mut ConfigRow,
     standing: &Standing,
     entry: EntryRef<'_>,
-) -> Outcome
+) -> Result<(), Refusal>
     requires row { IsRowOf table.old.attributes row.old }
     ensures outcome { result
         ≡ write_outcome opcode
@@ -101,10 +100,14 @@ fn write_at_once(
         (entry_of entry.entry ∷ [])) table.old table.new row.new }
 {
     match fault_of(access, table, standing, &[], entry) {
-        Some(code) => Outcome::Denied(opcode, entry.handle, code),
+        Some(code) => Err(Refusal {
+            opcode,
+            handle: entry.handle,
+            code,
+        }),
         None => {
             put(table, row, entry);
-            Outcome::Written
+            Ok(())
         }
     }
 }

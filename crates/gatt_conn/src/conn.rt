@@ -10,10 +10,11 @@ ghost use Rattle.gatt_conn.specs.Transcript.{TranscriptTells};
 ghost use Rattle.att_pdu.specs.declared.pdu_buf.TheConstants.{MAX_MTU};
 ghost use Rattle.att_numbers.specs.declared.opcode.TheConstants.{EXECUTE_WRITE_REQUEST};
 
+use att_numbers::Refusal;
 use att_pdu::MIN_MTU;
 use att_policy::{Access, Standing};
 use att_table::{ConfigRow, Table};
-use att_writes::{Outcome, Queue, Touched};
+use att_writes::{Queue, Touched};
 use std::alloc::{AllocError, Global};
 use std::marker::Model;
 
@@ -150,7 +151,7 @@ impl Conn {
         handle: u16,
         offset: u16,
         part: &[u8],
-    ) -> Outcome
+    ) -> Result<(), Refusal>
         ensures outcome { result ≡ prepare_outcome (entry_at handle offset part.now)
             (prepare_fault table.now.attributes self.old.standing self.old.queue
             (entry_at handle offset part.now)) }
@@ -169,7 +170,7 @@ impl Conn {
         table: &mut Table,
         row: &mut ConfigRow,
         touched: &mut Touched,
-    ) -> Outcome
+    ) -> Result<(), Refusal>
         requires row { IsRowOf table.old.attributes row.old }
         ensures outcome { result
             ≡ write_outcome EXECUTE_WRITE_REQUEST

@@ -12,7 +12,7 @@ ghost use Rattle.gatt_conn.specs.Served.{ServesPdu, ServesRequest, IsAnswered};
 use crate::answered::Served;
 use crate::conn::Conn;
 use crate::writing::{cancel, command, execute, prepare, write};
-use att_numbers::{error_code, opcode};
+use att_numbers::{Refusal, error_code, opcode};
 use att_pdu::{ExecuteFlags, PduBuf, PduFault, Request, fault_of, read_parameters};
 use att_reads::answer_read;
 use att_table::{ConfigRow, Table};
@@ -159,9 +159,9 @@ fn dispatch(
         ),
         other => match fault_of(other) {
             PduFault::Ignored => without_answer(false),
-            PduFault::Invalid(opcode) => refuse(opcode, 0, error_code::INVALID_PDU, out),
+            PduFault::Invalid(opcode) => refuse(of_pdu(opcode, error_code::INVALID_PDU), out),
             PduFault::Unsupported(opcode) => {
-                refuse(opcode, 0, error_code::REQUEST_NOT_SUPPORTED, out)
+                refuse(of_pdu(opcode, error_code::REQUEST_NOT_SUPPORTED), out)
             }
         },
     }
@@ -250,9 +250,9 @@ fn serve_form(
             with_answer()
         }
         Err(PduFault::Ignored) => without_answer(false),
-        Err(PduFault::Invalid(opcode)) => refuse(opcode, 0, error_code::INVALID_PDU, out),
+        Err(PduFault::Invalid(opcode)) => refuse(of_pdu(opcode, error_code::INVALID_PDU), out),
         Err(PduFault::Unsupported(opcode)) => {
-            refuse(opcode, 0, error_code::REQUEST_NOT_SUPPORTED, out)
+            refuse(of_pdu(opcode, error_code::REQUEST_NOT_SUPPORTED), out)
         }
     }
 }
@@ -290,11 +290,25 @@ fn exchange_mtu(conn: &mut Conn, client_rx_mtu: u16, out: &mut PduBuf<'_>) -> Se
     with_answer()
 }
 
-#[inline(never)]
-pub(crate) fn refuse(request_opcode: u8, handle: u16, code: u8, out: &mut PduBuf<'_>) -> Served
-    ensures { ServesRequest (Some (ErrorResponse request_opcode handle code)) out.old out.new
-        result }
+/// Returns the refusal of a PDU that concerns no attribute.
+#[inline(always)]
+fn of_pdu(opcode: u8, code: u8) -> Refusal
+    ensures opcode { result.opcode ≡ opcode }
+    ensures handle { result.handle ≡ 0 }
+    ensures code { result.code ≡ code }
 {
-    out.error(request_opcode, handle, code);
+    Refusal {
+        opcode,
+        handle: 0,
+        code,
+    }
+}
+
+#[inline(never)]
+pub(crate) fn refuse(refusal: Refusal, out: &mut PduBuf<'_>) -> Served
+    ensures { ServesRequest
+        (Some (ErrorResponse refusal.opcode refusal.handle refusal.code)) out.old out.new result }
+{
+    out.error(refusal);
     with_answer()
 }

@@ -16,7 +16,7 @@ use crate::serving::{refuse, with_answer, without_answer};
 use att_numbers::opcode;
 use att_pdu::{ExecuteFlags, PduBuf};
 use att_table::{ConfigRow, Table};
-use att_writes::{Outcome, Touched};
+use att_writes::Touched;
 
 /// Serves a Write Request (Core 5.0, Vol 3 Part F, 3.4.5.1).
 pub(crate) fn write(
@@ -38,8 +38,8 @@ pub(crate) fn write(
         (Ok (WriteRequest handle value.now))) table.old table.new row.new }
 {
     match att_writes::write(table, row, conn.standing(), handle, value) {
-        Outcome::Denied(opcode, handle, code) => refuse(opcode, handle, code, out),
-        Outcome::Written | Outcome::Queued => {
+        Err(refusal) => refuse(refusal, out),
+        Ok(()) => {
             out.replace(&[opcode::WRITE_RESPONSE], &[]);
             touched.push(handle);
             with_answer()
@@ -66,8 +66,8 @@ pub(crate) fn command(
     ensures confirmed { result.confirmed ≡ false }
 {
     match att_writes::command(table, row, conn.standing(), handle, value) {
-        Outcome::Denied(..) => without_answer(false),
-        Outcome::Written | Outcome::Queued => {
+        Err(_) => without_answer(false),
+        Ok(()) => {
             touched.push(handle);
             without_answer(false)
         }
@@ -94,8 +94,8 @@ pub(crate) fn prepare(
     } }
 {
     match conn.prepare(table, handle, offset, part) {
-        Outcome::Denied(opcode, handle, code) => refuse(opcode, handle, code, out),
-        Outcome::Written | Outcome::Queued => {
+        Err(refusal) => refuse(refusal, out),
+        Ok(()) => {
             let [handle_low, handle_high] = handle.to_le_bytes();
             let [offset_low, offset_high] = offset.to_le_bytes();
             out.replace(
@@ -143,8 +143,8 @@ pub(crate) fn execute(
     ensures conn { conn.new ≡ record conn.old { queue = [] } }
 {
     match conn.execute(table, row, touched) {
-        Outcome::Denied(opcode, handle, code) => refuse(opcode, handle, code, out),
-        Outcome::Written | Outcome::Queued => {
+        Err(refusal) => refuse(refusal, out),
+        Ok(()) => {
             out.replace(&[opcode::EXECUTE_WRITE_RESPONSE], &[]);
             with_answer()
         }

@@ -10,11 +10,11 @@ use Rattle.gatt_conn.proofs.Prepared.{denied, accepted}
 use Rattle.gatt_conn.proofs.writing.prepare.Goals as goal
 use Rattle.octet_io.specs.Number.{two_octets}
 
-pub returns-in-Denied-clause-served : goal.returns-in-Denied-clause-served
-returns-in-Denied-clause-served c =
+pub returns-in-Err-clause-served : goal.returns-in-Err-clause-served
+returns-in-Err-clause-served c =
     let same =
-    denied (entry_at c.args.handle c.args.offset c.args.part.now) _ c.in-Denied.opcode c.in-Denied.handle c.in-Denied.code
-    (sym c.in-Denied.is ∙ c.prepare.ensures.outcome) in
+    denied (entry_at c.args.handle c.args.offset c.args.part.now) _ c.in-Err.refusal
+    (sym c.in-Err.is ∙ c.prepare.ensures.outcome) in
     let refused = c.refuse.ensures.served in
     record {
       served = record {
@@ -25,12 +25,12 @@ returns-in-Denied-clause-served c =
       confirmed = c.refuse.ensures.confirmed;
     }
 
-pub returns-in-Written-clause-served : goal.returns-in-Written-clause-served
-returns-in-Written-clause-served c =
+pub returns-in-Ok-clause-served : goal.returns-in-Ok-clause-served
+returns-in-Ok-clause-served c =
     let entry : Entry = entry_at c.args.handle c.args.offset c.args.part.now in
     let same =
-    accepted entry (prepare_fault c.args.table.now.attributes c.args.conn.now.standing c.args.conn.now.queue entry) c.prepare.result c.in-Written.is
-    c.prepare.ensures.outcome in
+    accepted entry (prepare_fault c.args.table.now.attributes c.args.conn.now.standing c.args.conn.now.queue entry)
+    (sym c.in-Ok.is ∙ c.prepare.ensures.outcome) in
     let repeated : contents c.replace.new.self ≡ PREPARE_WRITE_RESPONSE ∷ two_octets c.args.handle ++ two_octets c.args.offset ++ c.args.part.now =
     grind (arith, common_steps) in
     record {
