@@ -1,4 +1,5 @@
 pub mod Bonds
+pub mod Gathered
 pub mod Entries
 pub mod Heard
 pub mod InOrder

@@ -2,6 +2,7 @@
 #![tactic(auto)]
 
 mod bond;
+mod contents;
 mod fit;
 mod hearing;
 mod pending;
@@ -14,6 +15,7 @@ mod unfitted;
 
 pub use hearing::{Raised, Telling};
 pub use pending::{MAX_BACKLOG, Pending, PendingOf, PendingOfTable};
+pub use row_entry::RowEntry;
 pub use rows::Rows;
 pub use rows_fault::RowsFault;
 pub use rows_text::address_text;

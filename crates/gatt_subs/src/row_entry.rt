@@ -6,6 +6,7 @@ use le_hci::Peer;
 /// A peer's configuration at a handle.
 #[derive(Clone, Copy)]
 pub struct RowEntry {
+    /// The peer, which has a key.
     pub peer: Peer,
     /// The CCCD's handle.
     pub handle: u16,

@@ -18,14 +18,14 @@ ghost use Rattle.gatt_subs.specs.ReadBack.{written_by, FittedCanBeWritten, IsOfA
 ghost use Rattle.gatt_subs.specs.RowEntry.{is_at, rank_of};
 ghost use Rattle.gatt_subs.specs.Rows.{peer_place, bond_of, row_of, row_in, rows_in, row_read, owes, bonds_with, with_bond, with_row, with_set, with_owed, kept_bond, subscriptions_read, ChangesBond};
 ghost use Rattle.gatt_subs.specs.Changes.{with_changes_owed};
-ghost use Rattle.gatt_subs.specs.RowsText.{rows_text};
+ghost use Rattle.gatt_subs.specs.RowsText.{configured, owed_in, rows_text};
 ghost use Rattle.att_numbers.specs.declared.limit.TheConstants.{MAX_ATTRIBUTES};
 
 use crate::bond::Bond;
 use crate::row_entry::RowEntry;
 use crate::rows_fault::RowsFault;
 use crate::unfitted::{Unfitted, has_peer};
-use crate::{fit, rows_text};
+use crate::{contents, fit, rows_text};
 use att_table::{ConfigRow, Table};
 use le_hci::Peer;
 use le_security::Keys;
@@ -173,6 +173,21 @@ impl Rows {
         ensures fitted { FittedCanBeWritten self.now }
     {
         rows_text::write_rows(&self.peers, &self.bonds, &self.unfitted, sink)
+    }
+
+    /// Returns the entries with nonzero bits in file order, also of a file that is not fitted.
+    pub fn entries(&self, alloc: Global) -> Result<Vec<RowEntry>, AllocError>
+        ensures entries { IfOk result (λ entries. entries.items ≡ configured self.now) }
+    {
+        contents::all_entries(alloc, &self.peers, &self.bonds, self.unfitted.entries())
+    }
+
+    /// Returns the peers with a pending Service Changed indication in file order, also of a file
+    /// that is not fitted.
+    pub fn owed_peers(&self, alloc: Global) -> Result<Vec<Peer>, AllocError>
+        ensures peers { IfOk result (λ peers. peers.items ≡ owed_in self.now) }
+    {
+        contents::all_owed(alloc, &self.peers, &self.bonds, self.unfitted.owed())
     }
 
     /// Returns a peer's bits at a handle, 0 without an entry.

@@ -149,7 +149,7 @@ fn write_owed<W: Sink>(peers: &[Peer], sink: &mut W) -> Result<(), Failed>
 }
 
 /// Returns a row's entries with nonzero bits in file order.
-fn entries_of(peer: &Peer, row: &ConfigRow) -> ArrayVec<RowEntry, MAX_CONFIGURATIONS>
+pub fn entries_of(peer: &Peer, row: &ConfigRow) -> ArrayVec<RowEntry, MAX_CONFIGURATIONS>
     ensures { result.items ≡ entries_of peer.now row.now }
 {
     let mut entries = ArrayVec::new();
