@@ -1,5 +1,7 @@
 -- The connections of a host that the application can see.
 use Rattle.std.specs.Prelude.{◌≡◌, ℕ, ◌==◌, not, List, [], ◌∷◌, find, Option, Some, None}
+use Rattle.std.specs.Option.{option_and_then}
+use Rattle.att_numbers.specs.Types.{Row}
 use Rattle.gatt_host.specs.HostModel.{HostModel}
 use Rattle.gatt_laws.specs.machine.Event.{Ordinal}
 use Rattle.gatt_laws.specs.machine.ConnectionState.{ConnectionState, is_live, key_of, connection_mtu}
@@ -9,6 +11,7 @@ use Rattle.gatt_laws.specs.machine.State.{State}
 use Rattle.host_api.specs.declared.connection.Connection.{Connection}
 use Rattle.host_connections.specs.Arrivals.{counted_on}
 use Rattle.host_connections.specs.Connections.{connections_left, read_from}
+use Rattle.host_connections.specs.Slots.{place_holding, slot_row}
 
 abbrev pub connections_in : HostModel → List Connection
 connections_in host = connections_left host.server.slots host.frames.arrivals 0
@@ -40,6 +43,12 @@ connections_of heard state = read_from (ordinal_seen heard state) 0 state.slots
 abbrev pub connection_with : ℕ → List Connection → Option Connection
 connection_with handle connections =
     find (λ (connection : Connection). connection.handle == handle) connections
+
+-- The configurations in force of the connection with a handle, if there is one.
+abbrev pub row_in_force_of : HostModel → ℕ → Option Row
+row_in_force_of host handle =
+    option_and_then (slot_row host.server.slots host.server.rows)
+    (place_holding host.server.slots handle)
 
 -- The iterator returns the first remaining connection, if there is one.
 abbrev pub HandsOutTheFirst : List Connection → Option Connection → List Connection → Type 0

@@ -2,7 +2,7 @@
 
 ghost use Rattle.std.specs.Prelude.{◌≡◌, ◌<◌, ◌≤◌, ◌∷◌, [], length, not, false, true, is_some, slice_get, ◌||◌, List, Some, None, Ok, Err, IsSome, IfOk, IfErr, IfSome, OnErr, take};
 ghost use Rattle.std.specs.Bool.{OnTrue, OnFalse};
-ghost use Rattle.std.specs.Option.{option_map};
+ghost use Rattle.std.specs.Option.{option_copied, option_map};
 ghost use Rattle.std.specs.Result.{result_err};
 ghost use Rattle.gatt_laws.specs.laws.Deadline.{deadline};
 ghost use Rattle.gatt_laws.specs.laws.Deadline.{IsQuietBeforeTheDeadline, TellsFromTheDeadlineOn};
@@ -12,7 +12,7 @@ ghost use Rattle.gatt_laws.specs.machine.Start.{Start};
 ghost use Rattle.gatt_laws.specs.laws.Telling.{TellsTheApplication};
 ghost use Rattle.gatt_host.specs.Calls.{call_of};
 ghost use Rattle.gatt_host.specs.Asked.{refusal_in_result, replacing_refusal_of};
-ghost use Rattle.gatt_host.specs.Connections.{connection_with, connections_in, connections_of};
+ghost use Rattle.gatt_host.specs.Connections.{connection_with, connections_in, connections_of, row_in_force_of};
 ghost use Rattle.gatt_host.specs.Credits.{most_out};
 ghost use Rattle.gatt_host.specs.Feeding.{items_taken, TakesUpToAPacket};
 ghost use Rattle.gatt_host.specs.GoingOut.{is_drained};
@@ -35,7 +35,7 @@ use crate::host_fault::HostFault;
 use crate::notice_iterator::Notices;
 use crate::server::Server;
 use crate::{packet, stream_packets};
-use att_table::Table;
+use att_table::{ConfigRow, Table};
 use gatt_subs::Rows;
 use host_api::{App, AppFault, Connection, Notice};
 use le_h4::{Deframer, MAX_ACL_DATA, PacketBuf, PacketOctets, PacketRef};
@@ -258,7 +258,7 @@ impl Host {
     }
 
     /// Returns the notice at this index, counted from 0, if it exists.
-    pub(crate) fn notice(&self, at: usize) -> Option<Notice<'_>>
+    pub fn notice(&self, at: usize) -> Option<Notice<'_>>
         ensures notice { option_map notice_of result ≡ slice_get (notices_told self.now) at }
         ensures value { IfSome result (HasTheValue self.now.server.table) }
         ensures few { IsSome result → at < 290 }
@@ -351,6 +351,15 @@ impl Host {
             }
         }
         None
+    }
+
+    /// Returns the configurations in force of the connection with this handle, if there is one:
+    /// those of its peer if the link has a key, else its own.
+    pub fn row(&self, handle: u16) -> Option<&ConfigRow>
+        ensures in_force { option_copied result ≡ row_in_force_of self.now handle }
+    {
+        let place = self.server.slots.find_holding(handle)?;
+        self.server.slots.row(place, &self.server.rows)
     }
 
     /// Returns the table with its values, the keys and the rows, even after a fault.

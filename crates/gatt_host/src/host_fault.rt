@@ -44,12 +44,7 @@ impl HostFault {
 impl fmt::Display for HostFault {
     fn fmt<W: fmt::Write>(&self, f: &mut fmt::Formatter<W>) -> fmt::Result {
         match self {
-            HostFault::Desync(octet) => {
-                write!(
-                    f,
-                    "the octet {octet:02x} stands where a packet begins, and begins none"
-                )
-            }
+            HostFault::Desync(octet) => { write!(f, "the octet {octet:02x} begins no packet") }
             HostFault::BadEvent(code) => write!(
                 f,
                 "the event {code:02x} is too short for its fields, or has another length than it states"

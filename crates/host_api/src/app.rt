@@ -62,7 +62,7 @@ impl fmt::Display for AppFault {
                 "the value is longer than its largest length, or a fixed one has another length"
             }
             AppFault::NoSuchConnection => "no connection with the handle serves",
-            AppFault::TimeWentBack => "the time is before the one that stands",
+            AppFault::TimeWentBack => "the time is earlier than the current time",
             AppFault::Stopped => "the host has stopped",
             AppFault::NoServiceChanged => {
                 "a table has no value that tells of changes, or they have it at different handles"

@@ -50,6 +50,13 @@ at_place place change xs = option_map_or (λ x. set xs place (change x)) (slice_
 abbrev pub slots_at : ℕ → (SlotState → SlotState) → SlotStates → SlotStates
 slots_at place change slots = at_place place (option_map change) slots
 
+-- The row in force of a slot, if it has a connection.
+abbrev pub slot_row : SlotStates → Subscriptions → ℕ → Option Row
+slot_row slots rows place =
+    option_map
+    (λ (slot_state : SlotState). slot_row_in_force (row_of rows slot_state.peer) slot_state)
+    (slot_state_at slots place)
+
 abbrev pub slot_row_at : SlotStates → Subscriptions → ℕ → Row
 slot_row_at slots rows place =
     option_map_or

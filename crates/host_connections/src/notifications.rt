@@ -3,7 +3,7 @@
 
 ghost use Rattle.std.specs.Prelude.{◌≡◌, ◌-◌, ◌≤◌, ◌<◌, true, false, [], ◌∷◌, ◌++◌, length, take, is_some, IfSome};
 ghost use Rattle.std.specs.Bool.{OnTrue, OnFalse};
-ghost use Rattle.std.specs.Option.{option_map_or};
+ghost use Rattle.std.specs.Option.{option_copied, option_map, option_map_or};
 ghost use Rattle.host_connections.specs.Commands.{gives};
 ghost use Rattle.host_connections.specs.SlotState.{standing_with};
 ghost use Rattle.att_table.specs.ConfigRow.{bits_at};
@@ -107,15 +107,27 @@ pub(crate) fn row_in_force<'a>(
 }
 
 impl Slot {
+    /// Returns the row in force, if there is a connection.
+    pub(crate) fn row<'a>(&'a self, rows: &'a Rows) -> Option<&'a ConfigRow>
+        ensures { option_copied result ≡ option_map
+            (λ slot_state. slot_row_in_force (row_of rows.now slot_state.peer) slot_state)
+            self.now }
+    {
+        if self.used == Use::Free {
+            return None;
+        }
+        Some(row_in_force(&self.link, &self.peer, &self.row, rows))
+    }
+
     pub(crate) fn bits(&self, rows: &Rows, handle: u16) -> u8
         ensures { result ≡ bits_at (option_map_or
             (λ slot_state. slot_row_in_force (row_of rows.now slot_state.peer) slot_state) self.now
             []) handle }
     {
-        if self.used == Use::Free {
-            return 0;
+        match self.row(rows) {
+            Some(row) => row.get(handle),
+            None => 0,
         }
-        row_in_force(&self.link, &self.peer, &self.row, rows).get(handle)
     }
 
     /// Notifies a written value, or adds it to the values that wait to be indicated, if the

@@ -4,6 +4,7 @@ ghost use Rattle.std.specs.Prelude.{◌≡◌, ℕ, ◌<◌, ◌≤◌, length, 
 ghost use Rattle.std.specs.Bool.{OnTrue, OnFalse};
 ghost use Rattle.std.specs.Borrow.{sem};
 ghost use Rattle.std.specs.List.{position};
+ghost use Rattle.std.specs.Option.{option_copied};
 ghost use Rattle.att_table.specs.ConfigRow.{bits_at, IsRowOf};
 ghost use Rattle.att_table.specs.Table.{Contents};
 ghost use Rattle.att_writes.specs.declared.queue.TheConstants.{MAX_PREPARED};
@@ -14,7 +15,7 @@ ghost use Rattle.host_connections.specs.OfTable.{AreOfTable, AreOfTableIfAny};
 ghost use Rattle.host_connections.specs.Places.{may_listen};
 ghost use Rattle.host_connections.specs.Request.{bond_served, confirmed_of, handles_written_by, overflows, slot_after_request, table_after};
 ghost use Rattle.host_connections.specs.Skips.{all_skipped};
-ghost use Rattle.host_connections.specs.Slots.{slots_after_entries, all_after_table, all_after_time, all_heard, slot_state_at, late_handles, place_free, place_holding, place_serving, slot_row_at, slots_at, slots_deadline, IsThere};
+ghost use Rattle.host_connections.specs.Slots.{slots_after_entries, all_after_table, all_after_time, all_heard, slot_state_at, late_handles, place_free, place_holding, place_serving, slot_row, slot_row_at, slots_at, slots_deadline, IsThere};
 ghost use Rattle.gatt_subs.specs.Rows.{row_of, ChangesBond, Subscriptions};
 ghost use Rattle.le_hci.specs.Event.{completed_packets_of};
 
@@ -32,7 +33,7 @@ use crate::request::Brought;
 use crate::skipped::{Skips, note_all_skips};
 use crate::slot::Slot;
 use arrayvec::ArrayVec;
-use att_table::Table;
+use att_table::{ConfigRow, Table};
 use gatt_conn::Touched;
 use gatt_laws::MAX_SLOTS;
 use gatt_subs::Rows;
@@ -154,6 +155,13 @@ impl Slots {
         self.marks.change(place);
         self.handles = Handles::none();
         &mut self.slots[place]
+    }
+
+    /// Returns the row in force of a slot, if it has a connection.
+    pub fn row<'a>(&'a self, place: usize, rows: &'a Rows) -> Option<&'a ConfigRow>
+        ensures { option_copied result ≡ slot_row self.now rows.now place }
+    {
+        self.slots.get(place)?.row(rows)
     }
 
     /// Returns the bits of the row in force of a slot at a handle: 0 without a connection.
