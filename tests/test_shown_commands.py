@@ -161,7 +161,7 @@ def test_a_refused_file(program):
     ran = run(REFUSED, program)
     assert (ran.returncode, ran.stdout) == (1, "")
     shown = "".join(f"    {it}\n" for it in [REFUSED, *ran.stderr.splitlines()])
-    assert shown in text_of("docs/TOUR.md")
+    assert shown in text_of("docs/TUTORIAL.md")
 
 
 @pytest.mark.parametrize("script", SCRIPTS, ids=[it[2] for it in SCRIPTS])
@@ -177,9 +177,9 @@ def test_pdus(program, name):
     assert answers == text_of(f"examples/{name}_answers.txt")
 
 
-def test_the_tour_of_pdus(program):
-    """The table of PDUs in the tour has the lines of a file, and what the program answers."""
-    rows = cells(text_of("docs/TOUR.md"), "| PDU | Answer |")
+def test_the_pdus_of_the_tutorial(program):
+    """The table of PDUs in the tutorial has the lines of a file, and what the program answers."""
+    rows = cells(text_of("docs/TUTORIAL.md"), "| PDU | Answer |")
     asked = [it for row in rows for it in row[0]]
     assert asked == [it for it in text_of("examples/att_first.txt").splitlines() if it]
     answers = [it for row in rows for it in row[1]]
@@ -195,9 +195,9 @@ def test_the_manual(program):
 
 
 @pytest.mark.without_program
-def test_the_tour_of_a_run():
-    """The table of a run in the tour has the lines of a script, and what it prints."""
-    rows = cells(text_of("docs/TOUR.md"), "| Line | Printed |")
+def test_the_run_of_the_tutorial():
+    """The table of a run in the tutorial has the lines of a script, and what it prints."""
+    rows = cells(text_of("docs/TUTORIAL.md"), "| Line | Printed |")
     lines = [it for it in text_of("examples/bonded.script").splitlines() if it and not it.startswith("#")]
     assert [it for row in rows for it in row[0]] == lines
     assert [it for row in rows for it in row[1]] == text_of("examples/bonded.out").splitlines()

@@ -109,13 +109,9 @@ def test_host(folder, serve, command):
 
 
 def test_the_tutorial(folder, program, serve):
-    """The tutorial of docs/DEVICE.md: the device, its application, and a phone."""
-    text = text_of("docs/DEVICE.md").split("\n# Reference\n")[0]
-    (application,), (table, log, phone, heard) = blocks("python", text), blocks("text", text)
-    words = [program, "show", "examples/door.toml", "examples/keys.toml"]
-    shown = subprocess.run(words, cwd=ROOT, capture_output=True, text=True, timeout=60).stdout.splitlines()
-    for line in table.splitlines():
-        assert line in shown, "a line of show"
+    """The tutorial: the device, its application, and a client. Its first block is what `show` prints."""
+    text = text_of("docs/TUTORIAL.md")
+    (application,), (_, log, client, heard) = blocks("python", text), blocks("text", text)
     port = free_port()
     serving = serve(HOSTED[1], port)
     await_file(f"{folder}/door.socket")
@@ -130,8 +126,8 @@ def test_the_tutorial(folder, program, serve):
     motor.wait(PATIENCE)
     motor.stdout.close()
     logged = serving.communicate(timeout=PATIENCE)[1].splitlines()
-    assert played.stdout == phone, played.stderr
-    # The number of a start is another one each time. The answer to `allow` may come behind the phone's write.
+    assert played.stdout == client, played.stderr
+    # The number of a start is another one each time. The answer to `allow` may come behind the client's write.
     alike = [re.sub(r"(?m)^\+ started \d+$", "+ started N", it) for it in ("".join(lines), heard)]
     found, wanted = (it.splitlines() for it in alike)
     assert [it for it in found if it != "ok"] == [it for it in wanted if it != "ok"], "the application"
