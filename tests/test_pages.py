@@ -12,8 +12,8 @@ pytestmark = pytest.mark.without_program
 
 # What makes pages, or counts in all of them. Each prints what is wrong.
 SCRIPTS = [
-    "docs/api --check", "docs/model --check", "docs/contracts --check", "docs/manual --check", "docs/prose",
-    "tools/licences",
+    "docs/api --check", "docs/cases --check", "docs/model --check", "docs/contracts --check", "docs/manual --check",
+    "docs/prose", "tools/licences",
 ]
 
 

@@ -186,9 +186,10 @@ def test_the_pdus_of_the_tutorial(program):
     assert printed("./gatt_shell att < examples/att_first.txt", program).split() == answers
 
 
-def test_the_manual(program):
-    """The manual pages are those that the pages and the help of the program make."""
-    words = ["docs/manual", "--check", program]
+@pytest.mark.parametrize("script", ["docs/manual", "docs/cases"])
+def test_what_needs_the_program(program, script):
+    """The manual pages and the tables of cases are what their sources and the program make."""
+    words = [script, "--check", program]
     how = {"stdin": subprocess.DEVNULL, "capture_output": True, "text": True, "timeout": 300}
     ran = subprocess.run(words, cwd=ROOT, **how)
     assert ran.returncode == 0, ran.stdout + ran.stderr
