@@ -74,7 +74,7 @@ def test_the_program(folder):
 
 
 def test_two_keys(folder):
-    """One of two keys of a central has to be chosen."""
+    """One of two keys of a client has to be chosen."""
     path = put(f"{folder}/two.toml", SECURE + "\n" + LEGACY)
     refused("choose one of 1, 2 by --entry", "to-bluez", path, CENTRAL, "public")
     assert accepted("to-bluez", path, CENTRAL, "public", "--entry", "2") == LEGACY_INFO, "the second"
@@ -82,7 +82,7 @@ def test_two_keys(folder):
     refused(f"has no key of random {CENTRAL}", "to-bluez", path, CENTRAL, "random")
 
 
-# A key file with comments, three entries of two centrals, and an entry that is its last.
+# A key file with comments, three entries of two clients, and an entry that is its last.
 FIRST = LEGACY.replace("24400", "1")
 SECOND = "# The second key.\n  # It is old.\n" + LEGACY.replace(CENTRAL, DEVICE) + "# of the second key\n"
 THIRD = LEGACY.replace("24400", "2").replace("[[key]]", "[[ key ]] # the third")

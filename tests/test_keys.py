@@ -169,11 +169,11 @@ def test_a_static_address(folder):
 
 
 def test_private_addresses(folder):
-    """The key of a central with private addresses is taken with a note."""
+    """The key of a client with private addresses is taken with a note."""
     text = SECURE_PERIPHERAL + "\n[IdentityResolvingKey]\nKey=00000000000000000000000000000000\n"
     status, printed, told = keys(*from_info(put(f"{folder}/private.info", text), "peripheral"))
     found = status, printed, "private addresses" in told
-    assert found == (0, SECURE, True), "a central with private addresses"
+    assert found == (0, SECURE, True), "a client with private addresses"
 
 
 def refused_info():
@@ -221,8 +221,8 @@ def test_no_info(folder):
 def test_the_folders_of_info(folder):
     """The folders of a file `info` say whose it is, and those of others are refused."""
     folders = put(f"{folder}/{CENTRAL.upper()}/{DEVICE.upper()}/info", LEGACY_CENTRAL)
-    assert accepted(*from_info(folders, "central")) == LEGACY, "the folders of the central"
-    why = f"the central is {DEVICE}, and ADDRESS is {CENTRAL}: if ADDRESS is right, use --role central"
+    assert accepted(*from_info(folders, "central")) == LEGACY, "the folders of the client"
+    why = f"the client is {DEVICE}, and ADDRESS is {CENTRAL}: if ADDRESS is right, use --role central"
     refused(why, *from_info(folders, "peripheral"))
     others = put(f"{folder}/{DEVICE.upper()}/00:00:00:00:00:01/info", LEGACY_CENTRAL)
     refused(f"and ADDRESS is {CENTRAL}\n", *from_info(others, "central"))
