@@ -12,7 +12,7 @@ pytestmark = pytest.mark.without_program
 
 # What makes pages, or counts in all of them. Each prints what is wrong.
 SCRIPTS = [
-    "docs/api --check", "docs/cases --check", "docs/model --check", "docs/contracts --check", "docs/manual --check",
+    "docs/api --check", "docs/tables --check", "docs/model --check", "docs/contracts --check", "docs/manual --check",
     "docs/prose", "tools/licences",
 ]
 
