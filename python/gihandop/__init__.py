@@ -232,7 +232,7 @@ class Saved(Notice):
 
 @dataclass(frozen=True)
 class Lost(Notice):
-    """So many notices were dropped here, because the program did not read them."""
+    """`count` notices were dropped here, because the program did not read them."""
 
     count: int
 
