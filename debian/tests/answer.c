@@ -1,5 +1,5 @@
 /*
- * Reads the name of the door lock, as a phone does.
+ * Reads the name of the door lock, as a client does.
  *
  *     answer TABLE        examples/door.toml
  */

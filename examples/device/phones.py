@@ -1,11 +1,11 @@
 #!/usr/bin/env python3
-"""A controller with phones, for those who have neither: it plays a script against a device.
+"""A controller with clients, for those who have neither: it plays a script against a device.
 
 usage: phones.py HOST:PORT SCRIPT      where `gatt_shell host .. --listen HOST:PORT` listens
 
-The script is one of `gatt_shell run`. Of its lines those of phones are played: `connect`, `drop`,
-`encrypt`, `clear`, and what a phone sends. `tick` waits: `tick 1000`, and then `tick 5000`, wait for one
-second, and then for four more. What each phone receives is printed as `run` prints it.
+The script is one of `gatt_shell run`. Of its lines those of clients are played: `connect`, `drop`,
+`encrypt`, `clear`, and what a client sends. `tick` waits: `tick 1000`, and then `tick 5000`, wait for one
+second, and then for four more. What each client receives is printed as `run` prints it.
 The other lines are an application's, and are skipped. If the device or the script fails, one line
 on standard error says why, and the status is 1.
 """
@@ -23,12 +23,12 @@ QUIET = 0.3
 
 
 class Controller:
-    """Answers each command of the host, and prints what its phones receive."""
+    """Answers each command of the host, and prints what its clients receive."""
 
     def __init__(self, address):
         host, port = address.rsplit(":", 1)
         self.stream = socket.create_connection((host.strip("[]"), int(port)))
-        self.octets, self.phones = b"", {}
+        self.octets, self.clients = b"", {}
         # The last time of the script, in milliseconds.
         self.time = 0
 
@@ -48,7 +48,7 @@ class Controller:
             self.event(0x05, b"\0" + packet[4:6] + b"\x16")
             name = self.name(int.from_bytes(packet[4:6], "little"))
             print(f"{name} ended {packet[6]:02x}", flush=True)
-            self.phones.pop(name, None)
+            self.clients.pop(name, None)
             return
         handle = packet[4:6] if opcode in (KEY_REPLY, KEY_REFUSAL) else b""
         self.event(0x0E, b"\1" + spelled + b"\0" + RETURNED.get(opcode, b"") + handle)
@@ -79,13 +79,13 @@ class Controller:
         return packet
 
     def name(self, handle):
-        return next((name for name, it in self.phones.items() if it == handle), str(handle))
+        return next((name for name, it in self.clients.items() if it == handle), str(handle))
 
     def spelled(self, name):
-        """Returns the handle of a phone's connection as its two bytes."""
-        if name not in self.phones:
+        """Returns the handle of a client's connection as its two bytes."""
+        if name not in self.clients:
             raise ValueError(f"{name} is not connected")
-        return self.phones[name].to_bytes(2, "little")
+        return self.clients[name].to_bytes(2, "little")
 
     def wait(self, milliseconds):
         """Waits as long as the time of the script goes on."""
@@ -93,17 +93,17 @@ class Controller:
         self.until_quiet((self.time - before) / 1000)
 
     def play(self, words):
-        """Plays a line of a phone, or one of the time. Returns whether it is one."""
+        """Plays a line of a client, or one of the time. Returns whether it is one."""
         match words:
             case ["tick", milliseconds]:
                 self.wait(int(milliseconds))
             case ["connect", name, kind, address]:
-                handle = self.phones[name] = next(it for it in range(64, 128) if it not in self.phones.values())
+                handle = self.clients[name] = next(it for it in range(64, 128) if it not in self.clients.values())
                 peer = bytes([int(kind)]) + bytes.fromhex(address.replace(":", ""))[::-1]
                 self.event(0x3E, b"\1\0" + handle.to_bytes(2, "little") + b"\1" + peer + b"\x18\0\0\0\x48\0\0")
             case ["drop", name]:
                 self.event(0x05, b"\0" + self.spelled(name) + b"\x13")
-                del self.phones[name]
+                del self.clients[name]
             case ["encrypt", name, random_number, diversifier]:
                 asked = bytes.fromhex(random_number) + int(diversifier).to_bytes(2, "little")
                 self.event(0x3E, b"\5" + self.spelled(name) + asked)
@@ -130,11 +130,11 @@ def visit(address, script, lines):
             continue
         print(f"  {line.rstrip()}", flush=True)
         try:
-            is_of_a_phone = controller.play(words)
+            is_of_a_client = controller.play(words)
         except (ValueError, OverflowError) as error:
             sys.exit(f"phones.py: {script}, line {number}: {error}")
-        if not is_of_a_phone:
-            print("  (an application's line, passed over)", flush=True)
+        if not is_of_a_client:
+            print("  (an application's line, skipped)", flush=True)
         controller.until_quiet()
 
 
