@@ -25,8 +25,8 @@ abbrev pub saved_state : ServerState → SavedState
 saved_state server = record { rows = server.rows; values = server.table.values }
 
 -- An entry of the history. `Answered` has the refusal of the call, if any. `Unsaved` has the
--- connections with unsaved changes. `Unsent` octets found nobody there, and `Broken` has those left
--- after a failure.
+-- connections with unsaved changes. `Told` means that the application was answered and notified.
+-- `Unsent` octets found nobody there, and `Broken` has those left after a failure.
 pub data HistoryEntry : Type 0 where
   Waited : (deadline : Option ℕ) → HistoryEntry
   Happened : (happening : DeviceInput) → HistoryEntry
@@ -38,6 +38,7 @@ pub data HistoryEntry : Type 0 where
   Sent : (octets : Octets) → HistoryEntry
   Unsent : (octets : Octets) → HistoryEntry
   Broken : (left : Octets) → HistoryEntry
+  Told : HistoryEntry
 
 abbrev pub next_octets : Next → Octets
 next_octets (next.Octets octets) = octets.now

@@ -4,7 +4,7 @@ use Rattle.std.proofs.Common.{inl, inr}
 use Rattle.std.specs.Coded.{Coded, code_by, coded_list, coded_option, coded_ℕ, coded×, coded⊎}
 use base.Stored.{coded_unit}
 use Rattle.att_numbers.specs.Types.{Values}
-use Rattle.device_loop.specs.Happenings.{DeviceInput, Came, Asked, HistoryEntry, Waited, Happened, Answered, Ended, Failed, Saved, Unsaved, SavedState, Sent, Unsent, Broken}
+use Rattle.device_loop.specs.Happenings.{DeviceInput, Came, Asked, HistoryEntry, Waited, Happened, Answered, Ended, Failed, Saved, Unsaved, SavedState, Sent, Unsent, Broken, Told}
 use Rattle.gatt_laws.specs.machine.Calls.{Call, UpdateCall, AuthorizeCall, DisconnectCall, TickCall, Refused, NoSuchHandle, NotAValue, BadLength, NoSuchConnection, TimeWentBack, Stopped, NoServiceChanged}
 use Rattle.gatt_subs.specs.contracts.rows.Rows as rows
 use Rattle.gatt_subs.specs.Rows.{Subscriptions}
@@ -107,7 +107,7 @@ coded_state =
 abbrev Entries : Type 0
 Entries =
     Option ℕ ⊎ (DeviceInput ⊎ (Option Refused ⊎ (Unit {0} ⊎ (Unit {0}
-    ⊎ (SavedState ⊎ ((SavedState × List ℕ) ⊎ (Octets ⊎ (Octets ⊎ Octets))))))))
+    ⊎ (SavedState ⊎ ((SavedState × List ℕ) ⊎ (Octets ⊎ (Octets ⊎ (Octets ⊎ Unit {0})))))))))
 
 abbrev of_entry : HistoryEntry → Entries
 of_entry (Waited deadline) = inl deadline
@@ -119,7 +119,8 @@ of_entry (Saved state) = inr (inr (inr (inr (inr (inl state)))))
 of_entry (Unsaved state connections) = inr (inr (inr (inr (inr (inr (inl (state, connections)))))))
 of_entry (Sent octets) = inr (inr (inr (inr (inr (inr (inr (inl octets)))))))
 of_entry (Unsent octets) = inr (inr (inr (inr (inr (inr (inr (inr (inl octets))))))))
-of_entry (Broken left) = inr (inr (inr (inr (inr (inr (inr (inr (inr left))))))))
+of_entry (Broken left) = inr (inr (inr (inr (inr (inr (inr (inr (inr (inl left)))))))))
+of_entry Told = inr (inr (inr (inr (inr (inr (inr (inr (inr (inr tt)))))))))
 
 abbrev to_entry : Entries → HistoryEntry
 to_entry (inl deadline) = Waited deadline
@@ -131,7 +132,8 @@ to_entry (inr (inr (inr (inr (inr (inl state)))))) = Saved state
 to_entry (inr (inr (inr (inr (inr (inr (inl both))))))) = Unsaved both.0 both.1
 to_entry (inr (inr (inr (inr (inr (inr (inr (inl octets)))))))) = Sent octets
 to_entry (inr (inr (inr (inr (inr (inr (inr (inr (inl octets))))))))) = Unsent octets
-to_entry (inr (inr (inr (inr (inr (inr (inr (inr (inr left))))))))) = Broken left
+to_entry (inr (inr (inr (inr (inr (inr (inr (inr (inr (inl left)))))))))) = Broken left
+to_entry (inr (inr (inr (inr (inr (inr (inr (inr (inr (inr _)))))))))) = Told
 
 pub entry_back : (entry : HistoryEntry) → to_entry (of_entry entry) ≡ entry
 entry_back (Waited deadline) = refl
@@ -144,6 +146,7 @@ entry_back (Unsaved state connections) = refl
 entry_back (Sent octets) = refl
 entry_back (Unsent octets) = refl
 entry_back (Broken left) = refl
+entry_back Told = refl
 
 abbrev coded_entry : Coded HistoryEntry
 coded_entry = code_by Entries
@@ -154,7 +157,7 @@ coded_entry = code_by Entries
     (coded⊎ coded_unit
     (coded⊎ coded_state
     (coded⊎ (coded× coded_state (coded_list coded_ℕ))
-    (coded⊎ coded_octets (coded⊎ coded_octets coded_octets)))))))))
+    (coded⊎ coded_octets (coded⊎ coded_octets (coded⊎ coded_octets coded_unit))))))))))
     of_entry to_entry entry_back
 
 abbrev pub coded_history : Coded (List HistoryEntry)

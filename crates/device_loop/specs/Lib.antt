@@ -3,6 +3,7 @@ pub mod HistoryCode
 pub mod Noting
 pub mod Outside
 pub mod ReceivedCode
+pub mod RefusedKeys
 pub mod Serving
 pub mod Time
 pub mod Turn

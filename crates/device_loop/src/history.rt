@@ -20,6 +20,8 @@ pub enum Note<'a> {
     Answered(Result<(), AppFault>),
     /// The outcome of saving the state of a host.
     Saved(&'a Saving, &'a Host),
+    /// The application was answered and notified.
+    Told,
     /// The octets to be sent, and the outcome. A failure is noted as if no prefix was sent.
     Sent(&'a [u8], Sending),
 }

@@ -1,7 +1,7 @@
-//! Saving the changes of a host, and sending its waiting packets.
+//! Saving the changes of a host, telling the application, and sending the waiting packets.
 
 ghost use Rattle.std.specs.Prelude.{◌≡◌, ◌∷◌, [], Some, option_map};
-ghost use Rattle.device_loop.specs.Happenings.{Records, saved_state};
+ghost use Rattle.device_loop.specs.Happenings.{Records, saved_state, Told};
 ghost use Rattle.device_loop.specs.Outside.{saving_entry, Sends};
 ghost use Rattle.device_loop.specs.Withholding.{without_data_for};
 
@@ -29,15 +29,23 @@ pub enum Sending {
     Failed,
 }
 
-/// Saves the state of a host and sends its packets.
+/// Saves the state of a host, tells its application and sends its packets.
 pub trait Outside<L: Listener>: Happenings {
     /// Saves the rows and values of a host. If that fails, returns the connections with unsaved
-    /// changes. It may first notify the application of what the listener has received.
+    /// changes.
     fn save(&mut self, host: &Host, listener: &mut L) -> Saving
         ensures octets { Self.octets self.new ≡ Self.octets self.old }
         ensures calls { Self.calls self.new ≡ Self.calls self.old }
         ensures history { Records (saving_entry result (saved_state host.now.server) ∷ [])
             (Self.history self.old) (Self.history self.new) }
+        ensures heard { L.heard listener.new ≡ L.heard listener.old };
+
+    /// Answers the application, and notifies it of what the listener has received. This follows
+    /// `save` in each turn, and gets its outcome.
+    fn tell(&mut self, host: &Host, listener: &mut L, saving: &Saving)
+        ensures octets { Self.octets self.new ≡ Self.octets self.old }
+        ensures calls { Self.calls self.new ≡ Self.calls self.old }
+        ensures history { Records (Told ∷ []) (Self.history self.old) (Self.history self.new) }
         ensures heard { L.heard listener.new ≡ L.heard listener.old };
 
     /// Sends octets to the controller, if it is there; does nothing for no octets.

@@ -1,4 +1,4 @@
-//! One turn of a device: an event, then saving, and only then sending.
+//! One turn of a device: an event, then saving, then its application, and only then sending.
 
 ghost use Rattle.std.specs.Prelude.{◌≡◌, true, None, Some, IsSome, IfSome, option_map};
 ghost use Rattle.std.specs.Result.{result_err};
@@ -23,9 +23,9 @@ pub struct Turn {
     pub sending: Sending,
 }
 
-/// Serves a host one event, saves its changes, and only then sends what waits. If saving fails, it
-/// drops the ACL data for the connections with unsaved changes. The caller must end those
-/// connections, because they lack that data.
+/// Serves a host one event, saves its changes, then answers and notifies its application, and only
+/// then sends what waits. If saving fails, it drops the ACL data for the connections with unsaved
+/// changes. The caller must end those connections, because they lack that data.
 ///
 /// Packets wait on if nobody is there or sending fails. After a failure a prefix may have been
 /// sent, and the caller must send no more there. After a fault of the host no event is processed,
@@ -50,6 +50,7 @@ pub fn serve_turn<O: Outside<L>, W: Outgoing, L: Listener>(
 {
     let served = serve_happenings(host, outside, out, listener, 1);
     let saving = outside.save(host, listener);
+    outside.tell(host, listener, &saving);
     withhold_unsaved(out, &saving);
     let sending = outside.send(out.waiting());
     drop_sent(out, sending);

@@ -36,8 +36,8 @@ fn move_others(octets: &mut [u8], connections: &[u16]) -> usize
     left + count
 }
 
-/// Returns the length of the first packet, if it is whole.
-fn first_size(octets: &[u8]) -> Option<usize>
+/// Returns the length of the first of the H4 packets of a host, if it is whole.
+pub fn first_size(octets: &[u8]) -> Option<usize>
     ensures { result ≡ first_size octets.now }
 {
     let size = packet_size(octets)?;

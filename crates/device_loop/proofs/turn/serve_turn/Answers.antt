@@ -16,22 +16,24 @@ returns-clause-turn g c =
       serves = λ none.
           serves_as c.serve_happenings-served.result 1 c.args.host.now c.serve_happenings-served.new.host
           (known (g.O.Happenings.octets c.args.outside.now) (g.O.Happenings.calls c.args.outside.now) (g.O.Happenings.history c.args.outside.now))
-          _ _ _ _ _ _ _ _ _ _ (cc) (cc) c.save-saving.ensures.heard (c.serve_happenings-served.ensures.serves none);
+          _ _ _ _ _ _ _ _ _ _ (cc) (cc) (c.tell.ensures.heard ∙ c.save-saving.ensures.heard) (c.serve_happenings-served.ensures.serves none);
       stopped = λ stopped.
           let nothing = c.serve_happenings-served.ensures.happenings_stopped stopped in
           record {
             happens = known_as _ _ _ _ _ _ (cc) (cc) (ap g.O.Happenings.history nothing);
             writes = ap g.W.Sink.contents (c.serve_happenings-served.ensures.sink_stopped stopped);
-            hearing = c.save-saving.ensures.heard ∙ ap g.L.Listener.heard (c.serve_happenings-served.ensures.listener_stopped stopped);
+            hearing = c.tell.ensures.heard ∙ c.save-saving.ensures.heard ∙ ap g.L.Listener.heard (c.serve_happenings-served.ensures.listener_stopped stopped);
           };
       settles = record {
         saved = g.O.Happenings.history c.save-saving.new.self;
         saves = c.save-saving.ensures.history;
+        told = g.O.Happenings.history c.tell.new.self;
+        tells = c.tell.ensures.history;
         sends = record {
           waiting = waits.0;
           waits = waits.1;
           sends = subst
-              (λ (octets : Octets). Sends c.send-sending.result octets (g.O.Happenings.history c.save-saving.new.self)
+              (λ (octets : Octets). Sends c.send-sending.result octets (g.O.Happenings.history c.tell.new.self)
               (g.O.Happenings.history c.send-sending.new.self))
               waits.2 c.send-sending.ensures.history;
           left = c.drop_sent.ensures.left c.waiting.result.now c.waiting.ensures ∙ ap (λ (octets : Octets). Some (waits_after c.send-sending.result octets))
