@@ -1,7 +1,9 @@
 pub mod Due
 pub mod Feeds
+pub mod Knocks
 pub mod Lines
 pub mod Readers
 pub mod Texts
-pub mod Waiting
 pub mod Visits
+pub mod Waiting
+pub mod Writes

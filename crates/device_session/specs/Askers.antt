@@ -5,6 +5,9 @@ use Rattle.device_session.specs.declared.askers.Asker.TheVariants.{Application, 
 use Rattle.device_session.specs.declared.askers.Askers.{Askers}
 use Rattle.device_session.specs.declared.askers.TheConstants.{MOST_WAITS}
 
+abbrev pub at_first : Askers
+at_first = record { asker = Application; waits = 0 }
+
 -- An application that is busy goes first, unless the visitor has waited for too long.
 abbrev pub goes_first : Askers → Bool → Bool
 goes_first askers busy = busy && nat_lt askers.waits MOST_WAITS

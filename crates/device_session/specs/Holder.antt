@@ -6,7 +6,18 @@ use Rattle.app_lines.specs.declared.inbox.Found.TheVariants.{Nothing}
 use Rattle.device_session.specs.declared.holder.Holder.{Holder}
 use Rattle.device_session.specs.declared.incoming.Input.{Input}
 use Rattle.device_session.specs.declared.incoming.Input.TheVariants.{Readable, Ended}
-use Rattle.device_session.specs.Outgoing.{is_emptied, is_full}
+use Rattle.device_session.specs.declared.incoming.Incoming.{Incoming}
+use Rattle.device_session.specs.Incoming.{after_arrival}
+use Rattle.device_session.specs.Incoming.Arrival.{Ready}
+use Rattle.device_session.specs.Outgoing.{empty, is_emptied, is_full}
+
+-- A new application, which has sent this already.
+abbrev pub new_holder : Incoming → Holder
+new_holder incoming = record {
+  incoming = after_arrival incoming Ready;
+  outgoing = empty;
+  is_new = true;
+}
 
 abbrev pub is_readable : Input → Bool
 is_readable Readable = true

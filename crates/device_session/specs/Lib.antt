@@ -1,3 +1,5 @@
+pub mod Application
+pub mod ApplicationValue
 pub mod Askers
 pub mod Holder
 pub mod Incoming
@@ -5,5 +7,7 @@ pub mod Lines
 pub mod Missed
 pub mod Outgoing
 pub mod PeerClock
+pub mod Place
+pub mod Seats
 pub mod Strangers
 pub mod Visitor

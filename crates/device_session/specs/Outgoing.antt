@@ -13,6 +13,10 @@ abbrev pub octets_of : Outgoing → Octets
 octets_of (Open outbox stalled) = outbox.octets
 octets_of Deaf = []
 
+abbrev pub is_deaf : Outgoing → Bool
+is_deaf Deaf = true
+is_deaf outgoing = false
+
 abbrev pub is_full : Outgoing → Bool
 is_full outgoing = nat_lt MANY (length (octets_of outgoing))
 

@@ -68,15 +68,19 @@ visitor_after now arrivals = record {
 abbrev pub BeginsWith : LineKind → Octets → Type 0
 BeginsWith kind octets = (found_in octets ≡ Line) × (kind_of (line_in octets) ≡ kind)
 
--- A visitor becomes the application only by the line `application`, by a call while there is none,
--- or if nothing came of it in its time.
+-- The line `application` is next, or a call while there is no application, or nothing came of it
+-- in its time.
+abbrev pub Claims : ℕ → List Arrival → ℕ → Bool → Type 0
+Claims born arrivals now free =
+    BeginsWith Claim (received arrivals).incoming.inbox
+    ⊎ ((free ≡ true) × BeginsWith Call (received arrivals).incoming.inbox)
+    ⊎ (((received arrivals).came ≡ []) × (due_after born ≤ now))
+
+-- A visitor becomes the application only so.
 abbrev pub ClaimsRightly : Type 0
 ClaimsRightly =
     (born : ℕ) (arrivals : List Arrival) (now : ℕ) (free : Bool)
-    → visit_of (visitor_after born arrivals) now free ≡ Comes
-    → BeginsWith Claim (received arrivals).incoming.inbox
-    ⊎ ((free ≡ true) × BeginsWith Call (received arrivals).incoming.inbox)
-    ⊎ (((received arrivals).came ≡ []) × (due_after born ≤ now))
+    → visit_of (visitor_after born arrivals) now free ≡ Comes → Claims born arrivals now free
 
 -- Once its time is over, it does not stay, and nothing more of it is read.
 pub record EndsInTime (visit : Visit) (came : Octets) : Type 0 where

@@ -1,7 +1,7 @@
 //! The order of the lines of the application and of its visitor.
 
 ghost use Rattle.std.specs.Prelude.{◌≡◌, ◌≤◌};
-ghost use Rattle.device_session.specs.Askers.{after_choice, IsHeardInTime};
+ghost use Rattle.device_session.specs.Askers.{after_choice, at_first, IsHeardInTime};
 
 /// The most turns that a visitor waits for an application that keeps sending.
 pub(crate) const MOST_WAITS: u32 = 128;
@@ -22,6 +22,7 @@ pub(crate) struct Askers {
 
 impl Askers {
     pub(crate) fn new() -> Askers
+        ensures first { result ≡ at_first }
         // For all later turns:
         ensures in_time { IsHeardInTime }
     {

@@ -1,7 +1,8 @@
 //! The lines of the application or of a visitor, and their answers.
 
-use crate::application::{Application, NextLine};
+use crate::application::Application;
 use crate::asked::{Asked, LineKind, call_of, line_kind, read_asked};
+use crate::seats::NextLine;
 use app_lines::{Found, LONGEST, Names};
 use arrayvec::ArrayVec;
 use host_api::{App, AppFault};

@@ -1,7 +1,8 @@
 //! The connection of the application, without its socket.
 
 ghost use Rattle.std.specs.Prelude.{◌≡◌};
-ghost use Rattle.device_session.specs.Holder.{acts, has_line, is_busy, is_done, may_ask, may_read};
+ghost use Rattle.device_session.specs.Holder.{acts, has_line, is_busy, is_done, may_ask, may_read, new_holder};
+ghost use Rattle.device_session.specs.Seats.{deafened};
 
 use crate::incoming::{Incoming, Input};
 use crate::outgoing::Outgoing;
@@ -19,7 +20,9 @@ pub(crate) struct Holder {
 
 impl Holder {
     /// Returns a new application that has sent this already.
-    pub(crate) fn new(alloc: Global, incoming: Incoming) -> Holder {
+    pub(crate) fn new(alloc: Global, incoming: Incoming) -> Holder
+        ensures { result ≡ new_holder incoming }
+    {
         let mut incoming = incoming;
         incoming.ready();
         Holder {
@@ -73,7 +76,9 @@ impl Holder {
     }
 
     /// Stops writing. Its input is still read to the end, because it may have sent lines before.
-    pub(crate) fn deafen(&mut self) {
+    pub(crate) fn deafen(&mut self)
+        ensures { self.new ≡ deafened self.old }
+    {
         self.outgoing.deafen();
         self.incoming.ready();
     }

@@ -17,6 +17,8 @@ mod outgoing;
 mod output;
 mod peer_clock;
 mod pending;
+mod place;
+mod seats;
 mod session;
 mod sockets;
 mod strangers;

@@ -2,7 +2,7 @@
 
 ghost use Rattle.std.specs.Prelude.{◌≡◌, ◌≤◌, length, IfErr, IfOk};
 ghost use Rattle.std.specs.Bool.{OnFalse, OnTrue};
-ghost use Rattle.device_session.specs.Outgoing.{after_sent, due, empty, fits, has_room, is_emptied, is_full, is_slow, octets_of, watched, with_text, SparesReaders};
+ghost use Rattle.device_session.specs.Outgoing.{after_sent, due, empty, fits, has_room, is_deaf, is_emptied, is_full, is_slow, octets_of, watched, with_text, SparesReaders};
 ghost use Rattle.device_session.specs.declared.outgoing.Outgoing.TheVariants.{Deaf};
 
 use app_lines::Outbox;
@@ -68,7 +68,9 @@ impl Outgoing {
         }
     }
 
-    pub(crate) fn is_deaf(&self) -> bool {
+    pub(crate) fn is_deaf(&self) -> bool
+        ensures { result ≡ is_deaf self.now }
+    {
         matches!(self, Outgoing::Deaf)
     }
 

@@ -1,11 +1,12 @@
 //! Output to the application, and the log of it.
 
 use crate::acceptance::Acceptance;
-use crate::application::{Application, Filled};
+use crate::application::Application;
 use crate::asking::Closing;
 use crate::heard::Heard;
 use crate::missed::Missed;
 use crate::pending::{Pending, Subject};
+use crate::place::Filled;
 use app_lines::{Told, add_told};
 use device_io::{Log, Poller};
 use std::alloc::{AllocError, Global};

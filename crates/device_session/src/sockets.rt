@@ -1,6 +1,7 @@
 //! Reads and writes of the sockets of applications.
 
 ghost use Rattle.std.specs.Prelude.{◌≡◌};
+ghost use Rattle.device_session.specs.Seats.{IsRead, IsSent, IsWritten};
 ghost use Rattle.app_lines.specs.Inbox.{found_in};
 ghost use Rattle.app_lines.specs.declared.inbox.Found.TheVariants.{Nothing};
 
@@ -15,6 +16,7 @@ const PIECE: usize = 1_024;
 /// Reads once. Returns false if the socket has failed: then it sends no more.
 pub(crate) fn read_into(socket: &mut Socket, incoming: &mut Incoming) -> bool
     requires none { found_in incoming.old.inbox ≡ Nothing }
+    ensures read { IsRead incoming.old incoming.new result }
 {
     let mut buffer = [0; MOST_READ];
     match socket.read(&mut buffer) {
@@ -33,7 +35,9 @@ pub(crate) fn read_into(socket: &mut Socket, incoming: &mut Incoming) -> bool
 }
 
 /// Writes what the application accepts.
-pub(crate) fn write_from(socket: &mut Socket, holder: &mut Holder) {
+pub(crate) fn write_from(socket: &mut Socket, holder: &mut Holder)
+    ensures { IsWritten holder.old holder.new }
+{
     for _write in 0..u64::MAX {
         match write_once(socket, &mut holder.outgoing) {
             Written::Some => {}
@@ -58,7 +62,9 @@ enum Written {
     Failed,
 }
 
-fn write_once(socket: &mut Socket, outgoing: &mut Outgoing) -> Written {
+fn write_once(socket: &mut Socket, outgoing: &mut Outgoing) -> Written
+    ensures { IsSent outgoing.old outgoing.new }
+{
     let waiting = outgoing.waiting();
     if waiting.is_empty() {
         return Written::All;

@@ -1,5 +1,5 @@
 use Rattle.device_session.proofs.Waiting.{is_heard_in_time}
 use Rattle.device_session.proofs.askers.Askers.new.Goals as goal
 
-pub returns : goal.returns
-returns c = record { in_time = is_heard_in_time }
+pub returns-clause-in_time : goal.returns-clause-in_time
+returns-clause-in_time c = is_heard_in_time
