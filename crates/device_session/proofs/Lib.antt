@@ -1,8 +1,12 @@
+pub mod Claiming
 pub mod Due
 pub mod Feeds
 pub mod Knocks
+pub mod Limits
 pub mod Lines
 pub mod Readers
+pub mod Succession
+pub mod Tellings
 pub mod Texts
 pub mod Visits
 pub mod Waiting

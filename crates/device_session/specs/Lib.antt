@@ -3,6 +3,7 @@ pub mod ApplicationValue
 pub mod Askers
 pub mod Holder
 pub mod Incoming
+pub mod Laws
 pub mod Lines
 pub mod Missed
 pub mod Outgoing

@@ -3,6 +3,7 @@
 
 ghost use Rattle.std.specs.Prelude.{◌≡◌, ◌&&◌, false, true, not, is_some, IfErr, IfOk};
 ghost use Rattle.device_session.specs.Application as spec;
+ghost use Rattle.device_session.specs.Laws.{Bounds, ComesAlone, ComesRightly, ServesInTurn, TellsInOrder};
 ghost use Rattle.device_session.specs.Place as place;
 
 use crate::askers::{Asker, Askers};
@@ -46,8 +47,15 @@ impl Model for Application {
 }
 
 impl Application {
+    #[tactic(auto, using(crate::proofs::Succession::serves_in_turn, crate::proofs::Succession::comes_alone, crate::proofs::Claiming::comes_rightly, crate::proofs::Tellings::tells_in_order, crate::proofs::Limits::bounds))]
     pub(crate) fn none(alloc: Global) -> Application
         ensures nobody { result ≡ spec.nobody }
+        // For all that may happen:
+        ensures in_turn { ServesInTurn }
+        ensures alone { ComesAlone }
+        ensures rightly { ComesRightly }
+        ensures notices { TellsInOrder }
+        ensures bounds { Bounds }
     {
         Application {
             alloc,
