@@ -1,5 +1,8 @@
 //! Output to the application, and the log of it.
 
+ghost use Rattle.std.specs.Prelude.{◌≡◌, false, true};
+ghost use Rattle.device_session.specs.Application.{is_visitor};
+
 use crate::acceptance::Acceptance;
 use crate::application::Application;
 use crate::asking::Closing;
@@ -19,7 +22,13 @@ pub(crate) fn reply<R: Clock + Eprint>(
     log: &Log<'_, R>,
     closing: Closing,
     text: Result<Vec<u8>, AllocError>,
-) {
+)
+    // The answer to a visitor goes to the visitor, and one to the application to nobody else.
+    ensures visitor { is_visitor application.old.askers.asker ≡ true
+        → application.new.place ≡ application.old.place }
+    ensures application { is_visitor application.old.askers.asker ≡ false
+        → application.new.visiting ≡ application.old.visiting }
+{
     if application.is_visited() {
         reply_to_visitor(application, log, closing, text);
         return;
@@ -42,7 +51,9 @@ fn reply_to_visitor<R: Clock + Eprint>(
     log: &Log<'_, R>,
     closing: Closing,
     text: Result<Vec<u8>, AllocError>,
-) {
+)
+    ensures { application.new.place ≡ application.old.place }
+{
     match text {
         Ok(text) => application.answer_visitor(text.as_slice()),
         Err(_) => {
@@ -61,7 +72,9 @@ pub(crate) fn say_or_end<R: Clock + Eprint>(
     log: &Log<'_, R>,
     text: Result<Vec<u8>, AllocError>,
     refused: &str,
-) -> bool {
+) -> bool
+    ensures { application.new.visiting ≡ application.old.visiting }
+{
     match text {
         Ok(text) => {
             say(application, log, text.as_slice());
@@ -225,7 +238,9 @@ fn note_end<R: Clock + Eprint>(missed: &mut Missed, has_read_all: bool, log: &Lo
     }
 }
 
-fn say<R: Clock + Eprint>(application: &mut Application, log: &Log<'_, R>, text: &[u8]) {
+fn say<R: Clock + Eprint>(application: &mut Application, log: &Log<'_, R>, text: &[u8])
+    ensures { application.new.visiting ≡ application.old.visiting }
+{
     match application.tell(text) {
         Ok(true) => {}
         Ok(false) => log.say("application cut off: it does not read"),
