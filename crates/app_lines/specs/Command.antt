@@ -7,7 +7,7 @@ use Rattle.scripts.specs.Line.{words_of}
 use Rattle.scripts.specs.Numeral.{numeral_of}
 use Rattle.scripts.specs.Payload.{payload_of}
 use Rattle.app_lines.specs.declared.command.Command.{Command}
-use Rattle.app_lines.specs.declared.command.Command.TheVariants.{Update, Allow, Deny, Disconnect, Value, Connections, Subscriptions, Find, Application, Stop}
+use Rattle.app_lines.specs.declared.command.Command.TheVariants.{Update, Allow, Deny, Disconnect, Value, Connections, Subscriptions, Find, Application, Reload, Stop}
 use Rattle.app_lines.specs.declared.wrong.Wrong.{Wrong}
 use Rattle.app_lines.specs.declared.wrong.Fault.{Fault}
 use Rattle.app_lines.specs.declared.wrong.Fault.TheVariants.{NoCommand, NoHandle, NoConnection, NoValue, NoTime, NoType, NoNumber, TooFew, TooMany}
@@ -62,6 +62,7 @@ most_words word =
     else if bytes_eq word (codes "subscriptions") then Some 2
     else if bytes_eq word (codes "find") then Some 4
     else if bytes_eq word (codes "application") then Some 1
+    else if bytes_eq word (codes "reload") then Some 1
     else if bytes_eq word (codes "stop") then Some 1
     else None
 
@@ -77,6 +78,7 @@ unfoldable pub one_word : Octets → Result Command Wrong
 one_word first =
     if bytes_eq first (codes "connections") then Ok Connections
     else if bytes_eq first (codes "application") then Ok Application
+    else if bytes_eq first (codes "reload") then Ok Reload
     else if bytes_eq first (codes "stop") then Ok Stop
     else miscounted first 1
 

@@ -2,7 +2,7 @@
 use Rattle.std.specs.Prelude.{ℕ, ◌-◌, ◌^◌, ◌<◌, ◌==◌, ◌&&◌, Bool, not, nat_lt, List, [], ◌∷◌, ◌++◌, length, filter, find, All, Option}
 use Rattle.std.specs.Option.{option_map}
 use Rattle.app_lines.specs.declared.names.Named.{Named}
-use Rattle.app_lines.specs.declared.names.TheConstants.{MOST_NAMES}
+use Rattle.gatt_laws.specs.declared.TheConstants.{MAX_SLOTS}
 
 -- The connections in order, and the name of the next one.
 pub record Names : Type 0 where
@@ -16,7 +16,7 @@ without_handle handle named = filter (λ (one : Named). not (one.handle == handl
 abbrev pub may_name : ℕ → Names → Bool
 may_name handle names =
     nat_lt names.next (2 ^ 64 - 1)
-    && nat_lt (length (without_handle handle names.named)) MOST_NAMES
+    && nat_lt (length (without_handle handle names.named)) MAX_SLOTS
 
 -- The connection has this name, and no other has its handle.
 abbrev pub with_name : ℕ → ℕ → List Named → List Named

@@ -49,6 +49,8 @@ pub enum Command<'a> {
     },
     /// Become the application at once.
     Application,
+    /// Read the key file again.
+    Reload,
     /// Stop the device.
     Stop,
 }
@@ -92,6 +94,7 @@ fn read_one(first: &str) -> Result<Command<'_>, Wrong>
     match first {
         "connections" => Ok(Command::Connections),
         "application" => Ok(Command::Application),
+        "reload" => Ok(Command::Reload),
         "stop" => Ok(Command::Stop),
         _ => Err(count_fault(first, 1)),
     }
@@ -263,6 +266,7 @@ fn most_words(first: &str) -> Option<usize>
         "subscriptions" => Some(2),
         "find" => Some(4),
         "application" => Some(1),
+        "reload" => Some(1),
         "stop" => Some(1),
         _ => None,
     }

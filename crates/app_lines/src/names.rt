@@ -4,10 +4,8 @@ ghost use Rattle.std.specs.Prelude.{◌≡◌, ◌+◌, ◌<◌, ℕ, [], is_som
 ghost use Rattle.app_lines.specs.Names.{AreBelow, handle_of, may_name, name_of, with_name, without_handle};
 
 use arrayvec::ArrayVec;
+use gatt_laws::MAX_SLOTS;
 use std::marker::Model;
-
-/// Maximum number of connections of a host.
-const MOST_NAMES: usize = 8;
 
 /// A connection and its name.
 #[derive(Clone, Copy, Default)]
@@ -22,7 +20,7 @@ pub struct Named {
 /// with another controller.
 #[derive(Drop)]
 pub struct Names {
-    named: ArrayVec<Named, MOST_NAMES>,
+    named: ArrayVec<Named, MAX_SLOTS>,
     next: u64,
 }
 
@@ -118,7 +116,7 @@ impl Names {
     }
 }
 
-fn remove(named: &mut ArrayVec<Named, MOST_NAMES>, handle: u16)
+fn remove(named: &mut ArrayVec<Named, MAX_SLOTS>, handle: u16)
     ensures others { named.new.items ≡ without_handle handle named.old.items }
     ensures below { (next : ℕ) → AreBelow next named.old.items → AreBelow next named.new.items }
 {

@@ -16,6 +16,8 @@ pub enum Reply<'a> {
     Refused { fault: AppFault, words: &'a str },
     /// The device stops and could not save: what is not saved, and the reason.
     NotSaved(&'a str),
+    /// The keys are not read again: the reason.
+    NotReloaded(&'a str),
     /// The value at a handle.
     Value { handle: u16, value: &'a [u8] },
     /// The handle found.
@@ -40,6 +42,7 @@ fn add_text(text: &mut Vec<u8>, reply: &Reply<'_>) -> Result<(), AllocError>
         Reply::Done => text.extend_from_slice(b"ok"),
         Reply::Refused { fault, words } => add_refused(text, *fault, words),
         Reply::NotSaved(words) => add_words(text, b"fault 8: ", words),
+        Reply::NotReloaded(words) => add_words(text, b"fault 9: ", words),
         Reply::Value { handle, value } => add_handle_value(text, *handle, value),
         Reply::Handle(handle) => add_handle(text, *handle),
         Reply::Bad(words) => add_words(text, b"bad: ", words),
