@@ -1,9 +1,8 @@
 //! The controller, its transport, and the ways to reach it. All times are in milliseconds.
 
-ghost use Rattle.std.specs.Prelude.{◌≡◌, ◌∷◌, [], is_some};
-ghost use Rattle.device_io.specs.Controller.{begun_at, is_late};
-ghost use Rattle.device_io.specs.Outbound.{stalled_since};
-ghost use Rattle.device_io.specs.Patience.{given_up_at};
+ghost use Rattle.std.specs.Prelude.{◌≡◌, is_some};
+ghost use Rattle.std.specs.Option.{option_copied};
+ghost use Rattle.device_io.specs.Controller.{begun_at, due_of, is_late, is_read, is_served, is_served_initialised, needs_a_read, served_by, served_due};
 
 use crate::connector::{CONNECT_TIME, Connector, RETRY_TIME, Reach};
 use crate::log::Log;
@@ -90,8 +89,7 @@ impl Served {
     /// Returns when it is given up, unless it makes progress: once it has accepted no waiting bytes
     /// for `patience`, or was not initialised in that time.
     fn due(&self, patience: u64) -> Option<u64>
-        ensures { result ≡ given_up_at patience
-            (stalled_since self.now.outbound ∷ begun_at self.now.progress ∷ []) }
+        ensures { result ≡ served_due patience self.now }
     {
         given_up_at(
             patience,
@@ -102,8 +100,7 @@ impl Served {
 
     /// Returns why it is given up at `now`, if it is.
     fn lapse(&self, patience: u64, now: u64) -> Option<&'static str>
-        ensures { is_some result ≡ is_late (given_up_at patience
-            (stalled_since self.now.outbound ∷ begun_at self.now.progress ∷ [])) now }
+        ensures { is_some result ≡ is_late (served_due patience self.now) now }
     {
         if self.due(patience)? > now {
             return None;
@@ -112,6 +109,13 @@ impl Served {
             Progress::Initialised => "given up: it takes no octets",
             Progress::Begun(_) => "given up: it is not initialised in time",
         })
+    }
+
+    /// Returns true if it can be read or must be given up.
+    fn needs_a_read(&self, patience: u64, now: u64) -> bool
+        ensures { result ≡ needs_a_read patience now self.now }
+    {
+        self.is_readable || self.fault.is_some() || self.lapse(patience, now).is_some()
     }
 
     /// Reads once. Returns `None` if nothing can be read yet.
@@ -186,7 +190,9 @@ impl<'a> Controller<'a> {
 }
 
 impl Controller<'_> {
-    fn served(&self) -> Option<&Served> {
+    fn served(&self) -> Option<&Served>
+        ensures { option_copied result ≡ served_by self.now.side }
+    {
         match &self.side {
             Side::Served(served) => Some(served),
             Side::Nobody | Side::Next { .. } => None,
@@ -194,17 +200,18 @@ impl Controller<'_> {
     }
 
     /// Returns true if a controller is served.
-    pub fn is_there(&self) -> bool {
+    pub fn is_there(&self) -> bool
+        ensures there { result ≡ is_served self.now }
+    {
         self.served().is_some()
     }
 
     /// Returns true if it can be read or must be given up.
-    pub fn is_readable(&self, now: u64) -> bool {
+    pub fn is_readable(&self, now: u64) -> bool
+        ensures read { result ≡ is_read now self.now }
+    {
         match self.served() {
-            Some(served) => {
-                let is_over = served.fault.is_some() || served.lapse(self.patience, now).is_some();
-                served.is_readable || is_over
-            }
+            Some(served) => served.needs_a_read(self.patience, now),
             None => false,
         }
     }
@@ -227,7 +234,9 @@ impl Controller<'_> {
     }
 
     /// Returns true if an initialised controller is served.
-    pub fn is_initialised(&self) -> bool {
+    pub fn is_initialised(&self) -> bool
+        ensures initialised { result ≡ is_served_initialised self.now }
+    {
         match self.served() {
             Some(served) => served.progress.begun().is_none(),
             None => false,
@@ -235,7 +244,9 @@ impl Controller<'_> {
     }
 
     /// Returns when it is given up, unless it makes progress.
-    pub fn due(&self) -> Option<u64> {
+    pub fn due(&self) -> Option<u64>
+        ensures due { result ≡ due_of self.now }
+    {
         self.served()?.due(self.patience)
     }
 

@@ -34,14 +34,20 @@ impl Source {
     }
 }
 
-/// The sockets that are ready.
+/// The operations for which the controller is ready.
 #[derive(Clone, Copy)]
-pub struct Ready {
-    pub controller: bool,
-    /// The controller accepts more bytes.
+pub struct ControllerReady {
+    pub is_readable: bool,
+    /// It accepts more bytes.
     pub takes_more: bool,
     /// Nothing arrives after the bytes that can be read now.
     pub is_ending: bool,
+}
+
+/// The sockets that are ready.
+#[derive(Clone, Copy)]
+pub struct Ready {
+    pub controller: ControllerReady,
     /// A controller connects.
     pub controllers: bool,
     /// The application can be read or accepts more bytes.
@@ -99,9 +105,11 @@ impl Poller {
     pub fn wait(&mut self, timeout: Option<Duration>) -> io::Result<Ready> {
         self.poll.poll(&mut self.events, timeout)?;
         let mut ready = Ready {
-            controller: false,
-            takes_more: false,
-            is_ending: false,
+            controller: ControllerReady {
+                is_readable: false,
+                takes_more: false,
+                is_ending: false,
+            },
             controllers: false,
             application: false,
             applications: false,
@@ -109,11 +117,12 @@ impl Poller {
         for event in self.events.iter() {
             match event.token().0 {
                 0 => {
-                    ready.controller = event.is_readable()
-                        || event.is_read_closed()
-                        || event.is_error();
-                    ready.takes_more = event.is_writable() || event.is_error();
-                    ready.is_ending = event.is_read_closed();
+                    let is_over = event.is_read_closed() || event.is_error();
+                    ready.controller = ControllerReady {
+                        is_readable: event.is_readable() || is_over,
+                        takes_more: event.is_writable() || event.is_error(),
+                        is_ending: event.is_read_closed(),
+                    };
                 }
                 1 => ready.controllers = true,
                 2 => ready.application = true,
