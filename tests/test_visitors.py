@@ -1,11 +1,13 @@
 """Tries who connects to the socket of an application: one that only asks, and one that comes as another."""
 
 import socket
+import threading
 import time
 
 import pytest
 
-from parties import PATIENCE, look, soon
+from parties import DOOR, PATIENCE, Device, look, soon
+from parties.doors import LISTEN
 
 OWNER_STANDS = ["+ connected 1 0 00:11:22:33:44:55", "+ secured 1 16 1 0"]
 
@@ -43,6 +45,26 @@ def test_sent_and_closed(door):
     assert done == [True] * 40, "each value"
     answers = look(path, "value 21", "connections")
     assert answers == ["value 21 05db", "ok"], "answers to one that sends no more"
+
+
+def test_many_lines_of_a_replaced_application(folder):
+    """Each line of an application that is replaced is executed, also if few fit into a turn."""
+    value, lines = 3, 2_000
+    with open(f"{folder}/long.toml", "w", encoding="ascii") as file:
+        file.write(f'[[service]]\nuuid = "1800"\n[[service.characteristic]]\nuuid = "2a00"\nvalue = "{"ab" * 512}"\n')
+        file.write('max = 512\nproperties = ["read"]\n')
+    device = Device(f"{folder}/long.toml", DOOR[1], *LISTEN, "--application", f"{folder}/long.socket")
+    device.said("ready")
+    with reach(f"{folder}/long.socket") as sender:
+        sender.sendall(b"application\n")
+        assert sender.recv(9) == b"+ started", "it has the place"
+        threading.Thread(target=sender.sendall, args=[f"value {value}\n".encode() * lines], daemon=True).start()
+        time.sleep(0.5)
+        with reach(f"{folder}/long.socket") as other:
+            other.sendall(b"application\n")
+            answers = sender.makefile().read().splitlines()
+    told = [it for it in answers if it.startswith(f"value {value} ")]
+    assert (len(told), answers[-1]) == (lines, "+ replaced"), "each line, and then it is replaced"
 
 
 def test_a_look(door):

@@ -13,7 +13,7 @@ use Rattle.device_session.specs.ApplicationValue.{Application}
 use Rattle.device_session.specs.Incoming.{Arrival, Received, after_arrival, fresh, received, with_arrival}
 use Rattle.device_session.specs.Incoming.Arrival.{Came, Later, Over, Ready, Taken}
 use Rattle.device_session.specs.Laws.{ComesRightly, Event, after_event, application_after}
-use Rattle.device_session.specs.Laws.Event.{Knocks, Attends, Fills, Watches, Flushes, Readies, Tells, Answers, Chooses, Asks as Takes, Welcomes, Ends, Holds}
+use Rattle.device_session.specs.Laws.Event.{Knocks, Attends, Fills, Watches, Flushes, Readies, Tells, Answers, Chooses, Asks as Takes, Welcomes, Ends, Holds, Releases}
 use Rattle.device_session.specs.Place.{filled_in, given, has_next, is_free, is_full_in, is_giving}
 use Rattle.device_session.specs.Seats.{Reading, Visiting, visitor_arrival, visitor_read}
 use Rattle.device_session.specs.Seats.Reading.{Brings, Waits, Ends as Over-read, Fails, Repeats}
@@ -121,6 +121,7 @@ event-keeps application Takes known = takes application (has_next_line applicati
 event-keeps application Welcomes known = known
 event-keeps application Ends known = known
 event-keeps application Holds known = known
+event-keeps application Releases known = known
 
 all-keep : (application : Application) (events : List Event) → IsKnown application.visiting → IsKnown (fold after_event application events).visiting
 all-keep application [] known = known

@@ -2,7 +2,7 @@ pub mod Claiming
 pub mod Due
 pub mod Feeds
 pub mod Knocks
-pub mod Limits
+pub mod Bounded
 pub mod Lines
 pub mod Readers
 pub mod Succession

@@ -14,7 +14,7 @@ use Rattle.device_session.specs.ApplicationValue.{Application}
 use Rattle.device_session.specs.Holder.{has_line, may_read}
 use Rattle.device_session.specs.Incoming.Arrival.{Ready, Taken as Took}
 use Rattle.device_session.specs.Laws.{ComesAlone, GoesOn, IsSame, ServesInTurn}
-use Rattle.device_session.specs.Laws.Event.{Knocks, Attends, Fills, Watches, Flushes, Readies, Tells, Answers, Chooses, Asks as Takes, Welcomes, Ends, Holds}
+use Rattle.device_session.specs.Laws.Event.{Knocks, Attends, Fills, Watches, Flushes, Readies, Tells, Answers, Chooses, Asks as Takes, Welcomes, Ends, Holds, Releases}
 use Rattle.device_session.specs.Place.{ended, filled_in, given, has_next, is_free, is_full_in, is_giving, is_gone, is_slow_in, left_by, on_holding, watched_in, with_next}
 use Rattle.device_session.specs.Seats.{Holding, Reading, Visiting, Writing, arrivals_of, holder_read, read, queued, watched_at, welcomed, with_arrival, written}
 use Rattle.device_session.specs.Seats.Writing.{Nothing, Accepts, Refuses}
@@ -24,14 +24,14 @@ use Rattle.device_session.specs.Visitor.{visit_of}
 pub stays : (place : Place) → GoesOn place place
 stays (Free all_read) = refl
 stays (Taken holding) = inl (holding, refl, ([], refl, refl))
-stays (Given holding next last_reads) = inl (holding, last_reads, refl, omega arith, ([], refl, refl))
+stays (Given holding next last_reads) = inl (holding, last_reads, refl, omega arith, omega arith, ([], refl, refl))
 stays (Promised next) = inl refl
 
 changes : (change : Holding → Holding) → ((holding : Holding) → IsSame holding (change holding)) → (place : Place)
     → GoesOn place (on_holding change place)
 changes change same (Free all_read) = refl
 changes change same (Taken holding) = inl (change holding, refl, same holding)
-changes change same (Given holding next last_reads) = inl (change holding, last_reads, refl, omega arith, same holding)
+changes change same (Given holding next last_reads) = inl (change holding, last_reads, refl, omega arith, omega arith, same holding)
 changes change same (Promised next) = inl refl
 
 writes : (writing : Writing) (holding : Holding) → IsSame holding (written writing holding)
@@ -53,7 +53,7 @@ ready-writes : (writing : Writing) (place : Place) → GoesOn place (on_holding 
 ready-writes writing (Free all_read) = refl
 ready-writes writing (Taken holding) = inl (written writing (with_arrival Ready holding), refl, readies writing holding)
 ready-writes writing (Given holding next last_reads) =
-    inl (written writing (with_arrival Ready holding), last_reads, refl, omega arith, readies writing holding)
+    inl (written writing (with_arrival Ready holding), last_reads, refl, omega arith, omega arith, readies writing holding)
 ready-writes writing (Promised next) = inl refl
 
 ends : (place : Place) → GoesOn place (ended place)
@@ -77,8 +77,14 @@ fills reading (Taken holding) = taken (is_gone (Taken holding)) (may_read holdin
     taken true readable = inr (_, refl)
     taken false true = inl (read reading holding, refl, reads reading holding (has_line holding.holder))
     taken false false = stays (Taken holding)
-fills reading (Given holding next last_reads) =
-    inl (read reading holding, last_reads - 1, refl, omega arith, reads reading holding (has_line holding.holder))
+fills reading (Given holding next last_reads) = replaced (has_line holding.holder)
+  where
+    replaced : (line : Bool)
+        → GoesOn (Given holding next last_reads)
+        (if line then Given holding next last_reads else Given (read reading holding) next (last_reads - 1))
+    replaced true = stays (Given holding next last_reads)
+    replaced false =
+        inl (read reading holding, last_reads - 1, refl, omega arith, omega arith, reads reading holding (has_line holding.holder))
 fills reading (Promised next) = inl refl
 
 watches : (now : ℕ) (writing : Writing) (place : Place) → GoesOn place (watched_by now (written_if_full place writing))
@@ -203,6 +209,7 @@ serves_in_turn application Takes off = takes application (has_next_line applicat
 serves_in_turn application Welcomes off = changes welcomed (λ holding. ([], refl, refl)) application.place
 serves_in_turn application Ends off = ends application.place
 serves_in_turn application Holds off = stays application.place
+serves_in_turn application Releases off = stays application.place
 
 pub comes_alone : ComesAlone
 comes_alone application (Attends now reading) is =
@@ -227,3 +234,4 @@ comes_alone application Takes is = cc is
 comes_alone application Welcomes is = cc is
 comes_alone application Ends is = cc is
 comes_alone application Holds is = cc is
+comes_alone application Releases is = cc is

@@ -1,5 +1,5 @@
--- What waits for the application is the end of what it was queued.
-use Rattle.std.proofs.Common.{◌≡◌, ℕ, Bool, true, false, List, [], ◌∷◌, ◌++◌, take, drop, refl, sym, ap, subst, ◌∙◌, append_assoc, append-nil}
+-- The octets that wait for the application are the end of the texts that were queued for it.
+use Rattle.std.proofs.Common.{◌≡◌, ◌-◌, ℕ, Bool, true, false, List, [], ◌∷◌, ◌++◌, take, drop, refl, sym, ap, subst, ◌∙◌, append_assoc, append-nil}
 use Rattle.std.specs.Prelude.{◌&&◌, ◌||◌, if◌then◌else◌, fold, not}
 use Rattle.std.proofs.lemmas.List.{take-append-drop}
 use Rattle.octet_io.specs.Number.{Octets}
@@ -14,7 +14,7 @@ use Rattle.device_session.specs.ApplicationValue.{Application}
 use Rattle.device_session.specs.Holder.{has_line, may_read}
 use Rattle.device_session.specs.Incoming.Arrival.{Ready, Taken as Took}
 use Rattle.device_session.specs.Laws.{Event, IsEnd, IsEndOf, Telling, TellsInOrder, output_in, with_event}
-use Rattle.device_session.specs.Laws.Event.{Knocks, Attends, Fills, Watches, Flushes, Readies, Tells, Answers, Chooses, Asks as Takes, Welcomes, Ends, Holds}
+use Rattle.device_session.specs.Laws.Event.{Knocks, Attends, Fills, Watches, Flushes, Readies, Tells, Answers, Chooses, Asks as Takes, Welcomes, Ends, Holds, Releases}
 use Rattle.device_session.specs.Outgoing.{after_sent, watched, with_text}
 use Rattle.device_session.specs.Place.{ended, filled_in, given, is_free, is_full_in, is_giving, is_gone, is_slow_in, is_there, left_by, on_holding, watched_in, with_next}
 use Rattle.device_session.specs.Seats.{Holding, Reading, Visiting, Writing, holder_read, has_failed, read, queued, welcomed, with_arrival, written}
@@ -85,7 +85,7 @@ tells texts (Promised next) text end = tt
 no-more : (texts : Octets) (place : Place) → AtEnd texts place → AtEnd (texts ++ []) place
 no-more texts place end = subst (λ (texts : Octets). AtEnd texts place) (sym (append-nil texts)) end
 
--- a new application was queued nothing
+-- nothing was queued yet for a new application
 comes-end : (texts : Octets) (place : Place) (visiting : Visiting) → AtEnd texts place
     → AtEnd (if is_free place then [] else texts ++ []) (with_next place visiting)
 comes-end texts (Free all_read) visiting end = ([], refl)
@@ -108,7 +108,12 @@ fills reading texts (Taken holding) end = taken (is_gone (Taken holding)) (may_r
     taken true readable = tt
     taken false true = reads reading texts holding end
     taken false false = end
-fills reading texts (Given holding next last_reads) end = reads reading texts holding end
+fills reading texts (Given holding next last_reads) end = replaced (has_line holding.holder)
+  where
+    replaced : (line : Bool)
+        → AtEnd texts (if line then Given holding next last_reads else Given (read reading holding) next (last_reads - 1))
+    replaced true = end
+    replaced false = reads reading texts holding end
 fills reading texts (Promised next) end = tt
 
 watches : (now : ℕ) (writing : Writing) (texts : Octets) (place : Place) → AtEnd texts place
@@ -191,6 +196,7 @@ event-keeps telling Welcomes end =
     no-more telling.texts _ (on welcomed (λ texts holding end. end) telling.texts telling.application.place end)
 event-keeps telling Ends end = no-more telling.texts _ (ends telling.texts telling.application.place)
 event-keeps telling Holds end = no-more telling.texts telling.application.place end
+event-keeps telling Releases end = no-more telling.texts telling.application.place end
 
 all-keep : (telling : Telling) (events : List Event) → AtEnd telling.texts telling.application.place
     → let last : Telling = fold with_event telling events in AtEnd last.texts last.application.place

@@ -42,6 +42,10 @@ seating (Some visiting) application =
     record application { place = with_next application.place visiting; visiting = None }
 seating None application = application
 
+-- Lines are read again. A connection may have come in the meantime.
+abbrev pub after_release : Application → Application
+after_release application = record application { is_held = false; is_knocking = true }
+
 -- The visitor gets the place, or waits for it, unless another one does already.
 abbrev pub after_coming : Application → Application
 after_coming application =
@@ -109,7 +113,7 @@ with_place application place = record application { place = place }
 abbrev pub after_end : Application → Application
 after_end application = with_place application (ended application.place)
 
--- It may accept a little without an event of the poller.
+-- If much waits for the application, its socket may accept a little without an event.
 abbrev pub written_if_full : Place → Writing → Place
 written_if_full place writing =
     if is_full_in place then on_holding (written writing) place else place

@@ -1,5 +1,5 @@
 -- The laws of the application's place, over all that may happen (this profile's own).
-use Rattle.std.specs.Prelude.{◌≡◌, ◌⊎◌, ℕ, ◌≤◌, ◌&&◌, ◌++◌, Bool, true, false, if◌then◌else◌, List, [], ◌∷◌, fold, length, IfSome, Option, Some, None}
+use Rattle.std.specs.Prelude.{◌≡◌, ◌⊎◌, ℕ, ◌+◌, ◌≤◌, ◌&&◌, ◌++◌, Bool, true, false, if◌then◌else◌, List, [], ◌∷◌, fold, length, IfSome, Option, Some, None}
 use Rattle.octet_io.specs.Number.{Octets}
 use Rattle.app_lines.specs.declared.inbox.TheConstants.{ROOM}
 use Rattle.device_session.specs.declared.holder.Holder.{Holder}
@@ -9,7 +9,7 @@ use Rattle.device_session.specs.declared.outgoing.Outgoing.TheVariants.{Open, De
 use Rattle.device_session.specs.declared.outgoing.TheConstants.{LIMIT}
 use Rattle.device_session.specs.declared.place.Place.{Place}
 use Rattle.device_session.specs.declared.place.Place.TheVariants.{Free, Taken, Given, Promised}
-use Rattle.device_session.specs.Application.{after_answer, after_asking, after_attending, after_choosing, after_end, after_filling, after_flush, after_knock, after_ready, after_telling, after_watch, after_welcome, comes, gives_place, nobody}
+use Rattle.device_session.specs.Application.{after_answer, after_asking, after_attending, after_choosing, after_end, after_filling, after_flush, after_knock, after_ready, after_release, after_telling, after_watch, after_welcome, comes, gives_place, nobody}
 use Rattle.device_session.specs.ApplicationValue.{Application}
 use Rattle.device_session.specs.Incoming.{Arrival, after_arrival}
 use Rattle.device_session.specs.Place.{fits_in, has_next, is_free, is_over, is_there, with_next}
@@ -32,6 +32,7 @@ pub data Event : Type 0 where
   Welcomes : Event
   Ends : Event
   Holds : Event
+  Releases : Event
 
 abbrev pub after_event : Application → Event → Application
 after_event application (Knocks now came) = after_knock application now came
@@ -47,6 +48,7 @@ after_event application Asks = after_asking application
 after_event application Welcomes = after_welcome application
 after_event application Ends = after_end application
 after_event application Holds = record application { is_held = true }
+after_event application Releases = after_release application
 
 -- The application of a device after its start and these events.
 abbrev pub application_after : List Event → Application
@@ -65,21 +67,21 @@ IsSame before after =
     × (after.slow ≡ before.slow)
 
 -- The place, while no visitor comes: the application stays, or leaves. One that is replaced stays
--- until all its lines are executed, or it was read often enough, unless it is ended. Only the one
--- that came then gets the place.
+-- until all its lines are executed, or its reads are counted down, unless it is ended. Only the
+-- visitor that came gets it then.
 abbrev pub GoesOn : Place → Place → Type 0
 GoesOn (Free all_read) after = after ≡ Free all_read
 GoesOn (Taken holding) after =
     ((now : Holding) × (after ≡ Taken now) × IsSame holding now)
     ⊎ ((all_read : Bool) × (after ≡ Free all_read))
 GoesOn (Given holding next last_reads) after =
-    ((now : Holding) × (left : ℕ) × (after ≡ Given now next left) × (left ≤ last_reads)
-    × IsSame holding now)
+    ((now : Holding) × (left : ℕ) × (after ≡ Given now next left)
+    × (left ≤ last_reads) × (last_reads ≤ left + 1) × IsSame holding now)
     ⊎ (after ≡ Promised next)
     ⊎ ((is_over holding.holder last_reads ≡ true) × (after ≡ Taken (seated next)))
 GoesOn (Promised next) after = (after ≡ Promised next) ⊎ (after ≡ Taken (seated next))
 
--- Nobody gets the place but by a visit, or in turn.
+-- A connection gets the place only by a visit, or in turn.
 abbrev pub ServesInTurn : Type 0
 ServesInTurn =
     (application : Application) (event : Event) → comes_by application event ≡ false

@@ -5,6 +5,7 @@ pub mod Holder
 pub mod Incoming
 pub mod Laws
 pub mod Lines
+pub mod Links
 pub mod Missed
 pub mod Outgoing
 pub mod PeerClock

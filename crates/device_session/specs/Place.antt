@@ -144,7 +144,8 @@ filled_in reading (Taken holding) =
     if is_gone (Taken holding) then left_by holding
     else if may_read holding.holder then Taken (read reading holding) else Taken holding
 filled_in reading (Given holding next last_reads) =
-    Given (read reading holding) next (last_reads - 1)
+    if has_line holding.holder then Given holding next last_reads
+    else Given (read reading holding) next (last_reads - 1)
 filled_in reading place = place
 
 abbrev pub filled_of : Place → Filled

@@ -47,7 +47,7 @@ impl Model for Application {
 }
 
 impl Application {
-    #[tactic(auto, using(crate::proofs::Succession::serves_in_turn, crate::proofs::Succession::comes_alone, crate::proofs::Claiming::comes_rightly, crate::proofs::Tellings::tells_in_order, crate::proofs::Limits::bounds))]
+    #[tactic(auto, using(crate::proofs::Succession::serves_in_turn, crate::proofs::Succession::comes_alone, crate::proofs::Claiming::comes_rightly, crate::proofs::Tellings::tells_in_order, crate::proofs::Bounded::bounds))]
     pub(crate) fn none(alloc: Global) -> Application
         ensures nobody { result ≡ spec.nobody }
         // For all that may happen:
@@ -137,6 +137,14 @@ impl Application {
         ensures { self.new ≡ record self.old { is_held = true } }
     {
         self.is_held = true;
+    }
+
+    /// Reads lines again. A connection may have come in the meantime.
+    pub(crate) fn release(&mut self)
+        ensures { self.new ≡ spec.after_release self.old }
+    {
+        self.is_held = false;
+        self.is_knocking = true;
     }
 
     /// Returns when the visit ends or the application is cut off.

@@ -1,8 +1,8 @@
 //! The notices of the host in one turn.
 
+use crate::links::Links;
 use crate::pending::Subject;
-use crate::subscribed::Subscribed;
-use app_lines::{Names, Told, add_named_line, add_number, add_told, connection_of};
+use app_lines::{Names, add_named_line, add_number, connection_of};
 use host_api::Notice;
 use std::alloc::{AllocError, Global};
 
@@ -35,7 +35,7 @@ pub struct Heard {
     pub(crate) log: Vec<u8>,
     logs_values: bool,
     pub(crate) names: Names,
-    subscribed: Subscribed,
+    links: Links,
     /// The connections that got a key in the turn.
     secured: Vec<u16>,
     /// The values that clients wrote in the turn, and that are not saved.
@@ -54,7 +54,7 @@ impl Heard {
             log: Vec::new(alloc),
             logs_values,
             names: Names::new(),
-            subscribed: Subscribed::new(alloc),
+            links: Links::new(alloc),
             secured: Vec::new(alloc),
             written: Vec::new(alloc),
             is_refused: false,
@@ -65,7 +65,7 @@ impl Heard {
     pub fn begin(&mut self) {
         self.clear();
         self.names.forget();
-        self.subscribed.forget();
+        self.links.forget();
     }
 
     /// Returns true if there was no notice.
@@ -91,7 +91,7 @@ impl Heard {
         {
             self.is_refused = true;
         }
-        if self.subscribed.hear(&notice).is_err() {
+        if self.note_link(&notice).is_err() {
             self.is_refused = true;
         }
         if let Notice::Connected { .. } = notice {
@@ -113,22 +113,13 @@ impl Heard {
         self.secured.as_slice()
     }
 
-    /// Adds a line for each configuration that a connection made without a key.
-    pub fn add_own_subscriptions(
-        &self,
-        text: &mut Vec<u8>,
-        name: u64,
-        handle: u16,
-    ) -> Result<(), AllocError> {
-        for place in 0..self.subscribed.count() {
-            if let Some((attribute, bits)) = self.subscribed.at(place, handle) {
-                let line = Told::Subscribed {
-                    name,
-                    attribute,
-                    bits,
-                };
-                add_told(text, &line)?;
-            }
+    fn note_link(&mut self, notice: &Notice<'_>) -> Result<(), AllocError> {
+        match *notice {
+            Notice::Connected { handle, peer } => self.links.connect(handle, peer)?,
+            Notice::Disconnected { handle } => self.links.disconnect(handle),
+            Notice::Secured { handle, .. } => self.links.note_key(handle, true),
+            Notice::Unsecured { handle } => self.links.note_key(handle, false),
+            _ => {}
         }
         Ok(())
     }
@@ -163,7 +154,7 @@ impl Heard {
                 attribute,
                 ..
             } if self.saved != SavedChanges::Nothing => {
-                let peer = self.subscribed.peer_with_key(handle)?;
+                let peer = self.links.keyed_peer(handle)?;
                 Some(Subject::Configuration { peer, attribute })
             }
             _ => None,

@@ -11,6 +11,7 @@ mod controller_session;
 mod heard;
 mod holder;
 mod incoming;
+mod links;
 mod missed;
 mod opening;
 mod outgoing;
@@ -22,7 +23,6 @@ mod seats;
 mod session;
 mod sockets;
 mod strangers;
-mod subscribed;
 mod turns;
 mod visitor;
 

@@ -241,8 +241,10 @@ impl Place {
                 last_reads,
                 ..
             } => {
-                *last_reads = last_reads.saturating_sub(1);
-                holding.read();
+                if !holding.holder().has_line() {
+                    *last_reads = last_reads.saturating_sub(1);
+                    holding.read();
+                }
                 Filled::Nothing
             }
             Place::Taken(holding) => {

@@ -174,6 +174,11 @@ impl<'a, R> Session<'a, R> {
         self.application.hold();
     }
 
+    /// Reads lines again after `hold`.
+    pub fn release(&mut self) {
+        self.application.release();
+    }
+
     /// Returns true if clients without a key have a time limit.
     pub fn looks_for_strangers(&self) -> bool {
         self.controller.strangers.are_limited()
@@ -314,12 +319,16 @@ impl<R: Clock + Eprint> Session<'_, R> {
     }
 
     /// Begins work of the device itself, such as a save: its time counts for no limit of a peer.
-    pub fn begin_work(&mut self) {
+    pub fn begin_work(&mut self)
+        ensures application { self.new.application ≡ self.old.application }
+    {
         self.clock.count(self.log.now());
     }
 
     /// Ends work of the device itself.
-    pub fn end_work(&mut self) {
+    pub fn end_work(&mut self)
+        ensures application { self.new.application ≡ self.old.application }
+    {
         self.clock.skip(self.log.now());
     }
 
@@ -428,10 +437,11 @@ impl<
 
     fn take_in(&mut self, ready: Ready) {
         let now = self.clock.time();
-        if ready.controller {
-            self.controller.controller.is_ready(ready.is_ending);
+        let controller = ready.controller;
+        if controller.is_readable {
+            self.controller.controller.is_ready(controller.is_ending);
         }
-        if ready.takes_more {
+        if controller.takes_more {
             self.controller.controller.flush(&self.poller, now);
         }
         if ready.application {

@@ -1,5 +1,5 @@
 -- No buffer passes its limit.
-use Rattle.std.proofs.Common.{◌≡◌, ℕ, ◌+◌, ◌≤◌, Bool, true, false, List, [], ◌∷◌, length, Option, Some, None, refl, arith}
+use Rattle.std.proofs.Common.{◌≡◌, ℕ, ◌+◌, ◌-◌, ◌≤◌, Bool, true, false, List, [], ◌∷◌, length, Option, Some, None, refl, arith}
 use Rattle.std.specs.Prelude.{◌||◌, if◌then◌else◌, fold, is_some, IfSome}
 use Rattle.std.specs.List.{position_or_len}
 use Rattle.std.specs.Option.{option_map}
@@ -24,7 +24,7 @@ use Rattle.device_session.specs.ApplicationValue.{Application}
 use Rattle.device_session.specs.Holder.{has_line, is_found, may_read}
 use Rattle.device_session.specs.Incoming.Arrival.{Ready, Taken as Took}
 use Rattle.device_session.specs.Laws.{ArePossible, Bounds, Event, IsBounded, IsBoundedHolder, IsBoundedInput, IsBoundedOutput, IsBoundedPlace, IsBoundedVisit, IsPossible, after_event}
-use Rattle.device_session.specs.Laws.Event.{Knocks, Attends, Fills, Watches, Flushes, Readies, Tells, Answers, Chooses, Asks as Takes, Welcomes, Ends, Holds}
+use Rattle.device_session.specs.Laws.Event.{Knocks, Attends, Fills, Watches, Flushes, Readies, Tells, Answers, Chooses, Asks as Takes, Welcomes, Ends, Holds, Releases}
 use Rattle.device_session.specs.Outgoing.{after_sent, fits, watched, with_text}
 use Rattle.device_session.specs.Place.{ended, filled_in, fits_in, given, has_next, is_free, is_full_in, is_giving, is_gone, is_slow_in, left_by, on_holding, watched_in, with_next}
 use Rattle.device_session.specs.Seats.{Holding, IsShort, Reading, Visiting, Writing, after_reading, has_failed, holder_read, read, queued, visitor_arrival, welcomed, with_arrival, written}
@@ -124,7 +124,12 @@ fills reading few (Taken holding) fits = taken (is_gone (Taken holding)) (may_re
     taken true readable = tt
     taken false true = reads-fit reading few holding fits
     taken false false = fits
-fills reading few (Given holding next last_reads) fits = (reads-fit reading few holding fits.0, fits.1)
+fills reading few (Given holding next last_reads) fits = replaced (has_line holding.holder)
+  where
+    replaced : (line : Bool)
+        → IsBoundedPlace (if line then Given holding next last_reads else Given (read reading holding) next (last_reads - 1))
+    replaced true = fits
+    replaced false = (reads-fit reading few holding fits.0, fits.1)
 fills reading few (Promised next) fits = fits
 
 tells : (text : Octets) (place : Place) → fits_in place text ≡ true → IsBoundedPlace place → IsBoundedPlace (on_holding (queued text) place)
@@ -237,6 +242,7 @@ module _ (application : Application) (fits : IsBounded application) where
   event-keeps Welcomes possible = placed _ (on welcomed (λ holding bounded. bounded) application.place fits.place)
   event-keeps Ends possible = placed _ (ends application.place fits.place)
   event-keeps Holds possible = record { place = fits.place; visiting = fits.visiting }
+  event-keeps Releases possible = record { place = fits.place; visiting = fits.visiting }
 
 all-keep : (application : Application) (events : List Event) → ArePossible application events → IsBounded application
     → IsBounded (fold after_event application events)
