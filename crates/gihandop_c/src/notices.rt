@@ -70,14 +70,7 @@ fn at(host: &Host, place: usize, size: usize) -> Option<NoticeFields>
     ensures { result
         ≡ option_map (notice_fields size) (slice_get (notices_told host.now) place) }
 {
-    let mut left = place;
-    for notice in host.notices() {
-        if left == 0 {
-            return Some(fields(notice, size));
-        }
-        left -= 1;
-    }
-    None
+    Some(fields(host.notice(place)?, size))
 }
 
 fn fields(notice: Notice<'_>, size: usize) -> NoticeFields

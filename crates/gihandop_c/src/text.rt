@@ -18,7 +18,7 @@ const LIBRARY: &[&str] = &[
 
 /// Faults of a stopped host, from 21.
 const HOST: &[&str] = &[
-    "host: an octet stands where a packet begins, and begins none",
+    "host: an octet begins no packet",
     "host: an event is too short for its fields, or has another length than it states",
     "host: the controller could not be initialised",
     "host: the controller reports an error of its own",
@@ -30,7 +30,7 @@ const CALLS: &[&str] = &[
     "it is no characteristic value",
     "the value is longer than its largest length, or a fixed one has another length",
     "no connection with the handle serves",
-    "the time is before the one that stands",
+    "the time is earlier than the current time",
     "the host has stopped",
     "a table has no value that tells of changes, or they have it at different handles",
 ];
