@@ -1,6 +1,7 @@
 //! PDUs built from parts.
 
 use arrayvec::ArrayVec;
+use att_numbers::Refusal;
 use att_pdu::PduBuf;
 use std::process::Abort;
 
@@ -37,7 +38,11 @@ fn append(pdu: &mut PduBuf<'_>, part: Part) -> bool {
         Part::Group(first, last, octets) => pdu.group(first, last, octets),
         Part::Part(handle, offset, octets) => pdu.part(handle, offset, octets),
         Part::Error(opcode, handle, code) => {
-            pdu.error(opcode, handle, code);
+            pdu.error(Refusal {
+                opcode,
+                handle,
+                code,
+            });
             true
         }
     }

@@ -1,8 +1,9 @@
 //! Calls in sequence, each with its packets.
 
+use crate::given::Given;
 use crate::player::{Setting, ready};
 use crate::tables::File::Bell;
-use crate::taken::{Taken, go_on};
+use crate::taken::go_on;
 use crate::wire::{Written, spelled};
 use gatt_host::{App, AppFault, Fault, Host, HostFault, call, feed};
 use std::alloc::Global;
@@ -19,10 +20,10 @@ const SETTING: &Setting<'static> = &Setting {
 type Case = (App<'static>, Result<(), Fault>, &'static str);
 
 /// A peer configures indications and confirms none.
-const SUBSCRIBED: &[Taken] = &[
-    Taken::Packet("043e130100400001010a00000000c018000000480000"),
-    Taken::Packet("040e04010a2000"),
-    Taken::Pdu("1204000200"),
+const SUBSCRIBED: &[Given] = &[
+    Given::Octets("043e130100400001010a00000000c018000000480000"),
+    Given::Octets("040e04010a2000"),
+    Given::Pdu(0x40, "1204000200"),
 ];
 
 const IN_A_ROW: &[Case] = &[

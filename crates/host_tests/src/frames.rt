@@ -1,7 +1,7 @@
 //! Frames in fragments and on other channels.
 
-use crate::peers::Who::Stranger;
-use crate::player::{Play, Setting, Step, play_each};
+use crate::given::Given;
+use crate::player::{Play, Setting, Step, Wanted, play_each};
 use crate::tables::File::Door;
 
 const SETTING: &Setting<'static> = &Setting {
@@ -20,46 +20,86 @@ const THIRD: &str = "02401003000a0300";
 const ANSWER: &str = "0240000900050004000b4c6f636b";
 
 const IN_FRAGMENTS: &[Step] = &[
-    Step::Connects(0x40, Stranger, "010a200101"),
-    Step::Octets(FIRST, ""),
-    Step::Octets(SECOND, ""),
-    Step::Octets(THIRD, ANSWER),
-    Step::Octets(FIRST, ""),
-    Step::Octets(SECOND, ""),
-    Step::Octets(FIRST, ""),
-    Step::Octets(SECOND, ""),
-    Step::Octets(THIRD, ANSWER),
+    // A stranger connects.
+    (
+        Given::Octets("043e130100400001010a00000000c018000000480000"),
+        Wanted::Octets("010a200101"),
+    ),
+    (Given::Octets("040e04010a2000"), Wanted::Octets("")),
+    (Given::Octets(FIRST), Wanted::Octets("")),
+    (Given::Octets(SECOND), Wanted::Octets("")),
+    (Given::Octets(THIRD), Wanted::Octets(ANSWER)),
+    (Given::Octets("0413050140000100"), Wanted::Octets("")),
+    (Given::Octets(FIRST), Wanted::Octets("")),
+    (Given::Octets(SECOND), Wanted::Octets("")),
+    (Given::Octets(FIRST), Wanted::Octets("")),
+    (Given::Octets(SECOND), Wanted::Octets("")),
+    (Given::Octets(THIRD), Wanted::Octets(ANSWER)),
+    (Given::Octets("0413050140000100"), Wanted::Octets("")),
 ];
 
 /// A stray continuation, a long packet, one of another connection, and a failed disconnection are
 /// ignored.
 const PASSED_OVER: &[Step] = &[
-    Step::Connects(0x40, Stranger, "010a200101"),
-    Step::Octets("0240100700030004000a0300", ""),
-    Step::Octets("0241200700030004000a0300", ""),
-    Step::Long("0240200104", 1025, ""),
-    Step::Octets("04050412400013", ""),
-    Step::Octets(FIRST, ""),
-    Step::Octets(SECOND, ""),
-    Step::Octets(THIRD, ANSWER),
+    // A stranger connects.
+    (
+        Given::Octets("043e130100400001010a00000000c018000000480000"),
+        Wanted::Octets("010a200101"),
+    ),
+    (Given::Octets("040e04010a2000"), Wanted::Octets("")),
+    (
+        Given::Octets("0240100700030004000a0300"),
+        Wanted::Octets(""),
+    ),
+    (
+        Given::Octets("0241200700030004000a0300"),
+        Wanted::Octets(""),
+    ),
+    (Given::Long("0240200104", 1025), Wanted::Octets("")),
+    (Given::Octets("04050412400013"), Wanted::Octets("")),
+    (Given::Octets(FIRST), Wanted::Octets("")),
+    (Given::Octets(SECOND), Wanted::Octets("")),
+    (Given::Octets(THIRD), Wanted::Octets(ANSWER)),
+    (Given::Octets("0413050140000100"), Wanted::Octets("")),
 ];
 
 /// A whole packet that is too long is ignored.
 const HANDED_IN: &[Step] = &[
-    Step::Connects(0x40, Stranger, "010a200101"),
-    Step::Hands(0x40, 2, "030004000a", 0, &[]),
-    Step::Hands(0x40, 1, "", 1025, &[]),
-    Step::Hands(0x40, 1, "0300", 0, &[(0x40, "0b4c6f636b")]),
-    Step::Hands(0x40, 2, "03000400", 0, &[]),
-    Step::Hands(0x40, 2, "", 1025, &[]),
-    Step::Hands(0x40, 1, "0a0300", 0, &[(0x40, "0b4c6f636b")]),
+    // A stranger connects.
+    (
+        Given::Octets("043e130100400001010a00000000c018000000480000"),
+        Wanted::Octets("010a200101"),
+    ),
+    (Given::Octets("040e04010a2000"), Wanted::Octets("")),
+    (Given::Packet(2, "030004000a", 0), Wanted::Octets("")),
+    (Given::Packet(1, "", 1025), Wanted::Octets("")),
+    (Given::Packet(1, "0300", 0), Wanted::Pdu(0x40, "0b4c6f636b")),
+    (Given::Packet(2, "03000400", 0), Wanted::Octets("")),
+    (Given::Packet(2, "", 1025), Wanted::Octets("")),
+    (
+        Given::Packet(1, "0a0300", 0),
+        Wanted::Pdu(0x40, "0b4c6f636b"),
+    ),
 ];
 
 /// Pairing is refused, and signalling commands are not understood.
 const OTHER_CHANNELS: &[Step] = &[
-    Step::Connects(0x40, Stranger, "010a200101"),
-    Step::AsksOn(0x40, 6, "01030001100000", "0505"),
-    Step::AsksOn(0x40, 5, "120908000000000000000000", "010902000000"),
+    // A stranger connects.
+    (
+        Given::Octets("043e130100400001010a00000000c018000000480000"),
+        Wanted::Octets("010a200101"),
+    ),
+    (Given::Octets("040e04010a2000"), Wanted::Octets("")),
+    (
+        Given::Octets("0240200b000700060001030001100000"),
+        Wanted::Octets("0240000600020006000505"),
+    ),
+    (Given::Octets("0413050140000100"), Wanted::Octets("")),
+    (
+        Given::Octets("02402010000c000500120908000000000000000000"),
+        Wanted::Octets("0240000a0006000500010902000000"),
+    ),
+    (Given::Octets("0413050140000100"), Wanted::Octets("")),
 ];
 
 const PLAYS: &[Play] = &[

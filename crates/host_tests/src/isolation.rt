@@ -1,7 +1,7 @@
 //! A connection learns nothing hidden from it, and no other delays it.
 
-use crate::peers::Who::{Phone, Stranger, Tablet};
-use crate::player::{Play, Setting, Step, play_each};
+use crate::given::Given;
+use crate::player::{Play, Setting, Step, Wanted, play_each};
 use crate::tables::File::{Door, Other};
 use gatt_host::App;
 
@@ -82,61 +82,159 @@ const ONE_EACH: &Setting<'static> = &Setting {
 
 /// The answers do not depend on the value at 17, which needs encryption.
 const ASKED_OF_A_HIDDEN_VALUE: &[Step] = &[
-    Step::Connects(0x40, Stranger, "010a200101"),
-    Step::Asks(0x40, "060100fffff3ff02", "010601000a"),
-    Step::Asks(0x40, "060100fffff3ff09", "010601000a"),
-    Step::Asks(0x40, "080100fffff3ff", "09030f0001"),
-    Step::Asks(0x40, "0a1100", "010a110005"),
-    Step::Asks(0x40, "0e0f001100", "010e110005"),
-    Step::Connects(0x41, Phone, ""),
-    Step::Asks(0x41, "060100fffff3ff02", "010601000a"),
-    Step::Asks(0x41, "060100fffff3ff09", "010601000a"),
-    Step::Asks(0x41, "080100fffff3ff", "09030f0001"),
-    Step::Asks(0x41, "0a1100", "010a11000f"),
-    Step::Asks(0x41, "0e0f001100", "010e11000f"),
+    // A stranger connects.
+    (
+        Given::Octets("043e130100400001010a00000000c018000000480000"),
+        Wanted::Octets("010a200101"),
+    ),
+    (Given::Octets("040e04010a2000"), Wanted::Octets("")),
+    (
+        Given::Pdu(0x40, "060100fffff3ff02"),
+        Wanted::Pdu(0x40, "010601000a"),
+    ),
+    (
+        Given::Pdu(0x40, "060100fffff3ff09"),
+        Wanted::Pdu(0x40, "010601000a"),
+    ),
+    (
+        Given::Pdu(0x40, "080100fffff3ff"),
+        Wanted::Pdu(0x40, "09030f0001"),
+    ),
+    (Given::Pdu(0x40, "0a1100"), Wanted::Pdu(0x40, "010a110005")),
+    (
+        Given::Pdu(0x40, "0e0f001100"),
+        Wanted::Pdu(0x40, "010e110005"),
+    ),
+    // The client connects.
+    (
+        Given::Octets("043e130100410001010100000000c018000000480000"),
+        Wanted::Octets(""),
+    ),
+    (
+        Given::Pdu(0x41, "060100fffff3ff02"),
+        Wanted::Pdu(0x41, "010601000a"),
+    ),
+    (
+        Given::Pdu(0x41, "060100fffff3ff09"),
+        Wanted::Pdu(0x41, "010601000a"),
+    ),
+    (
+        Given::Pdu(0x41, "080100fffff3ff"),
+        Wanted::Pdu(0x41, "09030f0001"),
+    ),
+    (Given::Pdu(0x41, "0a1100"), Wanted::Pdu(0x41, "010a11000f")),
+    (
+        Given::Pdu(0x41, "0e0f001100"),
+        Wanted::Pdu(0x41, "010e11000f"),
+    ),
 ];
 
 /// Completed packets of one connection release only its own next packet.
 const COMPLETED_FOR_ANOTHER: &[Step] = &[
-    Step::Connects(0x40, Stranger, "010a200101"),
-    Step::Connects(0x41, Phone, ""),
-    Step::Hold,
-    Step::Asks(0x40, "0a0300", "0b4c6f636b"),
-    Step::Asks(0x41, "0a0300", "0b4c6f636b"),
-    Step::Asks(0x40, "0a0600", ""),
-    Step::Asks(0x41, "0a0f00", ""),
-    Step::Octets("041305014000ffff", "0240000600020004000b64"),
-    Step::Octets("041305014000ffff", ""),
-    Step::Octets("0413050141000100", "0241000600020004000b01"),
+    // A stranger connects.
+    (
+        Given::Octets("043e130100400001010a00000000c018000000480000"),
+        Wanted::Octets("010a200101"),
+    ),
+    (Given::Octets("040e04010a2000"), Wanted::Octets("")),
+    // The client connects.
+    (
+        Given::Octets("043e130100410001010100000000c018000000480000"),
+        Wanted::Octets(""),
+    ),
+    (
+        Given::Held(1, 0x40, "0a0300"),
+        Wanted::Pdu(0x40, "0b4c6f636b"),
+    ),
+    (
+        Given::Held(1, 0x41, "0a0300"),
+        Wanted::Pdu(0x41, "0b4c6f636b"),
+    ),
+    (Given::Held(1, 0x40, "0a0600"), Wanted::Octets("")),
+    (Given::Held(1, 0x41, "0a0f00"), Wanted::Octets("")),
+    (
+        Given::Octets("041305014000ffff"),
+        Wanted::Octets("0240000600020004000b64"),
+    ),
+    (Given::Octets("041305014000ffff"), Wanted::Octets("")),
+    (
+        Given::Octets("0413050141000100"),
+        Wanted::Octets("0241000600020004000b01"),
+    ),
 ];
 
 /// Packets for a connection that ended are ignored.
 const AFTER_A_DISCONNECTION: &[Step] = &[
-    Step::Connects(0x40, Stranger, "010a200101"),
-    Step::Connects(0x41, Tablet, ""),
-    Step::Hold,
-    Step::Asks(0x40, "0a0300", "0b4c6f636b"),
-    Step::Asks(0x41, "0a0300", "0b4c6f636b"),
-    Step::Asks(0x41, "0a0600", ""),
-    Step::Leaves(0x40, "010a200101"),
-    Step::Octets("0413050140000100", ""),
-    Step::Octets("0240200700030004000a0300", ""),
-    Step::Octets("04080400400001", ""),
-    Step::Octets("0413050141000100", "0241000600020004000b64"),
+    // A stranger connects.
+    (
+        Given::Octets("043e130100400001010a00000000c018000000480000"),
+        Wanted::Octets("010a200101"),
+    ),
+    (Given::Octets("040e04010a2000"), Wanted::Octets("")),
+    // The tablet connects.
+    (
+        Given::Octets("043e1301004100010055443322110018000000480000"),
+        Wanted::Octets(""),
+    ),
+    (
+        Given::Held(1, 0x40, "0a0300"),
+        Wanted::Pdu(0x40, "0b4c6f636b"),
+    ),
+    (
+        Given::Held(1, 0x41, "0a0300"),
+        Wanted::Pdu(0x41, "0b4c6f636b"),
+    ),
+    (Given::Held(1, 0x41, "0a0600"), Wanted::Octets("")),
+    (
+        Given::Octets("04050400400013"),
+        Wanted::Octets("010a200101"),
+    ),
+    (Given::Octets("040e04010a2000"), Wanted::Octets("")),
+    (Given::Octets("0413050140000100"), Wanted::Octets("")),
+    (
+        Given::Octets("0240200700030004000a0300"),
+        Wanted::Octets(""),
+    ),
+    (Given::Octets("04080400400001"), Wanted::Octets("")),
+    (
+        Given::Octets("0413050141000100"),
+        Wanted::Octets("0241000600020004000b64"),
+    ),
 ];
 
 /// A connection that fetches no answers is ended; the others are served.
 const ONE_FULL_QUEUE: &[Step] = &[
-    Step::Connects(0x40, Stranger, "010a200101"),
-    Step::Connects(0x41, Phone, ""),
-    Step::Asks(0x41, "1207000100", "13"),
-    Step::Hold,
-    Step::Asks(0x40, "0a0300", "0b4c6f636b"),
-    Step::Times(16, 0x40, "0a0300", ""),
-    Step::Asks(0x41, "0a0300", "0b4c6f636b"),
-    Step::Octets("0240200700030004000a0300", "01060403400013"),
-    Step::Octets("0413050141000100", ""),
-    Step::Calls(App::Update(6, &[0x01]), &[(0x41, "1b060001")]),
+    // A stranger connects.
+    (
+        Given::Octets("043e130100400001010a00000000c018000000480000"),
+        Wanted::Octets("010a200101"),
+    ),
+    (Given::Octets("040e04010a2000"), Wanted::Octets("")),
+    // The client connects.
+    (
+        Given::Octets("043e130100410001010100000000c018000000480000"),
+        Wanted::Octets(""),
+    ),
+    (Given::Pdu(0x41, "1207000100"), Wanted::Pdu(0x41, "13")),
+    (
+        Given::Held(1, 0x40, "0a0300"),
+        Wanted::Pdu(0x40, "0b4c6f636b"),
+    ),
+    (Given::Held(16, 0x40, "0a0300"), Wanted::Octets("")),
+    (
+        Given::Held(1, 0x41, "0a0300"),
+        Wanted::Pdu(0x41, "0b4c6f636b"),
+    ),
+    (
+        Given::Octets("0240200700030004000a0300"),
+        Wanted::Octets("01060403400013"),
+    ),
+    (Given::Octets("040f0400010604"), Wanted::Octets("")),
+    (Given::Octets("0413050141000100"), Wanted::Octets("")),
+    (
+        Given::CallHeld(App::Update(6, &[0x01])),
+        Wanted::Pdu(0x41, "1b060001"),
+    ),
 ];
 
 const PLAYS: &[Play] = &[

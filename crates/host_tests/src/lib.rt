@@ -13,11 +13,7 @@ mod a_lock;
 #[cfg(test)]
 mod calling;
 #[cfg(test)]
-mod calls;
-#[cfg(test)]
 mod changed_tables;
-#[cfg(test)]
-mod controller;
 #[cfg(test)]
 mod cut_streams;
 #[cfg(test)]
@@ -26,6 +22,8 @@ mod failing_streams;
 mod faults;
 #[cfg(test)]
 mod frames;
+#[cfg(test)]
+mod given;
 #[cfg(test)]
 mod happenings;
 #[cfg(test)]
@@ -41,8 +39,6 @@ mod notices;
 #[cfg(test)]
 mod opening;
 #[cfg(test)]
-mod peers;
-#[cfg(test)]
 mod player;
 #[cfg(test)]
 mod requests;
@@ -53,15 +49,11 @@ mod serving;
 #[cfg(test)]
 mod shares;
 #[cfg(test)]
-mod steps;
-#[cfg(test)]
 mod subscriptions;
 #[cfg(test)]
 mod tables;
 #[cfg(test)]
 mod taken;
-#[cfg(test)]
-mod told;
 #[cfg(test)]
 mod turns;
 #[cfg(test)]

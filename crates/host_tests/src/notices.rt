@@ -1,10 +1,11 @@
 //! Notices of packets, calls and tables.
 
+use crate::given::Given;
 use crate::tables::File::{Bell, Door, Porch, PorchNext};
-use crate::taken::{Case, Taken, play};
-use gatt_host::{App, KeyFacts, Notice, Peer};
+use crate::taken::{Case, play};
+use gatt_host::{App, AppFault, KeyFacts, Notice, Peer};
 
-const COMES: Taken = Taken::Packet("043e130100400001010a00000000c018000000480000");
+const COMES: Given = Given::Octets("043e130100400001010a00000000c018000000480000");
 
 const STRANGER: Notice<'static> = Notice::Connected {
     handle: 0x40,
@@ -14,9 +15,9 @@ const STRANGER: Notice<'static> = Notice::Connected {
     },
 };
 
-const GOES: Taken = Taken::Packet("04050400400013");
+const GOES: Given = Given::Octets("04050400400013");
 
-const ANOTHER_COMES: Taken = Taken::Packet("043e130100410001010b00000000c018000000480000");
+const ANOTHER_COMES: Given = Given::Octets("043e130100410001010b00000000c018000000480000");
 
 const ANOTHER: Notice<'static> = Notice::Connected {
     handle: 0x41,
@@ -30,29 +31,29 @@ const ANOTHER: Notice<'static> = Notice::Connected {
 const LINKS: &[Case] = &[
     // An error status, another role, and an invalid handle.
     (
-        Taken::Packet("043e130101400001010a00000000c018000000480000"),
+        Given::Octets("043e130101400001010a00000000c018000000480000"),
         &[],
     ),
     (
-        Taken::Packet("043e130100400000010a00000000c018000000480000"),
+        Given::Octets("043e130100400000010a00000000c018000000480000"),
         &[],
     ),
     (
-        Taken::Packet("043e130100000f01010a00000000c018000000480000"),
+        Given::Octets("043e130100000f01010a00000000c018000000480000"),
         &[],
     ),
     (COMES, &[STRANGER]),
     (ANOTHER_COMES, &[ANOTHER]),
     // Only two slots exist.
     (
-        Taken::Packet("043e130100420001010c00000000c018000000480000"),
+        Given::Octets("043e130100420001010c00000000c018000000480000"),
         &[],
     ),
-    (Taken::Packet("04050400420013"), &[]),
-    (Taken::Packet("04050401400013"), &[]),
+    (Given::Octets("04050400420013"), &[]),
+    (Given::Octets("04050401400013"), &[]),
     (GOES, &[Notice::Disconnected { handle: 0x40 }]),
     (
-        Taken::Packet("04050400410013"),
+        Given::Octets("04050400410013"),
         &[Notice::Disconnected { handle: 0x41 }],
     ),
 ];
@@ -64,7 +65,7 @@ const WRITES: &[Case] = &[
     // The handle is in use.
     (COMES, &[]),
     (
-        Taken::Pdu("12150061"),
+        Given::Pdu(0x40, "12150061"),
         &[Notice::Written {
             handle: 0x40,
             attribute: 21,
@@ -72,21 +73,21 @@ const WRITES: &[Case] = &[
         }],
     ),
     (
-        Taken::Pdu("52150061"),
+        Given::Pdu(0x40, "52150061"),
         &[Notice::Written {
             handle: 0x40,
             attribute: 21,
             value: b"a",
         }],
     ),
-    (Taken::Pdu("120a0001"), &[]),
-    (Taken::Pdu("520a0001"), &[]),
-    (Taken::Pdu("0a0300"), &[]),
-    (Taken::Pdu("161500000062"), &[]),
-    (Taken::Pdu("16070000000100"), &[]),
-    (Taken::Pdu("161500010063"), &[]),
+    (Given::Pdu(0x40, "120a0001"), &[]),
+    (Given::Pdu(0x40, "520a0001"), &[]),
+    (Given::Pdu(0x40, "0a0300"), &[]),
+    (Given::Pdu(0x40, "161500000062"), &[]),
+    (Given::Pdu(0x40, "16070000000100"), &[]),
+    (Given::Pdu(0x40, "161500010063"), &[]),
     (
-        Taken::Pdu("1801"),
+        Given::Pdu(0x40, "1801"),
         &[
             Notice::Written {
                 handle: 0x40,
@@ -101,18 +102,18 @@ const WRITES: &[Case] = &[
         ],
     ),
     // The second of two entries is refused.
-    (Taken::Pdu("161500000064"), &[]),
-    (Taken::Pdu("16070000000200"), &[]),
-    (Taken::Pdu("1801"), &[]),
+    (Given::Pdu(0x40, "161500000064"), &[]),
+    (Given::Pdu(0x40, "16070000000200"), &[]),
+    (Given::Pdu(0x40, "1801"), &[]),
     (
-        Taken::Pdu("1207000000"),
+        Given::Pdu(0x40, "1207000000"),
         &[Notice::Configured {
             handle: 0x40,
             attribute: 7,
             bits: 0,
         }],
     ),
-    (Taken::Call(App::Update(6, &[0x63])), &[]),
+    (Given::Call(App::Update(6, &[0x63])), &[]),
     (GOES, &[Notice::Disconnected { handle: 0x40 }]),
     (GOES, &[]),
 ];
@@ -120,7 +121,7 @@ const WRITES: &[Case] = &[
 /// Changes of the key of a link; a link that loses it is ended.
 const KEYS: &[Case] = &[
     (
-        Taken::Packet("043e1301004000010055443322110018000000480000"),
+        Given::Octets("043e1301004000010055443322110018000000480000"),
         &[Notice::Connected {
             handle: 0x40,
             peer: Peer {
@@ -129,9 +130,9 @@ const KEYS: &[Case] = &[
             },
         }],
     ),
-    (Taken::Packet("043e0d05400002020202020202020202"), &[]),
+    (Given::Octets("043e0d05400002020202020202020202"), &[]),
     (
-        Taken::Packet("04080400400001"),
+        Given::Octets("04080400400001"),
         &[Notice::Secured {
             handle: 0x40,
             facts: KeyFacts {
@@ -142,9 +143,9 @@ const KEYS: &[Case] = &[
         }],
     ),
     // The same key is refreshed.
-    (Taken::Packet("043003004000"), &[]),
+    (Given::Octets("043003004000"), &[]),
     (
-        Taken::Pdu("120a0001"),
+        Given::Pdu(0x40, "120a0001"),
         &[Notice::Written {
             handle: 0x40,
             attribute: 10,
@@ -152,12 +153,12 @@ const KEYS: &[Case] = &[
         }],
     ),
     // Values appear in the order of first entries; the last entry counts.
-    (Taken::Pdu("160a00000002"), &[]),
-    (Taken::Pdu("160b0000000100"), &[]),
-    (Taken::Pdu("161500000061"), &[]),
-    (Taken::Pdu("160a00000003"), &[]),
+    (Given::Pdu(0x40, "160a00000002"), &[]),
+    (Given::Pdu(0x40, "160b0000000100"), &[]),
+    (Given::Pdu(0x40, "161500000061"), &[]),
+    (Given::Pdu(0x40, "160a00000003"), &[]),
     (
-        Taken::Pdu("1801"),
+        Given::Pdu(0x40, "1801"),
         &[
             Notice::Written {
                 handle: 0x40,
@@ -177,9 +178,9 @@ const KEYS: &[Case] = &[
         ],
     ),
     // The shorter key.
-    (Taken::Packet("043e0d05400003030303030303030303"), &[]),
+    (Given::Octets("043e0d05400003030303030303030303"), &[]),
     (
-        Taken::Packet("043003004000"),
+        Given::Octets("043003004000"),
         &[Notice::Secured {
             handle: 0x40,
             facts: KeyFacts {
@@ -190,7 +191,7 @@ const KEYS: &[Case] = &[
         }],
     ),
     (
-        Taken::Packet("04080400400000"),
+        Given::Octets("04080400400000"),
         &[
             Notice::Unsecured { handle: 0x40 },
             Notice::Ending {
@@ -200,45 +201,45 @@ const KEYS: &[Case] = &[
         ],
     ),
     // Later PDUs of the connection are ignored.
-    (Taken::Pdu("12150061"), &[]),
+    (Given::Pdu(0x40, "12150061"), &[]),
     (GOES, &[Notice::Disconnected { handle: 0x40 }]),
 ];
 
 const INDICATIONS: &[Case] = &[
     (COMES, &[STRANGER]),
     (
-        Taken::Pdu("1204000200"),
+        Given::Pdu(0x40, "1204000200"),
         &[Notice::Configured {
             handle: 0x40,
             attribute: 4,
             bits: 2,
         }],
     ),
-    (Taken::Call(App::Update(3, &[0x01])), &[]),
+    (Given::Call(App::Update(3, &[0x01])), &[]),
     (
-        Taken::Pdu("1e"),
+        Given::Pdu(0x40, "1e"),
         &[Notice::Confirmed {
             handle: 0x40,
             attribute: 3,
         }],
     ),
-    (Taken::Pdu("1e"), &[]),
-    (Taken::Call(App::Tick(1)), &[]),
-    (Taken::Call(App::Update(3, &[0x02])), &[]),
-    (Taken::Refused(App::Tick(0)), &[]),
-    (Taken::Call(App::Tick(30_000)), &[]),
+    (Given::Pdu(0x40, "1e"), &[]),
+    (Given::Call(App::Tick(1)), &[]),
+    (Given::Call(App::Update(3, &[0x02])), &[]),
+    (Given::Refused(App::Tick(0), AppFault::TimeWentBack), &[]),
+    (Given::Call(App::Tick(30_000)), &[]),
     (
-        Taken::Call(App::Tick(30_001)),
+        Given::Call(App::Tick(30_001)),
         &[Notice::TimedOut { handle: 0x40 }],
     ),
-    (Taken::Call(App::Tick(60_002)), &[]),
+    (Given::Call(App::Tick(60_002)), &[]),
 ];
 
 const TWO_INDICATIONS: &[Case] = &[
     (COMES, &[STRANGER]),
     (ANOTHER_COMES, &[ANOTHER]),
     (
-        Taken::Packet("0241200900050004001204000200"),
+        Given::Octets("0241200900050004001204000200"),
         &[Notice::Configured {
             handle: 0x41,
             attribute: 4,
@@ -246,17 +247,17 @@ const TWO_INDICATIONS: &[Case] = &[
         }],
     ),
     (
-        Taken::Pdu("1204000200"),
+        Given::Pdu(0x40, "1204000200"),
         &[Notice::Configured {
             handle: 0x40,
             attribute: 4,
             bits: 2,
         }],
     ),
-    (Taken::Call(App::Update(3, &[0x01])), &[]),
-    (Taken::Call(App::Tick(29_999)), &[]),
+    (Given::Call(App::Update(3, &[0x01])), &[]),
+    (Given::Call(App::Tick(29_999)), &[]),
     (
-        Taken::Call(App::Tick(30_000)),
+        Given::Call(App::Tick(30_000)),
         &[
             Notice::TimedOut { handle: 0x40 },
             Notice::TimedOut { handle: 0x41 },
@@ -268,18 +269,18 @@ const TWO_INDICATIONS: &[Case] = &[
 const REPLACEMENT: &[Case] = &[
     (COMES, &[STRANGER]),
     (
-        Taken::Pdu("1204000200"),
+        Given::Pdu(0x40, "1204000200"),
         &[Notice::Configured {
             handle: 0x40,
             attribute: 4,
             bits: 2,
         }],
     ),
-    (Taken::Call(App::Update(3, &[1, 0, 2, 0])), &[]),
-    (Taken::Table(PorchNext), &[]),
-    (Taken::Pdu("1e"), &[]),
+    (Given::Call(App::Update(3, &[1, 0, 2, 0])), &[]),
+    (Given::Table(PorchNext), &[]),
+    (Given::Pdu(0x40, "1e"), &[]),
     (
-        Taken::Pdu("1e"),
+        Given::Pdu(0x40, "1e"),
         &[Notice::Confirmed {
             handle: 0x40,
             attribute: 3,
@@ -290,10 +291,10 @@ const REPLACEMENT: &[Case] = &[
 /// Two packets are outstanding and sixteen answers wait.
 const A_FULL_QUEUE: &[Case] = &[
     (COMES, &[STRANGER]),
-    (Taken::Held(18, "0a0300"), &[]),
+    (Given::Held(18, 0x40, "0a0300"), &[]),
     // A request without an answer is still served.
     (
-        Taken::Held(1, "52150061"),
+        Given::Held(1, 0x40, "52150061"),
         &[Notice::Written {
             handle: 0x40,
             attribute: 21,
@@ -301,7 +302,7 @@ const A_FULL_QUEUE: &[Case] = &[
         }],
     ),
     (
-        Taken::Held(1, "12150062"),
+        Given::Held(1, 0x40, "12150062"),
         &[Notice::Ending {
             handle: 0x40,
             reason: 0x13,
@@ -314,16 +315,16 @@ const A_FULL_QUEUE: &[Case] = &[
 const A_SKIPPED_VALUE: &[Case] = &[
     (COMES, &[STRANGER]),
     (
-        Taken::Pdu("1207000100"),
+        Given::Pdu(0x40, "1207000100"),
         &[Notice::Configured {
             handle: 0x40,
             attribute: 7,
             bits: 1,
         }],
     ),
-    (Taken::Held(10, "0a0300"), &[]),
+    (Given::Held(10, 0x40, "0a0300"), &[]),
     (
-        Taken::Call(App::Update(6, &[0x63])),
+        Given::Call(App::Update(6, &[0x63])),
         &[Notice::Skipped {
             handle: 0x40,
             attribute: 6,
@@ -336,23 +337,23 @@ const A_SKIPPED_VALUE: &[Case] = &[
 const A_VALUE_IN_TIME: &[Case] = &[
     (COMES, &[STRANGER]),
     (
-        Taken::Pdu("1207000100"),
+        Given::Pdu(0x40, "1207000100"),
         &[Notice::Configured {
             handle: 0x40,
             attribute: 7,
             bits: 1,
         }],
     ),
-    (Taken::Held(9, "0a0300"), &[]),
-    (Taken::Call(App::Update(6, &[0x63])), &[]),
+    (Given::Held(9, 0x40, "0a0300"), &[]),
+    (Given::Call(App::Update(6, &[0x63])), &[]),
     (GOES, &[Notice::Disconnected { handle: 0x40 }]),
 ];
 
 const A_FULL_QUEUE_FOR_PAIRING: &[Case] = &[
     (COMES, &[STRANGER]),
-    (Taken::Held(18, "0a0300"), &[]),
+    (Given::Held(18, 0x40, "0a0300"), &[]),
     (
-        Taken::Packet("0240200b000700060001030001100000"),
+        Given::Octets("0240200b000700060001030001100000"),
         &[Notice::Ending {
             handle: 0x40,
             reason: 0x13,
@@ -401,27 +402,36 @@ fn a_skipped_value_is_told(rt: HostRuntime) {
 const AN_END: &[Case] = &[
     (COMES, &[STRANGER]),
     (
-        Taken::Pdu("1207000100"),
+        Given::Pdu(0x40, "1207000100"),
         &[Notice::Configured {
             handle: 0x40,
             attribute: 7,
             bits: 1,
         }],
     ),
-    (Taken::Refused(App::Disconnect(0x41)), &[]),
     (
-        Taken::Call(App::Disconnect(0x40)),
+        Given::Refused(App::Disconnect(0x41), AppFault::NoSuchConnection),
+        &[],
+    ),
+    (
+        Given::Call(App::Disconnect(0x40)),
         &[Notice::Ending {
             handle: 0x40,
             reason: 0x13,
         }],
     ),
-    (Taken::Refused(App::Disconnect(0x40)), &[]),
-    (Taken::Call(App::Update(6, &[0x63])), &[]),
+    (
+        Given::Refused(App::Disconnect(0x40), AppFault::NoSuchConnection),
+        &[],
+    ),
+    (Given::Call(App::Update(6, &[0x63])), &[]),
     // Later PDUs of the connection are ignored.
-    (Taken::Pdu("12150061"), &[]),
+    (Given::Pdu(0x40, "12150061"), &[]),
     (GOES, &[Notice::Disconnected { handle: 0x40 }]),
-    (Taken::Refused(App::Disconnect(0x40)), &[]),
+    (
+        Given::Refused(App::Disconnect(0x40), AppFault::NoSuchConnection),
+        &[],
+    ),
 ];
 
 #[test]

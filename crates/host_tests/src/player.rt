@@ -3,63 +3,28 @@
 ghost use Rattle.std.specs.Prelude.{◌<◌};
 ghost use Rattle.host_tests.specs.Reached.{IsInARun};
 
-use crate::controller::{Controller, answer_all};
-use crate::peers::Who;
-use crate::steps::act;
+use crate::given::{Given, give, settle};
 use crate::tables::{File, read_table};
-use crate::wire::{Octets, Written};
+use crate::wire::{Octets, Written, put, put_sent, spell, spelled};
 use arrayvec::ArrayVec;
-use gatt_host::{App, AppFault, Config, Host, HostFault, feed};
+use gatt_host::{Config, Host, feed};
 use gatt_subs::Rows;
 use le_security::Keys;
 use le_security::examples::{KEYS, SECURE_KEY};
 use std::alloc::Global;
 use std::process::Abort;
 
-/// ATT PDUs in hexadecimal, each with its connection.
-pub type Pdus = &'static [(u16, &'static str)];
-
-/// One step. Octets and PDUs are hexadecimal.
+/// Output, in hexadecimal.
 #[derive(Clone, Copy)]
-pub enum Step {
-    /// Octets from the controller, and the output.
-    Octets(&'static str, &'static str),
-    /// Octets that end with this many octets `61`, and the output.
-    Long(&'static str, usize, &'static str),
-    /// A whole ACL packet: boundary flags, data that end with this many octets `61`, and the
-    /// output.
-    Hands(u16, u8, &'static str, usize, Pdus),
-    /// The controller completes no ACL packets from here on.
-    Hold,
-    /// A peer connects; the output.
-    Connects(u16, Who, &'static str),
-    /// A peer disconnects; the output.
-    Leaves(u16, &'static str),
-    /// The key is requested and the link encrypted; the output.
-    Encrypts(u16, Who, Pdus),
-    /// The key is requested, and the host has none.
-    HasNoKey(u16, Who),
-    Asks(u16, &'static str, &'static str),
-    /// A PDU and its answer, which ends with this many octets `61`.
-    AsksForLong(u16, &'static str, &'static str, usize),
-    /// A PDU several times, each with this answer.
-    Times(usize, u16, &'static str, &'static str),
-    /// A PDU and all output.
-    Tells(u16, &'static str, Pdus),
-    /// A frame on a channel and its answer.
-    AsksOn(u16, u8, &'static str, &'static str),
-    Calls(App<'static>, Pdus),
-    /// A call that causes a command, and the octets.
-    Commands(App<'static>, &'static str),
-    Refuses(App<'static>, AppFault),
-    Replaces(File<'static>, Pdus),
-    /// A refused table.
-    Keeps(File<'static>, AppFault),
-    Rows(&'static str),
-    Value(u16, &'static str),
-    /// Octets at which the host stops.
-    Stops(&'static str, HostFault),
+pub enum Wanted {
+    Octets(&'static str),
+    /// A PDU to a connection.
+    Pdu(u16, &'static str),
+    /// A PDU that ends with this many octets `61`.
+    Long(u16, &'static str, usize),
 }
+
+pub type Step = (Given, Wanted);
 
 #[derive(Clone, Copy)]
 pub struct Setting<'a> {
@@ -79,35 +44,56 @@ pub fn play_each(rt: &impl Abort, alloc: Global, plays: &[Play]) {
 
 /// Plays steps with a new host whose controller is initialised.
 pub fn play(rt: &impl Abort, alloc: Global, setting: &Setting<'_>, steps: &[Step]) {
-    let mut host = opened(rt, alloc, setting);
-    play_with(rt, alloc, &mut host, setting.packets, steps);
+    let mut host = ready(rt, alloc, setting);
+    play_with(rt, alloc, &mut host, steps);
     drop(host);
+}
+
+fn play_with(rt: &impl Abort, alloc: Global, host: &mut Host, steps: &[Step]) {
+    for (place, &(given, wanted)) in steps.iter().enumerate() {
+        let mut written = Written::new();
+        give(rt, alloc, host, given, &mut written);
+        settle(rt, host, given, &mut written);
+        assert!(rt;
+            written.octets() == octets_of(rt, wanted).as_slice(),
+            "step {place}"
+        );
+    }
+}
+
+fn octets_of(rt: &impl Abort, wanted: Wanted) -> Octets {
+    match wanted {
+        Wanted::Octets(octets) => spelled(rt, octets, 0),
+        Wanted::Pdu(handle, pdu) => sent(rt, handle, pdu, 0),
+        Wanted::Long(handle, pdu, more) => sent(rt, handle, pdu, more),
+    }
+}
+
+fn sent(rt: &impl Abort, handle: u16, pdu: &str, more: usize) -> Octets {
+    let mut octets = Octets::new();
+    let pdu = spelled(rt, pdu, more);
+    put_sent(rt, &mut octets, handle, 0x04, pdu.as_slice());
+    octets
 }
 
 /// Returns a new host whose controller is initialised.
 pub fn ready(rt: &impl Abort, alloc: Global, setting: &Setting<'_>) -> Host {
     let mut host = opened(rt, alloc, setting);
-    let controller = Controller {
-        packets: setting.packets,
-        completes: true,
-    };
-    initialise(rt, controller, &mut host);
+    initialise(rt, setting.packets, &mut host);
     host
 }
 
-fn play_with(rt: &impl Abort, alloc: Global, host: &mut Host, packets: u8, steps: &[Step]) {
-    let mut controller = Controller {
-        packets,
-        completes: true,
-    };
-    initialise(rt, controller, host);
-    for (place, &step) in steps.iter().enumerate() {
-        if let Step::Hold = step {
-            controller.completes = false;
-        } else {
-            make(rt, alloc, controller, host, place, step);
-        }
-    }
+fn initialise(rt: &impl Abort, packets: u8, host: &mut Host) {
+    let mut told = Octets::new();
+    spell(rt, &mut told, "040e0401030c00040e0401010c00040e0401012000");
+    spell(rt, &mut told, "040e07010220001b00");
+    put(rt, &mut told, &[packets]);
+    spell(rt, &mut told, "040e0401062000040e0401082000040e04010a2000");
+    let mut written = Written::new();
+    let is_fed = feed(host, &[], &mut written).is_ok()
+        && feed(host, told.as_slice(), &mut written).is_ok();
+    let is_ready = written.octets().ends_with(&[0x01, 0x0A, 0x20, 0x01, 0x01]);
+    assert!(rt; is_fed && is_ready);
 }
 
 /// Feeds pieces of at most `size` octets. Returns true if there is no fault.
@@ -159,31 +145,4 @@ fn config(setting: &Setting<'_>) -> Config {
         address: None,
         advertising,
     }
-}
-
-fn initialise(rt: &impl Abort, controller: Controller, host: &mut Host) {
-    let mut written = Written::new();
-    assert!(rt; feed(host, &[], &mut written).is_ok());
-    answer_all(rt, controller, host, &mut written);
-    let ready = written.octets().ends_with(&[0x01, 0x0A, 0x20, 0x01, 0x01]);
-    assert!(rt; ready);
-}
-
-fn make(
-    rt: &impl Abort,
-    alloc: Global,
-    controller: Controller,
-    host: &mut Host,
-    place: usize,
-    step: Step,
-) {
-    let mut written = Written::new();
-    let mut wanted = Octets::new();
-    act(rt, alloc, controller, host, step, &mut written, &mut wanted);
-    answer_all(rt, controller, host, &mut written);
-    compare(rt, place, written.octets(), wanted.as_slice());
-}
-
-fn compare(rt: &impl Abort, place: usize, written: &[u8], wanted: &[u8]) {
-    assert!(rt; written == wanted, "step {place}: {written:?}");
 }

@@ -1,7 +1,7 @@
 //! A device whose history is known, and the order of saving and sending in it.
 
 ghost use Rattle.std.specs.Prelude.{◌≡◌, [], Some, None};
-ghost use Rattle.device_loop.specs.Turn.{SavedBeforeSent};
+ghost use Rattle.device_loop.specs.Turn.{SavedFirst};
 ghost use Rattle.host_tests.specs.Reached.{IsInARun};
 
 use arrayvec::ArrayVec;
@@ -74,6 +74,10 @@ impl<L: Listener> Outside<L> for Recording {
         saving
     }
 
+    fn tell(&mut self, _host: &Host, _listener: &mut L, _saving: &Saving) {
+        self.history = self.history.with(&Note::Told);
+    }
+
     fn send(&mut self, octets: &[u8]) -> Sending {
         let sending = match self.turns.get(self.over) {
             Some(&(_, _, sending)) => sending,
@@ -85,8 +89,9 @@ impl<L: Listener> Outside<L> for Recording {
     }
 }
 
-/// Serves a host the turns of a device to which nothing has happened yet. Each time that it sends
-/// anything, it has saved the state before, or it withholds the data that depends on it.
+/// Serves a host the turns of a device to which nothing has happened yet. Each time that it tells
+/// the application or sends anything, it has saved the state before, or it withholds the data that
+/// depends on it.
 pub fn serve_each<W: Outgoing, L: Listener>(
     host: &mut Host,
     device: &mut Recording,
@@ -96,7 +101,7 @@ pub fn serve_each<W: Outgoing, L: Listener>(
 )
     requires run { IsInARun host.old }
     requires begins { device.old.history.entries ≡ [] }
-    ensures order { SavedBeforeSent device.new.history.entries }
+    ensures order { SavedFirst device.new.history.entries }
 {
     for _turn in 0..turns {
         serve_turn(host, device, out, listener);

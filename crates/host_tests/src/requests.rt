@@ -1,7 +1,7 @@
 //! Requests of peers over their links.
 
-use crate::peers::Who::{Phone, Stranger, Tablet, TabletByItsShortKey, Watch};
-use crate::player::{Play, Setting, Step, play, play_each};
+use crate::given::Given;
+use crate::player::{Play, Setting, Step, Wanted, play, play_each};
 use crate::tables::File::{Door, Other};
 use att_table::examples::DOOR;
 use gatt_host::App;
@@ -20,57 +20,155 @@ const ADVERTISES: &str = "010a200101";
 
 /// Reading the lock state needs an encrypted link, writing it an authenticated one.
 const STATE_OF_THE_LOCK: &[Step] = &[
-    Step::Connects(0x40, Stranger, ADVERTISES),
-    Step::Asks(0x40, "0a0a00", "010a0a0005"),
-    Step::Leaves(0x40, ""),
-    Step::Connects(0x40, Phone, ADVERTISES),
-    Step::Asks(0x40, "0a0a00", "010a0a000f"),
-    Step::Encrypts(0x40, Phone, &[]),
-    Step::Asks(0x40, "0a0a00", "0b00"),
-    Step::Asks(0x40, "120a0001", "01120a0005"),
-    Step::Value(10, "00"),
-    Step::Leaves(0x40, ""),
-    Step::Connects(0x40, Tablet, ADVERTISES),
-    Step::Encrypts(0x40, Tablet, &[]),
-    Step::Asks(0x40, "120a0005", "13"),
-    Step::Value(10, "05"),
+    // A stranger connects.
+    (
+        Given::Octets("043e130100400001010a00000000c018000000480000"),
+        Wanted::Octets(ADVERTISES),
+    ),
+    (Given::Octets("040e04010a2000"), Wanted::Octets("")),
+    (Given::Pdu(0x40, "0a0a00"), Wanted::Pdu(0x40, "010a0a0005")),
+    (Given::Octets("04050400400013"), Wanted::Octets("")),
+    // The client connects.
+    (
+        Given::Octets("043e130100400001010100000000c018000000480000"),
+        Wanted::Octets(ADVERTISES),
+    ),
+    (Given::Octets("040e04010a2000"), Wanted::Octets("")),
+    (Given::Pdu(0x40, "0a0a00"), Wanted::Pdu(0x40, "010a0a000f")),
+    // The client encrypts.
+    (
+        Given::Octets("043e0d05400001010101010101010101"),
+        Wanted::Octets("011a2012400000112233445566778899aabbccddeeff"),
+    ),
+    (Given::Octets("040e06011a20004000"), Wanted::Octets("")),
+    (Given::Octets("04080400400001"), Wanted::Octets("")),
+    (Given::Pdu(0x40, "0a0a00"), Wanted::Pdu(0x40, "0b00")),
+    (
+        Given::Pdu(0x40, "120a0001"),
+        Wanted::Pdu(0x40, "01120a0005"),
+    ),
+    (Given::Value(10), Wanted::Octets("00")),
+    (Given::Octets("04050400400013"), Wanted::Octets("")),
+    // The tablet connects.
+    (
+        Given::Octets("043e1301004000010055443322110018000000480000"),
+        Wanted::Octets(ADVERTISES),
+    ),
+    (Given::Octets("040e04010a2000"), Wanted::Octets("")),
+    // The tablet encrypts.
+    (
+        Given::Octets("043e0d05400002020202020202020202"),
+        Wanted::Octets("011a20124000ffeeddccbbaa99887766554433221100"),
+    ),
+    (Given::Octets("040e06011a20004000"), Wanted::Octets("")),
+    (Given::Octets("04080400400001"), Wanted::Octets("")),
+    (Given::Pdu(0x40, "120a0005"), Wanted::Pdu(0x40, "13")),
+    (Given::Value(10), Wanted::Octets("05")),
 ];
 
 /// The code of the lock needs a long key and an authorization.
 const CODE_OF_THE_LOCK: &[Step] = &[
-    Step::Connects(0x40, Tablet, ADVERTISES),
-    Step::Encrypts(0x40, TabletByItsShortKey, &[]),
-    Step::Asks(0x40, "0a0d00", "010a0d000c"),
-    Step::Encrypts(0x40, Tablet, &[]),
-    Step::Asks(0x40, "0a0d00", "010a0d0008"),
-    Step::Calls(App::Authorize(0x40, u64::MAX), &[]),
-    Step::Asks(0x40, "0a0d00", "0b31323334"),
+    // The tablet connects.
+    (
+        Given::Octets("043e1301004000010055443322110018000000480000"),
+        Wanted::Octets(ADVERTISES),
+    ),
+    (Given::Octets("040e04010a2000"), Wanted::Octets("")),
+    // The tablet encrypts.
+    (
+        Given::Octets("043e0d05400003030303030303030303"),
+        Wanted::Octets("011a20124000a1a2a3a4a5a6a7000000000000000000"),
+    ),
+    (Given::Octets("040e06011a20004000"), Wanted::Octets("")),
+    (Given::Octets("04080400400001"), Wanted::Octets("")),
+    (Given::Pdu(0x40, "0a0d00"), Wanted::Pdu(0x40, "010a0d000c")),
+    // The tablet encrypts.
+    (
+        Given::Octets("043e0d05400002020202020202020202"),
+        Wanted::Octets("011a20124000ffeeddccbbaa99887766554433221100"),
+    ),
+    (Given::Octets("040e06011a20004000"), Wanted::Octets("")),
+    (Given::Octets("04080400400001"), Wanted::Octets("")),
+    (Given::Pdu(0x40, "0a0d00"), Wanted::Pdu(0x40, "010a0d0008")),
+    (
+        Given::Call(App::Authorize(0x40, u64::MAX)),
+        Wanted::Octets(""),
+    ),
+    (Given::Pdu(0x40, "0a0d00"), Wanted::Pdu(0x40, "0b31323334")),
 ];
 
 /// A value that needs encryption is skipped, or ends a list.
 const LISTED: &[Step] = &[
-    Step::Connects(0x40, Stranger, ADVERTISES),
-    Step::Asks(0x40, "080100fffff3ff", "09030f0001"),
-    Step::Asks(0x40, "081000fffff3ff", "0108110005"),
-    Step::Asks(0x40, "060100fffff3ff02", "010601000a"),
-    Step::Asks(0x40, "060100ffff00280f18", "0704000700"),
-    Step::Connects(0x41, Phone, ""),
-    Step::Encrypts(0x41, Phone, &[]),
-    Step::Asks(0x41, "080100fffff3ff", "09030f0001110002130003"),
-    Step::Asks(0x41, "060100fffff3ff02", "0711001100"),
+    // A stranger connects.
+    (
+        Given::Octets("043e130100400001010a00000000c018000000480000"),
+        Wanted::Octets(ADVERTISES),
+    ),
+    (Given::Octets("040e04010a2000"), Wanted::Octets("")),
+    (
+        Given::Pdu(0x40, "080100fffff3ff"),
+        Wanted::Pdu(0x40, "09030f0001"),
+    ),
+    (
+        Given::Pdu(0x40, "081000fffff3ff"),
+        Wanted::Pdu(0x40, "0108110005"),
+    ),
+    (
+        Given::Pdu(0x40, "060100fffff3ff02"),
+        Wanted::Pdu(0x40, "010601000a"),
+    ),
+    (
+        Given::Pdu(0x40, "060100ffff00280f18"),
+        Wanted::Pdu(0x40, "0704000700"),
+    ),
+    // The client connects.
+    (
+        Given::Octets("043e130100410001010100000000c018000000480000"),
+        Wanted::Octets(""),
+    ),
+    // The client encrypts.
+    (
+        Given::Octets("043e0d05410001010101010101010101"),
+        Wanted::Octets("011a2012410000112233445566778899aabbccddeeff"),
+    ),
+    (Given::Octets("040e06011a20004100"), Wanted::Octets("")),
+    (Given::Octets("04080400410001"), Wanted::Octets("")),
+    (
+        Given::Pdu(0x41, "080100fffff3ff"),
+        Wanted::Pdu(0x41, "09030f0001110002130003"),
+    ),
+    (
+        Given::Pdu(0x41, "060100fffff3ff02"),
+        Wanted::Pdu(0x41, "0711001100"),
+    ),
 ];
 
 /// One peer neither writes nor drops what another prepared.
 const PREPARED: &[Step] = &[
-    Step::Connects(0x40, Stranger, ADVERTISES),
-    Step::Connects(0x41, Phone, ""),
-    Step::Asks(0x40, "161500000061", "171500000061"),
-    Step::Asks(0x41, "161500000062", "171500000062"),
-    Step::Asks(0x40, "1801", "19"),
-    Step::Value(21, "61"),
-    Step::Asks(0x41, "1800", "19"),
-    Step::Value(21, "61"),
-    Step::Asks(0x41, "1802", "0118000004"),
+    // A stranger connects.
+    (
+        Given::Octets("043e130100400001010a00000000c018000000480000"),
+        Wanted::Octets(ADVERTISES),
+    ),
+    (Given::Octets("040e04010a2000"), Wanted::Octets("")),
+    // The client connects.
+    (
+        Given::Octets("043e130100410001010100000000c018000000480000"),
+        Wanted::Octets(""),
+    ),
+    (
+        Given::Pdu(0x40, "161500000061"),
+        Wanted::Pdu(0x40, "171500000061"),
+    ),
+    (
+        Given::Pdu(0x41, "161500000062"),
+        Wanted::Pdu(0x41, "171500000062"),
+    ),
+    (Given::Pdu(0x40, "1801"), Wanted::Pdu(0x40, "19")),
+    (Given::Value(21), Wanted::Octets("61")),
+    (Given::Pdu(0x41, "1800"), Wanted::Pdu(0x41, "19")),
+    (Given::Value(21), Wanted::Octets("61")),
+    (Given::Pdu(0x41, "1802"), Wanted::Pdu(0x41, "0118000004")),
 ];
 
 const OVER_LINKS: &[Play] = &[
@@ -87,16 +185,46 @@ fn policy_over_links(rt: HostRuntime) {
 
 /// The code also needs a key of LE Secure Connections.
 const SECURE_CODE: &[Step] = &[
-    Step::Connects(0x40, Tablet, ADVERTISES),
-    Step::Encrypts(0x40, TabletByItsShortKey, &[]),
-    Step::Asks(0x40, "0a0d00", "010a0d000c"),
-    Step::Encrypts(0x40, Tablet, &[]),
-    Step::Asks(0x40, "0a0d00", "010a0d0005"),
-    Step::Connects(0x41, Watch, ""),
-    Step::Encrypts(0x41, Watch, &[]),
-    Step::Asks(0x41, "0a0d00", "010a0d0008"),
-    Step::Calls(App::Authorize(0x41, u64::MAX), &[]),
-    Step::Asks(0x41, "0a0d00", "0b31323334"),
+    // The tablet connects.
+    (
+        Given::Octets("043e1301004000010055443322110018000000480000"),
+        Wanted::Octets(ADVERTISES),
+    ),
+    (Given::Octets("040e04010a2000"), Wanted::Octets("")),
+    // The tablet encrypts.
+    (
+        Given::Octets("043e0d05400003030303030303030303"),
+        Wanted::Octets("011a20124000a1a2a3a4a5a6a7000000000000000000"),
+    ),
+    (Given::Octets("040e06011a20004000"), Wanted::Octets("")),
+    (Given::Octets("04080400400001"), Wanted::Octets("")),
+    (Given::Pdu(0x40, "0a0d00"), Wanted::Pdu(0x40, "010a0d000c")),
+    // The tablet encrypts.
+    (
+        Given::Octets("043e0d05400002020202020202020202"),
+        Wanted::Octets("011a20124000ffeeddccbbaa99887766554433221100"),
+    ),
+    (Given::Octets("040e06011a20004000"), Wanted::Octets("")),
+    (Given::Octets("04080400400001"), Wanted::Octets("")),
+    (Given::Pdu(0x40, "0a0d00"), Wanted::Pdu(0x40, "010a0d0005")),
+    // The watch connects.
+    (
+        Given::Octets("043e130100410001010200000000c018000000480000"),
+        Wanted::Octets(""),
+    ),
+    // The watch encrypts.
+    (
+        Given::Octets("043e0d05410000000000000000000000"),
+        Wanted::Octets("011a201241000f0e0d0c0b0a09080706050403020100"),
+    ),
+    (Given::Octets("040e06011a20004100"), Wanted::Octets("")),
+    (Given::Octets("04080400410001"), Wanted::Octets("")),
+    (Given::Pdu(0x41, "0a0d00"), Wanted::Pdu(0x41, "010a0d0008")),
+    (
+        Given::Call(App::Authorize(0x41, u64::MAX)),
+        Wanted::Octets(""),
+    ),
+    (Given::Pdu(0x41, "0a0d00"), Wanted::Pdu(0x41, "0b31323334")),
 ];
 
 #[test]
@@ -121,25 +249,49 @@ fn play_at(rt: &impl Abort, alloc: Global, table: &str, steps: &[Step]) {
 
 /// Only the first exchange of MTUs counts, and only for its connection.
 const MTUS: &[Step] = &[
-    Step::Calls(App::Update(21, &[0x61; 512]), &[]),
-    Step::Connects(0x40, Stranger, ADVERTISES),
-    Step::Asks(0x40, "02f700", "03f700"),
-    Step::AsksForLong(0x40, "0a1500", "0b", 246),
-    Step::Asks(0x40, "020001", "03f700"),
-    Step::AsksForLong(0x40, "0a1500", "0b", 246),
-    Step::Leaves(0x40, ""),
-    Step::Connects(0x40, Stranger, ADVERTISES),
-    Step::Asks(0x40, "021600", "03f700"),
-    Step::AsksForLong(0x40, "0a1500", "0b", 22),
+    (
+        Given::Call(App::Update(21, &[0x61; 512])),
+        Wanted::Octets(""),
+    ),
+    // A stranger connects.
+    (
+        Given::Octets("043e130100400001010a00000000c018000000480000"),
+        Wanted::Octets(ADVERTISES),
+    ),
+    (Given::Octets("040e04010a2000"), Wanted::Octets("")),
+    (Given::Pdu(0x40, "02f700"), Wanted::Pdu(0x40, "03f700")),
+    (Given::Pdu(0x40, "0a1500"), Wanted::Long(0x40, "0b", 246)),
+    (Given::Pdu(0x40, "020001"), Wanted::Pdu(0x40, "03f700")),
+    (Given::Pdu(0x40, "0a1500"), Wanted::Long(0x40, "0b", 246)),
+    (Given::Octets("04050400400013"), Wanted::Octets("")),
+    // A stranger connects.
+    (
+        Given::Octets("043e130100400001010a00000000c018000000480000"),
+        Wanted::Octets(ADVERTISES),
+    ),
+    (Given::Octets("040e04010a2000"), Wanted::Octets("")),
+    (Given::Pdu(0x40, "021600"), Wanted::Pdu(0x40, "03f700")),
+    (Given::Pdu(0x40, "0a1500"), Wanted::Long(0x40, "0b", 22)),
 ];
 
 /// A long value is read whole, except in a list with lengths.
 const LONG_VALUES: &[Step] = &[
-    Step::Calls(App::Update(21, &[0x61; 512]), &[]),
-    Step::Connects(0x40, Stranger, ADVERTISES),
-    Step::Asks(0x40, "020502", "030502"),
-    Step::AsksForLong(0x40, "0a1500", "0b", 512),
-    Step::AsksForLong(0x40, "080100fffff4ff", "09ff1500", 253),
+    (
+        Given::Call(App::Update(21, &[0x61; 512])),
+        Wanted::Octets(""),
+    ),
+    // A stranger connects.
+    (
+        Given::Octets("043e130100400001010a00000000c018000000480000"),
+        Wanted::Octets(ADVERTISES),
+    ),
+    (Given::Octets("040e04010a2000"), Wanted::Octets("")),
+    (Given::Pdu(0x40, "020502"), Wanted::Pdu(0x40, "030502")),
+    (Given::Pdu(0x40, "0a1500"), Wanted::Long(0x40, "0b", 512)),
+    (
+        Given::Pdu(0x40, "080100fffff4ff"),
+        Wanted::Long(0x40, "09ff1500", 253),
+    ),
 ];
 
 const AT_THE_WIDE_DOOR: &Setting<'static> = &Setting {

@@ -1,52 +1,53 @@
 //! The deadline, the connections, and the parts of a host.
 
+use crate::given::Given;
 use crate::player::ready;
 use crate::tables::File::{Bell, Door};
-use crate::taken::{Taken, at, go_on};
+use crate::taken::{at, go_on};
 use crate::wire::Written;
 use att_table::Table;
 use gatt_host::{App, Connection, Host, Peer, feed};
 use std::process::Abort;
 
-const COMES: Taken = Taken::Packet("043e130100400001010a00000000c018000000480000");
+const COMES: Given = Given::Octets("043e130100400001010a00000000c018000000480000");
 
-const ANOTHER_COMES: Taken = Taken::Packet("043e130100410001010b00000000c018000000480000");
+const ANOTHER_COMES: Given = Given::Octets("043e130100410001010b00000000c018000000480000");
 
-const DEADLINES: &[(Taken, Option<u64>)] = &[
+const DEADLINES: &[(Given, Option<u64>)] = &[
     (COMES, None),
     (ANOTHER_COMES, None),
-    (Taken::Pdu("1204000200"), None),
-    (Taken::Packet("0241200900050004001204000200"), None),
-    (Taken::Call(App::Tick(5)), None),
-    (Taken::Call(App::Update(3, &[0x01])), Some(30_005)),
-    (Taken::Call(App::Tick(6)), Some(30_005)),
-    (Taken::Pdu("1e"), Some(30_005)),
-    (Taken::Call(App::Update(3, &[0x02])), Some(30_005)),
-    (Taken::Call(App::Tick(30_004)), Some(30_005)),
-    (Taken::Call(App::Tick(30_005)), Some(30_006)),
-    (Taken::Call(App::Disconnect(0x40)), None),
+    (Given::Pdu(0x40, "1204000200"), None),
+    (Given::Octets("0241200900050004001204000200"), None),
+    (Given::Call(App::Tick(5)), None),
+    (Given::Call(App::Update(3, &[0x01])), Some(30_005)),
+    (Given::Call(App::Tick(6)), Some(30_005)),
+    (Given::Pdu(0x40, "1e"), Some(30_005)),
+    (Given::Call(App::Update(3, &[0x02])), Some(30_005)),
+    (Given::Call(App::Tick(30_004)), Some(30_005)),
+    (Given::Call(App::Tick(30_005)), Some(30_006)),
+    (Given::Call(App::Disconnect(0x40)), None),
 ];
 
-const AUTHORIZATIONS: &[(Taken, Option<u64>)] = &[
+const AUTHORIZATIONS: &[(Given, Option<u64>)] = &[
     (COMES, None),
     (ANOTHER_COMES, None),
-    (Taken::Call(App::Tick(5)), None),
+    (Given::Call(App::Tick(5)), None),
     // It has expired already.
-    (Taken::Call(App::Authorize(0x40, 5)), None),
-    (Taken::Call(App::Authorize(0x40, 90)), Some(90)),
-    (Taken::Call(App::Authorize(0x41, 70)), Some(70)),
-    (Taken::Call(App::Tick(69)), Some(70)),
-    (Taken::Call(App::Tick(70)), Some(90)),
-    (Taken::Call(App::Authorize(0x40, 0)), None),
-    (Taken::Call(App::Authorize(0x40, u64::MAX)), Some(u64::MAX)),
+    (Given::Call(App::Authorize(0x40, 5)), None),
+    (Given::Call(App::Authorize(0x40, 90)), Some(90)),
+    (Given::Call(App::Authorize(0x41, 70)), Some(70)),
+    (Given::Call(App::Tick(69)), Some(70)),
+    (Given::Call(App::Tick(70)), Some(90)),
+    (Given::Call(App::Authorize(0x40, 0)), None),
+    (Given::Call(App::Authorize(0x40, u64::MAX)), Some(u64::MAX)),
     // An indication is late before that time.
-    (Taken::Pdu("1204000200"), Some(u64::MAX)),
-    (Taken::Call(App::Update(3, &[0x01])), Some(30_070)),
-    (Taken::Call(App::Authorize(0x40, 80)), Some(80)),
-    (Taken::Call(App::Tick(80)), Some(30_070)),
-    (Taken::Pdu("1e"), None),
-    (Taken::Call(App::Authorize(0x40, 100)), Some(100)),
-    (Taken::Call(App::Disconnect(0x40)), None),
+    (Given::Pdu(0x40, "1204000200"), Some(u64::MAX)),
+    (Given::Call(App::Update(3, &[0x01])), Some(30_070)),
+    (Given::Call(App::Authorize(0x40, 80)), Some(80)),
+    (Given::Call(App::Tick(80)), Some(30_070)),
+    (Given::Pdu(0x40, "1e"), None),
+    (Given::Call(App::Authorize(0x40, 100)), Some(100)),
+    (Given::Call(App::Disconnect(0x40)), None),
 ];
 
 #[test]
@@ -131,60 +132,60 @@ const ENDED: Connection = Connection {
     heard: 0,
 };
 
-const CONNECTIONS: &[(Taken, &[Connection])] = &[
+const CONNECTIONS: &[(Given, &[Connection])] = &[
     (COMES, &[FIRST]),
     (ANOTHER_COMES, &[FIRST, SECOND]),
-    (Taken::Pdu("02f700"), &[LARGER, SECOND]),
-    (Taken::Call(App::Authorize(0x41, 7)), &[LARGER, AUTHORIZED]),
-    (Taken::Call(App::Disconnect(0x41)), &[LARGER, ENDED]),
-    (Taken::Packet("04050400400013"), &[ENDED]),
-    (Taken::Packet("04050400410016"), &[]),
+    (Given::Pdu(0x40, "02f700"), &[LARGER, SECOND]),
+    (Given::Call(App::Authorize(0x41, 7)), &[LARGER, AUTHORIZED]),
+    (Given::Call(App::Disconnect(0x41)), &[LARGER, ENDED]),
+    (Given::Octets("04050400400013"), &[ENDED]),
+    (Given::Octets("04050400410016"), &[]),
 ];
 
 /// Ordinal, slot, handle, and time of the last packet.
 type Heard = (u64, usize, u16, u64);
 
-const HEARD: &[(Taken, &[Heard])] = &[
-    (Taken::Call(App::Tick(5)), &[]),
+const HEARD: &[(Given, &[Heard])] = &[
+    (Given::Call(App::Tick(5)), &[]),
     (COMES, &[(1, 0, 0x40, 5)]),
-    (Taken::Call(App::Tick(6)), &[(1, 0, 0x40, 5)]),
+    (Given::Call(App::Tick(6)), &[(1, 0, 0x40, 5)]),
     (ANOTHER_COMES, &[(1, 0, 0x40, 5), (2, 1, 0x41, 6)]),
     (
-        Taken::Call(App::Tick(7)),
+        Given::Call(App::Tick(7)),
         &[(1, 0, 0x40, 5), (2, 1, 0x41, 6)],
     ),
     // A fragment, and an ignored broadcast packet.
     (
-        Taken::Packet("024020010003"),
+        Given::Octets("024020010003"),
         &[(1, 0, 0x40, 7), (2, 1, 0x41, 6)],
     ),
     (
-        Taken::Call(App::Tick(8)),
+        Given::Call(App::Tick(8)),
         &[(1, 0, 0x40, 7), (2, 1, 0x41, 6)],
     ),
     (
-        Taken::Packet("024160010003"),
+        Given::Octets("024160010003"),
         &[(1, 0, 0x40, 7), (2, 1, 0x41, 8)],
     ),
     (
-        Taken::Call(App::Tick(9)),
+        Given::Call(App::Tick(9)),
         &[(1, 0, 0x40, 7), (2, 1, 0x41, 8)],
     ),
     // No connection has the handle.
     (
-        Taken::Packet("024220010003"),
+        Given::Octets("024220010003"),
         &[(1, 0, 0x40, 7), (2, 1, 0x41, 8)],
     ),
-    (Taken::Packet("04050400400013"), &[(2, 1, 0x41, 8)]),
+    (Given::Octets("04050400400013"), &[(2, 1, 0x41, 8)]),
     // Another connection takes the slot, with a new ordinal.
     (COMES, &[(3, 0, 0x40, 9), (2, 1, 0x41, 8)]),
     // Packets of an ending connection do not count.
     (
-        Taken::Call(App::Disconnect(0x41)),
+        Given::Call(App::Disconnect(0x41)),
         &[(3, 0, 0x40, 9), (2, 1, 0x41, 8)],
     ),
     (
-        Taken::Packet("024120010003"),
+        Given::Octets("024120010003"),
         &[(3, 0, 0x40, 9), (2, 1, 0x41, 8)],
     ),
 ];
@@ -249,7 +250,7 @@ fn is_written(table: &Table) -> bool {
 fn values_are_left_after_a_fault(rt: HostRuntime) {
     let mut host = ready(&rt, rt.alloc(), &at(Door));
     go_on(&rt, rt.alloc(), &mut host, COMES);
-    go_on(&rt, rt.alloc(), &mut host, Taken::Pdu("12150061"));
+    go_on(&rt, rt.alloc(), &mut host, Given::Pdu(0x40, "12150061"));
     assert!(rt; feed(&mut host, &[0x07], &mut Written::new()).is_err());
     let (table, keys, rows) = host.into_parts();
     assert!(rt; is_written(&table));

@@ -1,7 +1,7 @@
 //! Notifications and indications.
 
-use crate::peers::Who::{Phone, Stranger, Tablet};
-use crate::player::{Play, Setting, Step, play_each};
+use crate::given::Given;
+use crate::player::{Play, Setting, Step, Wanted, play_each};
 use crate::tables::File::{Bell, Door, Post};
 use gatt_host::App;
 
@@ -29,78 +29,167 @@ const AT_THE_LETTER_BOX: &Setting<'static> = &Setting {
 /// The configuration of a bonded peer outlasts its connections, but holds only for its encrypted
 /// links.
 const KEPT_BY_A_BOND: &[Step] = &[
-    Step::Connects(0x40, Tablet, "010a200101"),
-    Step::Asks(0x40, "120b000100", "01120b000f"),
-    Step::Encrypts(0x40, Tablet, &[]),
-    Step::Asks(0x40, "120b000100", "13"),
-    Step::Calls(App::Update(10, &[0x01]), &[(0x40, "1b0a0001")]),
-    Step::Rows("0 00:11:22:33:44:55 11 1\n"),
-    Step::Leaves(0x40, ""),
-    Step::Connects(0x40, Tablet, "010a200101"),
-    Step::Calls(App::Update(10, &[0x02]), &[]),
-    Step::Encrypts(0x40, Tablet, &[]),
-    Step::Calls(App::Update(10, &[0x03]), &[(0x40, "1b0a0003")]),
+    // The tablet connects.
+    (
+        Given::Octets("043e1301004000010055443322110018000000480000"),
+        Wanted::Octets("010a200101"),
+    ),
+    (Given::Octets("040e04010a2000"), Wanted::Octets("")),
+    (
+        Given::Pdu(0x40, "120b000100"),
+        Wanted::Pdu(0x40, "01120b000f"),
+    ),
+    // The tablet encrypts.
+    (
+        Given::Octets("043e0d05400002020202020202020202"),
+        Wanted::Octets("011a20124000ffeeddccbbaa99887766554433221100"),
+    ),
+    (Given::Octets("040e06011a20004000"), Wanted::Octets("")),
+    (Given::Octets("04080400400001"), Wanted::Octets("")),
+    (Given::Pdu(0x40, "120b000100"), Wanted::Pdu(0x40, "13")),
+    (
+        Given::Call(App::Update(10, &[0x01])),
+        Wanted::Pdu(0x40, "1b0a0001"),
+    ),
+    (
+        Given::Rows("0 00:11:22:33:44:55 11 1\n"),
+        Wanted::Octets(""),
+    ),
+    (Given::Octets("04050400400013"), Wanted::Octets("")),
+    // The tablet connects.
+    (
+        Given::Octets("043e1301004000010055443322110018000000480000"),
+        Wanted::Octets("010a200101"),
+    ),
+    (Given::Octets("040e04010a2000"), Wanted::Octets("")),
+    (Given::Call(App::Update(10, &[0x02])), Wanted::Octets("")),
+    // The tablet encrypts.
+    (
+        Given::Octets("043e0d05400002020202020202020202"),
+        Wanted::Octets("011a20124000ffeeddccbbaa99887766554433221100"),
+    ),
+    (Given::Octets("040e06011a20004000"), Wanted::Octets("")),
+    (Given::Octets("04080400400001"), Wanted::Octets("")),
+    (
+        Given::Call(App::Update(10, &[0x03])),
+        Wanted::Pdu(0x40, "1b0a0003"),
+    ),
 ];
 
 /// An unencrypted link has a configuration of its own.
 const OF_AN_UNENCRYPTED_LINK: &[Step] = &[
-    Step::Connects(0x40, Phone, "010a200101"),
-    Step::Asks(0x40, "1207000100", "13"),
-    Step::Calls(App::Update(6, &[0x41]), &[(0x40, "1b060041")]),
-    Step::Encrypts(0x40, Phone, &[]),
-    Step::Calls(App::Update(6, &[0x42]), &[]),
-    Step::Asks(0x40, "0a0700", "0b0000"),
+    // The client connects.
+    (
+        Given::Octets("043e130100400001010100000000c018000000480000"),
+        Wanted::Octets("010a200101"),
+    ),
+    (Given::Octets("040e04010a2000"), Wanted::Octets("")),
+    (Given::Pdu(0x40, "1207000100"), Wanted::Pdu(0x40, "13")),
+    (
+        Given::Call(App::Update(6, &[0x41])),
+        Wanted::Pdu(0x40, "1b060041"),
+    ),
+    // The client encrypts.
+    (
+        Given::Octets("043e0d05400001010101010101010101"),
+        Wanted::Octets("011a2012400000112233445566778899aabbccddeeff"),
+    ),
+    (Given::Octets("040e06011a20004000"), Wanted::Octets("")),
+    (Given::Octets("04080400400001"), Wanted::Octets("")),
+    (Given::Call(App::Update(6, &[0x42])), Wanted::Octets("")),
+    (Given::Pdu(0x40, "0a0700"), Wanted::Pdu(0x40, "0b0000")),
 ];
 
 /// One indication is unconfirmed at a time, a value waits once, and a late peer gets nothing more.
 const INDICATED: &[Step] = &[
-    Step::Connects(0x40, Stranger, "010a200101"),
-    Step::Asks(0x40, "1204000300", "13"),
-    Step::Calls(App::Update(3, &[0x01]), &[(0x40, "1d030001")]),
-    Step::Calls(App::Update(3, &[0x02]), &[]),
-    Step::Calls(App::Update(3, &[0x03]), &[]),
-    Step::Tells(0x40, "1e", &[(0x40, "1d030003")]),
-    Step::Calls(App::Tick(29999), &[]),
-    Step::Calls(App::Tick(30000), &[]),
-    Step::Calls(App::Update(3, &[0x04]), &[]),
-    Step::Asks(0x40, "0a0300", "0b04"),
+    // A stranger connects.
+    (
+        Given::Octets("043e130100400001010a00000000c018000000480000"),
+        Wanted::Octets("010a200101"),
+    ),
+    (Given::Octets("040e04010a2000"), Wanted::Octets("")),
+    (Given::Pdu(0x40, "1204000300"), Wanted::Pdu(0x40, "13")),
+    (
+        Given::Call(App::Update(3, &[0x01])),
+        Wanted::Pdu(0x40, "1d030001"),
+    ),
+    (Given::Call(App::Update(3, &[0x02])), Wanted::Octets("")),
+    (Given::Call(App::Update(3, &[0x03])), Wanted::Octets("")),
+    (Given::Pdu(0x40, "1e"), Wanted::Pdu(0x40, "1d030003")),
+    (Given::Call(App::Tick(29999)), Wanted::Octets("")),
+    (Given::Call(App::Tick(30000)), Wanted::Octets("")),
+    (Given::Call(App::Update(3, &[0x04])), Wanted::Octets("")),
+    (Given::Pdu(0x40, "0a0300"), Wanted::Pdu(0x40, "0b04")),
 ];
 
 /// A connection is notified while it is authorized.
 const AUTHORIZED: &[Step] = &[
-    Step::Connects(0x40, Stranger, "010a200101"),
-    Step::Calls(App::Authorize(0x40, u64::MAX), &[]),
-    Step::Asks(0x40, "1204000100", "13"),
-    Step::Calls(App::Update(3, &[0x01]), &[(0x40, "1b030001")]),
-    Step::Calls(App::Authorize(0x40, 0), &[]),
-    Step::Calls(App::Update(3, &[0x02]), &[]),
-    Step::Calls(App::Authorize(0x40, u64::MAX), &[]),
-    Step::Calls(App::Update(3, &[0x03]), &[(0x40, "1b030003")]),
+    // A stranger connects.
+    (
+        Given::Octets("043e130100400001010a00000000c018000000480000"),
+        Wanted::Octets("010a200101"),
+    ),
+    (Given::Octets("040e04010a2000"), Wanted::Octets("")),
+    (
+        Given::Call(App::Authorize(0x40, u64::MAX)),
+        Wanted::Octets(""),
+    ),
+    (Given::Pdu(0x40, "1204000100"), Wanted::Pdu(0x40, "13")),
+    (
+        Given::Call(App::Update(3, &[0x01])),
+        Wanted::Pdu(0x40, "1b030001"),
+    ),
+    (Given::Call(App::Authorize(0x40, 0)), Wanted::Octets("")),
+    (Given::Call(App::Update(3, &[0x02])), Wanted::Octets("")),
+    (
+        Given::Call(App::Authorize(0x40, u64::MAX)),
+        Wanted::Octets(""),
+    ),
+    (
+        Given::Call(App::Update(3, &[0x03])),
+        Wanted::Pdu(0x40, "1b030003"),
+    ),
 ];
 
 const READ_IN_TIME: &[Step] = &[
-    Step::Connects(0x40, Stranger, "010a200101"),
-    Step::Calls(App::Authorize(0x40, 1000), &[]),
-    Step::Asks(0x40, "0a0300", "0b00"),
-    Step::Calls(App::Tick(999), &[]),
-    Step::Asks(0x40, "0a0300", "0b00"),
-    Step::Calls(App::Tick(1000), &[]),
-    Step::Asks(0x40, "0a0300", "010a030008"),
-    Step::Calls(App::Authorize(0x40, 1000), &[]),
-    Step::Asks(0x40, "0a0300", "010a030008"),
+    // A stranger connects.
+    (
+        Given::Octets("043e130100400001010a00000000c018000000480000"),
+        Wanted::Octets("010a200101"),
+    ),
+    (Given::Octets("040e04010a2000"), Wanted::Octets("")),
+    (Given::Call(App::Authorize(0x40, 1000)), Wanted::Octets("")),
+    (Given::Pdu(0x40, "0a0300"), Wanted::Pdu(0x40, "0b00")),
+    (Given::Call(App::Tick(999)), Wanted::Octets("")),
+    (Given::Pdu(0x40, "0a0300"), Wanted::Pdu(0x40, "0b00")),
+    (Given::Call(App::Tick(1000)), Wanted::Octets("")),
+    (Given::Pdu(0x40, "0a0300"), Wanted::Pdu(0x40, "010a030008")),
+    (Given::Call(App::Authorize(0x40, 1000)), Wanted::Octets("")),
+    (Given::Pdu(0x40, "0a0300"), Wanted::Pdu(0x40, "010a030008")),
 ];
 
 /// Values that wait when the authorization ends are skipped.
 const TOLD_IN_TIME: &[Step] = &[
-    Step::Connects(0x40, Stranger, "010a200101"),
-    Step::Calls(App::Authorize(0x40, 1000), &[]),
-    Step::Asks(0x40, "1204000200", "13"),
-    Step::Calls(App::Update(3, &[0x01]), &[(0x40, "1d030001")]),
-    Step::Calls(App::Update(3, &[0x02]), &[]),
-    Step::Calls(App::Tick(1000), &[]),
-    Step::Tells(0x40, "1e", &[]),
-    Step::Calls(App::Authorize(0x40, 2000), &[]),
-    Step::Calls(App::Update(3, &[0x03]), &[(0x40, "1d030003")]),
+    // A stranger connects.
+    (
+        Given::Octets("043e130100400001010a00000000c018000000480000"),
+        Wanted::Octets("010a200101"),
+    ),
+    (Given::Octets("040e04010a2000"), Wanted::Octets("")),
+    (Given::Call(App::Authorize(0x40, 1000)), Wanted::Octets("")),
+    (Given::Pdu(0x40, "1204000200"), Wanted::Pdu(0x40, "13")),
+    (
+        Given::Call(App::Update(3, &[0x01])),
+        Wanted::Pdu(0x40, "1d030001"),
+    ),
+    (Given::Call(App::Update(3, &[0x02])), Wanted::Octets("")),
+    (Given::Call(App::Tick(1000)), Wanted::Octets("")),
+    (Given::Pdu(0x40, "1e"), Wanted::Octets("")),
+    (Given::Call(App::Authorize(0x40, 2000)), Wanted::Octets("")),
+    (
+        Given::Call(App::Update(3, &[0x03])),
+        Wanted::Pdu(0x40, "1d030003"),
+    ),
 ];
 
 const PLAYS: &[Play] = &[

@@ -98,6 +98,8 @@ impl Outside<Hearing> for Listed {
         Saving::Unsaved(unsaved)
     }
 
+    fn tell(&mut self, _host: &Host, _listener: &mut Hearing, _saving: &Saving) {}
+
     #[tactic(auto, using(device_loop::proofs::Unknown::sends_unknown))]
     fn send(&mut self, octets: &[u8]) -> Sending {
         let Some(&(_, _, wanted, sending)) = self.turns.get(self.over) else {

@@ -25,7 +25,7 @@ const WORDS: &[(Fault, &str)] = &[
     ),
     (
         Fault::Host(HostFault::Desync(0x07)),
-        "the octet 07 stands where a packet begins, and begins none",
+        "the octet 07 begins no packet",
     ),
     (
         Fault::Table(TableFault::Missing(TableKey::Properties)),
@@ -57,7 +57,7 @@ const WORDS: &[(Fault, &str)] = &[
     ),
     (
         Fault::Call(AppFault::TimeWentBack),
-        "the time is before the one that stands",
+        "the time is earlier than the current time",
     ),
     (Fault::Call(AppFault::Stopped), "the host has stopped"),
     (

@@ -1,13 +1,13 @@
 use Rattle.std.proofs.Common.{List, sym, subst}
 use Rattle.device_loop.specs.Happenings.{HistoryEntry}
-use Rattle.device_loop.specs.Turn.{SavedBeforeSent}
+use Rattle.device_loop.specs.Turn.{SavedFirst}
 use Rattle.host_tests.proofs.recorded.serve_each.Goals as goal
 use Rattle.host_tests.proofs.Reaching.{nothing_sent, turned}
 
 pub loop-turn-init : goal.loop-turn-init
 loop-turn-init g c = record {
   run = c.requires.run;
-  order = subst (λ (entries : List HistoryEntry). SavedBeforeSent entries) (sym c.requires.begins) nothing_sent;
+  order = subst (λ (entries : List HistoryEntry). SavedFirst entries) (sym c.requires.begins) nothing_sent;
 }
 
 pub loop-turn-preserved : goal.loop-turn-preserved
