@@ -46,7 +46,7 @@ _gatt_shell() {
         *) return ;;
         esac
     elif [[ $command == tell ]] && ((COMP_CWORD == 3)); then
-        words='update allow deny disconnect value connections subscriptions find application stop'
+        words='update allow deny disconnect value connections subscriptions find application reload stop'
     else
         case $command:$COMP_CWORD in
         may:[23] | check:* | show:* | compare:* | expect:* | run:* | serve:* | host:* | tell:2) compopt -o default ;;

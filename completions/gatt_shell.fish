@@ -52,4 +52,4 @@ complete -c gatt_shell -n '__gatt_shell_is check show compare expect run serve h
 complete -c gatt_shell -n '__gatt_shell_is may; and __gatt_shell_at 2 3' -F
 complete -c gatt_shell -n '__gatt_shell_is tell; and __gatt_shell_at 2' -F
 complete -c gatt_shell -n '__gatt_shell_is tell; and __gatt_shell_at 3' \
-    -a 'update allow deny disconnect value connections subscriptions find application stop'
+    -a 'update allow deny disconnect value connections subscriptions find application reload stop'

@@ -6,10 +6,11 @@ import time
 
 import pytest
 
-from parties import DOOR, OWNER, PATIENCE, ROOT, Device, controller_at
+from parties import DOOR, OWNER, PATIENCE, ROOT, Device, controller_at, text_of
 from parties.asynchronous import (
     ADDRESS, ADDRESS_OF_STRANGER, apart, door, error_of, gihandop, heard, in_loop, rest_of, timed, within,
 )
+from parties.places import write_text
 
 # Each warning is an error, also one of a socket that is not closed.
 pytestmark = [pytest.mark.filterwarnings("error"), pytest.mark.usefixtures("collected")]
@@ -97,6 +98,24 @@ async def test_a_day(folder):
         closed = "Gone", "the connection to the device is closed"
         assert await error_of(device.value(10)) == closed, "after that"
         controller.close()
+
+
+@in_loop
+async def test_reload(folder):
+    """It has the device read its key file again, and stays its application."""
+    path, keys = f"{folder}/door.socket", write_text(f"{folder}/keys.toml", text_of(DOOR[1]))
+    host = Device(DOOR[0], keys, "--listen", "127.0.0.1:0", "--application", path)
+    host.said("ready")
+    async with gihandop.Device(path) as device:
+        await within(device.reload())
+        assert host.said("keys: ") == f"the same as before: {keys}", "the same keys"
+        write_text(keys, "[[key]\n")
+        kind, words = await error_of(device.reload())
+        assert (kind, words.startswith(f"fault 9: not read again: {keys}: ")) == ("Refused", True), "a faulty file"
+        write_text(keys, "")
+        await within(device.reload())
+        assert host.said("keys: ", 3) == f"read again: {keys}", "no keys"
+        assert await within(device.value(3)) == b"Lock", "it stays"
 
 
 @in_loop

@@ -12,7 +12,7 @@ from parties.tables import (
 )
 from parties.users import NOBODY, given_to_nobody
 
-READ_ONLY = f"value dropped: {VALUE}: phones may not write it"
+READ_ONLY = f"value dropped: {VALUE}: clients may not write it"
 
 
 @pytest.mark.parametrize(
@@ -129,7 +129,7 @@ def test_started_by_root(home):
     ids=["writable-values", "all-values"],
 )
 def test_a_value_that_is_read_only_now(home, words, value, dropped):
-    """A saved value that phones may not write any more is dropped at once, unless all values are saved."""
+    """A saved value that clients may not write any more is dropped at once, unless all values are saved."""
     device, controller = home.start(*words)
     assert write(controller, VALUE, "0102") == "13", "a write"
     end(device, controller)
@@ -151,6 +151,6 @@ def test_without_saved_updates(home):
     end(device, controller)
     device, controller = home.start()
     assert read(controller, SENSOR) == "00", "the sensor"
-    lines = [f"value dropped: {SENSOR}: phones may not write it"]
+    lines = [f"value dropped: {SENSOR}: clients may not write it"]
     assert device.logged("value dropped") == lines, "is told"
     assert read(controller, VALUE) == "01", "the value"

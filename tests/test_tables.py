@@ -12,8 +12,8 @@ from parties.tables import (
     VALUE_CONFIG,
 )
 
-DROPPED = ("the table has changed", "subscription dropped", "value dropped", "phones are not told")
-UNTOLD = "phones are not told of the change: "
+DROPPED = ("the table has changed", "subscription dropped", "value dropped", "clients are not told")
+UNTOLD = "clients are not told of the change: "
 
 
 def start_with(home, table):

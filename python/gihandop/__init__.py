@@ -521,6 +521,10 @@ class Device:
         """Returns the subscriptions of a client that are in force."""
         return [it for it in await self._look("subscriptions", connection) if isinstance(it, Subscribed)]
 
+    async def reload(self) -> None:
+        """Has the device read its key file again. Raises `Refused` if the file is refused."""
+        await self._ask("reload")
+
     async def stop(self) -> None:
         """Ends the device in an orderly way, and the iteration with it."""
         self._is_stopped = True
@@ -709,6 +713,9 @@ class BlockingDevice:
 
     def subscriptions(self, connection: int) -> List[Subscribed]:
         return self.wait(self.device.subscriptions(connection))
+
+    def reload(self) -> None:
+        self.wait(self.device.reload())
 
     def stop(self) -> None:
         self.wait(self.device.stop())

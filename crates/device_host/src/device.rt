@@ -2,9 +2,13 @@
 
 ghost use Rattle.std.specs.Prelude.{◌≡◌, None, Some};
 
+use crate::course::Course;
 use crate::keeping::Keeping;
+use crate::supervision::Supervision;
+use crate::unkeyed::Unkeyed;
 use arrayvec::ArrayVec;
 use device_loop::{Happenings, History, Next, Note};
+use device_options::FileOptions;
 use device_session::{Session, sooner};
 use gatt_host::{App, AppFault, MAX_SLOTS};
 use std::alloc::Global;
@@ -31,8 +35,13 @@ pub(crate) struct Device<'a, R> {
     pub(crate) takes: Takes,
     /// The connections whose changes are not saved, to be disconnected.
     pub(crate) ending: ArrayVec<u16, MAX_SLOTS>,
-    /// When a stopping device ends at the latest, in milliseconds.
-    pub(crate) stop: Option<u64>,
+    /// The connections that asked for a key that the host does not have.
+    pub(crate) unkeyed: Unkeyed,
+    pub(crate) files: FileOptions<'a>,
+    /// The text of the key file that is served.
+    pub(crate) key_text: Vec<u8>,
+    pub(crate) course: Course,
+    pub(crate) supervision: Supervision,
     /// The random number of this start.
     pub(crate) started: u64,
     /// The history since its start, which only proofs read.
@@ -82,7 +91,8 @@ fn next_of<
             if let Some(handle) = device.ending.pop() {
                 return Next::Call(App::Disconnect(handle));
             }
-            let deadline = sooner(sooner(deadline, device.stop), device.retry());
+            let own = sooner(device.retry(), device.supervision.due());
+            let deadline = sooner(sooner(deadline, device.course.due()), own);
             next(&mut device.session, deadline, buffer)
         }
     }

@@ -12,6 +12,13 @@ use std::fs::{File, Files};
 use std::io::ErrorKind;
 use std::str;
 
+/// The keys of a file, and its text.
+#[derive(Drop)]
+pub(crate) struct KeyFile {
+    pub(crate) keys: Keys,
+    pub(crate) text: Vec<u8>,
+}
+
 #[derive(Drop)]
 pub(crate) struct TableFile {
     pub(crate) table: Table,
@@ -40,16 +47,30 @@ pub(crate) fn read_keys<R: Files<File = File> + Eprint>(
     alloc: Global,
     rt: &R,
     path: &str,
-) -> Result<Keys, Stop> {
-    let Some(text) = read_file(alloc, rt, path)? else {
-        return Err(refuse(rt, format!(in alloc; "{path}: not there").ok()));
+) -> Result<KeyFile, Stop> {
+    match judged_key_file(alloc, rt, path) {
+        Ok(file) => Ok(file),
+        Err(refusal) => Err(refuse(rt, refusal)),
+    }
+}
+
+/// Reads a key file. A refusal has its path and the reason, or nothing if memory was refused.
+pub(crate) fn judged_key_file<R: Files<File = File>>(
+    alloc: Global,
+    rt: &R,
+    path: &str,
+) -> Result<KeyFile, Option<String>> {
+    let text = match octets_of(alloc, rt, path) {
+        Ok(Some(text)) => text,
+        Ok(None) => return Err(format!(in alloc; "{path}: not there").ok()),
+        Err(refusal) => return Err(refusal),
     };
     match judged_keys(alloc, text.as_slice()) {
-        Ok(keys) => Ok(keys),
+        Ok(keys) => Ok(KeyFile { keys, text }),
         Err(fault) => {
             let mut place = Vec::new(alloc);
             let told = tell_keys_fault(alloc, &mut place, text.as_slice());
-            Err(refuse_at(alloc, rt, path, fault, told, place.as_slice()))
+            Err(refusal_at(alloc, path, fault, told, place.as_slice()))
         }
     }
 }
@@ -77,15 +98,26 @@ pub(crate) fn read_file<R: Files<File = File> + Eprint>(
     rt: &R,
     path: &str,
 ) -> Result<Option<Vec<u8>>, Stop> {
+    match octets_of(alloc, rt, path) {
+        Ok(octets) => Ok(octets),
+        Err(refusal) => Err(refuse(rt, refusal)),
+    }
+}
+
+fn octets_of<R: Files<File = File>>(
+    alloc: Global,
+    rt: &R,
+    path: &str,
+) -> Result<Option<Vec<u8>>, Option<String>> {
     let mut file = match File::open(rt, path) {
         Ok(file) => file,
         Err(error) if error.kind() == ErrorKind::NotFound => return Ok(None),
-        Err(error) => return Err(refuse(rt, format!(in alloc; "{path}: {error}").ok())),
+        Err(error) => return Err(format!(in alloc; "{path}: {error}").ok()),
     };
     match shell_files::read_all(alloc, &mut file) {
         Ok(octets) => Ok(Some(octets)),
-        Err(ShellFault::Memory) => Err(Stop::Fault(ShellFault::Memory)),
-        Err(_) => Err(refuse(rt, format!(in alloc; "{path}: cannot be read").ok())),
+        Err(ShellFault::Memory) => Err(None),
+        Err(_) => Err(format!(in alloc; "{path}: cannot be read").ok()),
     }
 }
 
@@ -97,6 +129,16 @@ fn refuse_at<R: Eprint>(
     told: Result<(), AllocError>,
     place: &[u8],
 ) -> Stop {
+    refuse(rt, refusal_at(alloc, path, fault, told, place))
+}
+
+fn refusal_at(
+    alloc: Global,
+    path: &str,
+    fault: ShellFault,
+    told: Result<(), AllocError>,
+    place: &[u8],
+) -> Option<String> {
     let mut text = ArrayVec::new();
     shell_files::text(&fault, &mut text);
     let words = str::from_utf8(text.as_slice()).unwrap_or("");
@@ -106,8 +148,8 @@ fn refuse_at<R: Eprint>(
         ""
     };
     if place.is_empty() {
-        refuse(rt, format!(in alloc; "{path}: {words}").ok())
+        format!(in alloc; "{path}: {words}").ok()
     } else {
-        refuse(rt, format!(in alloc; "{path}: {words}: {place}").ok())
+        format!(in alloc; "{path}: {words}: {place}").ok()
     }
 }

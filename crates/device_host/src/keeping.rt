@@ -1,6 +1,9 @@
 //! The saved data of a host.
 
+ghost use Rattle.std.specs.Prelude.{◌≡◌};
+
 use crate::before::keep_before;
+use crate::changes::Changes;
 use crate::stop::Stop;
 use app_lines::Told;
 use device_io::{Lock, LockFault, Log, SavedFile};
@@ -83,7 +86,7 @@ impl Contents {
     }
 }
 
-pub(crate) fn subscriptions_text(alloc: Global, rows: &Rows) -> io::Result<Vec<u8>> {
+fn subscriptions_text(alloc: Global, rows: &Rows) -> io::Result<Vec<u8>> {
     let mut text = Vec::new(alloc);
     match rows.text(&mut Writer::new(&mut text)) {
         Ok(()) => Ok(text),
@@ -98,12 +101,20 @@ pub(crate) struct Keeping {
     locks: Vec<Lock>,
     file: SavedFile,
     pub(crate) contents: Contents,
-    /// Set if something has changed since the last save.
-    is_due: bool,
-    /// When to retry a failed save, in milliseconds.
-    retry: Option<u64>,
+    changes: Changes,
     /// The file and the error of the last save, if it failed.
     failure: Option<String>,
+    news: News,
+}
+
+/// A change of saving of which the application is not notified yet.
+#[derive(Clone, Copy, PartialEq, Eq)]
+enum News {
+    Nothing,
+    /// Saving fails, or with another error.
+    Fails,
+    /// Saving has succeeded after a failure.
+    SavesAgain,
 }
 
 impl Keeping {
@@ -118,9 +129,9 @@ impl Keeping {
             locks,
             file,
             contents,
-            is_due: true,
-            retry: None,
+            changes: Changes::Due,
             failure: None,
+            news: News::Nothing,
         }
     }
 
@@ -136,30 +147,34 @@ impl Keeping {
     }
 
     pub(crate) fn retry(&self) -> Option<u64> {
-        self.retry
+        self.changes.retry()
     }
 
     pub(crate) fn note_update(&mut self, table: &Table, handle: u16) {
-        self.is_due |= self.contents.has(table, handle);
+        if self.contents.has(table, handle) {
+            self.note_change();
+        }
     }
 
-    /// Notes that clients changed something that is saved.
+    /// Notes that something has changed that is saved.
     pub(crate) fn note_change(&mut self) {
-        self.is_due = true;
+        self.changes = self.changes.with_change();
     }
 
     /// Saves a host if necessary and if it is time. Returns true if everything is saved.
     ///
-    /// Notifies the log and the application when saving begins to fail, or succeeds again.
+    /// Logs when saving begins to fail, or succeeds again. The application is sent nothing.
     pub(crate) fn save<R: Files<File = File> + Clock + Eprint>(
         &mut self,
         host: &Host,
         session: &mut Session<'_, R>,
-    ) -> bool {
-        if self.is_due && self.is_time(session.log().now()) {
+    ) -> bool
+        ensures application { session.new.application ≡ session.old.application }
+    {
+        if self.changes.is_made(session.log().now()) {
             self.save_now(host, session);
         }
-        !self.is_due
+        self.changes.are_saved()
     }
 
     /// Saves a host if necessary, whatever the time of the next attempt. Returns the file and the
@@ -169,10 +184,10 @@ impl Keeping {
         host: &Host,
         session: &mut Session<'_, R>,
     ) -> Option<&str> {
-        if self.is_due {
+        if !self.changes.are_saved() {
             self.save_now(host, session);
         }
-        if !self.is_due {
+        if self.changes.are_saved() {
             return None;
         }
         match &self.failure {
@@ -185,7 +200,9 @@ impl Keeping {
         &mut self,
         host: &Host,
         session: &mut Session<'_, R>,
-    ) {
+    )
+        ensures application { session.new.application ≡ session.old.application }
+    {
         session.begin_work();
         let written = self.write(host, session.log().rt);
         session.end_work();
@@ -195,11 +212,14 @@ impl Keeping {
         }
     }
 
-    fn is_time(&self, now: u64) -> bool {
-        match self.retry {
-            Some(retry) => retry <= now,
-            None => true,
+    /// Tells the application, once, that saving fails or succeeds again.
+    pub(crate) fn tell_news<R: Clock + Eprint>(&mut self, session: &mut Session<'_, R>) {
+        match self.news {
+            News::Nothing => {}
+            News::Fails => self.tell_failure(session),
+            News::SavesAgain => session.tell(&Told::Saved),
         }
+        self.news = News::Nothing;
     }
 
     /// Notifies the application if the last save failed.
@@ -209,25 +229,24 @@ impl Keeping {
         }
     }
 
-    fn succeed<R: Clock + Eprint>(&mut self, session: &mut Session<'_, R>) {
-        self.is_due = false;
-        if self.retry.is_some() {
-            self.retry = None;
+    fn succeed<R: Clock + Eprint>(&mut self, session: &Session<'_, R>) {
+        if self.changes.retry().is_some() {
             self.failure = None;
             session.log().say_of("saved again:", self.file.path());
-            session.tell(&Told::Saved);
+            self.news = News::SavesAgain;
         }
+        self.changes = Changes::Saved;
     }
 
-    fn fail<R: Clock + Eprint>(&mut self, session: &mut Session<'_, R>, error: &io::Error) {
-        self.retry = Some(session.log().now().saturating_add(RETRY_TIME));
+    fn fail<R: Clock + Eprint>(&mut self, session: &Session<'_, R>, error: &io::Error) {
+        self.changes = Changes::Failing(session.log().now().saturating_add(RETRY_TIME));
         let path = self.file.path();
         if let Ok(line) = format!(in self.alloc; "{path}: {error}")
             && !is_told(&self.failure, line.as_str())
         {
             session.log().say_of("not saved:", line.as_str());
             self.failure = Some(line);
-            self.tell_failure(session);
+            self.news = News::Fails;
         }
     }
 

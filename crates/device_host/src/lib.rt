@@ -4,7 +4,10 @@
 //! Other crates handle input, output and files; this one connects them with a host.
 #![tactic(auto)]
 
+mod answers;
 mod before;
+mod changes;
+mod course;
 mod device;
 mod files;
 mod finding;
@@ -12,13 +15,18 @@ mod keeping;
 mod opening;
 mod outgoing;
 mod outside;
+mod reload;
 mod restoring;
+mod saving;
 mod serving;
 mod starting;
+mod state_lines;
 mod stop;
 mod stopping;
-mod turn_effects;
+mod supervision;
+mod telling;
 mod turn_notices;
+mod unkeyed;
 
 pub use device_options::OptionTexts;
 pub use serving::serve_devices;

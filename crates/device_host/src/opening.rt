@@ -2,11 +2,11 @@
 //!
 //! Tables, keys and files are dropped as a whole, which keeps the proofs small.
 
-use crate::files::{TableFile, read_keys, read_table};
+use crate::files::{KeyFile, TableFile, read_keys, read_table};
 use crate::finding::{find_saved, find_subscriptions, is_of_another_table};
 use crate::keeping::{Contents, Keeping, Served};
 use crate::restoring::{
-    is_change_pending, known_lines, log_dropped, restore_values, set_whole_range,
+    Subscriptions, known_subscriptions, log_dropped, restore_values, set_whole_range,
 };
 use crate::stop::Stop;
 use arrayvec::ArrayVec;
@@ -22,16 +22,34 @@ use std::time::Clock;
 /// More packets than a host without connections has: at most a Reset.
 const MOST_PACKETS: usize = 8;
 
-/// Opens the host of the options, and the file in which it is saved.
+/// Opens the host of the options, and the file in which it is saved. Returns also the text of the
+/// key file.
 pub(crate) fn open_host<R: Files<File = File> + Clock + Eprint>(
     alloc: Global,
     log: &Log<'_, R>,
     options: &HostOptions<'_>,
-) -> Result<(Host, Option<Keeping>), Stop> {
+) -> Result<(Host, Option<Keeping>, Vec<u8>), Stop> {
     let files = &options.files;
-    let TableFile { table, text } = read_table(alloc, log.rt, files.table)?;
-    let keys = read_keys(alloc, log.rt, files.keys)?;
-    match files.saved {
+    let table = read_table(alloc, log.rt, files.table)?;
+    let KeyFile { keys, text } = read_keys(alloc, log.rt, files.keys)?;
+    match open_with_keys(alloc, log, options, table, keys) {
+        Ok((host, keeping)) => Ok((host, keeping, text)),
+        Err(stop) => {
+            drop(text);
+            Err(stop)
+        }
+    }
+}
+
+fn open_with_keys<R: Files<File = File> + Clock + Eprint>(
+    alloc: Global,
+    log: &Log<'_, R>,
+    options: &HostOptions<'_>,
+    file: TableFile,
+    keys: Keys,
+) -> Result<(Host, Option<Keeping>), Stop> {
+    let TableFile { table, text } = file;
+    match options.files.saved {
         Saved::Nothing => {
             let rows = no_rows(alloc)?;
             Ok((open(alloc, table, keys, rows, &options.host)?, None))
@@ -72,14 +90,19 @@ fn open_with_subscriptions<R: Files<File = File> + Clock + Eprint>(
             return Err(stop);
         }
     };
-    match open_with(alloc, log, options, table, keys, rows) {
-        Ok(host) => {
-            let keeping = Keeping::new(alloc, locks, file, Contents::Subscriptions);
-            Ok((host, Some(keeping)))
-        }
+    let keeping = Keeping::new(alloc, locks, file, Contents::Subscriptions);
+    let opened = open_with(alloc, log, options, table, keys, rows);
+    with_keeping(opened, keeping)
+}
+
+fn with_keeping(
+    opened: Result<Host, Stop>,
+    keeping: Keeping,
+) -> Result<(Host, Option<Keeping>), Stop> {
+    match opened {
+        Ok(host) => Ok((host, Some(keeping))),
         Err(stop) => {
-            drop(locks);
-            drop(file);
+            drop(keeping);
             Err(stop)
         }
     }
@@ -106,22 +129,13 @@ fn open_with_state<R: Files<File = File> + Clock + Eprint>(
     };
     let mut served = served;
     served.is_changed = is_of_another_table(&state, served.text.as_slice());
+    let (saves, is_changed) = (served.saves, served.is_changed);
+    let keeping = Keeping::new(alloc, locks, file, Contents::State(served));
     let opened = match state {
-        Some(state) => resume(alloc, log, options, state, &served, table, keys),
+        Some(state) => resume(alloc, log, options, state, saves, is_changed, table, keys),
         None => open_empty(alloc, options, table, keys),
     };
-    match opened {
-        Ok(host) => {
-            let keeping = Keeping::new(alloc, locks, file, Contents::State(served));
-            Ok((host, Some(keeping)))
-        }
-        Err(stop) => {
-            drop(locks);
-            drop(file);
-            drop(served);
-            Err(stop)
-        }
-    }
+    with_keeping(opened, keeping)
 }
 
 /// Opens a host without subscriptions.
@@ -145,20 +159,21 @@ fn no_rows(alloc: Global) -> Result<Rows, ShellFault> {
     judged_rows(alloc, &[])
 }
 
-/// Opens a host that resumes a state.
+/// Opens a host that resumes a state, which may be of another table.
 fn resume<R: Files<File = File> + Clock + Eprint>(
     alloc: Global,
     log: &Log<'_, R>,
     options: &HostOptions<'_>,
     state: State,
-    served: &Served,
+    saves: Saves,
+    is_changed: bool,
     table: Table,
     keys: Keys,
 ) -> Result<Host, Stop> {
     let mut table = table;
-    restore_values(alloc, log, &mut table, &state, served.saves);
+    restore_values(alloc, log, &mut table, &state, saves);
     let (before, rows, _) = state.into_parts();
-    if !served.is_changed {
+    if !is_changed {
         return open_with(alloc, log, options, table, keys, rows);
     }
     match judged_table(alloc, before.as_bytes()) {
@@ -188,7 +203,7 @@ fn open_changed<R: Files<File = File> + Clock + Eprint>(
     keys: Keys,
     rows: Rows,
 ) -> Result<Host, Stop> {
-    let saved = match known_lines(alloc, log.rt, options, &rows, &keys) {
+    let saved = match known_subscriptions(alloc, log.rt, options, &rows, &keys) {
         Ok(saved) => saved,
         Err(stop) => {
             drop(replacement);
@@ -218,10 +233,10 @@ fn open_and_log<R: Clock + Eprint>(
     table: Table,
     keys: Keys,
     rows: Rows,
-    saved: Vec<u8>,
+    saved: Subscriptions,
 ) -> Result<Host, Stop> {
     let host = open(alloc, table, keys, rows, &options.host)?;
-    log_dropped(alloc, log, saved.as_slice(), host.rows());
+    log_dropped(alloc, log, &saved, host.rows());
     Ok(host)
 }
 
@@ -257,7 +272,7 @@ fn replace_table<R: Clock + Eprint>(
         Ok(_) => None,
         Err((fault, table)) => {
             if let Ok(words) = format!(in alloc; "{fault}") {
-                log.say_of("phones are not told of the change:", words.as_str());
+                log.say_of("clients are not told of the change:", words.as_str());
             }
             Some(table)
         }
@@ -283,7 +298,7 @@ fn open_with<R: Eprint + Clock>(
     keys: Keys,
     rows: Rows,
 ) -> Result<Host, Stop> {
-    let saved = match known_lines(alloc, log.rt, options, &rows, &keys) {
+    let saved = match known_subscriptions(alloc, log.rt, options, &rows, &keys) {
         Ok(saved) => saved,
         Err(stop) => {
             drop(table);
@@ -293,13 +308,13 @@ fn open_with<R: Eprint + Clock>(
         }
     };
     let mut table = table;
-    if is_change_pending(saved.as_slice()) {
+    if saved.is_change_pending() {
         set_whole_range(&mut table);
     }
     open_and_log(alloc, log, options, table, keys, rows, saved)
 }
 
-fn open(
+pub(crate) fn open(
     alloc: Global,
     table: Table,
     keys: Keys,

@@ -1,7 +1,10 @@
-//! The work of a device outside its host: saving and sending.
+//! The work of a device outside its host: saving, telling and sending.
+
+ghost use Rattle.std.specs.Prelude.{◌≡◌};
 
 use crate::device::Device;
-use crate::turn_effects::settle;
+use crate::saving::save;
+use crate::telling::tell;
 use crate::turn_notices::Hearing;
 use device_loop::{Note, Outside, Saving, Sending};
 use device_session::Session;
@@ -14,13 +17,21 @@ impl<
     R: Files<File = File> + Net<Listener = TcpListener, Stream = TcpStream> + Clock + Eprint,
 > Outside<Hearing> for Device<'_, R> {
     fn save(&mut self, host: &Host, listener: &mut Hearing) -> Saving {
-        let saving = settle(self, host, listener);
+        let saving = save(self, host, listener);
         self.history = self.history.with(&Note::Saved(&saving, host));
         saving
     }
 
+    fn tell(&mut self, host: &Host, listener: &mut Hearing, saving: &Saving) {
+        tell(self, host, listener, saving);
+        self.history = self.history.with(&Note::Told);
+    }
+
     fn send(&mut self, octets: &[u8]) -> Sending {
         let sending = write(&mut self.session, octets);
+        if let Sending::Done = sending {
+            note_refused_keys(self, octets);
+        }
         self.history = self.history.with(&Note::Sent(octets, sending));
         sending
     }
@@ -35,4 +46,14 @@ fn write<R: Clock + Eprint>(session: &mut Session<'_, R>, octets: &[u8]) -> Send
         Ok(false) => Sending::Waits,
         Err(_) => Sending::Failed,
     }
+}
+
+/// Logs the connections whose controllers were sent that there is no key.
+fn note_refused_keys<R: Clock + Eprint>(device: &mut Device<'_, R>, octets: &[u8])
+    ensures history { device.new.history ≡ device.old.history }
+{
+    let session = &device.session;
+    device
+        .unkeyed
+        .note_sent(device.alloc, session.log(), session.names(), octets);
 }

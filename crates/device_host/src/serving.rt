@@ -1,18 +1,21 @@
 //! Serves one controller after another.
 
+use crate::answers::note_event;
+use crate::course::Course;
 use crate::device::{Device, Takes};
 use crate::keeping::{Contents, Keeping};
 use crate::opening::{open_host, reopen};
 use crate::outgoing::ToController;
-use crate::starting::{begin_capture, reaching};
+use crate::reload::reopen_with_keys;
+use crate::starting::{Start, begin_capture, reaching};
 use crate::stop::Stop;
-use crate::stopping::{finish, is_stopped};
-use crate::turn_effects::note_event;
+use crate::stopping::{finish, is_stopped, reset};
+use crate::supervision::{Activity, Supervision};
 use crate::turn_notices::Hearing;
 use app_lines::{Names, Told, add_named_line};
-use device_io::Log;
+use device_io::{Log, Supervisor};
 use device_loop::{End, Sending, serve_happenings, serve_turn};
-use device_options::{HostOptions, OptionTexts};
+use device_options::{HostOptions, HostSettings, OptionTexts};
 use device_session::{Heard, SavedChanges, Session};
 use gatt_host::{Host, HostFault, Notice};
 use shell_files::ShellFault;
@@ -32,6 +35,8 @@ enum Over {
     Asked,
     /// As `Asked`, and not everything is saved.
     Unsaved,
+    /// The connections have ended, so that the host is opened with other keys.
+    Reloads,
 }
 
 /// The most lines of one read, each at least a line feed.
@@ -40,9 +45,26 @@ const MOST_LINES: u32 = 2_048;
 impl Over {
     fn outcome(self) -> Result<(), Stop> {
         match self {
-            Over::Gone(_) | Over::Asked => Ok(()),
+            Over::Gone(_) | Over::Asked | Over::Reloads => Ok(()),
             Over::Unsaved => Err(Stop::File),
             Over::Stopped(fault) => Err(Stop::Fault(ShellFault::Host(fault.number()))),
+        }
+    }
+
+    /// Returns true if no other controller is served afterwards.
+    fn is_last(self, is_once: bool) -> bool {
+        match self {
+            Over::Gone(_) | Over::Stopped(_) => is_once,
+            Over::Asked | Over::Unsaved => true,
+            Over::Reloads => false,
+        }
+    }
+
+    /// Returns why a controller is no longer served by a device that reloads.
+    fn before_a_reload(self) -> Over {
+        match self {
+            Over::Asked | Over::Unsaved => Over::Reloads,
+            _ => self,
         }
     }
 }
@@ -64,7 +86,11 @@ pub fn serve_devices<
     let Ok(log) = Log::new(rt, rt.alloc()) else {
         return Err(Stop::Fault(ShellFault::Listen));
     };
-    prepare_and_serve(rt.alloc(), log, &options, number_of_start(rt))
+    let start = Start {
+        number: number_of_start(rt),
+        supervision: Supervision::new(Supervisor::of(rt)),
+    };
+    prepare_and_serve(rt.alloc(), log, &options, start)
 }
 
 /// Returns a random number for this start.
@@ -77,9 +103,9 @@ fn number_of_start<R: RandomSource>(rt: &R) -> u64 {
 
 fn prepare_and_serve<
     R: Files<File = File> + Net<Listener = TcpListener, Stream = TcpStream> + Clock + Eprint,
->(alloc: Global, log: Log<'_, R>, options: &HostOptions<'_>, started: u64) -> Result<(), Stop> {
-    let (host, keeping) = open_host(alloc, &log, options)?;
-    listen_and_serve(alloc, log, options, host, keeping, started)
+>(alloc: Global, log: Log<'_, R>, options: &HostOptions<'_>, start: Start) -> Result<(), Stop> {
+    let (host, keeping, key_text) = open_host(alloc, &log, options)?;
+    listen_and_serve(alloc, log, options, host, keeping, key_text, start)
 }
 
 /// Listens, and serves a host. Dropping hosts and devices as a whole keeps the proof small.
@@ -91,9 +117,10 @@ fn listen_and_serve<
     options: &HostOptions<'_>,
     host: Host,
     keeping: Option<Keeping>,
-    started: u64,
+    key_text: Vec<u8>,
+    start: Start,
 ) -> Result<(), Stop> {
-    match reaching(log, alloc, options, keeping, started) {
+    match reaching(log, alloc, options, keeping, key_text, start) {
         Ok(mut device) => {
             let served = save_and_serve(options, host, &mut device);
             drop(device);
@@ -124,25 +151,11 @@ fn save_and_serve<
         return Err(stop);
     }
     device.session.log().say("ready");
-    if options.once {
-        serve_once(device, host, options.log_values)
-    } else {
-        serve_each(device, host, options)
-    }
+    device.supervision.ready();
+    serve_each(device, host, options)
 }
 
-fn serve_once<
-    R: Files<File = File> + Net<Listener = TcpListener, Stream = TcpStream> + Clock + Eprint,
->(device: &mut Device<'_, R>, host: Host, logs_values: bool) -> Result<(), Stop> {
-    let mut host = host;
-    let mut hearing = hearing_of(device, logs_values);
-    let over = serve_one(device, &mut host, &mut hearing);
-    drop(hearing);
-    drop(host);
-    over.outcome()
-}
-
-/// Serves each controller with the data of the one before.
+/// Serves each controller with the data of the one before, or only one.
 fn serve_each<
     R: Files<File = File> + Net<Listener = TcpListener, Stream = TcpStream> + Clock + Eprint,
 >(device: &mut Device<'_, R>, host: Host, options: &HostOptions<'_>) -> Result<(), Stop> {
@@ -151,16 +164,29 @@ fn serve_each<
     let mut outcome = Ok(());
     for _controller in 0..u64::MAX {
         let over = serve_one(device, &mut host, &mut hearing);
-        if let Over::Asked | Over::Unsaved = over {
+        if over.is_last(options.once) {
             outcome = over.outcome();
             break;
         }
-        host = reopen(device.alloc, host, &options.host)?;
+        host = open_next(device, host, &options.host, over)?;
         device.session.lose();
     }
     drop(hearing);
     drop(host);
     outcome
+}
+
+/// Opens the host of the next controller.
+fn open_next<R: Files<File = File> + Clock + Eprint>(
+    device: &mut Device<'_, R>,
+    host: Host,
+    settings: &HostSettings,
+    over: Over,
+) -> Result<Host, Stop> {
+    match over {
+        Over::Reloads => reopen_with_keys(device, host, settings),
+        _ => reopen(device.alloc, host, settings),
+    }
 }
 
 fn hearing_of<R>(device: &Device<'_, R>, logs_values: bool) -> Hearing {
@@ -185,15 +211,27 @@ fn serve_one<
     device.session.know(&hearing.heard);
     device.ending.clear();
     let over = serve_turns(device, host, hearing);
-    if device.stop.is_some() {
-        return if finish(device, host) {
-            Over::Asked
-        } else {
-            Over::Unsaved
-        };
+    match device.course {
+        Course::Serves => {
+            tell_over(device.alloc, &mut device.session, host, over);
+            over
+        }
+        Course::Stops(_) => {
+            if finish(device, host) {
+                Over::Asked
+            } else {
+                Over::Unsaved
+            }
+        }
+        Course::Reloads { .. } => {
+            let over = over.before_a_reload();
+            if let Over::Reloads = over {
+                reset(device);
+            }
+            tell_over(device.alloc, &mut device.session, host, over);
+            Over::Reloads
+        }
     }
-    tell_over(device.alloc, &mut device.session, host, over);
-    over
 }
 
 fn serve_turns<
@@ -217,6 +255,7 @@ fn over_in_turn<
     out: &mut ToController,
     heard: &mut Hearing,
 ) -> Option<Over> {
+    supervise(device, host);
     let served = serve_events(device, host, out, heard);
     device.takes = Takes::Nothing;
     let turn = serve_turn(host, device, out, heard);
@@ -234,6 +273,24 @@ fn over_in_turn<
         Ok(End::Failed) => Some(Over::Gone(device.session.why_lost("gone: it cannot be read"))),
         Err(fault) => Some(Over::Stopped(fault)),
     }
+}
+
+/// Feeds the watchdog of the supervisor if it is time, and shows it what the device does.
+fn supervise<R: Clock + Eprint>(device: &mut Device<'_, R>, host: &Host) {
+    if !device.supervision.is_there() {
+        return;
+    }
+    let activity = if device.session.is_serving() {
+        let mut count: usize = 0;
+        for _connection in host.connections() {
+            count = count.saturating_add(1);
+        }
+        Activity::Serving(count)
+    } else {
+        Activity::Waiting
+    };
+    let now = device.session.log().now();
+    device.supervision.turn(device.alloc, activity, now);
 }
 
 /// Serves an event, and then the other lines of the same read: one save covers all of them.
@@ -267,6 +324,9 @@ fn tell_over<R: Clock + Eprint>(
     match over {
         Over::Gone(how) => session.log().say_of("controller", how),
         Over::Stopped(fault) => tell_stopped(alloc, session, fault),
+        Over::Reloads => session
+            .log()
+            .say_of("controller", "released: the keys have changed"),
         Over::Asked | Over::Unsaved => {}
     }
     if session.is_serving() {

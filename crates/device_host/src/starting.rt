@@ -1,8 +1,11 @@
 //! The start of a device.
 
+use crate::course::Course;
 use crate::device::{Device, Takes};
 use crate::keeping::Keeping;
 use crate::stop::{Stop, refuse_socket};
+use crate::supervision::Supervision;
+use crate::unkeyed::Unkeyed;
 use arrayvec::ArrayVec;
 use device_io::Log;
 use device_loop::History;
@@ -15,6 +18,14 @@ use std::io::ErrorKind;
 use std::net::{Net, TcpListener, TcpStream};
 use std::time::Clock;
 
+/// A number and the supervision that a start gets from the system.
+#[derive(Clone, Copy)]
+pub(crate) struct Start {
+    /// A random number.
+    pub(crate) number: u64,
+    pub(crate) supervision: Supervision,
+}
+
 /// Returns a device with its sockets open. If this fails, no file has changed.
 pub(crate) fn reaching<
     'a,
@@ -24,7 +35,8 @@ pub(crate) fn reaching<
     alloc: Global,
     options: &HostOptions<'a>,
     keeping: Option<Keeping>,
-    started: u64,
+    key_text: Vec<u8>,
+    start: Start,
 ) -> Result<Device<'a, R>, Stop> {
     let rt = log.rt;
     let opened = Session::new(
@@ -38,28 +50,35 @@ pub(crate) fn reaching<
             staying: options.stranger,
         },
     );
-    let mut session = match opened {
+    let session = match opened {
         Ok(session) => session,
         Err(error) => {
+            drop(key_text);
             drop(keeping);
             return Err(refuse_controllers(alloc, rt, options.controller, &error));
         }
     };
-    if let Err(error) = session.listen_for_applications(options.application) {
-        drop(session);
-        drop(keeping);
-        return Err(refuse_applications(alloc, rt, options.application, &error));
-    }
-    Ok(Device {
+    let mut device = Device {
         alloc,
         session,
         keeping,
         takes: Takes::Any,
         ending: ArrayVec::new(),
-        stop: None,
-        started,
+        unkeyed: Unkeyed::none(),
+        files: options.files,
+        key_text,
+        course: Course::Serves,
+        supervision: start.supervision,
+        started: start.number,
         history: History::none(),
-    })
+    };
+    match device.session.listen_for_applications(options.application) {
+        Ok(()) => Ok(device),
+        Err(error) => {
+            drop(device);
+            Err(refuse_applications(alloc, rt, options.application, &error))
+        }
+    }
 }
 
 fn refuse_controllers<R: Eprint>(

@@ -1,5 +1,6 @@
 //! The stop of a device that the line `stop` asks for.
 
+use crate::course::Course;
 use crate::device::Device;
 use app_lines::{Reply, add_reply};
 use arrayvec::ArrayVec;
@@ -10,7 +11,7 @@ use std::net::{Net, TcpListener, TcpStream};
 use std::time::Clock;
 
 /// Time limit for the connections to end, in milliseconds.
-const ENDING_TIME: u64 = 3_000;
+pub(crate) const ENDING_TIME: u64 = 3_000;
 
 /// Time limit for the answer to the Reset, in milliseconds.
 const RESET_TIME: u64 = 1_000;
@@ -23,17 +24,18 @@ pub(crate) fn begin_stop<R: Clock + Eprint>(device: &mut Device<'_, R>) {
     device.session.forget_asked();
     device.session.hold();
     device.session.log().say("stop");
-    device.stop = Some(device.session.log().now().saturating_add(ENDING_TIME));
+    device.supervision.stopping();
+    device.course = Course::Stops(device.session.log().now().saturating_add(ENDING_TIME));
 }
 
-/// Returns true if a stopping device has no connection left, or its time limit is over.
+/// Returns true if a device that stops or reloads has no connection left, or its time is over.
 ///
 /// Otherwise the device disconnects all its connections.
 pub(crate) fn is_stopped<R: Clock + Eprint>(device: &mut Device<'_, R>, host: &Host) -> bool {
-    let Some(stop) = device.stop else {
+    let Some(until) = device.course.due() else {
         return false;
     };
-    let is_late = stop <= device.session.log().now();
+    let is_late = until <= device.session.log().now();
     let mut ending = ArrayVec::new();
     let mut is_connected = false;
     for connection in host.connections() {
@@ -53,9 +55,7 @@ pub(crate) fn finish<
     R: Files<File = File> + Net<Listener = TcpListener, Stream = TcpStream> + Clock + Eprint,
 >(device: &mut Device<'_, R>, host: &Host) -> bool {
     let failure = save_last(device, host);
-    if let Ok(true) = device.session.write(&RESET) {
-        wait_for_reset(device);
-    }
+    reset(device);
     let text = last_answer(device.alloc, &failure);
     device.session.answer_later(text);
     device.session.reply();
@@ -79,6 +79,7 @@ fn save_last<R: Files<File = File> + Clock + Eprint>(
         ))),
         None => None,
     };
+    keeping.tell_news(&mut device.session);
     if failure.is_none() {
         device.session.tell_pending();
     }
@@ -92,6 +93,15 @@ fn last_answer(alloc: Global, failure: &Option<String>) -> Result<Vec<u8>, Alloc
         Some(words) => add_reply(&mut text, &Reply::NotSaved(words.as_str()))?,
     }
     Ok(text)
+}
+
+/// Resets the controller, so that it stops advertising.
+pub(crate) fn reset<
+    R: Files<File = File> + Net<Listener = TcpListener, Stream = TcpStream> + Clock + Eprint,
+>(device: &mut Device<'_, R>) {
+    if let Ok(true) = device.session.write(&RESET) {
+        wait_for_reset(device);
+    }
 }
 
 /// Waits until the controller answers, perhaps the Reset, or disconnects.

@@ -183,9 +183,10 @@ pub const TELL_DETAILS: &str = "\
 Send one line to a device, and print its answer.
 
 The words are one line of an application (docs/DEVICE.md). A question (`value`, `connections`,
-`subscriptions`, `find`) and `stop` leave the application alone. Any other command disconnects it.
-The status is 1 if the device refuses the line, and 2 if it cannot be reached.
+`subscriptions`, `find`), `reload` and `stop` leave the application alone. Any other command
+disconnects it. The status is 1 if the device refuses the line, and 2 if it cannot be reached.
 
   gatt_shell tell door.socket value 10
   gatt_shell tell door.socket find fff0 fff3 2
+  gatt_shell tell door.socket reload
   gatt_shell tell door.socket stop";

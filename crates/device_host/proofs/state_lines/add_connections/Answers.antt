@@ -1,6 +1,6 @@
 use Rattle.std.proofs.Common.{◌++◌, ap, ◌∙◌}
 use Rattle.std.specs.List.{flat_map}
-use Rattle.device_host.proofs.turn_effects.add_connections.Goals as goal
+use Rattle.device_host.proofs.state_lines.add_connections.Goals as goal
 use Rattle.app_lines.specs.Told.{lines_of_connection}
 
 pub loop-connection-init : goal.loop-connection-init

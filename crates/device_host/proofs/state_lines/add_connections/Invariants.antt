@@ -1,7 +1,7 @@
 use Rattle.std.proofs.Common.{◌≡◌, ◌++◌}
 use Rattle.std.specs.List.{flat_map}
 use Rattle.gatt_host.specs.Connections.{connections_in}
-use Rattle.device_host.proofs.turn_effects.add_connections.Given as goal
+use Rattle.device_host.proofs.state_lines.add_connections.Given as goal
 use Rattle.app_lines.specs.Told.{lines_of_connection}
 
 -- what is told of those that the iterator still has is what is missing

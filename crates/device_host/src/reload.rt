@@ -1,0 +1,204 @@
+//! The line `reload`: the key file is read again, and the host is opened again with its keys.
+
+use crate::course::Course;
+use crate::device::Device;
+use crate::files::{KeyFile, judged_key_file};
+use crate::opening::{open, reopen};
+use crate::restoring::{Subscriptions, log_dropped, unknown_refusal};
+use crate::stop::Stop;
+use crate::stopping::ENDING_TIME;
+use app_lines::{Reply, add_reply};
+use device_options::{FileOptions, HostSettings, Saved};
+use gatt_host::{Host, Keys, Rows};
+use std::alloc::{AllocError, Global};
+use std::fs::{File, Files};
+use std::time::Clock;
+use std::{fs, str};
+
+/// The outcome of the line `reload`.
+#[derive(Drop)]
+enum Answer {
+    Done,
+    /// The keys are not read again: the file and the reason, or nothing if memory was refused.
+    Refused(Option<String>),
+}
+
+/// Reads the key file again. If that changes a key, the connections end first, and no more lines
+/// are read until the host is opened again.
+///
+/// A file that the start would refuse is answered at once, and so is one with the same keys.
+pub(crate) fn begin_reload<R: Files<File = File> + Clock + Eprint>(
+    device: &mut Device<'_, R>,
+    host: &Host,
+) {
+    match read_again(device, host) {
+        Ok(None) => {
+            device
+                .session
+                .log()
+                .say_of("keys: the same as before:", device.files.keys);
+            answer_reload(device, &Answer::Done);
+        }
+        Ok(Some(keys)) => {
+            let until = device.session.log().now().saturating_add(ENDING_TIME);
+            device.session.forget_asked();
+            device.session.hold();
+            device
+                .session
+                .log()
+                .say_of("keys: read again:", device.files.keys);
+            device.supervision.reloading(device.alloc);
+            device.course = Course::Reloads { until, keys };
+        }
+        Err(refusal) => answer_reload(device, &Answer::Refused(refusal)),
+    }
+}
+
+/// Returns the keys of the file, or `None` if they have not changed.
+fn read_again<R: Files<File = File> + Clock + Eprint>(
+    device: &Device<'_, R>,
+    host: &Host,
+) -> Result<Option<KeyFile>, Option<String>> {
+    let (alloc, rt, path) = (device.alloc, device.session.log().rt, device.files.keys);
+    match fs::metadata(rt, path) {
+        Ok(found) if found.is_file() => {}
+        Ok(_) => return Err(format!(in alloc; "{path}: not a file").ok()),
+        Err(error) => return Err(format!(in alloc; "{path}: {error}").ok()),
+    }
+    let file = match judged_key_file(alloc, rt, path) {
+        Ok(file) => file,
+        Err(refusal) => return Err(refusal),
+    };
+    if has_same_keys(alloc, device.key_text.as_slice(), file.text.as_slice()) {
+        drop(file);
+        return Ok(None);
+    }
+    match unknown_saved(alloc, &device.files, host.rows(), &file.keys) {
+        Ok(()) => Ok(Some(file)),
+        Err(refusal) => {
+            drop(file);
+            Err(refusal)
+        }
+    }
+}
+
+/// Returns true if two key files have the same keys, with the same words.
+fn has_same_keys(alloc: Global, one: &[u8], other: &[u8]) -> bool {
+    if one == other {
+        return true;
+    }
+    match (str::from_utf8(one), str::from_utf8(other)) {
+        (Ok(one), Ok(other)) => match (
+            toml::table_from_str(alloc, one),
+            toml::table_from_str(alloc, other),
+        ) {
+            (Ok(one), Ok(other)) => one == other,
+            _ => false,
+        },
+        _ => false,
+    }
+}
+
+/// Refuses keys without those of a peer whose subscriptions are saved, unless the options drop
+/// them.
+fn unknown_saved(
+    alloc: Global,
+    files: &FileOptions<'_>,
+    rows: &Rows,
+    keys: &Keys,
+) -> Result<(), Option<String>> {
+    match files.saved {
+        Saved::Nothing => Ok(()),
+        _ => match Subscriptions::of(alloc, rows) {
+            Ok(saved) => unknown_refusal(alloc, files, &saved, keys),
+            Err(_) => Err(None),
+        },
+    }
+}
+
+/// Opens a host again with the keys that were read again, and answers the line `reload`.
+///
+/// If a peer without a key has a subscription now that is saved, the host is opened with the keys
+/// that it had.
+pub(crate) fn reopen_with_keys<R: Files<File = File> + Clock + Eprint>(
+    device: &mut Device<'_, R>,
+    host: Host,
+    settings: &HostSettings,
+) -> Result<Host, Stop> {
+    let course = std::mem::replace(&mut device.course, Course::Serves);
+    device.session.release();
+    let Course::Reloads { keys: file, .. } = course else {
+        return reopen(device.alloc, host, settings);
+    };
+    let refused = unknown_saved(device.alloc, &device.files, host.rows(), &file.keys);
+    let (opened, said) = match refused {
+        Ok(()) => (exchange_keys(device, host, file, settings), Answer::Done),
+        Err(refusal) => {
+            drop(file);
+            (
+                reopen(device.alloc, host, settings),
+                Answer::Refused(refusal),
+            )
+        }
+    };
+    answer_reload(device, &said);
+    device.session.reply();
+    device.session.flush();
+    device.supervision.ready();
+    opened
+}
+
+fn exchange_keys<R: Files<File = File> + Clock + Eprint>(
+    device: &mut Device<'_, R>,
+    host: Host,
+    file: KeyFile,
+    settings: &HostSettings,
+) -> Result<Host, Stop> {
+    let alloc = device.alloc;
+    let (table, _keys, rows) = host.into_parts();
+    let saved = Subscriptions::of(alloc, &rows);
+    let KeyFile { keys, text } = file;
+    device.key_text = text;
+    let host = open(alloc, table, keys, rows, settings)?;
+    match &saved {
+        Ok(saved) => log_dropped(alloc, device.session.log(), saved, host.rows()),
+        Err(_) => device
+            .session
+            .log()
+            .say("memory: refused for the subscriptions before"),
+    }
+    if let Some(keeping) = &mut device.keeping {
+        keeping.note_change();
+        keeping.save(&host, &mut device.session);
+    }
+    Ok(host)
+}
+
+/// Prepares the answer to the line `reload`, and logs a refusal.
+fn answer_reload<R: Clock + Eprint>(device: &mut Device<'_, R>, answer: &Answer) {
+    let text = match answer {
+        Answer::Done => answer_text(device.alloc, &Reply::Done),
+        Answer::Refused(refusal) => {
+            let words = match refusal {
+                Some(words) => words.as_str(),
+                None => "memory was refused",
+            };
+            device.session.log().say_of("keys: not read again:", words);
+            refused_text(device.alloc, words)
+        }
+    };
+    device.session.answer_later(text);
+}
+
+fn refused_text(alloc: Global, words: &str) -> Result<Vec<u8>, AllocError> {
+    match format!(in alloc; "not read again: {words}") {
+        Ok(words) => answer_text(alloc, &Reply::NotReloaded(words.as_str())),
+        Err(_) => Err(AllocError),
+    }
+}
+
+fn answer_text(alloc: Global, reply: &Reply<'_>) -> Result<Vec<u8>, AllocError> {
+    let mut text = Vec::new(alloc);
+    add_reply(&mut text, reply)?;
+    Ok(text)
+}

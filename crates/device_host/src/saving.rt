@@ -1,0 +1,47 @@
+//! The save of a turn.
+
+ghost use Rattle.std.specs.Prelude.{◌≡◌};
+
+use crate::device::Device;
+use crate::turn_notices::Hearing;
+use arrayvec::ArrayVec;
+use device_loop::Saving;
+use gatt_host::{Host, MAX_SLOTS};
+use std::fs::{File, Files};
+use std::time::Clock;
+
+/// Saves the changes, and disconnects the connections whose changes are not saved.
+pub(crate) fn save<R: Files<File = File> + Clock + Eprint>(
+    device: &mut Device<'_, R>,
+    host: &Host,
+    hearing: &mut Hearing,
+) -> Saving
+    ensures history { device.new.history ≡ device.old.history }
+    ensures heard { hearing.new.received ≡ hearing.old.received }
+    // The application is sent nothing.
+    ensures application { device.new.session.application ≡ device.old.session.application }
+{
+    let is_saved = match &mut device.keeping {
+        Some(keeping) => keeping.save(host, &mut device.session),
+        None => true,
+    };
+    if is_saved {
+        hearing.unsaved.clear();
+        return Saving::Saved;
+    }
+    let unsaved = hearing.unsaved.handles();
+    device.ending = standing(host, unsaved.as_slice());
+    Saving::Unsaved(unsaved)
+}
+
+/// Returns those connections that exist and are not being disconnected.
+fn standing(host: &Host, handles: &[u16]) -> ArrayVec<u16, MAX_SLOTS> {
+    let mut standing = ArrayVec::new();
+    for connection in host.connections() {
+        if handles.contains(&connection.handle) && !connection.ending {
+            // It fits: a host has at most `MAX_SLOTS` connections.
+            let _ = standing.try_push(connection.handle);
+        }
+    }
+    standing
+}
