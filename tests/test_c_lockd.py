@@ -194,4 +194,4 @@ def test_refused(lockd, folder):
     door = listening(lockd)
     door.give(b"\x07")
     status, told = door.ended()
-    assert status == 1 and "begins none" in told, "a stream out of step ends the lock"
+    assert status == 1 and "begins no packet" in told, "a stream out of step ends the lock"

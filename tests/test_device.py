@@ -129,7 +129,7 @@ def play_a_day(folder):
 
     garbage = b"\7" * 9
     controller.send(garbage)
-    stopped = "+ stopped: the octet 07 stands where a packet begins, and begins none"
+    stopped = "+ stopped: the octet 07 begins no packet"
     assert three.lines(3) == [stopped, "+ disconnected 3", "+ waiting"], "garbage"
     assert controller.until(lambda: controller.is_gone), "the stream is closed"
     controller.close()

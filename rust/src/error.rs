@@ -17,7 +17,7 @@ pub enum Error {
     /// The configuration is out of its limits.
     BadConfig,
 
-    /// The host has stopped for good: a byte stands where a packet begins, and begins none.
+    /// The host has stopped for good: a byte begins no packet.
     Desync,
     /// The host has stopped for good: an event is too short for its fields, or has another length
     /// than it states.

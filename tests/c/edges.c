@@ -253,7 +253,7 @@ static const struct {
         "a structure is smaller than that of the library",
     }},
     {21, {
-        "host: an octet stands where a packet begins, and begins none",
+        "host: an octet begins no packet",
         "host: an event is too short for its fields, or has another length than it states",
         "host: the controller could not be initialised",
         "host: the controller reports an error of its own",
@@ -263,7 +263,7 @@ static const struct {
         "it is no characteristic value",
         "the value is longer than its largest length, or a fixed one has another length",
         "no connection with the handle serves",
-        "the time is before the one that stands",
+        "the time is earlier than the current time",
         "the host has stopped",
         "a table has no value that tells of changes, or they have it at different handles",
     }},
