@@ -49,22 +49,23 @@ def test_sent_and_closed(door):
 
 def test_many_lines_of_a_replaced_application(folder):
     """Each line of an application that is replaced is executed, also if few fit into a turn."""
-    value, lines = 3, 2_000
+    value, lines, path = 3, 6_000, f"{folder}/long.socket"
     with open(f"{folder}/long.toml", "w", encoding="ascii") as file:
-        file.write(f'[[service]]\nuuid = "1800"\n[[service.characteristic]]\nuuid = "2a00"\nvalue = "{"ab" * 512}"\n')
+        file.write(f'[[service]]\nuuid = "1800"\n[[service.characteristic]]\nuuid = "2a00"\nvalue = "{"ab" * 70}"\n')
         file.write('max = 512\nproperties = ["read"]\n')
-    device = Device(f"{folder}/long.toml", DOOR[1], *LISTEN, "--application", f"{folder}/long.socket")
+    device = Device(f"{folder}/long.toml", DOOR[1], *LISTEN, "--application", path)
     device.said("ready")
-    with reach(f"{folder}/long.socket") as sender:
+    with reach(path) as sender:
         sender.sendall(b"application\n")
         assert sender.recv(9) == b"+ started", "it has the place"
-        threading.Thread(target=sender.sendall, args=[f"value {value}\n".encode() * lines], daemon=True).start()
+        # Less than 1 MiB of answers waits.
+        sent = f"value {value}\n" * lines + f"update {value} cd\n"
+        threading.Thread(target=sender.sendall, args=[sent.encode()], daemon=True).start()
         time.sleep(0.5)
-        with reach(f"{folder}/long.socket") as other:
+        with reach(path) as other:
             other.sendall(b"application\n")
-            answers = sender.makefile().read().splitlines()
-    told = [it for it in answers if it.startswith(f"value {value} ")]
-    assert (len(told), answers[-1]) == (lines, "+ replaced"), "each line, and then it is replaced"
+            sender.makefile().read()
+    assert soon(lambda: look(path, f"value {value}") == [f"value {value} cd"]), "its last line"
 
 
 def test_a_look(door):
