@@ -394,7 +394,8 @@ def test_many_reloads(place):
     for count in range(reloads):
         place.keys.put(*((0, 1) if count % 2 == 0 else (0, 1, 2)))
         answers += look(place.socket, "reload")
-        while line := application.line(0.03):
+        until = time.monotonic() + 0.03
+        while time.monotonic() < until and (line := application.line(0.03)):
             heard.append(line)
     load.is_over = True
     loading.end(60)
