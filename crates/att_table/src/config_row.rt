@@ -108,6 +108,7 @@ impl ConfigRow {
     /// Keeps an entry only if both tables have a configuration at its handle, for values of one
     /// type, and the new one supports its bits.
     pub fn keep(&mut self, old: &Table, new: &Table)
+        // A replaced table leaves a client exactly the configurations that still fit.
         ensures kept { self.new ≡ kept_row old.now.attributes new.now.attributes self.old }
         ensures bits { (handle : ℕ) → bits_at self.new handle
             ≡ kept_bits old.now.attributes new.now.attributes handle (bits_at self.old handle) }

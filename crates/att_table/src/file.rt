@@ -20,7 +20,9 @@ mod service;
 mod type_text;
 
 use crate::file::draft::Draft;
+pub use crate::file::keys::NEED;
 use crate::file::service::Service;
+pub use crate::file::type_text::read_type;
 use crate::table::Table;
 use crate::table_fault::{TableFault, TableKey};
 use std::alloc::Global;
@@ -32,6 +34,8 @@ impl Table {
     /// `OutOfMemory` may occur at any point.
     #[tactic(auto, using(crate::proofs::Faults::not_toml))]
     pub fn read(alloc: Global, text: &str) -> Result<Table, TableFault>
+        // A table file gives exactly the table of its definition, or its first fault, unless memory
+        // is refused. Each table keeps the limits, by the invariant of its type.
         ensures table { Gives OutOfMemory (table_read text.now) result }
         ensures not_toml { IsErrOf result TableFault.NotToml → parse_document text.now ≡ None }
     {

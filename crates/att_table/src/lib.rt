@@ -16,5 +16,6 @@ pub use att_attributes::{
 };
 pub use att_values::{Change, ValueStore, run};
 pub use config_row::ConfigRow;
+pub use file::{NEED, read_type};
 pub use table::Table;
 pub use table_fault::{TableFault, TableKey};

@@ -82,7 +82,7 @@ impl fmt::Display for TableFault {
             TableFault::Missing(name) => {
                 return write!(f, "a key that has to be there is not: {name}");
             }
-            TableFault::BadUuid => "a uuid is none, or is one that may not stand there",
+            TableFault::BadUuid => "this is no UUID, or this UUID is not allowed here",
             TableFault::BadHex => "a value is not an even number of hexadecimal digits",
             TableFault::TooLong => "a value of more than 512 octets, or a max out of its range",
             TableFault::BadSecurity =>
@@ -92,7 +92,7 @@ impl fmt::Display for TableFault {
             }
             TableFault::TooMany =>
                 "more attributes, configurations or octets than a table may have",
-            TableFault::BadInclude => "an include of a service that does not stand before",
+            TableFault::BadInclude => "an include of a service that is not before it",
             TableFault::OutOfMemory => "memory was refused",
             TableFault::Shape => "a key that is unknown, or of another TOML type than its own",
         })

@@ -24,6 +24,8 @@ pub enum CopyFault {
 ///
 /// Flushes the writer after each read.
 pub fn copy<R: Read, W: Write>(reader: &mut R, worded: &mut Worded<'_, W>) -> Result<(), CopyFault>
+    // The whole input is printed to the byte, with two spaces and words of one line added before
+    // ends of lines and at the end of the input.
     ensures ok { OnOk result (IfSome (R.remaining reader.old) (λ input. AddsWordsOf input
         (W.contents (inner_of worded.old)) (W.contents (inner_of worded.new)))) }
 {

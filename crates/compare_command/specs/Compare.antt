@@ -6,8 +6,6 @@ use Rattle.le_security.specs.declared.entry.Entry.{Entry}
 use Rattle.octet_io.specs.Number.{Octets}
 use Rattle.rights_compare.specs.Compared.{comparison_text}
 use Rattle.rights_compare.specs.Gains.{opens}
-use Rattle.shell_files.specs.declared.fault.ShellFault.{ShellFault}
-use Rattle.shell_files.specs.declared.fault.ShellFault.TheVariants.{Table, Keys, Unreadable, Unwritten, Memory}
 use Rattle.shell_files.specs.KeyFile.{keys_in}
 use Rattle.shell_files.specs.TableFile.{table_in}
 
@@ -31,11 +29,3 @@ pub record AreCompared (old_file new_file key_file : Option Octets)
   pub has_new_keys : HasNewKeys new_key_file keys new_keys
   pub opened : is_opened ≡ opens new.attributes new_keys old.attributes keys
   pub printed : Appends held holds (comparison_text new new_keys old keys)
-
-abbrev pub IsCompareFault : ShellFault → Type 0
-IsCompareFault (Table number) = Unit {0}
-IsCompareFault (Keys number) = Unit {0}
-IsCompareFault Unreadable = Unit {0}
-IsCompareFault Unwritten = Unit {0}
-IsCompareFault Memory = Unit {0}
-IsCompareFault _ = ⊥

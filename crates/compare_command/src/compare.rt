@@ -7,13 +7,15 @@ ghost use Rattle.rights_compare.specs.Compared.{comparison_text};
 ghost use Rattle.rights_compare.specs.Gains.{opens};
 ghost use Rattle.shell_files.specs.KeyFile.{keys_in, IsKeyFileFault};
 ghost use Rattle.shell_files.specs.TableFile.{table_in, IsTableFileFault};
-ghost use Rattle.compare_command.specs.Compare.{AreCompared, HasNewKeys, IsCompareFault};
+ghost use Rattle.compare_command.specs.Compare.{AreCompared, HasNewKeys};
+ghost use Rattle.shell_files.specs.Fault.{IsTableOrKeysFault};
 
 use att_table::Table;
 use le_security::Keys;
 use rights_compare::{add_comparison, opens};
-use shell_files::{KeysPath, LazyFile, ShellFault, TablePath, print};
-use show_command::{read_key_file_at, read_table_at};
+use shell_files::{
+    KeysPath, LazyFile, ShellFault, TablePath, print, read_key_file_at, read_table_at,
+};
 use std::alloc::Global;
 use std::fs::Files;
 use std::io::{Read, Write};
@@ -42,13 +44,14 @@ pub fn compare_files<O: Read, N: Read, K: Read, L: Read, W: Write>(
     writer: &mut W,
     place: &mut Vec<u8>,
 ) -> Result<bool, ShellFault>
+    // The comparison of these files is printed, and true returned exactly if a right is opened.
     ensures done { IfOk result (AreCompared (O.remaining old.old) (N.remaining new.old)
         (K.remaining keys.old) (option_map L.remaining new_keys.old)
         (W.contents writer.old) (W.contents writer.new)) }
     ensures place { IsOk result → place.new.items ≡ [] }
     ensures nothing_printed { IfErr result (λ fault. fault ≢ ShellFault.Unwritten
         → Keeps (W.contents writer.old) (W.contents writer.new)) }
-    ensures faults { IfErr result IsCompareFault }
+    ensures faults { IfErr result IsTableOrKeysFault }
 {
     let old = named_table(alloc, names.old, old, place)?;
     let new = named_table(alloc, names.new, new, place)?;
@@ -150,7 +153,7 @@ pub fn compare_paths<F: Files, W: Write>(
     ensures place { IsOk result → place.new.items ≡ [] }
     ensures nothing_printed { IfErr result (λ fault. fault ≢ ShellFault.Unwritten
         → Keeps (W.contents writer.old) (W.contents writer.new)) }
-    ensures faults { IfErr result IsCompareFault }
+    ensures faults { IfErr result IsTableOrKeysFault }
 {
     let names = names_of(paths);
     let mut old = LazyFile::new(files, paths.old.0);

@@ -32,7 +32,8 @@ use Rattle.device_state.specs.ReadBack.{ReadsBack}
 use Rattle.device_state.specs.Reading.{nothing_read, state_from, state_of}
 use Rattle.saved_values.specs.SavedValue.{Saved, value_line, IsSavedValue}
 use Rattle.device_state.specs.State.{is_end, is_ended, end_of, before_end, checksum_in, lines_checked, state_of_lines, state_read}
-use Rattle.saved_values.specs.ValuesText.{line_of, pieces_of, values_text}
+use Rattle.saved_values.specs.ValuesText.{line_of, values_text}
+use Rattle.text_words.specs.Split.{lines_of}
 use Rattle.device_state.specs.StateText.{checksum, end_line, ended, first_line, lines_of_state, state_text, piece_line, subscriptions_heading, table_heading, table_lines, values_heading}
 use Rattle.device_state.specs.declared.state_fault.StateFault.{StateFault}
 use Rattle.device_state.specs.declared.state_fault.StateFault.TheVariants.{Unended, OtherChecksum, NotText}
@@ -47,22 +48,22 @@ onto_more : (octet : ℕ) (pieces : List Octets) (last : Octets) → 0 < length 
 onto_more octet [] last some = absurd (omega (arith, some))
 onto_more octet (piece ∷ pieces) last some = refl
 
-last_feed : (text : Octets) → pieces_of (text ++ 10 ∷ []) ≡ pieces_of text ++ [] ∷ []
+last_feed : (text : Octets) → lines_of (text ++ 10 ∷ []) ≡ lines_of text ++ [] ∷ []
 last_feed [] = refl
 last_feed (octet ∷ text) = by (octet == 10) refl (last_feed text)
   where
-    some : 0 < length (pieces_of text)
+    some : 0 < length (lines_of text)
     some = omega (arith, length-slice_split (λ (octet : ℕ). octet == 10) text)
 
-    by : (is : Bool) → (octet == 10) ≡ is → pieces_of (text ++ 10 ∷ []) ≡ pieces_of text ++ [] ∷ []
-        → (if is then [] ∷ pieces_of (text ++ 10 ∷ []) else onto_first octet (pieces_of (text ++ 10 ∷ [])))
-        ≡ (if is then [] ∷ pieces_of text else onto_first octet (pieces_of text)) ++ [] ∷ []
+    by : (is : Bool) → (octet == 10) ≡ is → lines_of (text ++ 10 ∷ []) ≡ lines_of text ++ [] ∷ []
+        → (if is then [] ∷ lines_of (text ++ 10 ∷ []) else onto_first octet (lines_of (text ++ 10 ∷ [])))
+        ≡ (if is then [] ∷ lines_of text else onto_first octet (lines_of text)) ++ [] ∷ []
     by true is rest = ap (λ (pieces : List Octets). [] ∷ pieces) rest
-    by false is rest = ap (onto_first octet) rest ∙ onto_more octet (pieces_of text) [] some
+    by false is rest = ap (onto_first octet) rest ∙ onto_more octet (lines_of text) [] some
 
-pieces_before : (text : Octets) (lines : List Octets) → All HasNoFeed lines → text ++ 10 ∷ [] ≡ flat_map line_of lines → pieces_of text ≡ lines
+pieces_before : (text : Octets) (lines : List Octets) → All HasNoFeed lines → text ++ 10 ∷ [] ≡ flat_map line_of lines → lines_of text ≡ lines
 pieces_before text lines feedless is =
-    append_cancel_right (pieces_of text) lines ([] ∷ []) (sym (last_feed text) ∙ ap pieces_of is ∙ divided lines feedless)
+    append_cancel_right (lines_of text) lines ([] ∷ []) (sym (last_feed text) ∙ ap lines_of is ∙ divided lines feedless)
 
 -- the lines of subscriptions
 row_lines : Subscriptions → List Octets
@@ -100,14 +101,14 @@ onto_feedless octet (piece ∷ pieces) other feedless =
     All-cons HasNoFeed (octet ∷ piece) pieces (All-cons (λ octet. (octet == 10) ≡ false) octet piece other (All-head HasNoFeed piece pieces feedless))
     (All-tail HasNoFeed piece pieces feedless)
 
-pieces_feedless : (text : Octets) → All HasNoFeed (pieces_of text)
+pieces_feedless : (text : Octets) → All HasNoFeed (lines_of text)
 pieces_feedless [] = All-cons HasNoFeed [] [] (All-nil (λ octet. (octet == 10) ≡ false)) (All-nil HasNoFeed)
 pieces_feedless (octet ∷ text) = by (octet == 10) refl (pieces_feedless text)
   where
-    by : (is : Bool) → (octet == 10) ≡ is → All HasNoFeed (pieces_of text)
-        → All HasNoFeed (if is then [] ∷ pieces_of text else onto_first octet (pieces_of text))
-    by true is rest = All-cons HasNoFeed [] (pieces_of text) (All-nil (λ octet. (octet == 10) ≡ false)) rest
-    by false is rest = onto_feedless octet (pieces_of text) is rest
+    by : (is : Bool) → (octet == 10) ≡ is → All HasNoFeed (lines_of text)
+        → All HasNoFeed (if is then [] ∷ lines_of text else onto_first octet (lines_of text))
+    by true is rest = All-cons HasNoFeed [] (lines_of text) (All-nil (λ octet. (octet == 10) ≡ false)) rest
+    by false is rest = onto_feedless octet (lines_of text) is rest
 
 barred_feedless : (piece : Octets) → HasNoFeed piece → HasNoFeed (barred piece)
 barred_feedless piece feedless = All-cons (λ octet. (octet == 10) ≡ false) 124 piece refl feedless
@@ -178,24 +179,24 @@ lines_parted pieces lines values =
     (flat_map-append line_of lines (values_heading ∷ map value_words values)))
 
 state_lines : (table_text : Octets) (rows : Subscriptions) (values : List Saved)
-    → lines_of_state table_text rows values ≡ flat_map line_of (all_lines (pieces_of table_text) (row_lines rows) values)
+    → lines_of_state table_text rows values ≡ flat_map line_of (all_lines (lines_of table_text) (row_lines rows) values)
 unfolding lines_of_state
 state_lines table_text rows values =
     seven_parts (line_of first_line) (line_of table_heading) (table_lines table_text) (line_of subscriptions_heading) (rows_text rows) (line_of values_heading)
     (values_text values)
     ∙ ap (λ (text : Octets). line_of first_line
     ++ (line_of table_heading ++ (text ++ (line_of subscriptions_heading ++ (rows_text rows ++ (line_of values_heading ++ values_text values))))))
-    (lines_of_each Octets barred piece_line piece_ended (pieces_of table_text))
+    (lines_of_each Octets barred piece_line piece_ended (lines_of table_text))
     ∙ ap (λ (text : Octets). line_of first_line
     ++ (line_of table_heading
-    ++ (flat_map line_of (map barred (pieces_of table_text)) ++ (line_of subscriptions_heading ++ (text ++ (line_of values_heading ++ values_text values))))))
+    ++ (flat_map line_of (map barred (lines_of table_text)) ++ (line_of subscriptions_heading ++ (text ++ (line_of values_heading ++ values_text values))))))
     (rows_lines rows)
     ∙ ap (λ (text : Octets). line_of first_line
     ++ (line_of table_heading
-    ++ (flat_map line_of (map barred (pieces_of table_text))
+    ++ (flat_map line_of (map barred (lines_of table_text))
     ++ (line_of subscriptions_heading ++ (flat_map line_of (row_lines rows) ++ (line_of values_heading ++ text))))))
     (lines_of_each Saved value_words value_line value_ended values)
-    ∙ sym (lines_parted (pieces_of table_text) (row_lines rows) values)
+    ∙ sym (lines_parted (lines_of table_text) (row_lines rows) values)
 
 -- without the line feed of the last of them
 joined_ended : (line : Octets) (lines : List Octets) → flat_map line_of (line ∷ lines) ≡ join_with_byte 10 (line ∷ lines) ++ 10 ∷ []
@@ -220,12 +221,12 @@ lines_back : (front table_text : Octets) (rows : Subscriptions) (values : List S
     → front ++ 10 ∷ [] ≡ lines_of_state table_text rows values → state_of front ≡ the_state table_text (unfitted_rows (written_by rows)) values
 unfolding state_of
 lines_back front table_text rows values is good same =
-    let lines = all_lines (pieces_of table_text) (row_lines rows) values in
-    let some : 0 < length (pieces_of table_text) = omega (arith, length-slice_split (λ (octet : ℕ). octet == 10) table_text) in
+    let lines = all_lines (lines_of table_text) (row_lines rows) values in
+    let some : 0 < length (lines_of table_text) = omega (arith, length-slice_split (λ (octet : ℕ). octet == 10) table_text) in
     ap (state_from 1 nothing_read)
-    (pieces_before front lines (lines_feedless (pieces_of table_text) (row_lines rows) values (pieces_feedless table_text) (rows_feedless rows is) good)
+    (pieces_before front lines (lines_feedless (lines_of table_text) (row_lines rows) values (pieces_feedless table_text) (rows_feedless rows is) good)
     (same ∙ state_lines table_text rows values))
-    ∙ pieces_joined (unfitted_rows (written_by rows)) (pieces_of table_text) (row_lines rows) values some (rows_other rows is)
+    ∙ pieces_joined (unfitted_rows (written_by rows)) (lines_of table_text) (row_lines rows) values some (rows_other rows is)
     (ap subscriptions_read (sym (rows_lines rows)) ∙ rows_back rows is) good
     ∙ ap (λ (text : Octets). the_state text (unfitted_rows (written_by rows)) values) (join_with_byte-slice_split 10 table_text)
 
@@ -297,11 +298,11 @@ front_of : List Octets → List Octets → List Saved → Octets
 front_of pieces lines values = join_with_byte 10 (all_lines pieces lines values)
 
 front_utf8 : (table_text : Octets) (rows : Subscriptions) (values : List Saved) → IsUtf8 table_text → IsOfAFile (written_by rows) → All IsSavedValue values
-    → IsUtf8 (front_of (pieces_of table_text) (row_lines rows) values)
+    → IsUtf8 (front_of (lines_of table_text) (row_lines rows) values)
 unfolding front_of row_lines
 front_utf8 table_text rows values utf8 is good =
     let lines = row_lines rows in
-    let pieces = pieces_of table_text in
+    let pieces = lines_of table_text in
     joined_utf8 first_line (table_heading ∷ behind_table pieces lines values)
     (All-cons IsUtf8 first_line (table_heading ∷ behind_table pieces lines values) (heading_utf8 first_line refl)
     (All-cons IsUtf8 table_heading (behind_table pieces lines values) (heading_utf8 table_heading refl)
@@ -319,7 +320,7 @@ pub reads_back : (table_text : Octets) (rows : Subscriptions) (values : List Sav
     → text ≡ state_text table_text rows values → ReadsBack table_text rows values text
 unfolding front_of
 reads_back table_text rows values text utf8 good same is =
-    let lines = behind_table (pieces_of table_text) (row_lines rows) values in
+    let lines = behind_table (lines_of table_text) (row_lines rows) values in
     ap state_read same
-    ∙ all_back (front_of (pieces_of table_text) (row_lines rows) values) table_text rows values is good
+    ∙ all_back (front_of (lines_of table_text) (row_lines rows) values) table_text rows values is good
     (sym (joined_ended first_line (table_heading ∷ lines)) ∙ sym (state_lines table_text rows values)) (front_utf8 table_text rows values utf8 is good)

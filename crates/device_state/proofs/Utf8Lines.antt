@@ -26,7 +26,7 @@ use Rattle.gatt_subs.specs.RowsText.{address_text, joined_by_colons}
 use Rattle.gatt_subs.specs.declared.row_entry.RowEntry.{RowEntry}
 use Rattle.gatt_subs.proofs.LinesBack.{entry_words, owed_words}
 use Rattle.saved_values.specs.SavedValue.{Saved, IsSavedValue}
-use Rattle.saved_values.specs.ValuesText.{pieces_of}
+use Rattle.text_words.specs.Split.{lines_of}
 use Rattle.saved_values.specs.TypeText.{short_type_text, long_type_text, type_text}
 use Rattle.device_state.proofs.LinesTaken.{barred}
 use Rattle.saved_values.proofs.Ascii.{digits_ascii, spaced, tested, value_ascii}
@@ -75,15 +75,15 @@ feed_found octet is = by (octet == 10) refl is
     by true same is = let equal : octet ≡ 10 = grind (arith, nat_tests, same) in omega (arith, equal)
     by false same is = cc is
 
-pieces_within : (most : ℕ) (text : Octets) → length text < most → IsUtf8 text → All IsUtf8 (pieces_of text)
+pieces_within : (most : ℕ) (text : Octets) → length text < most → IsUtf8 text → All IsUtf8 (lines_of text)
 pieces_within zero text few is = absurd (omega (arith, few))
 pieces_within (suc most) text few is =
     by (nat_lt (position_or_len (λ octet. octet == 10) text) (length text)) refl (pieces_within most (after_first (λ octet. octet == 10) text))
   where
     by : (within : Bool) → nat_lt (position_or_len (λ octet. octet == 10) text) (length text) ≡ within
         → (length (after_first (λ octet. octet == 10) text) < most → IsUtf8 (after_first (λ octet. octet == 10) text)
-        → All IsUtf8 (pieces_of (after_first (λ octet. octet == 10) text)))
-        → All IsUtf8 (pieces_of text)
+        → All IsUtf8 (lines_of (after_first (λ octet. octet == 10) text)))
+        → All IsUtf8 (lines_of text)
     by true within rest =
         let below : position_or_len (λ octet. octet == 10) text < length text = grind (arith, nat_tests, within) in
         let feed : get_or text (position_or_len (λ octet. octet == 10) text) 0 < 128 =
@@ -91,7 +91,7 @@ pieces_within (suc most) text few is =
         let left : length (after_first (λ octet. octet == 10) text) < most =
         omega (arith, below, few, length-drop (position_or_len (λ octet. octet == 10) text + 1) text) in
         subst (All IsUtf8) (sym (slice_split_first (λ octet. octet == 10) text 0 below))
-        (All-cons IsUtf8 (before_first (λ octet. octet == 10) text) (pieces_of (after_first (λ octet. octet == 10) text))
+        (All-cons IsUtf8 (before_first (λ octet. octet == 10) text) (lines_of (after_first (λ octet. octet == 10) text))
         (IsUtf8-take text (position_or_len (λ octet. octet == 10) text) is
         (IsCharBoundary-before_ascii text (position_or_len (λ octet. octet == 10) text) below feed))
         (rest left
@@ -102,7 +102,7 @@ pieces_within (suc most) text few is =
         grind (arith, nat_tests, within, prefix_len-le-length (λ octet. not (octet == 10)) text) in
         subst (All IsUtf8) (sym (only_part 10 text None all)) (All-cons IsUtf8 text [] is (All-nil IsUtf8))
 
-pub pieces_utf8 : (text : Octets) → IsUtf8 text → All IsUtf8 (pieces_of text)
+pub pieces_utf8 : (text : Octets) → IsUtf8 text → All IsUtf8 (lines_of text)
 pieces_utf8 text is = pieces_within (length text + 1) text (omega arith) is
 
 pub barred_utf8 : (piece : Octets) → IsUtf8 piece → IsUtf8 (barred piece)

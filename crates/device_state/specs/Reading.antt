@@ -7,7 +7,7 @@ use Rattle.gatt_subs.specs.Rows.{Subscriptions, subscriptions_read}
 use Rattle.gatt_subs.specs.declared.rows_fault.RowsFault.{RowsFault}
 use Rattle.device_state.specs.SavedState.{SavedState}
 use Rattle.saved_values.specs.SavedValue.{Saved, value_of_line}
-use Rattle.saved_values.specs.ValuesText.{pieces_of}
+use Rattle.text_words.specs.Split.{lines_of}
 use Rattle.device_state.specs.StateText.{first_line, piece_of, subscriptions_heading, table_heading, values_heading}
 use Rattle.device_state.specs.declared.reading.Next.{Next}
 use Rattle.device_state.specs.declared.reading.Next.TheVariants as next
@@ -79,4 +79,4 @@ state_from number read (line ∷ lines) =
 
 -- The text has no line feed at its end.
 unfoldable pub state_of : Octets → Result SavedState StateFault
-state_of text = state_from 1 nothing_read (pieces_of text)
+state_of text = state_from 1 nothing_read (lines_of text)

@@ -7,7 +7,8 @@ use Rattle.octet_io.specs.Number.{Octets}
 use Rattle.gatt_subs.specs.Rows.{Subscriptions}
 use Rattle.gatt_subs.specs.RowsText.{rows_text}
 use Rattle.saved_values.specs.SavedValue.{Saved}
-use Rattle.saved_values.specs.ValuesText.{line_of, pieces_of, values_text}
+use Rattle.saved_values.specs.ValuesText.{line_of, values_text}
+use Rattle.text_words.specs.Split.{lines_of}
 
 -- The first line, and the headings of the sections.
 abbrev pub first_line : Octets
@@ -34,7 +35,7 @@ piece_of [] = None
 piece_of (octet ∷ piece) = if octet == bar then Some piece else None
 
 abbrev pub table_lines : Octets → Octets
-table_lines text = flat_map piece_line (pieces_of text)
+table_lines text = flat_map piece_line (lines_of text)
 
 -- All lines except the last one: the sections after their headings.
 unfoldable pub lines_of_state : Octets → Subscriptions → List Saved → Octets

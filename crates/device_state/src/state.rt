@@ -11,10 +11,11 @@ use crate::reading::Reading;
 use crate::state_fault::StateFault;
 use crate::state_lines::checksum;
 use gatt_subs::Rows;
-use saved_values::{SavedValue, first_piece};
+use saved_values::SavedValue;
 use std::alloc::Global;
 use std::marker::Model;
 use std::str;
+use text_words::first_line;
 
 /// The bytes between the lines of a state and its checksum.
 const BEFORE_CHECKSUM: &[u8] = b"\n[end] ";
@@ -62,6 +63,7 @@ impl State {
     ///
     /// The checksum is checked first. Memory may be refused at any point.
     pub fn read(alloc: Global, text: &[u8]) -> Result<State, StateFault>
+        // A damaged text is refused by its first fault.
         ensures { Gives OutOfMemory (state_read text.now) result }
     {
         let lines = checked_lines(text)?;
@@ -84,7 +86,7 @@ impl State {
         let mut reading = Reading::new(alloc);
         let mut rest = text;
         let mut number = 1;
-        while let Some((line, behind)) = first_piece(rest) {
+        while let Some((line, behind)) = first_line(rest) {
             reading.take_line(number, line)?;
             rest = behind;
             number += 1;

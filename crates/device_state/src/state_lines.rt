@@ -11,9 +11,10 @@ ghost use Rattle.device_state.specs.StateText.{checksum, end_line, lines_of_stat
 use att_table::Table;
 use gatt_subs::Rows;
 use octet_io::{Failed, Sink};
-use saved_values::{Saves, add_values, first_piece};
+use saved_values::{Saves, add_values};
 use sha2::{Digest, Sha256};
 use std::alloc::{AllocError, Global};
+use text_words::first_line;
 
 /// Returns the text of a state: the table text, subscriptions and changed values.
 ///
@@ -106,7 +107,7 @@ fn add_table(text: &mut Vec<u8>, table_text: &str) -> Result<(), AllocError>
     ensures ok { OnOk result (text.new.items ≡ text.old.items ++ table_lines table_text.now) }
 {
     let mut rest = table_text;
-    while let Some((piece, behind)) = first_piece(rest) {
+    while let Some((piece, behind)) = first_line(rest) {
         add_piece(text, piece)?;
         rest = behind;
     }

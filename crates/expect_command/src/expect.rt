@@ -13,8 +13,10 @@ ghost use Rattle.expect_command.specs.declared.expect.ExpectFault.TheVariants.{S
 use att_table::Table;
 use expectations::{Difference, Expectation, Refusal, add_report, differences, read_expectations};
 use le_security::Keys;
-use shell_files::{KeysPath, LazyFile, ShellFault, TOML_OCTETS, TablePath, print, read_all};
-use show_command::{read_key_file_at, read_table_at};
+use shell_files::{
+    KeysPath, LazyFile, ShellFault, TOML_OCTETS, TablePath, print, read_all, read_key_file_at,
+    read_table_at,
+};
 use std::alloc::{AllocError, Global};
 use std::fs::Files;
 use std::io::{Read, Write};
@@ -59,6 +61,7 @@ pub fn expect_files<T: Read, K: Read, E: Read, W: Write>(
     writer: &mut W,
     place: &mut Vec<u8>,
 ) -> Result<bool, ExpectFault>
+    // The report of these files is printed, and true returned exactly if all expectations hold.
     ensures compared { IfOk result (λ holds. IsCompared holds (T.remaining table.old)
         (K.remaining keys.old) (E.remaining expectations.old) (W.contents writer.old)
         (W.contents writer.new)) }

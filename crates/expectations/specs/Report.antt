@@ -8,7 +8,7 @@ use Rattle.att_numbers.specs.Types.{AttributeType, Handle}
 use Rattle.att_policy.specs.declared.guard.Need.{Need}
 use Rattle.att_policy.specs.declared.standing.KeyFacts.{KeyFacts}
 use Rattle.gatt_rights.specs.declared.rights.Right.{Right}
-use Rattle.gatt_show.specs.Cells.{right}
+use Rattle.text_words.specs.Cells.{right}
 use Rattle.gatt_show.specs.TypeText.{type_text}
 use Rattle.rights_text.specs.Legend.{strength_text, words_if}
 use Rattle.expectations.specs.declared.difference.Difference.{Difference}

@@ -51,6 +51,8 @@ pub fn differences(
     keys: &Keys,
     expectations: &[Expectation],
 ) -> Result<Vec<Difference>, AllocError>
+    // Each right is compared with the expectation, for no key and each kind of key of the key file,
+    // authorized or not.
     ensures { IfOk result (λ differences. differences.items
         ≡ differences_of table.now (columns_among keys.now) expectations.now) }
 {

@@ -5,17 +5,15 @@ ghost use Rattle.std.specs.Option.{option_and_then};
 ghost use Rattle.std.specs.Result.{result_ok};
 ghost use Rattle.toml.specs.Data.{get_member};
 ghost use Rattle.toml.specs.View.{items_view, table_view, view};
-ghost use Rattle.att_table.specs.file.TypeText.{long_type_named, short_type_named, type_named};
 ghost use Rattle.expectations.specs.File.{IsFault, are_known, expectation_in, expectation_of, expectation_with, expectations_of, is_expectation_key, is_file_key, is_known, items_written, named_in, number_among, number_written, type_at, type_written, uses_in};
 
 use crate::expectation::Expectation;
 use crate::fault::{Fault, Stop, Wrong};
 use crate::need::{need_at, value_at};
-use att_numbers::attribute_type;
 use att_policy::Need;
+use att_table::read_type;
 use std::alloc::Global;
 use toml::{Table, Value};
-use uuid::Uuid;
 
 /// The largest number of expectations, and of characteristics that `number` counts.
 const MOST: u16 = 1024;
@@ -240,28 +238,6 @@ fn type_of<'a>(place: u16, key: &'static str, value: &'a Value) -> Result<Option
         },
         None => Err(fault_at(place, key, Wrong::NoText)),
     }
-}
-
-/// Reads a type as a table file has it: four hexadecimal digits, or a UUID in any text form.
-fn read_type(text: &str) -> Option<u128>
-    ensures { result ≡ type_named text.now }
-{
-    read_short(text).or_else(|| read_long(text))
-}
-
-fn read_short(text: &str) -> Option<u128>
-    ensures { result ≡ short_type_named text.now }
-{
-    let mut octets = [0; 2];
-    hex::decode_to_slice(text, &mut octets).ok()?;
-    Some(attribute_type::from_16_bits(u16::from_be_bytes(octets)))
-}
-
-fn read_long(text: &str) -> Option<u128>
-    ensures { result ≡ long_type_named text.now }
-{
-    let uuid = Uuid::try_parse(text).ok()?;
-    Some(uuid.as_u128())
 }
 
 fn number_of(place: u16, table: &Table) -> Result<Option<u16>, Fault<'_>>

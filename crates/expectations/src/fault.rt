@@ -3,8 +3,8 @@
 ghost use Rattle.std.specs.Prelude.{◌≡◌};
 ghost use Rattle.expectations.specs.declared.fault.Stop.TheVariants.{Refused};
 
-use gatt_show::{add_number, add_octets};
 use std::alloc::AllocError;
+use text_words::{add_number, add_octets};
 
 /// The largest number of characters of a key that a text shows.
 const LONGEST: usize = 60;

@@ -28,6 +28,7 @@ pub fn read_expectations(
     bytes: &[u8],
     place: &mut Vec<u8>,
 ) -> Result<Vec<Expectation>, Refusal>
+    // The definition of the file determines the expectations from its bytes.
     ensures read { IfOk result
         (λ expectations. expectations_in bytes.now ≡ Ok expectations.items) }
     ensures refused { IfErr result (λ refusal. refusal ≢ Refusal.Memory
@@ -52,7 +53,7 @@ pub fn read_expectations(
 fn refusal_of_text(alloc: Global, bytes: &[u8], place: &mut Vec<u8>) -> Refusal
     ensures { result ≢ Refusal.Memory → result ≡ Refusal.File }
 {
-    match gatt_show::add_keys_fault(alloc, place, bytes) {
+    match file_faults::add_keys_fault(alloc, place, bytes) {
         Ok(()) => Refusal::File,
         Err(_) => Refusal::Memory,
     }

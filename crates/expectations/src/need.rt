@@ -10,32 +10,8 @@ ghost use Rattle.expectations.specs.File.{need_among, need_at, need_named, need_
 
 use crate::fault::{Fault, Wrong};
 use att_policy::Need;
+use att_table::NEED;
 use toml::{Table, Value};
-use toml_schema::{Key, Shape};
-
-/// The keys of a requirements table.
-const NEED: [Key; 5] = [
-    Key {
-        name: "encrypted",
-        shape: Shape::Boolean,
-    },
-    Key {
-        name: "authenticated",
-        shape: Shape::Boolean,
-    },
-    Key {
-        name: "authorized",
-        shape: Shape::Boolean,
-    },
-    Key {
-        name: "secure",
-        shape: Shape::Boolean,
-    },
-    Key {
-        name: "key_size",
-        shape: Shape::Integer,
-    },
-];
 
 /// Returns the need of a use; without its key, or with `nobody`, the use is for nobody.
 pub(crate) fn need_at<'a>(

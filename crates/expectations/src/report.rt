@@ -7,8 +7,9 @@ ghost use Rattle.expectations.specs.Report.{all_hold_text, attribute_name, diffe
 use crate::difference::{Difference, Differing};
 use crate::words::{add_link, add_meant, add_right, add_verdict};
 use att_table::type_octets;
-use gatt_show::{add_number, add_octets, add_right_number, add_type};
+use gatt_show::add_type;
 use std::alloc::{AllocError, Global};
+use text_words::{add_number, add_octets, add_right_number};
 
 /// Adds a line for each difference; if there is none, one with the number of the expectations.
 ///
@@ -19,6 +20,9 @@ pub fn add_report(
     count: usize,
     differences: &[Difference],
 ) -> Result<(), AllocError>
+    // There is a line for each difference, for each expectation that names no attribute, and for
+    // each attribute that somebody may use but no expectation names. Without such a line the text
+    // says that all expectations hold.
     ensures ok { OnOk result
         (text.new.items ≡ text.old.items ++ report_text count differences.now) }
 {

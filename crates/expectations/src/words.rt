@@ -6,9 +6,9 @@ ghost use Rattle.expectations.specs.Report.{key_name, link_text, meant_text, nee
 
 use att_policy::{KeyFacts, Need};
 use gatt_rights::Right;
-use gatt_show::{add_number, add_octets};
 use rights_text::add_key;
 use std::alloc::{AllocError, Global};
+use text_words::{add_number, add_octets};
 
 /// Adds the word of a right.
 pub(crate) fn add_right(text: &mut Vec<u8>, right: Right) -> Result<(), AllocError>

@@ -4,9 +4,10 @@ use super::cases::assert_case;
 use arrayvec::ArrayVec;
 use le_hci::{PUBLIC_ADDRESS, Peer, RANDOM_ADDRESS};
 use le_l2cap::channel;
-use scripts::{Act, Payload, Script, ScriptedAct};
+use scripts::{Act, Script, ScriptedAct};
 use std::alloc::Global;
 use std::process::Abort;
+use text_words::Payload;
 
 /// An expected act, its client first.
 enum Wanted<'a> {

@@ -3,7 +3,7 @@ use Rattle.std.proofs.Common.{◌≡◌, ℕ, ◌+◌, ◌<◌, ◌==◌, Bool, 
 use Rattle.std.specs.Prelude.{◌≢◌, if◌then◌else◌, slice_index}
 use Rattle.std.specs.List.{position_or_len, slice_split}
 use Rattle.memchr.specs.Find.{IsFirstByte, is_byte}
-use Rattle.scripts.specs.Script.{lines_of_script}
+use Rattle.text_words.specs.Split.{lines_of}
 use Rattle.gatt_commands.proofs.Telling.{any_default}
 use Rattle.std.specs.Io.KnownBytes.{Appends}
 use Rattle.std.proofs.lemmas.List.Splits.{slice_split_first, slice_split_none}
@@ -23,8 +23,8 @@ not-so true unless = absurd (unless refl)
 not-so false unless = refl
 
 -- a text with a line feed is its first line, and the lines behind that; one without is one line
-pub first_of_lines : (text : Octets) (end : ℕ) → IsFirstByte (is_byte 10) text (Some end) → lines_of_script text ≡ take end text
-    ∷ lines_of_script (drop (end + 1) text)
+pub first_of_lines : (text : Octets) (end : ℕ) → IsFirstByte (is_byte 10) text (Some end) → lines_of text ≡ take end text
+    ∷ lines_of (drop (end + 1) text)
 first_of_lines text end found =
     let place : position_or_len is_line_feed text ≡ end =
     position_or_len_is is_line_feed text end 0 (omega (arith, found.0.high))
@@ -32,7 +32,7 @@ first_of_lines text end found =
     slice_split_first is_line_feed text 0 (subst (λ (place : ℕ). place < length text) (sym place) found.0.high)
     ∙ ap (λ (place : ℕ). take place text ∷ slice_split is_line_feed (drop (place + 1) text)) place
 
-pub only_line : (text : Octets) → IsFirstByte (is_byte 10) text None → lines_of_script text ≡ text ∷ []
+pub only_line : (text : Octets) → IsFirstByte (is_byte 10) text None → lines_of text ≡ text ∷ []
 only_line text nowhere = slice_split_none is_line_feed text
     (λ (k : ℕ) (default : ℕ) (below : k < length text).
     ap is_line_feed (any_default text k default 0 below) ∙ not-so (is_line_feed (slice_index text k)) (nowhere k (omega arith) below))

@@ -3,7 +3,8 @@ use Rattle.std.specs.Prelude.{◌==◌, ◌++◌, Bool, false, not, if◌then◌
 use Rattle.std.specs.Borrow.{Bor}
 use Rattle.std.specs.Option.{option_map_or}
 use Rattle.octet_io.specs.Number.{Octets}
-use Rattle.scripts.specs.Script.{lines_of_script, number_sign}
+use Rattle.scripts.specs.Script.{number_sign}
+use Rattle.text_words.specs.Split.{lines_of}
 use Rattle.scripts.specs.declared.act.Act.{Act}
 use Rattle.gatt_commands.specs.declared.script_text.Shown as written
 use Rattle.gatt_commands.specs.Lines.{line_feed}
@@ -23,10 +24,10 @@ lines_behind [] = []
 lines_behind (line ∷ lines) = if says line then lines else lines_behind lines
 
 abbrev pub lines_left : Option (Bor Octets) → List Octets
-lines_left text = option_map_or (λ text. lines_of_script text.now) text []
+lines_left text = option_map_or (λ text. lines_of text.now) text []
 
 abbrev pub lines_shown : Bool → Octets → List Octets
-lines_shown shows text = if shows then lines_of_script text else []
+lines_shown shows text = if shows then lines_of text else []
 
 -- The output besides the frames of clients: notices if requested, and the remaining script.
 pub record Shown : Type 0 where

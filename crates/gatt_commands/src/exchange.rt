@@ -88,14 +88,14 @@ fn give_host(host: &mut Host, packet: &[u8], notes: &mut Notes) -> Result<(), Sh
     ensures noted { OnOk result (NotesTaken packet.now host.new notes.old notes.new) }
     ensures faults { IfErr result IsExchangeFault }
 {
-    match hear(host, packet, notes) {
+    match feed_packet(host, packet, notes) {
         Ok(()) => Ok(()),
         Err(fault) => Err(ShellFault::Host(fault.number())),
     }
 }
 
 /// Processes the first packet of some octets, and records the notices.
-fn hear(host: &mut Host, octets: &[u8], notes: &mut Notes) -> Result<(), HostFault>
+fn feed_packet(host: &mut Host, octets: &[u8], notes: &mut Notes) -> Result<(), HostFault>
     requires { all_out host.old ≡ true }
     ensures hears { HostHears octets.now result host.old host.new }
     ensures noted { OnOk result (NotesTaken octets.now host.new notes.old notes.new) }

@@ -11,7 +11,7 @@ use le_security::Keys;
 use shell_files::ShellFault;
 use std::alloc::Global;
 
-/// The largest number of connections at once.
+/// The most connections of `run` and `serve` at once.
 pub(crate) const SLOTS: usize = 4;
 
 /// The advertising data: flags for general discovery, without BR/EDR.

@@ -3,7 +3,7 @@
 ghost use Rattle.std.specs.Prelude.{◌≡◌, ◌≢◌, ◌<◌, [], ◌∷◌, ◌++◌, length, IfErr, IfOk, IfSome, OnErr, OnOk};
 ghost use Rattle.std.specs.Io.KnownBytes.{Appends};
 ghost use Rattle.octet_io.specs.Stream.{WritesFront};
-ghost use Rattle.scripts.specs.Script.{lines_of_script};
+ghost use Rattle.text_words.specs.Split.{lines_of};
 ghost use Rattle.gatt_commands.specs.Echo.{lines_behind, echo_of, lines_left, lines_shown, says};
 ghost use Rattle.gatt_commands.specs.Lines.{line_feed};
 
@@ -75,7 +75,7 @@ fn print_line<W: Write>(line: &[u8], writer: &mut W) -> Result<(), ShellFault>
 }
 
 fn first_line(text: &[u8]) -> (&[u8], Option<&[u8]>)
-    ensures lines { lines_of_script text.now ≡ result.0.now ∷ lines_left result.1 }
+    ensures lines { lines_of text.now ≡ result.0.now ∷ lines_left result.1 }
     ensures shorter { IfSome result.1 (λ rest. length rest.now < length text.now) }
 {
     match memchr(b'\n', text) {

@@ -55,6 +55,7 @@ pub fn findings(
     table: &Table,
     columns: &[Option<KeyFacts>],
 ) -> Result<Vec<Finding>, AllocError>
+    // Each finding is reported exactly if its definition holds.
     ensures { IfOk result
         (λ findings. findings.items ≡ findings_of table.now.attributes columns.now) }
 {

@@ -45,6 +45,8 @@ pub fn standing_of(key: Option<KeyFacts>, is_authorized: bool) -> Standing
 ///
 /// It may be notified only of a value whose CCCD it may write.
 pub fn may(table: &Table, standing: &Standing, handle: u16, right: Right) -> bool
+    // A right is exactly what the server grants: an access that breaks no rule, or a first
+    // subscription that it accepts, after which the connection may be notified of the value.
     ensures { result ≡ may_of table.now.attributes standing.entry.now handle right }
 {
     match right {

@@ -1,4 +1,3 @@
-pub mod Cells
 pub mod Line
 pub mod Names
 pub mod Rights

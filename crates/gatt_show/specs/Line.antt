@@ -12,7 +12,7 @@ use Rattle.att_attributes.specs.declared.attr.Role.TheVariants.{Declaration, Val
 use Rattle.att_attributes.specs.Group.{is_service_type}
 use Rattle.att_table.specs.Find.{value_where}
 use Rattle.att_table.specs.Table.{Contents}
-use Rattle.gatt_show.specs.Cells.{left, right}
+use Rattle.text_words.specs.Cells.{left, right}
 use Rattle.gatt_show.specs.Rights.{rights_text}
 use Rattle.gatt_show.specs.TypeText.{type_text}
 

@@ -3,24 +3,25 @@
 ghost use Rattle.std.specs.Prelude.{◌≡◌, ◌++◌, [], codes, OnOk};
 ghost use Rattle.std.specs.Fmt.{decimal};
 ghost use Rattle.std.specs.List.{flat_map};
-ghost use Rattle.gatt_show.specs.Cells.{left, right};
+ghost use Rattle.text_words.specs.Cells.{left, right};
 ghost use Rattle.gatt_show.specs.Line.{attribute_line, attribute_lines, declared_text, include_text, kind_word, length_text, rest_of_line, shown_table, told_value, used_text};
 ghost use Rattle.gatt_show.specs.TypeText.{type_text};
 ghost use Rattle.att_numbers.specs.AttributeType.{type_octets};
 
-use crate::cells::{add_left, add_number, add_octets, add_right_number};
 use crate::rights::add_rights;
 use crate::type_text::add_type;
 use att_numbers::attribute_type::{INCLUDE, PRIMARY_SERVICE, SECONDARY_SERVICE};
 use att_table::{Attr, Role, Table, is_service, type_octets};
 use gatt_rights::all_attributes;
 use std::alloc::{AllocError, Global};
+use text_words::{add_left, add_number, add_octets, add_right_number};
 
 /// Adds a line for each attribute in order of handles, or `no attributes`.
 ///
 /// A line has the handle, kind, type with name, octets of the value, and permitted uses. On `Err`
 /// memory was refused and the text is invalid.
 pub fn add_table(alloc: Global, text: &mut Vec<u8>, table: &Table) -> Result<(), AllocError>
+    // A line for each attribute.
     ensures ok { OnOk result (text.new.items ≡ text.old.items ++ shown_table table.now) }
 {
     add_lines(alloc, text, table, all_attributes(table))

@@ -6,11 +6,11 @@ ghost use Rattle.std.specs.Str.{bytes_eq};
 ghost use Rattle.gatt_rights.specs.Needs.{is_written};
 ghost use Rattle.gatt_show.specs.Rights.{asked_size_words, both_texts, reading_text, heard_words, key_words, need_words, rights_text, size_words, word, writing_text, written_words};
 
-use crate::cells::{add_number, add_octets};
 use att_policy::{Guard, Need, Properties};
 use bitflags::Flags;
 use gatt_rights::{is_heard, is_written};
 use std::alloc::{AllocError, Global};
+use text_words::{add_number, add_octets};
 
 /// Adds the permitted uses of a guarded attribute and their needs.
 #[tactic(auto, unfolding(crate::specs::Rights::rights_text))]

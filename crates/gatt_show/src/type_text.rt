@@ -4,9 +4,9 @@ ghost use Rattle.std.specs.Prelude.{◌≡◌, ◌++◌, OnOk};
 ghost use Rattle.std.specs.Option.{option_map};
 ghost use Rattle.gatt_show.specs.TypeText.{long_text, named, type_text, uuid_text};
 
-use crate::cells::add_octets;
 use crate::names::name_of;
 use std::alloc::AllocError;
+use text_words::add_octets;
 
 /// Adds a type, given as the octets of a value.
 ///

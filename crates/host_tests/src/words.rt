@@ -9,7 +9,7 @@ use std::alloc::Global;
 const WORDS: &[(Fault, &str)] = &[
     (
         Fault::Table(TableFault::BadUuid),
-        "table: a uuid is none, or is one that may not stand there",
+        "table: this is no UUID, or this UUID is not allowed here",
     ),
     (
         Fault::Keys(KeyFault::BadSize),

@@ -15,6 +15,7 @@ use le_hci::Peer;
 use toml::{Table, Value};
 use toml_schema::{Key as Listed, Shape};
 
+/// The most keys in a key file.
 const MAX_ENTRIES: usize = 64;
 
 const ENTRY: [Listed; 8] = [

@@ -25,6 +25,7 @@ impl Keys {
     ///
     /// `OutOfMemory` may occur at any point.
     pub fn read(alloc: Global, text: &str) -> Result<Keys, KeyFault>
+        // A key file gives exactly its keys, or its first fault, unless memory is refused.
         ensures keys { Gives OutOfMemory (keys_read text.now) result }
         ensures not_toml { IsErrOf result KeyFault.NotToml → parse_document text.now ≡ None }
     {

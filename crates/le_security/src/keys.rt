@@ -63,6 +63,7 @@ impl Keys {
 
     /// Returns the key that a peer's Long Term Key request names.
     pub fn answer(&self, peer: &Peer, random_number: [u8; 8], diversifier: u16) -> Option<&Key>
+        // A request gets the one key that is for it, or none.
         ensures key { option_copied result
             ≡ key_asked_for self.now peer.now random_number diversifier }
         ensures only_one { count_by (is_for peer.now random_number diversifier) self.now ≤ 1 }

@@ -77,6 +77,7 @@ impl Link {
     #[tactic(auto, using(crate::proofs::Links::key_of_steps))]
     pub fn facts(&self) -> Option<KeyFacts>
         ensures key { result ≡ self.now.key }
+        // The key of a link follows from its last event of encryption or refresh.
         ensures after_any_steps { (steps : List Step) → self.now ≡ after_steps steps
             → result ≡ key_after steps }
     {

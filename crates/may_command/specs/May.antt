@@ -6,11 +6,11 @@ use Rattle.att_table.specs.Table.{Contents}
 use Rattle.le_security.specs.declared.entry.Entry.{Entry}
 use Rattle.le_hci.specs.declared.peer.Peer.{Peer}
 use Rattle.le_security.specs.declared.key_fault.KeyFault.{KeyFault}
-use Rattle.scripts.specs.Numeral.{numeral_of}
+use Rattle.text_words.specs.Numeral.{numeral_of}
 use Rattle.gatt_rights.specs.declared.rights.Right.{Right}
+use Rattle.shell_files.specs.Fault.{IsTableOrKeysFault}
 use Rattle.shell_files.specs.KeyFile.{keys_in}
 use Rattle.shell_files.specs.TableFile.{table_in}
-use Rattle.show_command.specs.Show.{IsShowFault}
 use Rattle.rights_may.specs.Answer.{answer_text, is_granted}
 use Rattle.rights_may.specs.declared.answer.Question.{Question}
 use Rattle.may_command.specs.Words.{peer_named, right_of}
@@ -56,7 +56,6 @@ pub record IsAnswered (words : MayWords) (table_file key_file held holds : Optio
   pub printed : Appends held holds (answer_text table.attributes keys question)
   pub status : granted ≡ is_granted table.attributes keys question
 
--- A fault of a file is one that `show` has.
 abbrev pub IsMayFault : MayFault → Type 0
-IsMayFault (File fault) = IsShowFault fault
+IsMayFault (File fault) = IsTableOrKeysFault fault
 IsMayFault (Word wrong) = Unit {0}

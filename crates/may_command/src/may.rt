@@ -12,12 +12,13 @@ use crate::words::{Wrong, read_peer, read_right};
 use att_table::Table;
 use le_security::Keys;
 use rights_may::{Question, add_answer};
-use scripts::read_u16;
-use shell_files::{KeysPath, LazyFile, ShellFault, TablePath, print};
-use show_command::{read_key_file_at, read_table_at};
+use shell_files::{
+    KeysPath, LazyFile, ShellFault, TablePath, print, read_key_file_at, read_table_at,
+};
 use std::alloc::{AllocError, Global};
 use std::fs::Files;
 use std::io::{Read, Write};
+use text_words::read_u16;
 
 /// The words of a question.
 #[derive(Clone, Copy)]
@@ -67,8 +68,7 @@ impl From<Wrong> for MayFault {
 /// Answers a question by the table and the keys of these files, and prints a line for each link of
 /// the peer. Returns true if one of them has the right.
 ///
-/// Reads each file only if what is before it is accepted. The place: as `read_table_at` of
-/// `show_command`.
+/// Reads each file only if what is before it is accepted. The place: as `read_table_at`.
 pub fn ask_files<T: Read, K: Read, W: Write>(
     alloc: Global,
     table: &mut T,
@@ -77,6 +77,8 @@ pub fn ask_files<T: Read, K: Read, W: Write>(
     writer: &mut W,
     place: &mut Vec<u8>,
 ) -> Result<bool, MayFault>
+    // The answer for these files is printed, and true returned exactly if one link of the peer has
+    // the right.
     ensures answer { IfOk result (λ granted. IsAnswered words.now (T.remaining table.old)
         (K.remaining keys.old) (W.contents writer.old) (W.contents writer.new) granted) }
     // A file is refused by the number of its first fault, or by that of refused memory. A word is

@@ -18,10 +18,10 @@ use att_words::{CopyFault, Handles, Worded};
 use compare_command::{CompareNames, compare_files};
 use gatt_commands::{Shows, run_script};
 use gatt_subs::Rows;
-use shell_files::{RowsStore, ShellFault};
-use show_command::{
-    View, read_key_file_at, read_table_at, show_files, tell_keys_fault, tell_table_fault,
+use shell_files::{
+    RowsStore, ShellFault, read_key_file_at, read_table_at, tell_keys_fault, tell_table_fault,
 };
+use show_command::{View, show_files};
 use std::alloc::Global;
 use std::io;
 use std::io::Write;
@@ -35,6 +35,7 @@ pub extern "C" fn page_show(
     out: &mut [u8],
     count: &mut usize,
 ) -> u32
+    // This is what `show` prints of these texts.
     ensures shown { result ≡ 0 → AreShown (View.Rights 80) (Some table.now)
         (Some (Some keys.now)) (Some []) (Some (take count.new out.new)) }
     ensures within { count.new ≤ length out.old }
@@ -60,6 +61,7 @@ pub extern "C" fn page_rights(
     out: &mut [u8],
     count: &mut usize,
 ) -> u32
+    // The rights as lines of fields.
     ensures rights { result ≡ 0 → HasRights table.now keys.now (take count.new out.new) }
     ensures within { count.new ≤ length out.old }
 {
@@ -94,8 +96,10 @@ pub extern "C" fn page_compare(
     out: &mut [u8],
     count: &mut usize,
 ) -> u32
+    // This is what `compare` prints of these texts, if nothing is opened.
     ensures nothing { result ≡ 0 → AreCompared (Some old.now) (Some new.now) (Some keys.now)
         None (Some []) (Some (take count.new out.new)) false }
+    // The same, if something is opened.
     ensures opened { result ≡ 3 → AreCompared (Some old.now) (Some new.now) (Some keys.now)
         None (Some []) (Some (take count.new out.new)) true }
     ensures within { count.new ≤ length out.old }
@@ -139,6 +143,7 @@ pub extern "C" fn page_run(
     out: &mut [u8],
     count: &mut usize,
 ) -> u32
+    // This is what `run --echo --notices` prints of these texts.
     ensures runs { result ≡ 0 → RunsFiles (Ok tt) all_shown
         (files_of (Some table.now) None (Some keys.now) (Some []) (Some script.now))
         (Some []) (Some (take count.new out.new)) None None }

@@ -3,17 +3,17 @@
 ghost use Rattle.std.specs.Prelude.{◌≡◌, ◌++◌, ◌∷◌, IfOk, OnOk, [], slice_get};
 ghost use Rattle.std.specs.List.{flat_map};
 ghost use Rattle.std.specs.Option.{option_map_or};
-ghost use Rattle.hex.specs.Hex.{encode_lower};
 ghost use Rattle.rights_text.specs.Cell.{always_of, cell_text, is_once, once_of};
 ghost use Rattle.playground.specs.Fields.{cell_data, column_data, line_data, name_data, peer_data, rights_data, row_data, service_data};
 
 use att_policy::KeyFacts;
 use att_table::{Attr, Role, Table, is_service, type_octets};
 use gatt_rights::{Right, all_attributes, columns_of, is_same_column, may_with};
-use gatt_show::{add_length, add_number, add_octets, add_type, told_value};
+use gatt_show::{add_length, add_type, told_value};
 use le_security::Keys;
 use rights_text::{Column, Rights, add_key, add_peer_words, cell_of, named_columns};
 use std::alloc::{AllocError, Global};
+use text_words::{add_hex, add_number, add_octets};
 
 /// Adds a line for each column, each of its peers, each service, value and descriptor.
 ///
@@ -155,23 +155,6 @@ fn add_name(text: &mut Vec<u8>, attr: &Attr) -> Result<(), AllocError>
     add_type(text, type_octets(attr.kind).as_slice())?;
     add_octets(text, b"\t")?;
     add_length(text, attr)
-}
-
-fn add_hex(text: &mut Vec<u8>, value: &[u8]) -> Result<(), AllocError>
-    ensures ok { OnOk result (text.new.items ≡ text.old.items ++ encode_lower value.now) }
-{
-    for octet in value {
-        add_octet(text, *octet)?;
-    }
-    Ok(())
-}
-
-fn add_octet(text: &mut Vec<u8>, octet: u8) -> Result<(), AllocError>
-    ensures ok { OnOk result (text.new.items ≡ text.old.items ++ encode_lower (octet ∷ [])) }
-{
-    let mut digits = [0; 2];
-    hex::encode_to_slice([octet], &mut digits).unwrap();
-    add_octets(text, &digits)
 }
 
 fn add_cells(

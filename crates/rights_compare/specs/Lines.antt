@@ -9,7 +9,7 @@ use Rattle.att_attributes.specs.declared.attr.Attr.{Attr}
 use Rattle.att_attributes.specs.Attributes.{configuration_bits_at, is_configuration, type_at}
 use Rattle.att_table.specs.ConfigRow.{has_its_meaning, is_supported}
 use Rattle.le_security.specs.declared.entry.Entry.{Entry}
-use Rattle.gatt_show.specs.Cells.{right}
+use Rattle.text_words.specs.Cells.{right}
 use Rattle.gatt_show.specs.TypeText.{type_text}
 use Rattle.rights_text.specs.Cell.{cell_with}
 use Rattle.rights_text.specs.Legend.{key_text, peer_words}

@@ -11,10 +11,10 @@ use crate::lines::{add_gaining_keys, add_gains};
 use crate::moves::{add_alone, add_dropped, add_moved};
 use att_table::Table;
 use gatt_rights::all_attributes;
-use gatt_show::add_octets;
 use le_security::Keys;
 use rights_text::{Column, add_legend, named_columns};
 use std::alloc::{AllocError, Global};
+use text_words::add_octets;
 
 /// Returns true if a table and a key file give a right that the others do not.
 ///
@@ -29,6 +29,8 @@ pub fn opens(
     other: &Table,
     other_keys: &Keys,
 ) -> Result<bool, AllocError>
+    // True exactly if a right is opened: to an attribute, for a link with no key or a kind of key
+    // of the files, authorized or not; or by a new kind of key of a peer.
     ensures { IfOk result (λ is_open. is_open
         ≡ opens table.now.attributes keys.now other.now.attributes other_keys.now) }
 {
@@ -48,6 +50,8 @@ pub fn add_comparison(
     other: &Table,
     other_keys: &Keys,
 ) -> Result<(), AllocError>
+    // The rights that the new files open and close, by attribute and kind of key, the attributes
+    // that moved, and the subscriptions that `Host::replace` would drop.
     ensures ok { OnOk result (text.new.items ≡ text.old.items
         ++ comparison_text table.now keys.now other.now other_keys.now) }
 {

@@ -8,11 +8,12 @@ ghost use Rattle.rights_compare.specs.Lines.{gain_text, gains_line, gains_text, 
 use crate::gaining::{gained_always, gained_once, gains_any, gains_by_key};
 use crate::pairing::{Pair, is_used, paired};
 use att_table::{Attr, Table, type_octets};
-use gatt_show::{add_octets, add_right_number, add_type};
+use gatt_show::add_type;
 use le_hci::Peer;
 use le_security::Keys;
 use rights_text::{Column, add_key, add_peer_words, cell_of};
 use std::alloc::{AllocError, Global};
+use text_words::{add_octets, add_right_number};
 
 /// Adds the handle and the type of an attribute.
 #[tactic(auto, unfolding(crate::specs::Lines::name_text))]

@@ -9,8 +9,8 @@ ghost use Rattle.rights_compare.specs.Lines.{alone_line, dropped_line, is_kept, 
 use crate::lines::add_name;
 use crate::pairing::{is_used, place};
 use att_table::{Attr, Role, Table};
-use gatt_show::{add_number, add_octets};
 use std::alloc::AllocError;
+use text_words::{add_number, add_octets};
 
 /// Adds a line for each of these attributes that has another handle in the other table.
 pub(crate) fn add_moved(

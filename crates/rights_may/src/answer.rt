@@ -11,11 +11,11 @@ use crate::verdict::{Verdict, verdict_of};
 use att_policy::KeyFacts;
 use att_table::Table;
 use gatt_rights::Right;
-use gatt_show::add_octets;
 use le_hci::Peer;
 use le_security::Keys;
 use rights_text::add_key;
 use std::alloc::{AllocError, Global};
+use text_words::add_octets;
 
 /// The question who may use an attribute.
 #[derive(Clone, Copy)]
@@ -42,6 +42,7 @@ pub fn add_answer(
 ) -> Result<bool, AllocError>
     ensures text { OnOk result (text.new.items ≡ text.old.items
         ++ answer_text table.now.attributes keys.now question.now) }
+    // True exactly if one link of the peer has the right.
     ensures granted { IfOk result
         (λ granted. granted ≡ is_granted table.now.attributes keys.now question.now) }
 {

@@ -12,8 +12,8 @@ use att_numbers::error_code;
 use att_policy::{Access, Guard, Rule};
 use att_table::Table;
 use gatt_rights::Right;
-use gatt_show::{add_number, add_octets};
 use std::alloc::AllocError;
+use text_words::{add_number, add_octets};
 
 /// Adds an answer. On `Err` memory was refused and the text is invalid.
 #[tactic(auto, unfolding(crate::specs::Reason::verdict_text))]

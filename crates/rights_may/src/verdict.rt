@@ -46,8 +46,11 @@ impl Verdict {
 ///
 /// It is yes exactly if the connection has the right.
 pub fn verdict_of(table: &Table, standing: &Standing, handle: u16, right: Right) -> Verdict
+    // The first broken rule, and the error code with which the server refuses the access, or the
+    // write of the configuration that subscribes.
     ensures exact { result
         ≡ verdict_of table.now.attributes standing.entry.now handle right }
+    // Yes exactly if the link has the right.
     ensures law { is_yes result
         ≡ may_of table.now.attributes standing.entry.now handle right }
 {

@@ -7,7 +7,7 @@ use Rattle.att_numbers.specs.Types.{Handle}
 use Rattle.att_policy.specs.declared.standing.KeyFacts.{KeyFacts}
 use Rattle.gatt_rights.specs.declared.finding.Finding.{Finding}
 use Rattle.gatt_rights.specs.declared.finding.Finding.TheVariants.{OpenWrite, ShortKey, EasyWrite, IdleReadRule, IdleWriteRule, ForgedAddress, NoSubscriber, DeafReader, Unused, EmptyService, IdleKey, NoKeyMatters}
-use Rattle.gatt_show.specs.Cells.{right}
+use Rattle.text_words.specs.Cells.{right}
 use Rattle.rights_text.specs.Legend.{strength_text}
 
 abbrev pub at_handle : Handle → Octets → Octets

@@ -12,7 +12,7 @@ use Rattle.att_attributes.specs.declared.attr.Role.{Role}
 use Rattle.att_attributes.specs.declared.attr.Role.TheVariants.{Declaration, Value, Configuration, Descriptor}
 use Rattle.att_attributes.specs.Group.{is_service_type}
 use Rattle.att_table.specs.Table.{Contents}
-use Rattle.gatt_show.specs.Cells.{left, right}
+use Rattle.text_words.specs.Cells.{left, right}
 use Rattle.gatt_show.specs.Line.{length_text, told_value}
 use Rattle.gatt_show.specs.TypeText.{type_text}
 use Rattle.rights_text.specs.declared.columns.Column.{Column}

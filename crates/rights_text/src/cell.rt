@@ -7,8 +7,8 @@ ghost use Rattle.rights_text.specs.Cell.{always_of, cell_text, cell_with, in_par
 use att_policy::KeyFacts;
 use att_table::Table;
 use gatt_rights::{Right, may_with};
-use gatt_show::add_octets;
 use std::alloc::{AllocError, Global};
+use text_words::add_octets;
 
 /// A link, and an attribute that it may use.
 #[derive(Clone, Copy)]

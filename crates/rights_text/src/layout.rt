@@ -7,8 +7,9 @@ use crate::columns::Column;
 use crate::value::{name_of, value_of};
 use att_table::{Attr, Role, Table};
 use gatt_rights::all_attributes;
-use gatt_show::{WIDEST, told_value};
+use gatt_show::told_value;
 use std::alloc::{AllocError, Global};
+use text_words::WIDEST;
 
 /// The widths of the cells of a row: of names, of values, and of each column.
 #[derive(Clone, Copy)]

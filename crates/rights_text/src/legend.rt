@@ -8,11 +8,11 @@ ghost use Rattle.rights_text.specs.Legend.{address_type_word, also_text, column_
 use crate::columns::Column;
 use att_policy::KeyFacts;
 use gatt_rights::{has_key, is_same_column};
-use gatt_show::{add_number, add_octets};
 use gatt_subs::address_text;
 use le_hci::{PUBLIC_ADDRESS, Peer};
 use le_security::Keys;
 use std::alloc::AllocError;
+use text_words::{add_number, add_octets};
 
 const SIGNS: &[u8] = b"r read  w write  c write without response  n be notified  i be indicated
 ( ) only while the application authorizes the connection  . nothing

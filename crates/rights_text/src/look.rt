@@ -7,8 +7,8 @@ ghost use Rattle.rights_text.specs.Look.{at_handle, finding_text, finding_words,
 use crate::legend::add_strength;
 use att_policy::KeyFacts;
 use gatt_rights::Finding;
-use gatt_show::{add_number, add_octets, add_right_number};
 use std::alloc::AllocError;
+use text_words::{add_number, add_octets, add_right_number};
 
 /// Adds the findings, a line each.
 pub(crate) fn add_look(text: &mut Vec<u8>, findings: &[Finding]) -> Result<(), AllocError>

@@ -2,7 +2,7 @@
 
 ghost use Rattle.std.specs.Prelude.{◌≡◌, ◌++◌, OnOk};
 ghost use Rattle.std.specs.List.{flat_map};
-ghost use Rattle.gatt_show.specs.Cells.{left, right};
+ghost use Rattle.text_words.specs.Cells.{left, right};
 ghost use Rattle.gatt_show.specs.Line.{length_text};
 ghost use Rattle.rights_text.specs.Cell.{cell_text};
 ghost use Rattle.rights_text.specs.Matrix.{AddsBlocks, block_text, cells_text, header_text, heading_text, kind_text, line_text, name_cells, name_text, names_text, row_text, value_cells, value_text};
@@ -14,10 +14,9 @@ use crate::value::{name_of, value_of};
 use att_numbers::attribute_type::SECONDARY_SERVICE;
 use att_table::{Attr, Role, Table, is_service};
 use gatt_rights::all_attributes;
-use gatt_show::{
-    add_left, add_length, add_octets, add_right, add_right_number, add_type, told_value,
-};
+use gatt_show::{add_length, add_type, told_value};
 use std::alloc::{AllocError, Global};
+use text_words::{add_left, add_octets, add_right, add_right_number};
 
 /// Adds the matrix, in blocks of at most `most` columns.
 pub(crate) fn add_blocks(

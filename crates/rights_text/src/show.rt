@@ -12,9 +12,9 @@ use crate::matrix::add_blocks;
 use att_policy::KeyFacts;
 use att_table::Table;
 use gatt_rights::{columns_of, findings};
-use gatt_show::add_octets;
 use le_security::Keys;
 use std::alloc::{AllocError, Global};
+use text_words::add_octets;
 
 /// Adds the matrix of a table, its legend and what to look at twice, in lines of a width if they
 /// fit into it.
@@ -28,6 +28,8 @@ pub fn add_rights(
     keys: &Keys,
     width: usize,
 ) -> Result<(), AllocError>
+    // A matrix of the rights, what each column is, and the findings. Widths, and which columns
+    // share a block, are not fixed.
     ensures ok { OnOk result (ShowsRights table.now keys.now text.old.items text.new.items) }
 {
     let kinds = columns_of(alloc, keys)?;

@@ -2,12 +2,12 @@
 
 ghost use Rattle.std.specs.Prelude.{◌≡◌, ◌++◌, ◌∷◌, [], if◌then◌else◌, IfOk, OnOk};
 ghost use Rattle.std.specs.List.{list_all};
-ghost use Rattle.hex.specs.Hex.{encode_lower};
 ghost use Rattle.rights_text.specs.Matrix.{cut_text, hex_text, is_plain, is_text, name_text, quoted_text, value_text};
 
 use att_table::type_octets;
-use gatt_show::{add_octets, add_type};
+use gatt_show::add_type;
 use std::alloc::{AllocError, Global};
+use text_words::{add_hex, add_octets};
 
 /// Returns the text of a type, cut after 28 octets.
 pub(crate) fn name_of(alloc: Global, kind: u128) -> Result<Vec<u8>, AllocError>
@@ -56,7 +56,7 @@ fn add_shown(text: &mut Vec<u8>, value: &[u8]) -> Result<(), AllocError>
     if is_text(value) {
         add_quoted(text, value)
     } else {
-        add_hex(text, value)
+        add_short_hex(text, value)
     }
 }
 
@@ -92,30 +92,13 @@ fn add_quoted(text: &mut Vec<u8>, value: &[u8]) -> Result<(), AllocError>
     }
 }
 
-fn add_hex(text: &mut Vec<u8>, value: &[u8]) -> Result<(), AllocError>
+fn add_short_hex(text: &mut Vec<u8>, value: &[u8]) -> Result<(), AllocError>
     ensures ok { OnOk result (text.new.items ≡ text.old.items ++ hex_text value.now) }
 {
     if value.len() > 6 {
-        add_digits(text, &value[..5])?;
+        add_hex(text, &value[..5])?;
         add_octets(text, b"..")
     } else {
-        add_digits(text, value)
+        add_hex(text, value)
     }
-}
-
-fn add_digits(text: &mut Vec<u8>, value: &[u8]) -> Result<(), AllocError>
-    ensures ok { OnOk result (text.new.items ≡ text.old.items ++ encode_lower value.now) }
-{
-    for octet in value {
-        add_octet(text, *octet)?;
-    }
-    Ok(())
-}
-
-fn add_octet(text: &mut Vec<u8>, octet: u8) -> Result<(), AllocError>
-    ensures ok { OnOk result (text.new.items ≡ text.old.items ++ encode_lower (octet ∷ [])) }
-{
-    let mut digits = [0; 2];
-    hex::encode_to_slice([octet], &mut digits).unwrap();
-    add_octets(text, &digits)
 }

@@ -27,16 +27,17 @@ use Rattle.saved_values.specs.SavedValue.{Saved, value_of_line, IsSavedValue}
 use Rattle.saved_values.specs.Saves.{is_changed, is_saved, is_value_or_descriptor, is_writable, may_be_saved, value_told}
 use Rattle.app_lines.specs.NoticeText.{value_text}
 use Rattle.saved_values.specs.TypeText.{type_text}
-use Rattle.saved_values.specs.ValuesText.{line_of, pieces_of, saved_of, saved_values, value_of, values_text}
+use Rattle.saved_values.specs.ValuesText.{line_of, saved_of, saved_values, value_of, values_text}
+use Rattle.text_words.specs.Split.{lines_of}
 use Rattle.saved_values.specs.declared.saves.Saves.{Saves}
 use Rattle.saved_values.specs.declared.saves.Saves.TheVariants as chosen
 use Rattle.saved_values.proofs.ValuesBack.{value_back, value_ended, value_feedless, value_words}
 
 -- lines divide at their line feeds
-pub divided : (lines : List Octets) → All HasNoFeed lines → pieces_of (flat_map line_of lines) ≡ lines ++ [] ∷ []
+pub divided : (lines : List Octets) → All HasNoFeed lines → lines_of (flat_map line_of lines) ≡ lines ++ [] ∷ []
 divided [] feedless = refl
 divided (line ∷ lines) feedless =
-    ap pieces_of (append_assoc line (10 ∷ []) (flat_map line_of lines))
+    ap lines_of (append_assoc line (10 ∷ []) (flat_map line_of lines))
     ∙ slice_split_at (λ octet. octet == 10) line 10 (flat_map line_of lines) (All-head HasNoFeed line lines feedless) refl
     ∙ ap (λ (pieces : List Octets). line ∷ pieces) (divided lines (All-tail HasNoFeed line lines feedless))
 
@@ -52,8 +53,8 @@ values_feedless (value ∷ values) good =
     All-cons HasNoFeed (value_words value) (map value_words values) (value_feedless value (All-head IsSavedValue value values good))
     (values_feedless values (All-tail IsSavedValue value values good))
 
-pieces_of_values : (values : List Saved) → All IsSavedValue values → pieces_of (values_text values) ≡ map value_words values ++ [] ∷ []
-pieces_of_values values good = ap pieces_of (lines_of_values values) ∙ divided (map value_words values) (values_feedless values good)
+pieces_of_values : (values : List Saved) → All IsSavedValue values → lines_of (values_text values) ≡ map value_words values ++ [] ∷ []
+pieces_of_values values good = ap lines_of (lines_of_values values) ∙ divided (map value_words values) (values_feedless values good)
 
 -- a line of a value restores it
 some_front : (front rest : Octets) → 0 < length front → 0 < length (front ++ rest)
@@ -263,7 +264,7 @@ pub restores : (saves : Saves) (table initial : Contents) (text : Octets) → Is
     → text ≡ values_text (saved_values saves table initial) → RestoresWhatWasSaved saves table initial text
 unfolding values_restored
 restores saves table initial text is good written was same =
-    ap (λ (text : Octets). lines_restored 1 initial 0 (pieces_of text)) written
+    ap (λ (text : Octets). lines_restored 1 initial 0 (lines_of text)) written
     ∙ ap (lines_restored 1 initial 0) (pieces_of_values (saved_values saves table initial) good)
     ∙ ap (λ (attributes : List Attr). lines_restored 1 initial 0 (map value_words (saved_of saves table initial attributes) ++ [] ∷ [])) same
     ∙ ap (λ (values : Values).

@@ -22,8 +22,8 @@ use Rattle.octet_io.specs.Number.{Octets}
 use Rattle.att_numbers.specs.AttributeType.{is_of_16_bits, of_16_bits}
 use Rattle.att_table.specs.file.TypeText.{type_named}
 use Rattle.app_lines.specs.NoticeText.{value_text}
-use Rattle.scripts.specs.Numeral.{numeral_of}
-use Rattle.scripts.specs.Payload.{decoded, payload_of}
+use Rattle.text_words.specs.Numeral.{numeral_of}
+use Rattle.text_words.specs.Payload.{decoded, payload_of}
 use Rattle.gatt_subs.specs.RowsLine.{space}
 use Rattle.gatt_subs.proofs.LinesBack.{HasNoFeed, IsWord, lacks, number_seen, parted}
 use Rattle.saved_values.specs.SavedValue.{Saved, value_line, value_of_line, IsSavedValue}

@@ -9,7 +9,7 @@ use Rattle.att_attributes.specs.Attributes.{attribute_at}
 use Rattle.att_table.specs.Table.{Contents, room_at, with_value}
 use Rattle.saved_values.specs.SavedValue.{Saved, value_of_line}
 use Rattle.saved_values.specs.Saves.{is_value_or_descriptor}
-use Rattle.saved_values.specs.ValuesText.{pieces_of}
+use Rattle.text_words.specs.Split.{lines_of}
 use Rattle.saved_values.specs.declared.restoring.BadLine.{BadLine}
 
 -- A fixed value has exactly the largest number of octets.
@@ -49,4 +49,4 @@ lines_restored number table left_out (line ∷ lines) =
     lines)
 
 unfoldable pub values_restored : Octets → Contents → Result (Contents × ℕ) BadLine
-values_restored text table = lines_restored 1 table 0 (pieces_of text)
+values_restored text table = lines_restored 1 table 0 (lines_of text)

@@ -7,10 +7,10 @@ use Rattle.octet_io.specs.Number.{Octets}
 use Rattle.octet_io.specs.declared.pdu.TheConstants.{MAX_PDU}
 use Rattle.att_numbers.specs.Types.{Handle, AttributeType}
 use Rattle.att_table.specs.file.TypeText.{type_named}
-use Rattle.gatt_subs.specs.RowsLine.{parts_of}
+use Rattle.text_words.specs.Split.{parts_of}
 use Rattle.app_lines.specs.NoticeText.{value_text}
-use Rattle.scripts.specs.Numeral.{numeral_of}
-use Rattle.scripts.specs.Payload.{payload_of}
+use Rattle.text_words.specs.Numeral.{numeral_of}
+use Rattle.text_words.specs.Payload.{payload_of}
 use Rattle.saved_values.specs.TypeText.{type_text}
 
 pub record Saved : Type 0 where

@@ -1,6 +1,6 @@
 -- The text of a table's saved values (this profile's own).
-use Rattle.std.specs.Prelude.{◌==◌, ◌++◌, List, [], ◌∷◌, map, filter}
-use Rattle.std.specs.List.{flat_map, slice_split}
+use Rattle.std.specs.Prelude.{◌++◌, List, [], ◌∷◌, map, filter}
+use Rattle.std.specs.List.{flat_map}
 use Rattle.octet_io.specs.Number.{Octets}
 use Rattle.att_attributes.specs.declared.attr.Attr.{Attr}
 use Rattle.att_table.specs.Table.{Contents}
@@ -10,10 +10,6 @@ use Rattle.saved_values.specs.declared.saves.Saves.{Saves}
 
 abbrev pub line_of : Octets → Octets
 line_of words = words ++ 10 ∷ []
-
--- The pieces are between line feeds.
-abbrev pub pieces_of : Octets → List Octets
-pieces_of text = slice_split (λ octet. octet == 10) text
 
 abbrev pub value_of : Contents → Attr → Saved
 value_of table attr =

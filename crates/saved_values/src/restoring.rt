@@ -4,12 +4,12 @@ ghost use Rattle.std.specs.Prelude.{◌≡◌, if◌then◌else◌, length, IfEr
 ghost use Rattle.att_table.specs.Table.{with_value};
 ghost use Rattle.saved_values.specs.Restore.{fits, length_fits, line_restored, values_restored};
 
-use crate::pieces::first_piece;
 use crate::saved_value::read_value;
 use crate::saves::is_value_or_descriptor;
 use att_table::{Attr, Table};
 use std::error::Error;
 use std::fmt;
+use text_words::first_line;
 
 /// The number of the first line that is not a value, from 1.
 #[derive(Clone, Copy, Debug, PartialEq, Eq)]
@@ -40,7 +40,7 @@ pub fn restore_lines(table: &mut Table, text: &str) -> Result<usize, BadLine>
     let mut rest = text;
     let mut number = 1;
     let mut left_out = 0;
-    while let Some((line, behind)) = first_piece(rest) {
+    while let Some((line, behind)) = first_line(rest) {
         left_out += count_left_out(restore_line(table, number, line)?);
         rest = behind;
         number += 1;
@@ -74,6 +74,8 @@ fn count_left_out(fits: bool) -> usize
 /// client characteristic configuration, and may have this number of octets. Otherwise nothing
 /// changes.
 pub fn restore(table: &mut Table, handle: u16, kind: u128, octets: &[u8]) -> bool
+    // A value is put in its place exactly if the attribute at its handle has its type and space for
+    // it.
     ensures fits { result ≡ fits table.old handle kind (length octets.now) }
     ensures attributes { table.new.attributes ≡ table.old.attributes }
     ensures values { table.new.values ≡ (if result

@@ -28,6 +28,8 @@ pub fn values_text(
     // The text restores the values that were saved, all of them.
     ensures restores { IfOk result (λ text.
         RestoresWhatWasSaved saves table.now initial.now text.items) }
+    // It restores the table itself, if that differs from the one of the file only in values that
+    // may be saved.
     ensures whole { IfOk result (λ text.
         RestoresTheTable saves table.now initial.now text.items) }
 {

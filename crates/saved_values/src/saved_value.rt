@@ -2,17 +2,18 @@
 
 ghost use Rattle.std.specs.Prelude.{◌≡◌, ◌++◌, OnOk};
 ghost use Rattle.std.specs.Option.{option_map};
-ghost use Rattle.gatt_subs.specs.RowsLine.{parts_of, parts_view};
-ghost use Rattle.scripts.specs.Payload.{payload_of};
+ghost use Rattle.text_words.specs.Split.{parts_of, parts_view};
+ghost use Rattle.text_words.specs.Payload.{payload_of};
 ghost use Rattle.saved_values.specs.SavedValue.{value_line, value_of_line, value_of_words, IsTyped};
 
 use crate::type_text::add_type;
-use app_lines::{add_value, read_type};
+use app_lines::add_value;
+use att_table::read_type;
 use itoa::Buffer;
 use octet_io::PduOctets;
-use scripts::{Payload, read_u16};
 use std::alloc::AllocError;
 use std::marker::Model;
+use text_words::{Payload, first_word, read_u16};
 
 /// A saved value.
 #[derive(Drop)]
@@ -81,16 +82,9 @@ fn read_octets(word: &str) -> Option<PduOctets>
 pub fn read_value(line: &str) -> Option<SavedValue>
     ensures { result ≡ value_of_line line.now }
 {
-    let (handle, rest) = parts(line)?;
-    let (kind, octets) = parts(rest)?;
+    let (handle, rest) = first_word(line)?;
+    let (kind, octets) = first_word(rest)?;
     SavedValue::read(handle, kind, octets)
-}
-
-#[tactic(auto, unfolding(gatt_subs::specs::RowsLine::parts_of))]
-fn parts(text: &str) -> Option<(&str, &str)>
-    ensures { option_map parts_view result ≡ parts_of text.now }
-{
-    text.split_once(' ')
 }
 
 /// Adds the line of a value.

@@ -6,8 +6,8 @@ use Rattle.scripts.specs.declared.act.ScriptedAct.TheVariants.{Drop, Encrypt, Se
 use Rattle.scripts.specs.declared.line.Line.TheVariants.{Phone}
 use Rattle.scripts.specs.declared.script_fault.ScriptFault.TheVariants.{BadLine}
 use Rattle.scripts.specs.Name.{is_command_word, is_name, name_of}
-use Rattle.scripts.specs.Numeral.{numeral_of}
-use Rattle.scripts.specs.Payload.{decoded, payload_of}
+use Rattle.text_words.specs.Numeral.{numeral_of}
+use Rattle.text_words.specs.Payload.{decoded, payload_of}
 use Rattle.scripts.specs.Line.{random_number_of, channel_of, line_of_one, line_of_two, line_of_three, line_of_four, line_of}
 use Rattle.scripts.specs.Script.{script_of}
 

@@ -21,7 +21,8 @@ use Rattle.scripts.specs.declared.script_fault.ScriptFault.{ScriptFault}
 use Rattle.scripts.specs.declared.script_fault.ScriptFault.TheVariants.{BadLine, OutOfMemory}
 use Rattle.scripts.specs.Line.{line_of}
 use Rattle.scripts.specs.Phones.{IsOfPhoneBelow, HasNamedPhones}
-use Rattle.scripts.specs.Script.{Acts, no_acts, phone_number_in, with_name, with_act, with_act_of, script_with_said, script_with_line, script_with_lines, number_sign, lines_of_script, script_of}
+use Rattle.scripts.specs.Script.{Acts, no_acts, phone_number_in, with_name, with_act, with_act_of, script_with_said, script_with_line, script_with_lines, number_sign, script_of}
+use Rattle.text_words.specs.Split.{lines_of}
 
 missing_at_end : {X : Type 0} (test : X → Bool) (xs : List X) → position_or_len test xs ≡ length xs → list_any test xs ≡ false
 missing_at_end test [] at = refl
@@ -141,7 +142,7 @@ none_named = record { few = omega arith; distinct = tt; named = All-nil (IsOfPho
 
 script_named : (has_next : Bool) (text : Octets) → IfOk (script_of has_next text) HasNamedPhones
 unfolding script_of
-script_named has_next text = lines_named has_next 1 no_acts (lines_of_script text) none_named
+script_named has_next text = lines_named has_next 1 no_acts (lines_of text) none_named
 
 pub phones_named : (has_next : Bool) (text : Octets) (result : Result Acts ScriptFault) → Gives OutOfMemory (script_of has_next text) result
     → IfOk result HasNamedPhones

@@ -2,7 +2,8 @@
 use Rattle.std.proofs.Common.{◌≡◌, ℕ, ◌<◌, ◌==◌, List, [], ◌∷◌, length, None, refl, sym, ◌∙◌, ap, arith}
 use Rattle.std.proofs.lemmas.List.Splits.{length-slice_split}
 use Rattle.octet_io.specs.Number.{Octets}
-use Rattle.scripts.specs.Line.{words_of, line_of_words}
+use Rattle.scripts.specs.Line.{line_of_words}
+use Rattle.text_words.specs.Split.{words_of}
 
 more_words : (first second third fourth : Octets) (words : List Octets) → 0 < length words → line_of_words (first ∷ second ∷ third ∷ fourth ∷ words) ≡ None
 more_words first second third fourth [] some = absurd (omega (arith, some))

@@ -1,12 +1,12 @@
 -- The lines of a script (this profile's own).
-use Rattle.std.specs.Prelude.{ℕ, ◌-◌, ◌==◌, ◌^◌, if◌then◌else◌, List, [], ◌∷◌, codes, Option, Some, None}
-use Rattle.std.specs.List.{slice_split}
+use Rattle.std.specs.Prelude.{ℕ, ◌-◌, ◌^◌, if◌then◌else◌, List, [], ◌∷◌, codes, Option, Some, None}
 use Rattle.std.specs.Option.{option_map}
 use Rattle.std.specs.Result.{result_ok}
 use Rattle.std.specs.Str.{bytes_eq}
 use Rattle.hex.specs.Hex.{decode_sized}
 use Rattle.octet_io.specs.Missing.{◌>>=◌}
 use Rattle.octet_io.specs.Number.{Octets}
+use Rattle.text_words.specs.Split.{words_of}
 use Rattle.le_l2cap.specs.declared.channel.TheConstants.{ATT, LE_SIGNALLING, SECURITY_MANAGER}
 use Rattle.le_security.specs.Address.{peer_of}
 use Rattle.scripts.specs.declared.act.ScriptedAct.{ScriptedAct}
@@ -14,12 +14,8 @@ use Rattle.scripts.specs.declared.act.ScriptedAct.TheVariants.{Connect, Drop, En
 use Rattle.scripts.specs.declared.line.Line.{Line}
 use Rattle.scripts.specs.declared.line.Line.TheVariants.{Phone, Authorize, Update, Tick, Replace}
 use Rattle.scripts.specs.Name.{name_of}
-use Rattle.scripts.specs.Numeral.{numeral_of}
-use Rattle.scripts.specs.Payload.{payload_of}
-
--- Single spaces separate the words of a line.
-abbrev pub words_of : Octets → List Octets
-words_of line = slice_split (λ octet. octet == 32) line
+use Rattle.text_words.specs.Numeral.{numeral_of}
+use Rattle.text_words.specs.Payload.{payload_of}
 
 -- A random number has 16 digits, two an octet.
 unfoldable pub random_number_of : Octets → Option Octets

@@ -1,8 +1,9 @@
 -- Scripts (this profile's own).
 use Rattle.std.specs.Prelude.{ℕ, ◌+◌, ◌==◌, Bool, nat_lt, if◌then◌else◌, List, [], ◌∷◌, ◌++◌, length, unwrap_or, Result, Ok}
-use Rattle.std.specs.List.{position, slice_split}
+use Rattle.std.specs.List.{position}
 use Rattle.std.specs.Str.{bytes_eq}
 use Rattle.octet_io.specs.Number.{Octets}
+use Rattle.text_words.specs.Split.{lines_of}
 use Rattle.toml_schema.specs.Reading.{◌>>=◌, unless, require}
 use Rattle.scripts.specs.declared.act.Act.{Act}
 use Rattle.scripts.specs.declared.act.Act.TheVariants as act
@@ -73,10 +74,6 @@ script_with_lines has_next number script (line ∷ lines) =
     script_with_line has_next number script line >>=
     (λ next. script_with_lines has_next (number + 1) next lines)
 
--- The lines of a text; text after the last line feed is a line too.
-abbrev pub lines_of_script : Octets → List Octets
-lines_of_script text = slice_split (λ octet. octet == 10) text
-
 -- A script, or its first line with a fault.
 unfoldable pub script_of : Bool → Octets → Result Acts ScriptFault
-script_of has_next text = script_with_lines has_next 1 no_acts (lines_of_script text)
+script_of has_next text = script_with_lines has_next 1 no_acts (lines_of text)

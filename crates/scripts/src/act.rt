@@ -1,7 +1,7 @@
 //! Acts of a script's lines.
 
-use crate::payload::Payload;
 use le_hci::Peer;
+use text_words::Payload;
 
 /// An act of a client.
 #[derive(Drop)]

@@ -1,14 +1,13 @@
 //! Lines of a script.
 
-ghost use Rattle.std.specs.Prelude.{◌≡◌, [], ◌∷◌, IfSome, IfNone};
-ghost use Rattle.scripts.specs.Line.{words_of, random_number_of, channel_of, line_of_one, line_of_two, line_of_three, line_of_four, of_phone, authorized_until, line_of};
+ghost use Rattle.std.specs.Prelude.{◌≡◌};
+ghost use Rattle.scripts.specs.Line.{random_number_of, channel_of, line_of_one, line_of_two, line_of_three, line_of_four, of_phone, authorized_until, line_of};
 
 use crate::act::ScriptedAct;
 use crate::name::Name;
-use crate::numeral::{read_u16, read_u64};
-use crate::payload::Payload;
 use le_l2cap::channel;
 use le_security::read_peer;
+use text_words::{Payload, first_word, read_u16, read_u64};
 
 /// The content of a line.
 #[derive(Drop)]
@@ -53,15 +52,6 @@ pub fn read_line(line: &str) -> Option<Line<'_>>
         None => read_four(first, second, third, rest),
         Some(_) => None,
     }
-}
-
-/// Splits a text at its first space, if it has one.
-pub fn first_word(text: &str) -> Option<(&str, &str)>
-    ensures first { IfSome result
-        (λ parts. words_of text.now ≡ parts.0.now ∷ words_of parts.1.now) }
-    ensures only { IfNone result (words_of text.now ≡ text.now ∷ []) }
-{
-    text.split_once(' ')
 }
 
 #[tactic(auto, unfolding(crate::specs::Line::line_of_one))]

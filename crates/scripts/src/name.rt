@@ -7,6 +7,7 @@ ghost use Rattle.scripts.specs.Name.{is_command_word, is_name, name_of};
 
 use std::marker::Model;
 
+/// The most bytes of a client's name in a script.
 const MAX_NAME: usize = 8;
 
 /// A client's name: 1 to `MAX_NAME` ASCII letters and digits, except command words.

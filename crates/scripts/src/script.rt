@@ -6,7 +6,7 @@ ghost use Rattle.std.specs.Str.{bytes_eq};
 ghost use Rattle.octet_io.specs.Memory.{Gives, Leaves};
 ghost use Rattle.scripts.specs.declared.script_fault.ScriptFault.TheVariants.{OutOfMemory};
 ghost use Rattle.scripts.specs.Phones.{HasNamedPhones};
-ghost use Rattle.scripts.specs.Script.{no_acts, phone_number_in, with_name, script_with_said, script_with_line, lines_of_script, script_of};
+ghost use Rattle.scripts.specs.Script.{no_acts, phone_number_in, with_name, script_with_said, script_with_line, script_of};
 
 use crate::act::Act;
 use crate::line::{Line, read_line};
@@ -14,6 +14,7 @@ use crate::name::Name;
 use crate::script_fault::ScriptFault;
 use std::alloc::{AllocError, Global};
 use std::marker::Model;
+use text_words::first_line;
 
 /// Maximum number of clients in a script.
 pub const MAX_PHONES: usize = 8;
@@ -169,14 +170,4 @@ fn place_of(names: &[Name<'_>], name: &Name<'_>) -> Option<usize>
 {
     let text = name.as_str();
     names.iter().position(|other| text == other.as_str())
-}
-
-/// Splits a text at its first line feed, if it has one.
-fn first_line(text: &str) -> Option<(&str, &str)>
-    ensures first { IfSome result
-        (λ parts. lines_of_script text.now ≡ parts.0.now ∷ lines_of_script parts.1.now) }
-    ensures only { IfNone result (lines_of_script text.now ≡ text.now ∷ []) }
-    ensures shorter { IfSome result (λ parts. length parts.1.now < length text.now) }
-{
-    text.split_once('\n')
 }

@@ -14,7 +14,7 @@ pub const STATUSES: &str = "\
 Exit status:
    0  the work is done, or help or the version was asked for
    1  a file is refused, or cannot be read or written
-   2  a fault in a run
+   2  a fault in a run; `host` cannot open a socket; `tell` reaches no device
    3  the answer of `may` is no, `compare` found a right that is opened, or
       `expect` a difference
   64  the words of the command line are not understood";
@@ -159,16 +159,17 @@ missing one is empty. If the table, key or rows file is refused, `gatt_shell sho
 
 pub const HOST: &str = "host";
 
-pub const HOST_ABOUT: &str = "Serve a device: its clients, by one controller after another";
+pub const HOST_ABOUT: &str =
+    "The device that a product runs: serve clients, by one controller after another";
 
 pub const HOST_DETAILS: &str = "\
-Serve a device: its clients, by one controller after another.
+The device that a product runs: serve clients, by one controller after another.
 
-One of --listen, --connect and --serial leads to the controller. Its connection carries H4. If
-the controller goes, or the host stops with a fault, the next one is served with the same values and
-subscriptions. An application connects to a socket, and exchanges lines with the device
-(docs/DEVICE.md). With --state the device saves values and subscriptions before it answers a client,
-and a restart begins with them. The log is on standard error. A script can wait for its line
+One of --listen, --connect and --serial is required. It leads to the controller, over a connection
+that carries H4. If the controller goes, or the host stops with a fault, the next one is served with
+the same values and subscriptions. An application connects to a socket, and exchanges lines with the
+device (docs/DEVICE.md). With --state the device saves values and subscriptions before it answers a
+client, and a restart begins with them. The log is on standard error. A script can wait for its line
 `ready`. The status is 2 if a socket cannot be opened, or with --once if the host has stopped.
 
   mkdir -p door.state
@@ -183,8 +184,9 @@ pub const TELL_DETAILS: &str = "\
 Send one line to a device, and print its answer.
 
 The words are one line of an application (docs/DEVICE.md). A question (`value`, `connections`,
-`subscriptions`, `find`), `reload` and `stop` leave the application alone. Any other command
-disconnects it. The status is 1 if the device refuses the line, and 2 if it cannot be reached.
+`subscriptions`, `find`), a call of the host, `reload` and `stop` leave the application connected.
+Only the line `application` takes its place. The status is 1 if the device refuses the line, and 2
+if it cannot be reached.
 
   gatt_shell tell door.socket value 10
   gatt_shell tell door.socket find fff0 fff3 2

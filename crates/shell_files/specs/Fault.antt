@@ -36,3 +36,12 @@ exit_status_of Unreadable = 1
 exit_status_of Unwritten = 1
 exit_status_of Listen = 2
 exit_status_of Memory = 2
+
+-- A fault of a table or key file, or of reading and printing.
+abbrev pub IsTableOrKeysFault : ShellFault → Type 0
+IsTableOrKeysFault (Table number) = Unit {0}
+IsTableOrKeysFault (Keys number) = Unit {0}
+IsTableOrKeysFault Unreadable = Unit {0}
+IsTableOrKeysFault Unwritten = Unit {0}
+IsTableOrKeysFault Memory = Unit {0}
+IsTableOrKeysFault _ = ⊥

@@ -27,8 +27,10 @@ pub fn check_files<T: Read, K: Read, W: Write>(
     keys: &mut K,
     writer: &mut W,
 ) -> Result<(), ShellFault>
+    // The numbers of attributes and keys are printed.
     ensures ok { OnOk result (AreCounted (T.remaining table.old) (K.remaining keys.old)
         (W.contents writer.old) (W.contents writer.new)) }
+    // A refused file is reported by its first fault.
     ensures table { (number : ℕ) → result ≡ Err (ShellFault.Table number)
         → number ≢ table_out_of_memory
         → IfSome (T.remaining table.old) (λ octets. TableIsRefusedAs number (table_in octets)) }

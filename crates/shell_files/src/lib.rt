@@ -17,6 +17,7 @@ mod script_file;
 mod server;
 mod session;
 mod table_file;
+mod with_place;
 
 pub use att::att_lines;
 pub use check::{KeysPath, TablePath, check_files, check_paths};
@@ -31,3 +32,7 @@ pub use rows_path::{RowsPath, RowsReader, RowsWriter};
 pub use rows_store::{RowsStore, save_after};
 pub use script_file::judged_script;
 pub use table_file::{judged_table, read_next, read_table};
+pub use with_place::{
+    judge_rows_at, read_key_file_at, read_table_at, tell_keys_fault, tell_rows_fault,
+    tell_table_fault,
+};

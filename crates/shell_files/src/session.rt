@@ -10,6 +10,7 @@ use arrayvec::ArrayVec;
 use std::alloc::Global;
 use std::io::Write;
 
+/// The most octets of a PDU in a line of `att`.
 const MAX_LINE_OCTETS: usize = 520;
 
 const MAX_DIGITS: usize = 2 * MAX_LINE_OCTETS;

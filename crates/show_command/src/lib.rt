@@ -1,9 +1,6 @@
-//! The command `show`: a table in words, its permitted uses, and the faults of refused files.
+//! The command `show`: a table in words, and its permitted uses.
 #![tactic(auto)]
 
 mod show;
 
-pub use show::{
-    ShowPaths, View, read_key_file_at, read_table_at, show_files, show_paths, tell_keys_fault,
-    tell_rows_fault, tell_table_fault,
-};
+pub use show::{ShowPaths, View, show_files, show_paths};

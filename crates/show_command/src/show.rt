@@ -3,24 +3,21 @@
 ghost use Rattle.std.specs.Prelude.{◌≡◌, ◌≢◌, ℕ, IfErr, IfOk, IfSome, IsOk, OnOk, is_some};
 ghost use Rattle.std.specs.Io.KnownBytes.{Keeps};
 ghost use Rattle.std.specs.Option.{option_map};
-ghost use Rattle.shell_files.specs.KeyFile.{keys_out_of_memory, keys_in, KeysAreRefusedAs, IsKeyFileFault, IsKeyRefusal};
-ghost use Rattle.shell_files.specs.RowsFile.{rows_out_of_memory, rows_in, RowsAreRefusedAs, IsRowsFileFault};
+ghost use Rattle.shell_files.specs.KeyFile.{keys_out_of_memory, keys_in, KeysAreRefusedAs, IsKeyFileFault};
+ghost use Rattle.shell_files.specs.RowsFile.{rows_out_of_memory, rows_in, RowsAreRefusedAs};
 ghost use Rattle.show_command.specs.Show.{AreShown, HasKeys, IsShowFault, IsShown};
-ghost use Rattle.shell_files.specs.TableFile.{table_out_of_memory, table_in, TableIsRefusedAs, IsTableFileFault};
+ghost use Rattle.shell_files.specs.TableFile.{table_out_of_memory, table_in, TableIsRefusedAs};
 ghost use Rattle.shell_files.specs.Turns.{IsPast, OfKeys, OfRows, OfTable};
 
 use att_table::Table;
 use le_security::Keys;
 use shell_files::{
-    KeysPath, LazyFile, RowsPath, RowsReader, ShellFault, TOML_OCTETS, TablePath, judged_keys,
-    judged_rows, judged_table, print, read_all,
+    KeysPath, LazyFile, RowsPath, RowsReader, ShellFault, TablePath, judge_rows_at, judged_keys,
+    print, read_key_file_at, read_table_at,
 };
 use std::alloc::{AllocError, Global};
 use std::fs::Files;
 use std::io::{Read, Write};
-
-/// The text about a file that is too large.
-const TOO_LARGE: &[u8] = b"more than 2,097,152 octets";
 
 /// The view of a table that `show` prints.
 #[derive(Clone, Copy)]
@@ -45,6 +42,7 @@ pub fn show_files<T: Read, K: Read, R: Read, W: Write>(
     writer: &mut W,
     place: &mut Vec<u8>,
 ) -> Result<(), ShellFault>
+    // The matrix, or a line for each attribute, of these files is printed.
     ensures ok { OnOk result (AreShown view (T.remaining table.old)
         (option_map K.remaining keys.old) (W.contents writer.old) (W.contents writer.new)) }
     // A file is refused by the number of its first fault, or by that of refused memory.
@@ -85,61 +83,6 @@ pub fn show_files<T: Read, K: Read, R: Read, W: Write>(
     print(text.as_slice(), writer)
 }
 
-/// Reads the table of a table file.
-///
-/// Adds the place and the fault of a refused file to `place`, which is empty if memory is refused
-/// for them.
-pub fn read_table_at<R: Read>(
-    alloc: Global,
-    reader: &mut R,
-    place: &mut Vec<u8>,
-) -> Result<Table, ShellFault>
-    ensures table { IfOk result
-        (λ table. IfSome (R.remaining reader.old) (λ octets. table_in octets ≡ Ok table)) }
-    ensures refused { (number : ℕ) → result ≡ Err (ShellFault.Table number)
-        → number ≢ table_out_of_memory
-        → IfSome (R.remaining reader.old) (λ octets. TableIsRefusedAs number (table_in octets)) }
-    ensures place { IsOk result → place.new ≡ place.old }
-    ensures faults { IfErr result IsTableFileFault }
-{
-    let octets = read_all(alloc, reader)?;
-    match judged_table(alloc, octets.as_slice()) {
-        Ok(table) => Ok(table),
-        Err(fault) => {
-            if tell_table_fault(alloc, place, octets.as_slice()).is_err() {
-                place.clear();
-            }
-            Err(fault)
-        }
-    }
-}
-
-/// Adds the place and the fault of a table file with these bytes.
-///
-/// On `Err` memory was refused and the text is invalid.
-pub fn tell_table_fault(
-    alloc: Global,
-    place: &mut Vec<u8>,
-    octets: &[u8],
-) -> Result<(), AllocError> {
-    if octets.len() > TOML_OCTETS {
-        return Ok(place.extend_from_slice(TOO_LARGE)?);
-    }
-    gatt_show::add_table_fault(alloc, place, octets)
-}
-
-/// Adds the place and the fault of a key file. Errors: as `tell_table_fault`.
-pub fn tell_keys_fault(
-    alloc: Global,
-    place: &mut Vec<u8>,
-    octets: &[u8],
-) -> Result<(), AllocError> {
-    if octets.len() > TOML_OCTETS {
-        return Ok(place.extend_from_slice(TOO_LARGE)?);
-    }
-    gatt_show::add_keys_fault(alloc, place, octets)
-}
-
 /// Reads the keys of a key file, or those of an empty one.
 fn read_keys_at<K: Read>(
     alloc: Global,
@@ -160,32 +103,6 @@ fn read_keys_at<K: Read>(
     }
 }
 
-/// Reads the keys of a key file. The place: as `read_table_at`.
-pub fn read_key_file_at<K: Read>(
-    alloc: Global,
-    reader: &mut K,
-    place: &mut Vec<u8>,
-) -> Result<Keys, ShellFault>
-    ensures keys { IfOk result
-        (λ read. IfSome (K.remaining reader.old) (λ octets. keys_in octets ≡ Ok read)) }
-    ensures refused { (number : ℕ) → result ≡ Err (ShellFault.Keys number)
-        → number ≢ keys_out_of_memory
-        → IfSome (K.remaining reader.old) (λ octets. KeysAreRefusedAs number (keys_in octets)) }
-    ensures place { IsOk result → place.new ≡ place.old }
-    ensures faults { IfErr result IsKeyFileFault }
-{
-    let octets = read_all(alloc, reader)?;
-    match judged_keys(alloc, octets.as_slice()) {
-        Ok(keys) => Ok(keys),
-        Err(fault) => {
-            if tell_keys_fault(alloc, place, octets.as_slice()).is_err() {
-                place.clear();
-            }
-            Err(fault)
-        }
-    }
-}
-
 /// Adds the rights of a table, or the list of its attributes.
 fn add_view(
     alloc: Global,
@@ -199,40 +116,6 @@ fn add_view(
     match view {
         View::Attributes => gatt_show::add_table(alloc, text, table),
         View::Rights(width) => rights_text::add_rights(alloc, text, table, keys, width),
-    }
-}
-
-/// Adds the place and the fault of a subscriptions file. Errors: as `tell_table_fault`.
-pub fn tell_rows_fault(
-    alloc: Global,
-    place: &mut Vec<u8>,
-    octets: &[u8],
-) -> Result<(), AllocError> {
-    gatt_show::add_rows_fault(alloc, place, octets)
-}
-
-fn judge_rows_at<R: Read>(
-    alloc: Global,
-    reader: &mut R,
-    place: &mut Vec<u8>,
-) -> Result<(), ShellFault>
-    ensures accepted { OnOk result
-        (IfSome (R.remaining reader.old) (λ octets. IsOk (rows_in octets))) }
-    ensures refused { (number : ℕ) → result ≡ Err (ShellFault.Rows number)
-        → number ≢ rows_out_of_memory
-        → IfSome (R.remaining reader.old) (λ octets. RowsAreRefusedAs number (rows_in octets)) }
-    ensures place { IsOk result → place.new ≡ place.old }
-    ensures faults { IfErr result IsRowsFileFault }
-{
-    let octets = read_all(alloc, reader)?;
-    match judged_rows(alloc, octets.as_slice()) {
-        Ok(_) => Ok(()),
-        Err(fault) => {
-            if tell_rows_fault(alloc, place, octets.as_slice()).is_err() {
-                place.clear();
-            }
-            Err(fault)
-        }
     }
 }
 

@@ -2,7 +2,7 @@ ghost use Rattle.std.specs.Prelude.{◌≡◌, ◌<◌, IfSome};
 ghost use Rattle.sim_controller.specs.Phones.{handle_of_phone, phone_with};
 ghost use Rattle.sim_controller.specs.declared.handle.TheConstants.{PHONES};
 
-/// Number of clients.
+/// The number of clients of the simulated controller.
 pub const PHONES: u8 = 8;
 
 /// Connection handle of client 0. The others have the following handles.

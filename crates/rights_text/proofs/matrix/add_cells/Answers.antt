@@ -1,5 +1,5 @@
 use Rattle.std.proofs.Common.{refl}
-use Rattle.gatt_show.specs.Cells.{right}
+use Rattle.text_words.specs.Cells.{right}
 use Rattle.rights_text.specs.Cell.{cell_text}
 use Rattle.rights_text.specs.declared.columns.Column.{Column}
 use Rattle.gatt_rights.proofs.Added.{all_added, one_added}

@@ -1,6 +1,6 @@
 use Rattle.std.proofs.Common.{◌≡◌, ◌++◌, drop}
 use Rattle.std.specs.List.{flat_map}
-use Rattle.gatt_show.specs.Cells.{right}
+use Rattle.text_words.specs.Cells.{right}
 use Rattle.rights_text.specs.Cell.{cell_text}
 use Rattle.rights_text.specs.declared.columns.Column.{Column}
 use Rattle.rights_text.proofs.matrix.add_cells.Given as goal

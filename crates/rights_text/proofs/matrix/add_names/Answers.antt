@@ -1,6 +1,6 @@
 use Rattle.std.proofs.Common.{refl}
 use Rattle.std.proofs.Common.{[], ◌∷◌}
-use Rattle.gatt_show.specs.Cells.{right}
+use Rattle.text_words.specs.Cells.{right}
 use Rattle.rights_text.specs.declared.columns.Column.{Column}
 use Rattle.gatt_rights.proofs.Added.{all_added, one_added}
 use Rattle.rights_text.proofs.matrix.add_names.Goals as goal

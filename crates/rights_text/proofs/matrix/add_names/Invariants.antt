@@ -1,7 +1,7 @@
 use Rattle.std.proofs.Common.{◌≡◌, ◌++◌, drop}
 use Rattle.std.specs.List.{flat_map}
 use Rattle.std.proofs.Common.{[], ◌∷◌}
-use Rattle.gatt_show.specs.Cells.{right}
+use Rattle.text_words.specs.Cells.{right}
 use Rattle.rights_text.specs.declared.columns.Column.{Column}
 use Rattle.rights_text.proofs.matrix.add_names.Given as goal
 

@@ -1,0 +1,4 @@
+pub mod Blanks
+pub mod Digits
+pub mod Numerals
+pub mod Payloads

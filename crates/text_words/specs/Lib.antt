@@ -1,0 +1,4 @@
+pub mod Cells
+pub mod Numeral
+pub mod Payload
+pub mod Split
