@@ -2,7 +2,7 @@
 use Rattle.std.proofs.Common.{◌≡◌, ℕ, ◌<◌, ◌==◌, List, [], ◌∷◌, length, refl, sym, ◌∙◌, ap, arith}
 use Rattle.std.proofs.lemmas.List.Splits.{length-slice_split}
 use Rattle.octet_io.specs.Number.{Octets}
-use Rattle.scripts.specs.Line.{words_of}
+use Rattle.text_words.specs.Split.{words_of}
 use Rattle.app_lines.specs.Command.{asked_by, miscounted}
 
 more_words : (first second third fourth : Octets) (words : List Octets) → 0 < length words

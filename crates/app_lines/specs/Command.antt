@@ -3,9 +3,9 @@ use Rattle.std.specs.Prelude.{ℕ, ◌-◌, length, get_or, take, ◌^◌, ◌==
 use Rattle.std.specs.Str.{bytes_eq}
 use Rattle.octet_io.specs.Number.{Octets}
 use Rattle.att_table.specs.file.TypeText.{type_named}
-use Rattle.scripts.specs.Line.{words_of}
-use Rattle.scripts.specs.Numeral.{numeral_of}
-use Rattle.scripts.specs.Payload.{payload_of}
+use Rattle.text_words.specs.Split.{words_of}
+use Rattle.text_words.specs.Numeral.{numeral_of}
+use Rattle.text_words.specs.Payload.{payload_of}
 use Rattle.app_lines.specs.declared.command.Command.{Command}
 use Rattle.app_lines.specs.declared.command.Command.TheVariants.{Update, Allow, Deny, Disconnect, Value, Connections, Subscriptions, Find, Application, Reload, Stop}
 use Rattle.app_lines.specs.declared.wrong.Wrong.{Wrong}

@@ -1,3 +1,4 @@
+pub mod Answers
 pub mod Command
 pub mod Inbox
 pub mod Names

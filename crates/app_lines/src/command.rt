@@ -5,9 +5,9 @@ ghost use Rattle.app_lines.specs.Command.{allow_of, command_of, count_at, fault_
 ghost use Rattle.app_lines.specs.Command.{four_words, handle_at, most_words, name_at, one_word};
 ghost use Rattle.app_lines.specs.Command.{three_words, two_words, type_at, update_of, without_return};
 
-use crate::type_text::read_type;
 use crate::wrong::{Fault, Wrong};
-use scripts::{Payload, first_word, read_u16, read_u64};
+use att_table::read_type;
+use text_words::{Payload, first_word, read_u16, read_u64};
 
 /// A command of the application.
 #[derive(Drop)]
@@ -58,6 +58,7 @@ pub enum Command<'a> {
 /// Reads a line, or returns its first wrong word.
 #[tactic(auto, unfolding(crate::specs::Command::command_of))]
 pub fn read_line(line: &str) -> Result<Command<'_>, Wrong>
+    // A line means what its words say, or is refused by its wrong word.
     ensures { result ≡ command_of line.now }
 {
     let Some((first, rest)) = first_word(line) else {

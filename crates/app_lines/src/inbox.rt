@@ -9,7 +9,7 @@ use arrayvec::ArrayVec;
 use memchr::memchr;
 use std::marker::Model;
 
-/// Maximum bytes of a line.
+/// The most bytes of a line of an application, without its line feed.
 pub const LONGEST: usize = 1_100;
 
 /// Capacity of an inbox in bytes.

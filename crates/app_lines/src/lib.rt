@@ -2,6 +2,7 @@
 //! socket.
 #![tactic(auto)]
 
+mod answers;
 mod command;
 mod inbox;
 mod names;
@@ -9,9 +10,9 @@ mod notice_text;
 mod outbox;
 mod reply;
 mod told;
-mod type_text;
 mod wrong;
 
+pub use answers::{add_handle_answer, add_outcome, add_value_answer};
 pub use command::{Command, read_line, without_return};
 pub use inbox::{Found, Inbox, LONGEST, ROOM};
 pub use names::{Named, Names};
@@ -19,5 +20,4 @@ pub use notice_text::{add_line, add_named_line, add_number, add_value, connectio
 pub use outbox::Outbox;
 pub use reply::{Reply, add_reply};
 pub use told::{Told, add_if_named, add_told};
-pub use type_text::read_type;
 pub use wrong::{Fault, Wrong, add_wrong, word_at};

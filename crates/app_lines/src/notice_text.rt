@@ -2,7 +2,6 @@
 
 ghost use Rattle.std.specs.Prelude.{◌≡◌, ◌++◌, ◌∷◌, [], OnOk};
 ghost use Rattle.std.specs.Fmt.{decimal};
-ghost use Rattle.hex.specs.Hex.{encode_lower};
 ghost use Rattle.gatt_subs.specs.RowsText.{peer_text};
 ghost use Rattle.app_lines.specs.NoticeText.{connection_of, digit_of, facts_text, named_line, notice_line, notice_text, of_attribute, of_connection, value_text};
 
@@ -12,6 +11,7 @@ use host_api::Notice;
 use itoa::Buffer;
 use le_hci::Peer;
 use std::alloc::AllocError;
+use text_words::add_hex;
 
 /// Appends the line of a notice, with the connection's handle as its name.
 #[tactic(auto, unfolding(crate::specs::NoticeText::notice_line))]
@@ -85,7 +85,7 @@ fn add_notice(text: &mut Vec<u8>, name: u64, notice: &Notice<'_>) -> Result<(), 
         Notice::Ending { reason, .. } => {
             add_connection(text, b"+ ending ", name)?;
             text.extend_from_slice(b" ")?;
-            add_octet(text, *reason)
+            add_hex(text, &[*reason])
         }
         Notice::Skipped { attribute, .. } => {
             add_attribute(text, b"+ skipped ", name, *attribute)
@@ -123,14 +123,6 @@ pub fn add_number(text: &mut Vec<u8>, number: u64) -> Result<(), AllocError>
     text.extend_from_slice(digits.format(number).as_bytes())
 }
 
-fn add_octet(text: &mut Vec<u8>, octet: u8) -> Result<(), AllocError>
-    ensures ok { OnOk result (text.new.items ≡ text.old.items ++ encode_lower (octet ∷ [])) }
-{
-    let mut digits = [0; 2];
-    hex::encode_to_slice([octet], &mut digits).unwrap();
-    text.extend_from_slice(&digits)
-}
-
 /// Appends a space and the key's size, authentication and LE Secure Connections.
 fn add_facts(text: &mut Vec<u8>, facts: &KeyFacts) -> Result<(), AllocError>
     ensures ok { OnOk result (text.new.items ≡ text.old.items ++ 32 ∷ facts_text facts.now) }
@@ -158,17 +150,8 @@ pub fn add_value(text: &mut Vec<u8>, value: &[u8]) -> Result<(), AllocError>
     if value.is_empty() {
         text.extend_from_slice(b"-")
     } else {
-        add_octets(text, value)
+        add_hex(text, value)
     }
-}
-
-fn add_octets(text: &mut Vec<u8>, octets: &[u8]) -> Result<(), AllocError>
-    ensures ok { OnOk result (text.new.items ≡ text.old.items ++ encode_lower octets.now) }
-{
-    for octet in octets {
-        add_octet(text, *octet)?;
-    }
-    Ok(())
 }
 
 /// Appends a space and a peer as in a subscriptions file.

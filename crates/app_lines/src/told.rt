@@ -38,6 +38,7 @@ pub enum Told<'a> {
 
 /// Appends the line.
 pub fn add_told(text: &mut Vec<u8>, told: &Told<'_>) -> Result<(), AllocError>
+    // The line has exactly these octets.
     ensures ok { OnOk result (text.new.items ≡ text.old.items ++ told_line told.now) }
 {
     match told {

@@ -1,11 +1,11 @@
 //! Faults of a line.
 
 ghost use Rattle.std.specs.Prelude.{◌≡◌, ◌++◌, [], get_or, map, OnOk};
-ghost use Rattle.scripts.specs.Line.{words_of};
+ghost use Rattle.text_words.specs.Split.{words_of};
 ghost use Rattle.app_lines.specs.Wrong.{printable, quoted, words_of_fault, wrong_line};
 
-use scripts::first_word;
 use std::alloc::AllocError;
+use text_words::first_word;
 
 /// Fault of a word.
 #[derive(Clone, Copy)]

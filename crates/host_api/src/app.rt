@@ -1,5 +1,5 @@
 ghost use Rattle.std.specs.Prelude.{◌≡◌};
-ghost use Rattle.host_api.specs.Refusals.{number_of_refusal};
+ghost use Rattle.host_api.specs.Refusals.{number_of_refusal, text_of_refusal};
 
 use std::error::Error;
 use std::fmt;
@@ -51,11 +51,12 @@ impl AppFault {
             AppFault::NoServiceChanged => 7,
         }
     }
-}
 
-impl fmt::Display for AppFault {
-    fn fmt<W: fmt::Write>(&self, f: &mut fmt::Formatter<W>) -> fmt::Result {
-        f.write_str(match self {
+    /// Returns the text of the fault.
+    pub fn text(self) -> &'static str
+        ensures { result.now ≡ text_of_refusal self }
+    {
+        match self {
             AppFault::NoSuchHandle => "there is no attribute with the handle",
             AppFault::NotAValue => "it is no characteristic value",
             AppFault::BadLength => {
@@ -67,7 +68,13 @@ impl fmt::Display for AppFault {
             AppFault::NoServiceChanged => {
                 "a table has no value that tells of changes, or they have it at different handles"
             }
-        })
+        }
+    }
+}
+
+impl fmt::Display for AppFault {
+    fn fmt<W: fmt::Write>(&self, f: &mut fmt::Formatter<W>) -> fmt::Result {
+        f.write_str(self.text())
     }
 }
 

@@ -4,6 +4,7 @@
 mod app;
 mod connection;
 mod notice;
+pub mod notice_number;
 
 pub use app::{App, AppFault};
 pub use connection::Connection;

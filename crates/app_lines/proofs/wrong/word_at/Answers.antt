@@ -1,7 +1,7 @@
 use Rattle.std.proofs.Common.{List, [], length, drop, sym, ap, ◌∙◌, arith, rules}
 use Rattle.std.proofs.lemmas.List.{drop-drop, get_or_past, length-drop}
 use Rattle.octet_io.specs.Number.{Octets}
-use Rattle.scripts.specs.Line.{words_of}
+use Rattle.text_words.specs.Split.{words_of}
 use Rattle.app_lines.proofs.wrong.word_at.Goals as goal
 
 pub returns-in-None : goal.returns-in-None

@@ -1,7 +1,7 @@
 use Rattle.std.proofs.Common.{◌≡◌, drop}
 use denote.Text.{Utf8}
 use denote.Shadow.{shadow}
-use Rattle.scripts.specs.Line.{words_of}
+use Rattle.text_words.specs.Split.{words_of}
 use Rattle.app_lines.proofs.wrong.word_at.Given as goal
 
 -- what is left of the line has the words from this place on
