@@ -139,7 +139,9 @@ pub fn of_type<'a, S: Steps>(
     requires numbered { IsNumbered attributes.now }
     requires index { index.now ≡ handles_by_type attributes.now }
     requires runs { runs.now ≡ runs_by_type attributes.now }
+    // The handles of the type in the range, in order.
     ensures handles { result.now ≡ handles_of_type attributes.now kind first last }
+    // They are found with at most 22 comparisons, as they are counted.
     ensures steps { S.count steps.new ≤ S.count steps.old + 22 }
 {
     let (upper, lower) = halves(kind);

@@ -24,6 +24,8 @@ pub enum PduFault {
 /// The request borrows values and handles from the PDU.
 #[inline(always)]
 pub fn read_request(pdu: &[u8], mtu: u16) -> Result<Request<'_>, PduFault>
+    // A PDU is read as the one request that it encodes at this ATT_MTU, or as the fault that
+    // applies.
     ensures exact { result_map_both asked (λ fault. fault) result ≡ request_of pdu.now mtu }
     ensures spelled { IfOk result (λ request. spelled (asked request) ≡ pdu.now) }
     ensures within_mtu { IfOk result (λ _. length pdu.now ≤ mtu) }

@@ -70,8 +70,10 @@ pub fn first_broken(
     guard: Option<&Guard>,
     standing: &Standing,
 ) -> Option<(Rule, u8)>
+    // An access is permitted, or refused by the first broken rule of seven, with its error code.
     ensures exact { result
         ≡ first_broken_of access (option_copied guard.entry) standing.entry.now }
+    // There is none exactly if the access is permitted.
     ensures permitted { IsNone result ↔ IsPermitted access
         (option_copied guard.entry) standing.entry.now }
     ensures first { IfSome result
@@ -117,6 +119,7 @@ pub fn is_open(access: Access, guard: &Guard) -> bool
 /// Requires the property of a set bit (Core 5.0, Vol 3 Part G, 3.3.3.3), and what reading requires.
 pub fn may_hear(guard: &Guard, bits: u8, standing: &Standing) -> bool
     ensures exact { result ≡ may_hear_of guard.now bits standing.entry.now }
+    // True exactly if the connection may be notified of the value.
     ensures heard { IsTrue result ↔ MayHear guard.now bits standing.entry.now }
 {
     bits & guard.properties.configuration_bits() != 0

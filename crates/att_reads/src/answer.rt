@@ -30,12 +30,14 @@ pub fn answer_read(
     out: &mut PduBuf<'_>,
 )
     requires mtu { mtu_of out.old ≡ mtu }
+    // The answer has exactly the octets of the definition.
     ensures answer { contents out.new
         ≡ sent_if_any (read_answer table.now row.now standing.entry.now mtu (asked request.now)) }
     // The response is independent of values that the client may not read.
     ensures undisclosed { (other : Contents) → IsAlike standing.entry.now table.now other
         → contents out.new ≡ sent_if_any
         (read_answer other row.now standing.entry.now mtu (asked request.now)) }
+    // It never exceeds the ATT_MTU.
     ensures fits { length (sent_if_any
         (read_answer table.now row.now standing.entry.now mtu (asked request.now))) ≤ mtu }
     ensures same_buffer { IsSameBuffer out.old out.new }

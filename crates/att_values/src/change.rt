@@ -40,6 +40,7 @@ pub fn apply<S: ValueStore>(store: &mut S, change: &Change<'_>)
 /// Makes changes in order. Every store ends with the same contents.
 pub fn run<S: ValueStore>(store: &mut S, changes: &[Change<'_>])
     requires { ChangesFit (S.room store.old) (S.contents store.old) changes.now }
+    // The store is a finite map from handles to octets, which these changes change in order.
     ensures contents { S.contents store.new ≡ contents_after changes.now (S.contents store.old) }
     ensures room { S.room store.new ≡ S.room store.old }
 {

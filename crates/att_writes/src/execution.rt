@@ -79,12 +79,14 @@ pub fn execute(
     touched: &mut Touched,
 ) -> Result<(), Refusal>
     requires row { IsRowOf table.old.attributes row.old }
+    // All prepared writes are made, or none.
     ensures outcome { result
         ≡ write_outcome EXECUTE_WRITE_REQUEST
         (applied_to Access.Write table.old row.old standing.entry.now queue.old) }
     ensures touched { touched.new.items
         ≡ touched_by queue.old
         (applied_to Access.Write table.old row.old standing.entry.now queue.old) }
+    // Nothing is prepared afterwards.
     ensures queue { queue.new ≡ [] }
     ensures left { LeavesStored
         (written_to Access.Write table.old row.old standing.entry.now queue.old) table.old table.new

@@ -28,6 +28,8 @@ pub fn write(
     value: &[u8],
 ) -> Result<(), Refusal>
     requires row { IsRowOf table.old.attributes row.old }
+    // The write makes the change of the definition, or is refused with its code and changes
+    // nothing.
     ensures outcome { result
         ≡ write_outcome WRITE_REQUEST
         (applied_to Access.Write table.old row.old standing.entry.now

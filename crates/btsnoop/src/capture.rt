@@ -66,6 +66,8 @@ impl<C: Sink> Capture<C> {
     /// `octets` may begin and end anywhere in a packet. `time` is in microseconds since 1970. After
     /// a fault nothing changes.
     pub fn went(&mut self, octets: &[u8], time: u64)
+        // The packets are recorded, however their octets are cut. If the sink fails, it has a
+        // prefix of the records.
         ensures captured { capture_fault self.old ≡ None
             → Captures Direction.Sent time (sent_by_capture self.old) octets.now
             (capture_fault self.new)
@@ -92,6 +94,7 @@ impl<C: Sink> Capture<C> {
     /// Records the packets that end in `octets`, which came from the controller. `went` documents
     /// the parameters.
     pub fn came(&mut self, octets: &[u8], time: u64)
+        // As `went`.
         ensures captured { capture_fault self.old ≡ None
             → Captures Direction.Received time (received_of self.old) octets.now
             (capture_fault self.new) (received_of self.new) (C.contents (sink_of self.old))

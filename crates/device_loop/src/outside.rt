@@ -36,6 +36,7 @@ pub trait Outside<L: Listener>: Happenings {
     fn save(&mut self, host: &Host, listener: &mut L) -> Saving
         ensures octets { Self.octets self.new ≡ Self.octets self.old }
         ensures calls { Self.calls self.new ≡ Self.calls self.old }
+        // It is recorded that the state is saved, or for which connections it is not.
         ensures history { Records (saving_entry result (saved_state host.now.server) ∷ [])
             (Self.history self.old) (Self.history self.new) }
         ensures heard { L.heard listener.new ≡ L.heard listener.old };
@@ -45,6 +46,7 @@ pub trait Outside<L: Listener>: Happenings {
     fn tell(&mut self, host: &Host, listener: &mut L, saving: &Saving)
         ensures octets { Self.octets self.new ≡ Self.octets self.old }
         ensures calls { Self.calls self.new ≡ Self.calls self.old }
+        // It is recorded that this has happened.
         ensures history { Records (Told ∷ []) (Self.history self.old) (Self.history self.new) }
         ensures heard { L.heard listener.new ≡ L.heard listener.old };
 
@@ -52,6 +54,7 @@ pub trait Outside<L: Listener>: Happenings {
     fn send(&mut self, octets: &[u8]) -> Sending
         ensures octets { Self.octets self.new ≡ Self.octets self.old }
         ensures calls { Self.calls self.new ≡ Self.calls self.old }
+        // It is recorded which octets were sent.
         ensures history { Sends result octets.now (Self.history self.old)
             (Self.history self.new) };
 }

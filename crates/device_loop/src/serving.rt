@@ -43,19 +43,35 @@ pub fn serve_happenings<H: Happenings, W: Sink, L: Listener>(
     listener: &mut L,
     turns: u64,
 ) -> Result<End, HostFault>
+    // In some turns this happened, in one order: octets that arrived and calls that were made,
+    // exactly those of the two sides, each in their order. In each turn the loop waited up to the
+    // deadline of the run. Each call was answered as the state machine decides before anything else
+    // was waited for. The output is the state machine's, or a prefix if the writer fails, and the
+    // listener receives its notices. The run that continues keeps the laws of policy and isolation.
+    // `Turns` is reported after exactly the allowed turns; the end of the stream, or that it cannot
+    // be read, if that happened last. A host stops at what happened last, or at what was pending
+    // before.
     ensures serves { host.old.fault ≡ None → ServesDevice result turns host.old host.new
         (known (H.octets happenings.old) (H.calls happenings.old) (H.history happenings.old))
         (known (H.octets happenings.new) (H.calls happenings.new) (H.history happenings.new))
         (W.contents out.old) (W.contents out.new) (L.heard listener.old) (L.heard listener.new) }
+    // If no fault is reported, nothing is pending. If the writer did not fail, all that was pending
+    // is written. A failed write is counted.
     ensures settles { host.old.fault ≡ None
         → Settles host.new (W.failures out.old) (W.failures out.new) }
+    // A fault for which the host then stops is one of feeding.
     ensures feeding { host.old.fault ≡ None
         → IfSome host.new.fault (λ fault. is_of_feeding fault ≡ true) }
     ensures outcome { host.new.fault ≡ result_err result }
     ensures stopped { IsSome host.old.fault → host.new ≡ host.old }
+    // After a fault nothing is waited for.
     ensures happenings_stopped { IsSome host.old.fault → happenings.new ≡ happenings.old }
     ensures sink_stopped { IsSome host.old.fault → out.new ≡ out.old }
     ensures listener_stopped { IsSome host.old.fault → listener.new ≡ listener.old }
+    // After any number of events and turns, in any order: the application is answered and notified
+    // only right after the outcome of saving, and octets are sent only right after that. If the
+    // state was not saved for some connections, no packet in these octets is ACL data for any of
+    // those.
     ensures order { StaysInOrder host.old (H.history happenings.old) (H.history happenings.new) }
     // For every start and input:
     ensures time { KeepsTheTime }

@@ -36,10 +36,18 @@ pub fn serve_turn<O: Outside<L>, W: Outgoing, L: Listener>(
     out: &mut W,
     listener: &mut L,
 ) -> Turn
+    // A host is served as by `serve_happenings`, and its output waits after earlier output. Then
+    // `save` saves rows and values, or names the connections whose changes are not saved. Then
+    // `tell` answers and notifies the application. The waiting ACL data for those connections is
+    // dropped, and only then `send` sends what waits: all of it, none if nobody is there, or a
+    // prefix if it fails. Unless all was sent, all of it still waits, and after a failure nothing
+    // more is sent there. A host that has stopped changes no more, and nothing is waited for; its
+    // state is saved and its output sent all the same.
     ensures turn { TakesATurn result host.old host.new
         (known (O.octets outside.old) (O.calls outside.old) (O.history outside.old))
         (known (O.octets outside.new) (O.calls outside.new) (O.history outside.new))
         (W.contents out.old) (W.contents out.new) (L.heard listener.old) (L.heard listener.new) }
+    // As of `serve_happenings`.
     ensures order { StaysInOrder host.old (O.history outside.old) (O.history outside.new) }
     ensures settles { host.old.fault ≡ None
         → Settles host.new (W.failures out.old) (W.failures out.new) }

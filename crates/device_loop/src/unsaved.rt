@@ -37,8 +37,10 @@ impl Unsaved {
     /// `Confirmed`, and removes that of a `Disconnected`. A connection beyond `MAX_SLOTS` is not
     /// added, which the notices of one host never cause.
     pub fn hear(&mut self, notice: &Notice<'_>)
+        // The set follows the notice, if it has then no more connections than a host may have.
         ensures after { length (unsaved_after self.old (notice_of notice.now)) ≤ MAX_SLOTS
             → self.new ≡ unsaved_after self.old (notice_of notice.now) }
+        // Else it stays as it was.
         ensures full { MAX_SLOTS < length (unsaved_after self.old (notice_of notice.now))
             → self.new ≡ self.old }
         ensures since { FollowsTheNotices self.old self.new (notice_of notice.now) }
@@ -70,6 +72,7 @@ impl Unsaved {
 
     /// Returns the handles, each once, in the order of their first changes.
     pub fn handles(&self) -> ArrayVec<u16, MAX_SLOTS>
+        // Each connection once, in the order of the first changes.
         ensures all { result.items ≡ self.now }
     {
         let mut handles = ArrayVec::new();

@@ -9,6 +9,8 @@ use le_h4::indicator;
 /// Removes the ACL data for these connections from the H4 packets of a host. Other packets keep
 /// their order, and octets at the end that are no whole packet stay.
 pub fn withhold(octets: &mut Vec<u8>, connections: &[u16])
+    // The ACL data whose handle, without the flags, is one of these is removed. All other packets
+    // stay in their order, and so do octets at the end that are no whole packet.
     ensures left { octets.new.items ≡ without_data_for connections.now octets.old.items }
     // For all octets:
     ensures packets { (octets : Octets) → IsCutIntoPackets octets }

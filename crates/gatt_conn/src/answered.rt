@@ -56,9 +56,11 @@ pub fn answer(
     requires bound { mtu_of out.old ≡ conn.old.mtu }
     requires row { IsRowOf table.old.attributes row.old }
 
+    // One PDU of one connection gets exactly the response of the definition.
     ensures answer { contents out.new
         ≡ sent_if_any (answer_to table.old row.old conn.old (request_of pdu.now conn.old.mtu)) }
     ensures due { result.due ≡ is_due (request_of pdu.now conn.old.mtu) }
+    // It leaves exactly the values, row and connection of the definition.
     ensures answered { IsAnswered pdu.now table.old table.new row.old row.new conn.old conn.new
         result.touched.items result.confirmed }
     ensures same_buffer { IsSameBuffer out.old out.new }

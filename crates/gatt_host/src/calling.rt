@@ -24,11 +24,14 @@ use octet_io::Sink;
 /// Returns `Fault::Call` if the host refuses the call, which then changes nothing. Returns
 /// `Fault::Host` if the writer fails or the host had stopped before.
 pub fn call<W: Sink>(host: &mut Host, call: App<'_>, out: &mut W) -> Result<(), Fault>
+    // The call is processed as the next item, and output is written as by `feed`.
     ensures processes { host.old.fault ≡ None
         → Processes (ACall (call_of call.entry) ∷ []) host.old host.new (W.contents out.old)
         (W.contents out.new) (W.failures out.old) (W.failures out.new) }
+    // It is refused exactly if the run refuses it, and for the same reason.
     ensures answers { host.old.fault ≡ None
         → Answers (call_of call.entry) host.old host.new.fault result }
+    // A fault is the one for which the host has stopped.
     ensures outcome { fault_told result ≡ host.new.fault }
     ensures stopped { IsSome host.old.fault → host.new ≡ host.old }
     ensures sink_stopped { IsSome host.old.fault → out.new ≡ out.old }

@@ -116,6 +116,7 @@ impl Controller {
     /// Returns the buffers that it reported, which are enough for a peripheral.
     pub fn buffers(&self) -> Option<Buffers>
         ensures buffers { result ≡ told_in self.now.init }
+        // The reported buffers are enough for a peripheral.
         ensures usable { IfSome result AreUsable }
     {
         buffers_in(&self.init)
@@ -129,11 +130,14 @@ impl Controller {
         opcode: u16,
         returned: &[u8],
     ) -> Result<bool, HostFault>
+        // A Command Complete means exactly this event.
         ensures event { IfOk result
             (λ followed. completed_event {C = Place} self.old allowed opcode returned.now ≡ Ok
             (Credit allowed opcode (status_of returned.now) (following_if followed self.new))) }
+        // It leaves exactly this.
         ensures after { IfOk result (λ followed. self.new ≡ answered_by self.old allowed opcode
             (status_of returned.now) (following_if followed self.new)) }
+        // Or it stops the host for exactly this fault, and changes nothing.
         ensures stops { IfErr result
             (λ fault. stop_of (completed_event self.old allowed opcode returned.now)
             ≡ Some fault) }
@@ -152,11 +156,14 @@ impl Controller {
     /// controller refuses the awaited command.
     #[tactic(auto, using(crate::proofs::places::Refusing::stops_where_refused))]
     pub fn command_status(&mut self, status: u8, allowed: u8, opcode: u16) -> Result<(), HostFault>
+        // A Command Status means exactly this event.
         ensures event { IsOk result
             → status_event {C = Place} self.old status allowed opcode
             ≡ Ok (Credit allowed opcode (Some status) None) }
+        // It leaves exactly this.
         ensures after { IsOk result
             → self.new ≡ answered_by self.old allowed opcode (Some status) None }
+        // Or it stops the host for exactly this fault, and changes nothing.
         ensures stops { IfErr result
             (λ fault. stop_of (status_event self.old status allowed opcode) ≡ Some fault) }
         ensures unchanged { IfErr result (λ fault. self.new ≡ self.old) }

@@ -33,10 +33,12 @@ pub fn drive<W: Sink>(
     inputs: &[Input<'_>],
     out: &mut W,
 ) -> Result<usize, HostFault>
+    // Octets and calls are processed in their order, and output is written as by `feed`.
     ensures processes { host.old.fault ≡ None
         → Processes (items_of inputs.now) host.old host.new (W.contents out.old)
         (W.contents out.new) (W.failures out.old) (W.failures out.new) }
     ensures outcome { host.new.fault ≡ result_err result }
+    // It is the number of calls that the run refuses.
     ensures refused { IfOk result (λ count. CountsRefused count (items_of inputs.now) host.old) }
     ensures stopped { IsSome host.old.fault → host.new ≡ host.old }
     ensures sink_stopped { IsSome host.old.fault → out.new ≡ out.old }

@@ -24,6 +24,8 @@ use octet_io::{Sink, write_all};
 /// begin and end anywhere in a packet. Pending packets go first, then those of each packet before
 /// the next is processed. After a fault it returns that fault and changes nothing.
 pub fn feed<W: Sink>(host: &mut Host, octets: &[u8], out: &mut W) -> Result<(), HostFault>
+    // Octets are processed as items, however they are cut. The pending output and their own is
+    // written, and nothing else; if the writer fails, a prefix.
     ensures processes { host.old.fault ≡ None
         → Processes (octet_items octets.now) host.old host.new (W.contents out.old)
         (W.contents out.new) (W.failures out.old) (W.failures out.new) }
@@ -49,6 +51,9 @@ pub fn feed_to<W: Sink, L: Listener>(
     ensures processes { host.old.fault ≡ None
         → Processes (octet_items octets.now) host.old host.new (W.contents out.old)
         (W.contents out.new) (W.failures out.old) (W.failures out.new) }
+    // The listener receives exactly the notices of the items, in order, each with the octets of its
+    // value. If the writer fails, it has received those up to some item; if it fails at an item's
+    // packets, the notices of that item too.
     ensures heard { host.old.fault ≡ None
         → Listens (octet_items octets.now) host.old host.new host.new.fault (L.heard listener.old)
         (L.heard listener.new) }

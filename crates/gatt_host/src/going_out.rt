@@ -208,6 +208,7 @@ fn command_out(controller: &mut Controller, slots: &mut Slots, out: &mut PacketB
 #[tactic(auto, using(crate::proofs::places::Entering::owes_what_an_event_brings))]
 pub fn next_out(controller: &mut Controller, slots: &mut Slots, out: &mut PacketBuf) -> bool
     ensures some { result ≡ is_some (next_out controller.old slots.old) }
+    // Commands come first, as far as the controller accepts them, then packets by slots.
     ensures octets { OnTrue result (next_out controller.old slots.old ≡ Some out.new) }
     ensures controller { controller.new ≡ controller_then controller.old slots.old }
     ensures slots { slots.new ≡ slots_then controller.old slots.old }

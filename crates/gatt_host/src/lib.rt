@@ -22,6 +22,7 @@ mod notices;
 mod open;
 mod packet;
 mod reported;
+mod seeing;
 mod server;
 mod serving;
 mod stream_packets;

@@ -40,7 +40,10 @@ impl Host {
         rows: Rows,
         config: Config,
     ) -> Result<Host, OpenFault>
+        // The configuration is refused exactly if it is out of its limits, before memory is asked
+        // for.
         ensures config { (result ≡ Err OpenFault.BadConfig) ↔ (is_configured config ≡ false) }
+        // An opened host is at its start, and nothing was sent.
         ensures opened { IfOk result
             (λ host. RefinesRun (run (start_of table keys rows config) []) [] host) }
         ensures no_fault { IfOk result (λ host. host.fault ≡ None) }

@@ -141,11 +141,11 @@ impl Server {
         ensures { IsAfter
             (frame_event place (of_frame (frame_of octets.now))) self.old self.new }
     {
-        self.hear_frame(place, read_frame(octets));
+        self.handle_frame(place, read_frame(octets));
     }
 
     #[inline(always)]
-    fn hear_frame(&mut self, place: usize, read: Result<Frame<'_>, Skip>)
+    fn handle_frame(&mut self, place: usize, read: Result<Frame<'_>, Skip>)
         requires there { IsThere self.old.slots place }
         requires of_table { IsOfItsTable self.old }
         ensures { IsAfter (frame_event place
@@ -154,7 +154,7 @@ impl Server {
     {
         match read {
             Ok(frame) => match frame.cid {
-                ATT => self.ask(place, frame.payload),
+                ATT => self.serve_pdu(place, frame.payload),
                 LE_SIGNALLING | SECURITY_MANAGER => self.other_channel(
                     place,
                     frame.cid,
@@ -203,7 +203,7 @@ pub(crate) fn acl(
 {
     match server.slots.find_serving(handle) {
         Some(place) => {
-            frames.arrivals.hear(place, server.time);
+            frames.arrivals.note_packet(place, server.time);
             fragment(server, &mut frames.assembled[place], place, pb, bc, octets);
         }
         None => server.end_event(LastEvent::Quiet),
@@ -231,7 +231,7 @@ fn fragment(
         // computes the length only once.
         let read = read_frame(octets);
         frame.clear();
-        return server.hear_frame(place, read);
+        return server.handle_frame(place, read);
     }
     join_fragment(server, frame, place, pb, bc, octets);
 }

@@ -88,14 +88,14 @@ impl Server {
     pub(crate) fn end_event(&mut self, last: LastEvent)
         ensures { self.new ≡ with_last last (after_no_change self.old) }
     {
-        self.hear(None, &[], &[]);
+        self.notify(None, &[], &[]);
         self.last = last;
     }
 
     /// Ends an event: notifies the connection in slot `own` of the values `here` and the others of
     /// `handles`, and sends pending indications. Sets no notice yet.
     #[inline(always)]
-    fn hear(&mut self, own: Option<usize>, here: &[u16], handles: &[u16])
+    fn notify(&mut self, own: Option<usize>, here: &[u16], handles: &[u16])
         requires here { AreOfTableIfAny here.now self.old.table.attributes self.old.rows
             self.old.slots }
         requires handles { AreOfTableIfAny handles.now self.old.table.attributes self.old.rows
@@ -110,7 +110,7 @@ impl Server {
             now: self.time,
         };
         self.slots
-            .hear(moment, own, here, handles, &mut self.skipped);
+            .notify(moment, own, here, handles, &mut self.skipped);
         self.last = LastEvent::Quiet;
     }
 
@@ -132,7 +132,7 @@ impl Server {
         ensures { self.new ≡ after_update handle value.now self.old }
     {
         self.table.set(handle, value);
-        self.hear(None, &[], &[handle]);
+        self.notify(None, &[], &[handle]);
     }
 
     #[tactic(auto, using(host_connections::proofs::AtPlace::lent_at))]
@@ -201,7 +201,7 @@ impl Server {
     }
 
     #[inline(always)]
-    pub(crate) fn ask(&mut self, place: usize, pdu: &[u8])
+    pub(crate) fn serve_pdu(&mut self, place: usize, pdu: &[u8])
         requires place { place < length self.old.slots }
         requires there { IsSome (server_slot_at self.old place) }
         requires of_table { IsOfItsTable self.old }
@@ -228,7 +228,7 @@ impl Server {
             rows: &self.rows,
             now: self.time,
         };
-        self.slots.hear(
+        self.slots.notify(
             moment,
             Some(place),
             &[],
@@ -247,7 +247,7 @@ impl Server {
         let before = slot.key();
         let owed = slot.is_owed(&self.rows);
         let gained = self.slots.encrypt(place, status, enabled);
-        self.hear_link(place, before, gained && owed);
+        self.end_link_event(place, before, gained && owed);
     }
 
     pub(crate) fn refresh(&mut self, place: usize, status: u8)
@@ -260,11 +260,11 @@ impl Server {
         let before = slot.key();
         let owed = slot.is_owed(&self.rows);
         let gained = self.slots.refresh(place, status);
-        self.hear_link(place, before, gained && owed);
+        self.end_link_event(place, before, gained && owed);
     }
 
     /// Ends an event that changed a link. `before` describes its key before the event.
-    fn hear_link(&mut self, place: usize, before: Option<KeyFacts>, due: bool)
+    fn end_link_event(&mut self, place: usize, before: Option<KeyFacts>, due: bool)
         requires place { place < length self.old.slots }
         requires there { IsSome (server_slot_at self.old place) }
         requires of_table { IsOfItsTable self.old }
@@ -277,7 +277,7 @@ impl Server {
         let slot = self.slots.get(place);
         let handle = slot.handle();
         let after = slot.key();
-        self.hear_changes(
+        self.end_with_changes(
             place,
             due,
             LastEvent::LinkChanged {
@@ -289,14 +289,14 @@ impl Server {
     }
 
     /// Ends an event. If `due`, sends Service Changed to the slot's connection.
-    fn hear_changes(&mut self, place: usize, due: bool, last: LastEvent)
+    fn end_with_changes(&mut self, place: usize, due: bool, last: LastEvent)
         requires of_table { IsOfItsTable self.old }
         ensures { self.new ≡ with_last last (server_after_event (Some place)
             (if due then option_to_list self.old.changer else []) [] self.old) }
     {
         match self.changer {
-            Some(changer) if due => self.hear(Some(place), &[changer], &[]),
-            _ => self.hear(Some(place), &[], &[]),
+            Some(changer) if due => self.notify(Some(place), &[changer], &[]),
+            _ => self.notify(Some(place), &[], &[]),
         }
         self.last = last;
     }
@@ -314,9 +314,9 @@ impl Server {
         match self.changer {
             Some(changer) => {
                 self.table.set(changer, &ALL_CHANGED);
-                self.hear(None, &[], &[changer]);
+                self.notify(None, &[], &[changer]);
             }
-            None => self.hear(None, &[], &[]),
+            None => self.notify(None, &[], &[]),
         }
         old
     }

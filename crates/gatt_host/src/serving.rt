@@ -18,7 +18,7 @@ use crate::listener::{Listener, Nobody};
 use le_h4::Deframer;
 use octet_io::{Failed, Sink, Source};
 
-/// Maximum number of bytes of one read.
+/// The most bytes of one read of a controller by `serve`.
 const TURN: usize = 512;
 
 /// The end of the input.
@@ -40,11 +40,17 @@ pub fn serve<R: Source, W: Sink>(
     writer: &mut W,
     turns: u64,
 ) -> Result<End, HostFault>
+    // The octets of the reader are processed, up to its end if the call succeeds. If it succeeds or
+    // its turns are over, n reads gave n to 512 n octets in all; the read that found the end does
+    // not count. The run that continues keeps the laws of policy and isolation.
     ensures serves { host.old.fault ≡ None
         → Serves result turns host.old host.new (R.remaining reader.old) (R.remaining reader.new)
         (W.contents writer.old) (W.contents writer.new) }
     ensures settles { host.old.fault ≡ None
         → Settles host.new (W.failures writer.old) (W.failures writer.new) }
+    // The end is reported exactly if a read has found it, and a fault of the reader exactly if a
+    // read failed. There are no more reads than turns, and `Turns` is reported only after that
+    // number without an end. This holds for each reader that counts its reads.
     ensures reads { host.old.fault ≡ None
         → Reads result turns (R.reads reader.old) (R.reads reader.new) (R.ends reader.old)
         (R.ends reader.new) (R.failures reader.old) (R.failures reader.new) }
@@ -68,6 +74,7 @@ pub fn serve_to<R: Source, W: Sink, L: Listener>(
     ensures serves { host.old.fault ≡ None
         → Serves result turns host.old host.new (R.remaining reader.old) (R.remaining reader.new)
         (W.contents writer.old) (W.contents writer.new) }
+    // The listener receives the notices of the octets that were read, as by `feed_to`.
     ensures heard { host.old.fault ≡ None
         → ListensServing host.old host.new (R.remaining reader.old) (R.remaining reader.new)
         (L.heard listener.old) (L.heard listener.new) }

@@ -26,7 +26,8 @@ use Rattle.gatt_subs.specs.declared.row_entry.RowEntry.{RowEntry}
 use Rattle.gatt_subs.specs.declared.rows_line.Line.TheVariants.{Entry, Owed}
 use Rattle.gatt_subs.specs.ReadBack.{IsNamed, IsConfigured}
 use Rattle.le_security.specs.Address.{address_of, address_type_of_digit, peer_of}
-use Rattle.gatt_subs.specs.RowsLine.{space, parts_of, is_from_one, handle_of_row, bits_of, rows_line_of}
+use Rattle.gatt_subs.specs.RowsLine.{space, is_from_one, handle_of_row, bits_of, rows_line_of}
+use Rattle.text_words.specs.Split.{parts_of}
 use Rattle.gatt_subs.specs.RowsText.{address_text, entry_line, joined_by_colons, owed_line}
 
 -- words are of visible characters

@@ -23,7 +23,8 @@ use Rattle.gatt_subs.specs.declared.rows_line.Line.{Line}
 use Rattle.gatt_subs.specs.declared.rows_line.Line.TheVariants.{Entry, Owed}
 use Rattle.gatt_subs.specs.ReadBack.{IsNamed, IsConfigured}
 use Rattle.octet_io.specs.Missing.{◌>>=◌}
-use Rattle.gatt_subs.specs.RowsLine.{parts_of, is_from_one, handle_of_row, bits_of, line_behind, rows_line_of}
+use Rattle.gatt_subs.specs.RowsLine.{is_from_one, handle_of_row, bits_of, line_behind, rows_line_of}
+use Rattle.text_words.specs.Split.{parts_of}
 
 some-is : {A : Type 0} {x y : A} → Some x ≡ Some y → x ≡ y
 some-is is = cc is

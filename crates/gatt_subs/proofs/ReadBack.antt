@@ -22,7 +22,8 @@ use Rattle.gatt_subs.specs.RowEntry.{is_at, order_of, rank_of}
 use Rattle.gatt_subs.specs.Rows.{Subscriptions}
 use Rattle.gatt_subs.specs.RowsLine.{rows_line_of}
 use Rattle.gatt_subs.specs.RowsText.{address_text, configured, entry_line, owed_in, owed_line, rows_text}
-use Rattle.gatt_subs.specs.Unfitted.{WrittenRows, has_row_entry, has_peer, lines_of_rows, rows_read, rows_with_line, rows_with_lines, rows_with_said}
+use Rattle.gatt_subs.specs.Unfitted.{WrittenRows, has_row_entry, has_peer, rows_read, rows_with_line, rows_with_lines, rows_with_said}
+use Rattle.text_words.specs.Split.{lines_of}
 use Rattle.gatt_subs.proofs.LinesBack.{HasNoFeed, entry_back, entry_ended, entry_feedless, entry_words, owed_back, owed_ended, owed_feedless, owed_words}
 
 -- what comes after all others stands at the end
@@ -99,14 +100,14 @@ owed_added number entries seen peer less few =
     rw (is_new_peer peer seen less, room, at_end rank_of peer seen less) refl
 
 -- the text of an entry and of what follows divides behind its line feed
-divided : (words rest : Octets) → HasNoFeed words → lines_of_rows (words ++ 10 ∷ rest) ≡ words ∷ lines_of_rows rest
+divided : (words rest : Octets) → HasNoFeed words → lines_of (words ++ 10 ∷ rest) ≡ words ∷ lines_of rest
 divided words rest feedless = slice_split_at (λ octet. octet == 10) words 10 rest feedless refl
 
 first_divided : (line words rest tail : Octets) → line ≡ words ++ 10 ∷ [] → HasNoFeed words
-    → lines_of_rows ((line ++ rest) ++ tail) ≡ words ∷ lines_of_rows (rest ++ tail)
+    → lines_of ((line ++ rest) ++ tail) ≡ words ∷ lines_of (rest ++ tail)
 first_divided line words rest tail is feedless =
-    ap (λ (line : Octets). lines_of_rows ((line ++ rest) ++ tail)) is
-    ∙ ap lines_of_rows (append_assoc (words ++ 10 ∷ []) rest tail ∙ append_assoc words (10 ∷ []) (rest ++ tail))
+    ap (λ (line : Octets). lines_of ((line ++ rest) ++ tail)) is
+    ∙ ap lines_of (append_assoc (words ++ 10 ∷ []) rest tail ∙ append_assoc words (10 ∷ []) (rest ++ tail))
     ∙ divided words (rest ++ tail) feedless
 
 -- lines that are written one after the other are taken in one after the other
@@ -119,19 +120,19 @@ module _ (X : Type 0) (line : X → Octets) (words : X → Octets) (with_all : L
     AllFit seen (x ∷ rest) = Good x × Fits seen x × AllFit (seen ++ x ∷ []) rest
 
     pub taken_in : (number : ℕ) (seen rest : List X) (tail : Octets) → AllFit seen rest
-        → rows_with_lines number (with_all seen) (lines_of_rows (flat_map line rest ++ tail)) ≡ rows_with_lines (number + length rest) (with_all (seen ++ rest))
-        (lines_of_rows tail)
+        → rows_with_lines number (with_all seen) (lines_of (flat_map line rest ++ tail)) ≡ rows_with_lines (number + length rest) (with_all (seen ++ rest))
+        (lines_of tail)
     taken_in number seen [] tail fit =
-        ap (λ (all : List X). rows_with_lines number (with_all all) (lines_of_rows tail)) (sym (append-nil seen))
-        ∙ ap (λ (at : ℕ). rows_with_lines at (with_all (seen ++ [])) (lines_of_rows tail)) (omega arith)
+        ap (λ (all : List X). rows_with_lines number (with_all all) (lines_of tail)) (sym (append-nil seen))
+        ∙ ap (λ (at : ℕ). rows_with_lines at (with_all (seen ++ [])) (lines_of tail)) (omega arith)
     taken_in number seen (x ∷ rest) tail fit =
         ap (λ (lines : List Octets). rows_with_lines number (with_all seen) lines)
         (first_divided (line x) (words x) (flat_map line rest) tail (line_is x) (feedless x fit.0))
-        ∙ ap (λ (next : Result WrittenRows RowsFault). next >>= (λ written. rows_with_lines (number + 1) written (lines_of_rows (flat_map line rest ++ tail))))
+        ∙ ap (λ (next : Result WrittenRows RowsFault). next >>= (λ written. rows_with_lines (number + 1) written (lines_of (flat_map line rest ++ tail))))
         (added number seen x fit.0 fit.1)
         ∙ taken_in (number + 1) (seen ++ x ∷ []) rest tail fit.2
-        ∙ ap (λ (all : List X). rows_with_lines ((number + 1) + length rest) (with_all all) (lines_of_rows tail)) (append_assoc seen (x ∷ []) rest)
-        ∙ ap (λ (at : ℕ). rows_with_lines at (with_all (seen ++ x ∷ rest)) (lines_of_rows tail)) (omega arith)
+        ∙ ap (λ (all : List X). rows_with_lines ((number + 1) + length rest) (with_all all) (lines_of tail)) (append_assoc seen (x ∷ []) rest)
+        ∙ ap (λ (at : ℕ). rows_with_lines at (with_all (seen ++ x ∷ rest)) (lines_of tail)) (omega arith)
 
 -- what stands behind all that was taken in, where there may be one more
 pub record Follows (X : Type 0) (order : X → ℕ) (most : ℕ) (seen : List X) (x : X) : Type 0 where
@@ -170,8 +171,8 @@ module _ (X : Type 0) (line : X → Octets) (words : X → Octets) (with_all : L
       )
 
   pub all_taken_in : (number : ℕ) (all : List X) (tail : Octets) → All Good all → Climbs order all → length all ≤ most
-      → rows_with_lines number (with_all []) (lines_of_rows (flat_map line all ++ tail)) ≡ rows_with_lines (number + length all) (with_all all)
-      (lines_of_rows tail)
+      → rows_with_lines number (with_all []) (lines_of (flat_map line all ++ tail)) ≡ rows_with_lines (number + length all) (with_all all)
+      (lines_of tail)
   all_taken_in number all tail good climbs few =
       taken_in X line words with_all (Follows X order most) Good line_is feedless added number [] all tail (all_fit [] all good climbs few)
 
@@ -180,7 +181,7 @@ unfolding rows_read rows_text
 reads_back rows is =
     all_taken_in RowEntry entry_line entry_words (λ entries. writing entries []) order_of 4096 IsConfigured entry_ended entry_feedless entry_line_added
     1 (configured rows) (flat_map owed_line (owed_in rows)) is.entries is.climbs is.few
-    ∙ ap (λ (text : Octets). rows_with_lines (1 + length (configured rows)) (writing (configured rows) []) (lines_of_rows text))
+    ∙ ap (λ (text : Octets). rows_with_lines (1 + length (configured rows)) (writing (configured rows) []) (lines_of text))
     (sym (append-nil (flat_map owed_line (owed_in rows))))
     ∙ all_taken_in Peer owed_line owed_words (writing (configured rows)) rank_of 64 IsNamed owed_ended owed_feedless (owed_line_added (configured rows))
     (1 + length (configured rows)) (owed_in rows) [] is.owed is.owed_climb is.owed_few

@@ -21,7 +21,8 @@ use Rattle.gatt_subs.specs.Rows.{Subscriptions, subscriptions_read, unfitted_row
 use Rattle.octet_io.specs.Memory.{Gives}
 use Rattle.gatt_subs.specs.RowEntry.{is_at, order_of, rank_of}
 use Rattle.gatt_subs.specs.RowsLine.{rows_line_of}
-use Rattle.gatt_subs.specs.Unfitted.{WrittenRows, has_row_entry, has_peer, lines_of_rows, nothing_written, rows_read, rows_with_line, rows_with_lines, rows_with_said}
+use Rattle.gatt_subs.specs.Unfitted.{WrittenRows, has_row_entry, has_peer, nothing_written, rows_read, rows_with_line, rows_with_lines, rows_with_said}
+use Rattle.text_words.specs.Split.{lines_of}
 use Rattle.gatt_subs.proofs.LinesRead.{CanBeWritten, line_read}
 
 -- peers that stand at the same place are one
@@ -210,7 +211,7 @@ lines_stay number written (line ∷ lines) is =
 
 rows_of_a_file : (text : Octets) → IfOk (rows_read text) IsOfAFile
 unfolding rows_read
-rows_of_a_file text = lines_stay 1 nothing_written (lines_of_rows text) (record {
+rows_of_a_file text = lines_stay 1 nothing_written (lines_of text) (record {
   entries = All-nil IsConfigured;
   owed = All-nil IsNamed;
   climbs = tt;

@@ -1,12 +1,11 @@
 -- The lines of a subscriptions file (this profile's own).
 use Rattle.std.specs.Prelude.{ℕ, Bool, ◌==◌, ◌&&◌, nat_lt, nat_le, if◌then◌else◌, length, slice_index, codes, Option, Some, None}
-use Rattle.std.specs.Borrow.{Bor}
-use Rattle.std.specs.List.{position_or_len, before_first, after_first}
 use Rattle.std.specs.Option.{option_map}
 use Rattle.std.specs.Str.{bytes_eq, all_ascii_digits}
 use Rattle.std.specs.Str.Parse.{digits_value}
 use Rattle.octet_io.specs.Missing.{◌>>=◌}
 use Rattle.octet_io.specs.Number.{Octets}
+use Rattle.text_words.specs.Split.{parts_of}
 use Rattle.att_numbers.specs.Types.{Handle}
 use Rattle.le_security.specs.Address.{peer_of}
 use Rattle.gatt_subs.specs.declared.rows_line.Line.{Line}
@@ -14,16 +13,6 @@ use Rattle.gatt_subs.specs.declared.rows_line.Line.TheVariants.{Entry, Owed}
 
 abbrev pub space : ℕ
 space = 32
-
-unfoldable pub parts_of : Octets → Option (Octets × Octets)
-parts_of text =
-    if nat_lt (position_or_len (λ octet. octet == space) text) (length text)
-    then Some
-    (before_first (λ octet. octet == space) text, after_first (λ octet. octet == space) text)
-    else None
-
-abbrev pub parts_view : Bor Octets × Bor Octets → Octets × Octets
-parts_view parts = (parts.0.now, parts.1.now)
 
 -- A handle is decimal digits without leading zeros.
 abbrev pub is_from_one : ℕ → Bool

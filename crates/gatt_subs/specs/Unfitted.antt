@@ -1,7 +1,8 @@
 -- The contents of a subscriptions file (this profile's own).
-use Rattle.std.specs.Prelude.{ℕ, ◌+◌, ◌==◌, Bool, not, nat_lt, List, [], ◌∷◌, length, Result, Ok}
-use Rattle.std.specs.List.{list_any, slice_split}
+use Rattle.std.specs.Prelude.{ℕ, ◌+◌, Bool, not, nat_lt, List, [], ◌∷◌, length, Result, Ok}
+use Rattle.std.specs.List.{list_any}
 use Rattle.octet_io.specs.Number.{Octets}
+use Rattle.text_words.specs.Split.{lines_of}
 use Rattle.toml_schema.specs.Reading.{◌>>=◌, unless, require}
 use Rattle.att_numbers.specs.Types.{Handle}
 use Rattle.le_hci.specs.declared.peer.Peer.{Peer}
@@ -52,9 +53,5 @@ rows_with_lines number written [] = Ok written
 rows_with_lines number written (line ∷ lines) =
     rows_with_line number written line >>= (λ next. rows_with_lines (number + 1) next lines)
 
--- Lines end with line feeds; the text after the last is also a line, possibly blank.
-abbrev pub lines_of_rows : Octets → List Octets
-lines_of_rows text = slice_split (λ octet. octet == 10) text
-
 unfoldable pub rows_read : Octets → Result WrittenRows RowsFault
-rows_read text = rows_with_lines 1 nothing_written (lines_of_rows text)
+rows_read text = rows_with_lines 1 nothing_written (lines_of text)

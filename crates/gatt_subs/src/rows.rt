@@ -65,6 +65,8 @@ impl Rows {
     /// `OutOfMemory` may occur at any point.
     #[tactic(auto, using(crate::proofs::RowsRead::read_can_be_written))]
     pub fn read(alloc: Global, text: &str) -> Result<Rows, RowsFault>
+        // A subscriptions file gives exactly what its lines say, or its first fault, unless memory
+        // is refused.
         ensures rows { Gives OutOfMemory (subscriptions_read text.now) result }
         // The text can be read again.
         ensures of_a_file { IfOk result (λ rows. IsOfAFile (written_by rows)) }

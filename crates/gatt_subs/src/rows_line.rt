@@ -2,11 +2,13 @@
 
 ghost use Rattle.std.specs.Prelude.{◌≡◌, None};
 ghost use Rattle.std.specs.Option.{option_map};
-ghost use Rattle.gatt_subs.specs.RowsLine.{parts_view, parts_of, entry_of, line_behind, rows_line_of, handle_of_row, bits_of};
+ghost use Rattle.gatt_subs.specs.RowsLine.{entry_of, line_behind, rows_line_of, handle_of_row, bits_of};
+ghost use Rattle.text_words.specs.Split.{parts_view, parts_of};
 
 use crate::row_entry::RowEntry;
 use le_hci::Peer;
 use le_security::read_peer;
+use text_words::first_word;
 
 /// The content of a line.
 #[derive(Clone, Copy)]
@@ -22,9 +24,9 @@ pub enum Line {
 pub fn read_line(line: &str) -> Option<Line>
     ensures { result ≡ rows_line_of line.now }
 {
-    let (first, rest) = parts(line)?;
-    let (second, rest) = parts(rest)?;
-    match parts(rest) {
+    let (first, rest) = first_word(line)?;
+    let (second, rest) = first_word(rest)?;
+    match first_word(rest) {
         Some((handle, bits)) => read_entry(first, second, handle, bits),
         None => read_owed(first, second, rest),
     }
@@ -38,14 +40,6 @@ fn read_entry(kind: &str, address: &str, handle: &str, bits: &str) -> Option<Lin
         handle: read_handle(handle)?,
         bits: read_bits(bits)?,
     }))
-}
-
-/// Splits a text at its first space.
-#[tactic(auto, unfolding(crate::specs::RowsLine::parts_of))]
-fn parts(text: &str) -> Option<(&str, &str)>
-    ensures { option_map parts_view result ≡ parts_of text.now }
-{
-    text.split_once(' ')
 }
 
 fn read_owed(mark: &str, kind: &str, address: &str) -> Option<Line>

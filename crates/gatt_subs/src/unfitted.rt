@@ -6,7 +6,8 @@ ghost use Rattle.octet_io.specs.Memory.{Gives, Leaves};
 ghost use Rattle.gatt_subs.specs.declared.rows_fault.RowsFault.TheVariants.{OutOfMemory};
 ghost use Rattle.gatt_subs.specs.InOrder.{in_order};
 ghost use Rattle.gatt_subs.specs.RowEntry.{order_of, rank_of};
-ghost use Rattle.gatt_subs.specs.Unfitted.{has_row_entry, has_peer, nothing_written, lines_of_rows, rows_with_line, rows_with_said, rows_read};
+ghost use Rattle.gatt_subs.specs.Unfitted.{has_row_entry, has_peer, nothing_written, rows_with_line, rows_with_said, rows_read};
+ghost use Rattle.text_words.specs.Split.{lines_of};
 
 use crate::row_entry::{RowEntry, rank};
 use crate::rows_fault::RowsFault;
@@ -14,10 +15,11 @@ use crate::rows_line::{Line, read_line};
 use le_hci::Peer;
 use std::alloc::{AllocError, Global};
 use std::marker::Model;
+use text_words::first_line;
 
-/// The most entries in a file.
+/// The most configurations in a rows file.
 const MAX_ENTRIES: usize = 4096;
-/// The most peers with a pending indication in a file.
+/// The most peers with a pending Service Changed in a rows file.
 const MAX_OWED: usize = 64;
 
 /// A file's contents before they are fitted to keys and a table.
@@ -115,16 +117,6 @@ impl Unfitted {
         }
         Ok(())
     }
-}
-
-/// Splits a text at its first line feed.
-fn first_line(text: &str) -> Option<(&str, &str)>
-    ensures first { IfSome result
-        (λ parts. lines_of_rows text.now ≡ parts.0.now ∷ lines_of_rows parts.1.now) }
-    ensures only { IfNone result (lines_of_rows text.now ≡ text.now ∷ []) }
-    ensures shorter { IfSome result (λ parts. length parts.1.now < length text.now) }
-{
-    text.split_once('\n')
 }
 
 fn has_entry(entries: &[RowEntry], peer: &Peer, handle: u16) -> bool

@@ -150,6 +150,7 @@ pub record RunsInOrder : Type 0 where
   -- Octets mean what the packets mean into which they divide, and less than a packet is unfinished.
   pub divides : TakesTheDivision
   pub unfinished : LeavesLessThanAPacket
+  -- The run is in the state that its events leave, one after another.
   pub events : IsAfterItsEvents
   -- The packets sent are those of the events: commands, then the packets for each connection that
   -- has a slot.

@@ -39,7 +39,7 @@ impl Arrivals {
     }
 
     /// Notes the time, in milliseconds, of a packet for a slot.
-    pub fn hear(&mut self, place: usize, time: u64)
+    pub fn note_packet(&mut self, place: usize, time: u64)
         requires { place < MAX_SLOTS }
         ensures { self.new ≡ with_heard place time self.old }
     {

@@ -10,6 +10,7 @@ mod handles;
 mod marks;
 mod moment;
 mod notifications;
+mod notifying;
 mod place_events;
 mod places;
 mod request;

@@ -213,7 +213,7 @@ fn answer(
     };
     let placed = answer_over(table, row, conn, pdu, room, written);
     if let Some(len) = placed.len {
-        sender.push_front(ATT, len);
+        sender.push_prefix(ATT, len);
     }
     placed.confirmed
 }

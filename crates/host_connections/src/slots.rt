@@ -1,22 +1,15 @@
 //! The slots of a host, with marks where something may be pending.
 
-ghost use Rattle.std.specs.Prelude.{◌≡◌, ℕ, ◌<◌, ◌≤◌, length, map, replicate, take, [], ◌∷◌, None, Some, IfOk, IfSome, IsSome};
-ghost use Rattle.std.specs.Bool.{OnTrue, OnFalse};
+ghost use Rattle.std.specs.Prelude.{◌≡◌, ◌<◌, ◌≤◌, length, map, replicate, take, None, Some, IfOk, IfSome, IsSome};
 ghost use Rattle.std.specs.Borrow.{sem};
-ghost use Rattle.std.specs.List.{position};
 ghost use Rattle.std.specs.Option.{option_copied};
 ghost use Rattle.att_table.specs.ConfigRow.{bits_at, IsRowOf};
-ghost use Rattle.att_table.specs.Table.{Contents};
-ghost use Rattle.att_writes.specs.declared.queue.TheConstants.{MAX_PREPARED};
 ghost use Rattle.host_connections.specs.Connections.{FindsNext};
 ghost use Rattle.host_connections.specs.Hearing.{slot_row_in_force};
 ghost use Rattle.host_connections.specs.Lending.{LendsSlot};
-ghost use Rattle.host_connections.specs.OfTable.{AreOfTable, AreOfTableIfAny};
-ghost use Rattle.host_connections.specs.Places.{may_listen};
 ghost use Rattle.host_connections.specs.Request.{bond_served, confirmed_of, handles_written_by, overflows, slot_after_request, table_after};
-ghost use Rattle.host_connections.specs.Skips.{all_skipped};
-ghost use Rattle.host_connections.specs.Slots.{slots_after_entries, all_after_table, all_after_time, all_heard, slot_state_at, late_handles, place_free, place_holding, place_serving, slot_row, slot_row_at, slots_at, slots_deadline, IsThere};
-ghost use Rattle.gatt_subs.specs.Rows.{row_of, ChangesBond, Subscriptions};
+ghost use Rattle.host_connections.specs.Slots.{slots_after_entries, all_after_table, all_after_time, slot_state_at, late_handles, place_free, place_holding, place_serving, slot_row, slot_row_at, slots_at, slots_deadline, IsThere};
+ghost use Rattle.gatt_subs.specs.Rows.{row_of, ChangesBond};
 ghost use Rattle.le_hci.specs.Event.{completed_packets_of};
 
 use crate::all_slots::{
@@ -24,13 +17,10 @@ use crate::all_slots::{
 };
 use crate::arrivals::Arrivals;
 use crate::connection::next_connection;
-use crate::event_end::{Heard, indicate_due, notify_all, notify_alone};
 use crate::handles::Handles;
 use crate::marks::Marks;
-use crate::moment::Moment;
-use crate::places::{Due, Places, first_due};
+use crate::places::Places;
 use crate::request::Brought;
-use crate::skipped::{Skips, note_all_skips};
 use crate::slot::Slot;
 use arrayvec::ArrayVec;
 use att_table::{ConfigRow, Table};
@@ -192,6 +182,8 @@ impl Slots {
         requires row { IfSome (slot_state_at self.old place)
             (λ slot_state. IsRowOf table.old.attributes
             (slot_row_in_force (row_of rows.old slot_state.peer) slot_state)) }
+        // The event leaves exactly the state of the definition in its slot, and all other slots as
+        // they were.
         ensures after { self.new
             ≡ slots_at place
             (λ slot_state. slot_after_request table.old now (row_of rows.old slot_state.peer)
@@ -243,194 +235,6 @@ impl Slots {
         ensures { self.new ≡ all_after_table old.now.attributes new.now.attributes self.old }
     {
         replace_all(self.slots.as_mut_slice(), old, new);
-    }
-
-    /// Ends an event: notifies the values `here` to the slot `own` and `handles` to all others,
-    /// slot by slot, then sends pending indications. `skipped` then has only the skipped values. If
-    /// there are values, the slots must be of the table.
-    #[inline(always)]
-    pub fn hear(
-        &mut self,
-        moment: Moment<'_>,
-        own: Option<usize>,
-        here: &[u16],
-        handles: &[u16],
-        skipped: &mut Skips,
-    )
-        requires here { AreOfTableIfAny here.now moment.table.now.attributes
-            moment.rows.now self.old }
-        requires handles { AreOfTableIfAny handles.now moment.table.now.attributes
-            moment.rows.now self.old }
-        requires few_here { length here.now ≤ MAX_PREPARED }
-        requires few { length handles.now ≤ MAX_PREPARED }
-        ensures heard { self.new
-            ≡ all_heard moment.entry.table.now moment.entry.now moment.entry.rows.now own here.now
-            handles.now self.old }
-        ensures skipped { skipped.new.items
-            ≡ all_skipped moment.entry.table.now moment.entry.now moment.entry.rows.now own
-            here.now handles.now self.old }
-        ensures count { length self.new ≡ length self.old }
-    {
-        skipped.clear();
-        // Most events notify no connection.
-        if !self.nobody_hears(own, here, handles) || self.may_wait() {
-            self.look_and_hear(moment, own, here, handles, skipped);
-        }
-    }
-
-    /// Returns true if the marks show that no connection is notified of these values.
-    fn nobody_hears(&self, own: Option<usize>, here: &[u16], handles: &[u16]) -> bool
-        ensures heard { OnTrue result ((table : Contents) (rows : Subscriptions) (now : ℕ)
-            → all_heard table now rows own here.now handles.now self.now
-            ≡ all_heard table now rows None [] [] self.now) }
-        ensures skipped { OnTrue result ((table : Contents) (rows : Subscriptions) (now : ℕ)
-            → all_skipped table now rows own here.now handles.now self.now ≡ []) }
-    {
-        here.is_empty() && (handles.is_empty() || self.marks.listening.is_empty_but(own))
-    }
-
-    /// Cheap check: false means that nothing is indicated.
-    fn may_wait(&self) -> bool
-        ensures { OnFalse result ((table : Contents) (rows : Subscriptions) (now : ℕ)
-            → all_heard table now rows None [] [] self.now ≡ self.now) }
-    {
-        !self.marks.waiting.is_empty()
-    }
-
-    /// Returns the first slot whose connection may be notified, and unmarks those before it.
-    fn first_that_listens(&mut self) -> Option<usize>
-        ensures place { result ≡ position may_listen self.old }
-        ensures unchanged { self.new ≡ self.old }
-    {
-        first_due(self.slots.as_slice(), Due::Value, &mut self.marks.listening)
-    }
-
-    #[inline(never)]
-    fn look_and_hear(
-        &mut self,
-        moment: Moment<'_>,
-        own: Option<usize>,
-        here: &[u16],
-        handles: &[u16],
-        skipped: &mut Skips,
-    )
-        requires here { AreOfTableIfAny here.now moment.table.now.attributes
-            moment.rows.now self.old }
-        requires handles { AreOfTableIfAny handles.now moment.table.now.attributes
-            moment.rows.now self.old }
-        requires few_here { length here.now ≤ MAX_PREPARED }
-        requires few { length handles.now ≤ MAX_PREPARED }
-        requires none { skipped.old.items ≡ [] }
-        ensures heard { self.new
-            ≡ all_heard moment.entry.table.now moment.entry.now moment.entry.rows.now own here.now
-            handles.now self.old }
-        ensures skipped { skipped.new.items
-            ≡ all_skipped moment.entry.table.now moment.entry.now moment.entry.rows.now own
-            here.now handles.now self.old }
-        ensures count { length self.new ≡ length self.old }
-    {
-        let first = self.first_that_listens();
-        let another_listens = first.is_some() && first != own;
-        if another_listens || !self.nobody_hears(own, here, handles) {
-            self.hear_values(moment, own, here, handles, skipped);
-        } else if self.may_wait() {
-            self.hear_each(moment, None, &[], &[]);
-        }
-    }
-
-    /// Notifies the values `here` to the connection of slot `own`, and `handles` to the others.
-    /// Usually one value is notified, and only to others.
-    fn hear_values(
-        &mut self,
-        moment: Moment<'_>,
-        own: Option<usize>,
-        here: &[u16],
-        handles: &[u16],
-        skipped: &mut Skips,
-    )
-        requires here { AreOfTableIfAny here.now moment.table.now.attributes
-            moment.rows.now self.old }
-        requires handles { AreOfTableIfAny handles.now moment.table.now.attributes
-            moment.rows.now self.old }
-        requires few_here { length here.now ≤ MAX_PREPARED }
-        requires few { length handles.now ≤ MAX_PREPARED }
-        requires none { skipped.old.items ≡ [] }
-        ensures heard { self.new
-            ≡ all_heard moment.entry.table.now moment.entry.now moment.entry.rows.now own here.now
-            handles.now self.old }
-        ensures skipped { skipped.new.items
-            ≡ all_skipped moment.entry.table.now moment.entry.now moment.entry.rows.now own
-            here.now handles.now self.old }
-        ensures count { length self.new ≡ length self.old }
-    {
-        match handles {
-            [handle] if here.is_empty() => self.hear_alone(moment, own, *handle, skipped),
-            _ => {
-                note_all_skips(
-                    self.slots.as_slice(),
-                    self.marks.listening,
-                    moment,
-                    own,
-                    here,
-                    handles,
-                    skipped,
-                );
-                self.hear_each(moment, own, here, handles);
-            }
-        }
-    }
-
-    fn hear_alone(
-        &mut self,
-        moment: Moment<'_>,
-        own: Option<usize>,
-        handle: u16,
-        skipped: &mut Skips,
-    )
-        requires of_table { AreOfTable moment.table.now.attributes moment.rows.now self.old }
-        requires none { skipped.old.items ≡ [] }
-        ensures heard { self.new
-            ≡ all_heard moment.entry.table.now moment.entry.now moment.entry.rows.now own []
-            (handle ∷ []) self.old }
-        ensures skipped { skipped.new.items
-            ≡ all_skipped moment.entry.table.now moment.entry.now moment.entry.rows.now own []
-            (handle ∷ []) self.old }
-        ensures count { length self.new ≡ length self.old }
-    {
-        let mut heard = Heard {
-            packets: self.marks.packets,
-            waiting: self.marks.waiting,
-        };
-        let whom = self.marks.listening.without_own(own);
-        let slots = self.slots.as_mut_slice();
-        notify_alone(slots, &mut heard, moment, whom, handle, skipped);
-        indicate_due(slots, &mut heard, moment);
-        self.marks.packets = heard.packets;
-        self.marks.waiting = heard.waiting;
-    }
-
-    #[inline(always)]
-    fn hear_each(&mut self, moment: Moment<'_>, own: Option<usize>, here: &[u16], handles: &[u16])
-        requires here { AreOfTableIfAny here.now moment.table.now.attributes
-            moment.rows.now self.old }
-        requires handles { AreOfTableIfAny handles.now moment.table.now.attributes
-            moment.rows.now self.old }
-        ensures heard { self.new
-            ≡ all_heard moment.entry.table.now moment.entry.now moment.entry.rows.now own here.now
-            handles.now self.old }
-        ensures count { length self.new ≡ length self.old }
-    {
-        let mut heard = Heard {
-            packets: self.marks.packets,
-            waiting: self.marks.waiting,
-        };
-        let others = self.marks.listening.without_own(own);
-        let slots = self.slots.as_mut_slice();
-        notify_all(slots, &mut heard, moment, Places::of_own(own), here);
-        notify_all(slots, &mut heard, moment, others, handles);
-        indicate_due(slots, &mut heard, moment);
-        self.marks.packets = heard.packets;
-        self.marks.waiting = heard.waiting;
     }
 }
 

@@ -113,7 +113,7 @@ impl Pdus {
 
     /// Queues the first `count` octets of the buffer.
     #[inline(always)]
-    pub(crate) fn push_front(&mut self, channel: u16, count: usize)
+    pub(crate) fn push_prefix(&mut self, channel: u16, count: usize)
         requires room { length self.old.pdus < MAX_PDUS }
         requires within { count ≤ length self.old.room }
         ensures { self.new.pdus ≡ self.old.pdus ++ (channel, take count self.old.room) ∷ [] }

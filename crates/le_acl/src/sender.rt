@@ -133,7 +133,7 @@ impl Sender {
     }
 
     /// Queues the first `count` octets of the buffer.
-    pub fn push_front(&mut self, cid: u16, count: usize)
+    pub fn push_prefix(&mut self, cid: u16, count: usize)
         requires lent { IsSome self.old.room }
         requires within { (room : Octets) → self.old.room ≡ Some room → count ≤ length room }
         ensures { (room : Octets) → self.old.room ≡ Some room
@@ -143,7 +143,7 @@ impl Sender {
               room = None;
             } }
     {
-        self.pdus.push_front(cid, count);
+        self.pdus.push_prefix(cid, count);
         self.lent = false;
     }
 

@@ -94,6 +94,7 @@ impl Deframer {
             (λ fed. IsNone self.new.marked → fed.used ≡ length octets.now) }
         // No whole packet is held back.
         ensures unfinished { OnOk result (still self.new [] ≡ unfinished) }
+        // The stream is lost exactly at an octet that begins no packet.
         ensures desync { (indicator : ℕ)
             → (result ≡ Err (H4Fault.Desync indicator)) ↔
             (still self.old octets.now ≡ lost indicator) }

@@ -22,6 +22,7 @@ pub const COMMAND_ROOM: usize = 260;
 
 /// Writes a command packet, from its opcode on, to `out` (Core 5.0, Vol 2 Part E, 5.4.1).
 pub fn write_command(command: &Command<'_>, out: &mut ArrayVec<u8, COMMAND_ROOM>)
+    // The command has the octets of the definition.
     ensures packet { out.new.items ≡ packet_of (command_of command.now) }
     ensures fits { length out.new.items ≤ MAX_COMMAND }
 {

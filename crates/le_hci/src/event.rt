@@ -85,6 +85,7 @@ pub struct BadEvent(pub u8);
 /// four bits of handles, and octets after the fields.
 #[inline(always)]
 pub fn read_event(octets: &[u8]) -> Result<Event<'_>, BadEvent>
+    // An event is read exactly, or reported as bad.
     ensures exact { result_map_both report_of (λ bad. bad) result ≡ event_of octets.now }
     ensures sent { IfOk result (λ event. IsRead (report_of event) octets.now) }
     // No well-formed event is a bad event.

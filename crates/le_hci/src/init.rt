@@ -83,6 +83,7 @@ impl Init {
     /// Returns the first state. Without `address` the controller uses its public one.
     pub fn new(address: Option<[u8; 6]>, advertising: ArrayVec<u8, MAX_ADVERTISING_DATA>) -> Init
         ensures exact { result ≡ first_state address advertising }
+        // Commands are sent in their order, whatever the answers.
         ensures in_order { (answers : List Octets)
             → IsPrefixOf (init_commands_sent answers result)
             (commands_in_order address advertising.items (tell_shared (drop 3 answers))) }

@@ -35,6 +35,7 @@ impl Reject {
 /// Returns `None` if the payload is not one whole command, has the identifier 0, or responds to a
 /// command that was never sent.
 pub fn signalling(payload: &[u8]) -> Option<Reject>
+    // One whole command is rejected by its identifier, unless it is ignored.
     ensures exact { option_map (λ reject. reject.id) result ≡ rejected_identifier payload.now }
     ensures rejected { IfSome result (λ reject. IsRejected payload.now reject.id) }
     // Every other command has a response.

@@ -61,7 +61,9 @@ fn one_more(counted: Option<u64>) -> Option<u64>
 
 /// Writes all bytes. On an error a prefix of them was written.
 pub fn write_all<W: Sink>(octets: &[u8], sink: &mut W) -> Result<(), Failed>
+    // The sink has all octets, after what it had.
     ensures ok { OnOk result (Appends (W.contents sink.old) (W.contents sink.new) octets.now) }
+    // After a failure it has a prefix of them.
     ensures front { OnErr result
         (WritesFront octets.now (W.contents sink.old) (W.contents sink.new)) }
     ensures failures { CountsFailure (W.failures sink.old) (W.failures sink.new) result }

@@ -6,8 +6,8 @@ use Rattle.host_connections.proofs.OfTable.{linked_at_of_table}
 use Rattle.le_security.specs.Link.{Refresh}
 use Rattle.gatt_host.proofs.server.Server.refresh.Goals as goal
 
-pub hear_link-requires-clause-of_table : goal.hear_link-requires-clause-of_table
-hear_link-requires-clause-of_table c =
+pub end_link_event-requires-clause-of_table : goal.end_link_event-requires-clause-of_table
+end_link_event-requires-clause-of_table c =
     let old : ServerState = the_view c.self.inside in
     let within : c.args.place < length old.slots = subst (λ (it : ServerState). c.args.place < length it.slots) (sym c.self.view_is) c.requires.place in
     linked_at_of_table old.table.attributes old.rows old.slots c.refresh-gained.new.self c.args.place (Refresh c.args.status) within

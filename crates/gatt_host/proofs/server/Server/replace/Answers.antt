@@ -5,8 +5,8 @@ use Rattle.gatt_host.specs.ServerState.{ServerState}
 use Rattle.host_connections.proofs.OfTable.{replaced_of_table}
 use Rattle.gatt_host.proofs.server.Server.replace.Goals as goal
 
-pub hear-requires-clause-handles : goal.hear-requires-clause-handles
-hear-requires-clause-handles c =
+pub notify-requires-clause-handles : goal.notify-requires-clause-handles
+notify-requires-clause-handles c =
     let old : ServerState = the_view c.self.inside in
     replaced_of_table old.table.attributes c.args.table c.set.new.self c.changer-self-inside.result old.rows c.keep.new.self c.owe_changes.new.self old.slots
     c.replace.new.self

@@ -11,7 +11,7 @@ use Rattle.host_connections.specs.Skips.{all_skipped}
 use Rattle.host_connections.specs.Slots.{SlotStates, all_heard}
 use Rattle.host_connections.specs.declared.places.Due.TheVariants.{Value}
 use Rattle.gatt_laws.specs.declared.TheConstants.{MAX_SLOTS}
-use Rattle.host_connections.proofs.slots.Slots.hear_alone.Goals as goal
+use Rattle.host_connections.proofs.slots.Slots.notify_one.Goals as goal
 
 pub invariant_of-self : goal.invariant_of-self
 invariant_of-self c =

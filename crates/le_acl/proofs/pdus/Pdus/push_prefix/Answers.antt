@@ -1,7 +1,7 @@
 use Rattle.std.proofs.Common.{◌<◌, [], ◌∷◌, ◌++◌, length, take, ◌∙◌, ap, arith}
 use Rattle.le_acl.specs.Pdus.{Queued}
 use Rattle.le_acl.proofs.Rings.{count_is, push_is, ring-push}
-use Rattle.le_acl.proofs.pdus.Pdus.push_front.Goals as goal
+use Rattle.le_acl.proofs.pdus.Pdus.push_prefix.Goals as goal
 
 pub invariant_of-self : goal.invariant_of-self
 invariant_of-self c =

@@ -10,18 +10,18 @@ use Rattle.host_connections.proofs.OfTable.{of_table_if_any, row_at_of_table, se
 use Rattle.host_connections.specs.OfTable.{AreOfTable}
 use Rattle.host_connections.specs.Skips.{all_skipped}
 use Rattle.host_connections.specs.Slots.{SlotStates, all_heard, slot_state_at}
-use Rattle.gatt_host.proofs.server.Server.ask.Goals as goal
+use Rattle.gatt_host.proofs.server.Server.serve_pdu.Goals as goal
 
 pub returns : goal.returns
 returns c =
     let old : ServerState = the_view c.self.inside in
     asked_then_heard old c.args.place c.args.pdu.now c.serve_slot-brought.new.table c.serve_slot-brought.new.rows c.serve_slot-brought.new.written.items
-    c.handle-handle.result c.serve_slot-brought.result c.serve_slot-brought.new.self c.hear.new.self c.hear.new.skipped.items c.serve_slot-brought.ensures.after
-    (c.hear.ensures.heard
+    c.handle-handle.result c.serve_slot-brought.result c.serve_slot-brought.new.self c.notify.new.self c.notify.new.skipped.items c.serve_slot-brought.ensures.after
+    (c.notify.ensures.heard
     ∙ ap (λ (handles : List Handle). all_heard c.serve_slot-brought.new.table old.time c.serve_slot-brought.new.rows
     (Some c.args.place) [] handles
     c.serve_slot-brought.new.self) c.as_slice.ensures.value)
-    (c.hear.ensures.skipped
+    (c.notify.ensures.skipped
     ∙ ap (λ (handles : List Handle). all_skipped c.serve_slot-brought.new.table old.time c.serve_slot-brought.new.rows (Some c.args.place) [] handles
     c.serve_slot-brought.new.self) c.as_slice.ensures.value)
     c.args.self.now c.self.view_is c.serve_slot-brought.ensures.table c.serve_slot-brought.ensures.bond c.serve_slot-brought.ensures.written
@@ -35,8 +35,8 @@ serve_slot-brought-requires-clause-row c =
     row_at_of_table old.table.attributes old.rows old.slots (subst (λ (server : ServerState). IsOfItsTable server) (sym c.self.view_is) c.requires.of_table)
     c.args.place
 
-pub hear-requires-clause-handles : goal.hear-requires-clause-handles
-hear-requires-clause-handles c =
+pub notify-requires-clause-handles : goal.notify-requires-clause-handles
+notify-requires-clause-handles c =
     let old : ServerState = the_view c.self.inside in
     let there : IsSome (slot_state_at old.slots c.args.place) =
     subst (λ (server : ServerState). IsSome (slot_state_at server.slots c.args.place)) (sym c.self.view_is) c.requires.there in
