@@ -177,7 +177,7 @@ enum {
     GH_BAD_KEYS = 200,
     /* it is not TOML; */
     GH_KEYS_NOT_TOML = 201,
-    /* a key that each entry has to have is not there; */
+    /* a key that has to be there is not; */
     GH_KEYS_MISSING = 202,
     /* an address or a kind is none; */
     GH_KEYS_BAD_ADDRESS = 203,

@@ -4,6 +4,9 @@ use Rattle.att_table.specs.declared.table_fault.TableFault.{TableFault}
 use Rattle.att_table.specs.declared.table_fault.TableFault.TheVariants.{OutOfMemory as NoMemoryForTheTable}
 use Rattle.att_table.specs.Table.{Contents}
 use Rattle.att_table.specs.TableFault.{table_fault_number}
+use Rattle.host_api.specs.declared.app.AppFault.{AppFault}
+use Rattle.host_api.specs.declared.app.AppFault.TheVariants as reason
+use Rattle.gatt_host.specs.Calls.{fault_of_refused, refused_of}
 use Rattle.gatt_host.specs.Opening.{is_configured}
 use Rattle.gatt_subs.specs.declared.rows_fault.RowsFault.{RowsFault}
 use Rattle.gatt_subs.specs.declared.rows_fault.RowsFault.TheVariants.{OutOfMemory as NoMemoryForTheRows}
@@ -70,3 +73,13 @@ config_refused config readable is =
 
 pub config_unreadable : (config : HostConfig) → is_unreadable config ≡ true → config_status config ≡ BAD_CONFIG
 config_unreadable config is = ap (λ test. status_by test (is_configured (config_given config))) is
+
+-- the reason for which the library refuses a call is that of the host
+pub same_refusal : (fault : AppFault) → fault_of_refused (refused_of fault) ≡ fault
+same_refusal reason.NoSuchHandle = refl
+same_refusal reason.NotAValue = refl
+same_refusal reason.BadLength = refl
+same_refusal reason.NoSuchConnection = refl
+same_refusal reason.TimeWentBack = refl
+same_refusal reason.Stopped = refl
+same_refusal reason.NoServiceChanged = refl

@@ -3,6 +3,7 @@ use Rattle.std.specs.Prelude.{◌≡◌, ℕ, ◌+◌, ◌-◌, ◌^◌, nat_lt,
 use Rattle.std.specs.Option.{option_map}
 use Rattle.gatt_host.specs.Telling.{notices_told}
 use Rattle.gatt_laws.specs.machine.Notice.{Notice, Connected, Disconnected, Secured, Unsecured, Written, Configured, Confirmed, TimedOut, Ending, Skipped}
+use Rattle.host_api.specs.declared.notice_number.TheConstants as number
 use Rattle.gihandop_c.specs.declared.notices.NoticeFields.{NoticeFields}
 use Rattle.gihandop_c.specs.declared.opened.Opened.{Opened}
 
@@ -28,20 +29,24 @@ fields_of_attribute size kind handle attribute bits =
 
 abbrev pub notice_fields : ℕ → Notice → NoticeFields
 notice_fields size (Connected handle peer) =
-    record (fields_of_connection size 1 handle) { address_kind = peer.kind; address = peer.address }
-notice_fields size (Disconnected handle) = fields_of_connection size 2 handle
+    record (fields_of_connection size number.CONNECTED handle)
+    { address_kind = peer.kind; address = peer.address }
+notice_fields size (Disconnected handle) = fields_of_connection size number.DISCONNECTED handle
 notice_fields size (Secured handle facts) =
-    record (fields_of_connection size 3 handle)
+    record (fields_of_connection size number.SECURED handle)
     { key_size = facts.size; authenticated = facts.authenticated; secure = facts.secure }
-notice_fields size (Unsecured handle) = fields_of_connection size 4 handle
-notice_fields size (Written handle attribute) = fields_of_attribute size 5 handle attribute 0
+notice_fields size (Unsecured handle) = fields_of_connection size number.UNSECURED handle
+notice_fields size (Written handle attribute) =
+    fields_of_attribute size number.WRITTEN handle attribute 0
 notice_fields size (Configured handle attribute bits) =
-    fields_of_attribute size 6 handle attribute bits
-notice_fields size (Confirmed handle attribute) = fields_of_attribute size 7 handle attribute 0
-notice_fields size (TimedOut handle) = fields_of_connection size 8 handle
+    fields_of_attribute size number.CONFIGURED handle attribute bits
+notice_fields size (Confirmed handle attribute) =
+    fields_of_attribute size number.CONFIRMED handle attribute 0
+notice_fields size (TimedOut handle) = fields_of_connection size number.TIMED_OUT handle
 notice_fields size (Ending handle reason) =
-    record (fields_of_connection size 9 handle) { reason = reason }
-notice_fields size (Skipped handle attribute) = fields_of_attribute size 10 handle attribute 0
+    record (fields_of_connection size number.ENDING handle) { reason = reason }
+notice_fields size (Skipped handle attribute) =
+    fields_of_attribute size number.SKIPPED handle attribute 0
 
 -- The first notice that the program has not fetched, as far as these can be counted.
 abbrev pub next_notice : ℕ → Opened → Option NoticeFields

@@ -78,14 +78,14 @@ fn words(alloc: Global, faulty: FaultyText, octets: &[u8]) -> Result<Vec<u8>, Al
 fn place(alloc: Global, faulty: FaultyText, octets: &[u8]) -> Result<Vec<u8>, AllocError> {
     let mut text = Vec::new(alloc);
     match faulty {
-        FaultyText::Table => gatt_show::add_table_fault(alloc, &mut text, octets)?,
-        FaultyText::Keys => gatt_show::add_keys_fault(alloc, &mut text, octets)?,
+        FaultyText::Table => file_faults::add_table_fault(alloc, &mut text, octets)?,
+        FaultyText::Keys => file_faults::add_keys_fault(alloc, &mut text, octets)?,
         FaultyText::Values(line) if str::from_utf8(octets).is_ok() => {
             text.extend_from_slice(format!(in alloc; "{}", BadLine(line))?.as_bytes())?;
         }
         // For a text that is not UTF-8, the place is that of a subscriptions file.
         FaultyText::Rows | FaultyText::Values(_) => {
-            gatt_show::add_rows_fault(alloc, &mut text, octets)?;
+            file_faults::add_rows_fault(alloc, &mut text, octets)?;
         }
     }
     Ok(text)

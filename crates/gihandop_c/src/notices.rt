@@ -12,6 +12,7 @@ ghost use Rattle.gihandop_c.specs.declared.status.TheConstants.{DONE};
 use crate::opened::Opened;
 use crate::status;
 use gatt_host::{Host, KeyFacts, Notice, Peer};
+use host_api::notice_number;
 
 /// A notice of a connection. Fields that its kind does not have are 0.
 #[repr(C)]
@@ -19,25 +20,24 @@ use gatt_host::{Host, KeyFacts, Notice, Peer};
 pub struct NoticeFields {
     /// The size of the caller's structure, in bytes: at least `NOTICE_SIZE`.
     pub size: usize,
-    /// 1 connected, 2 disconnected, 3 secured, 4 unsecured, 5 written, 6 configured, 7 confirmed, 8
-    /// timed out, 9 ending, 10 skipped.
+    /// A number of `notice_number`.
     pub kind: u8,
-    /// Kind 6: the bits of the client characteristic configuration.
+    /// `CONFIGURED`: the bits of the client characteristic configuration.
     pub bits: u8,
-    /// Kind 9: the reason (Core 5.0, Vol 2 Part D, 2).
+    /// `ENDING`: the reason (Core 5.0, Vol 2 Part D, 2).
     pub reason: u8,
-    /// Kind 3: the size of the key, in octets. `authenticated`: it was exchanged with protection
-    /// against a man in the middle. `secure`: LE Secure Connections made it.
+    /// `SECURED`: the size of the key, in octets. `authenticated`: it was exchanged with
+    /// protection against a man in the middle. `secure`: LE Secure Connections made it.
     pub key_size: u8,
     pub authenticated: bool,
     pub secure: bool,
-    /// Kind 1: the type of the peer's address, 0 public or 1 random, and the address as on the
-    /// wire.
+    /// `CONNECTED`: the type of the peer's address, 0 public or 1 random, and the address as on
+    /// the wire.
     pub address_kind: u8,
     pub address: [u8; 6],
     /// The handle of the connection in HCI.
     pub connection: u16,
-    /// Kinds 5, 6, 7 and 10: the handle of the attribute.
+    /// `WRITTEN`, `CONFIGURED`, `CONFIRMED`, `SKIPPED`: the handle of the attribute.
     pub attribute: u16,
 }
 
@@ -78,23 +78,35 @@ fn fields(notice: Notice<'_>, size: usize) -> NoticeFields
 {
     match notice {
         Notice::Connected { handle, peer } => connected(size, handle, peer),
-        Notice::Disconnected { handle } => of_connection(size, 2, handle),
+        Notice::Disconnected { handle } => of_connection(size, notice_number::DISCONNECTED, handle),
         Notice::Secured { handle, facts } => secured(size, handle, facts),
-        Notice::Unsecured { handle } => of_connection(size, 4, handle),
+        Notice::Unsecured { handle } => of_connection(size, notice_number::UNSECURED, handle),
         Notice::Written {
             handle,
             attribute,
             ..
-        } => of_attribute(size, 5, handle, attribute, 0),
+        } => of_attribute(size, notice_number::WRITTEN, handle, attribute, 0),
         Notice::Configured {
             handle,
             attribute,
             bits,
-        } => of_attribute(size, 6, handle, attribute, bits),
-        Notice::Confirmed { handle, attribute } => of_attribute(size, 7, handle, attribute, 0),
-        Notice::TimedOut { handle } => of_connection(size, 8, handle),
+        } => of_attribute(size, notice_number::CONFIGURED, handle, attribute, bits),
+        Notice::Confirmed { handle, attribute } => of_attribute(
+            size,
+            notice_number::CONFIRMED,
+            handle,
+            attribute,
+            0,
+        ),
+        Notice::TimedOut { handle } => of_connection(size, notice_number::TIMED_OUT, handle),
         Notice::Ending { handle, reason } => ending(size, handle, reason),
-        Notice::Skipped { handle, attribute } => of_attribute(size, 10, handle, attribute, 0),
+        Notice::Skipped { handle, attribute } => of_attribute(
+            size,
+            notice_number::SKIPPED,
+            handle,
+            attribute,
+            0,
+        ),
     }
 }
 
@@ -129,7 +141,7 @@ fn connected(size: usize, handle: u16, peer: Peer) -> NoticeFields
     ensures { result ≡ notice_fields size (Connected handle peer) }
 {
     let address = peer.address;
-    let mut said = of_connection(size, 1, handle);
+    let mut said = of_connection(size, notice_number::CONNECTED, handle);
     said.address_kind = peer.kind;
     said.address = address;
     said
@@ -138,7 +150,7 @@ fn connected(size: usize, handle: u16, peer: Peer) -> NoticeFields
 fn secured(size: usize, handle: u16, facts: KeyFacts) -> NoticeFields
     ensures { result ≡ notice_fields size (Secured handle facts) }
 {
-    let mut said = of_connection(size, 3, handle);
+    let mut said = of_connection(size, notice_number::SECURED, handle);
     said.key_size = facts.size;
     said.authenticated = facts.authenticated;
     said.secure = facts.secure;
@@ -148,7 +160,7 @@ fn secured(size: usize, handle: u16, facts: KeyFacts) -> NoticeFields
 fn ending(size: usize, handle: u16, reason: u8) -> NoticeFields
     ensures { result ≡ notice_fields size (Ending handle reason) }
 {
-    let mut said = of_connection(size, 9, handle);
+    let mut said = of_connection(size, notice_number::ENDING, handle);
     said.reason = reason;
     said
 }

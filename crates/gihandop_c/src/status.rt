@@ -63,19 +63,12 @@ pub(crate) fn of_host_fault(fault: HostFault) -> u32
     STOPPED + u32::from(fault.number())
 }
 
+#[tactic(auto, using(crate::proofs::Refusals::same_refusal))]
 pub(crate) fn of_refusal(fault: AppFault) -> u32
     ensures number { result ≡ REFUSED + number_of_refusal fault }
     ensures status { result ≡ call_status (Some (refused_of fault)) }
 {
-    match fault {
-        AppFault::NoSuchHandle => REFUSED + 1,
-        AppFault::NotAValue => REFUSED + 2,
-        AppFault::BadLength => REFUSED + 3,
-        AppFault::NoSuchConnection => REFUSED + 4,
-        AppFault::TimeWentBack => REFUSED + 5,
-        AppFault::Stopped => HAS_STOPPED,
-        AppFault::NoServiceChanged => REFUSED + 7,
-    }
+    REFUSED + u32::from(fault.number())
 }
 
 pub(crate) fn of_table_fault(fault: TableFault) -> u32

@@ -45,20 +45,26 @@ fn ask(host: &mut HostPointer, call: App<'_>) -> u32
 #[unsafe(no_mangle)]
 pub extern "C" fn gh_update(host: &mut HostPointer, handle: u16, value: &[u8]) -> u32
     ensures closed { host.old.host ≡ None → result ≡ CLOSED }
+    // The call is processed as the next item of the host.
     ensures takes { result ≢ OUTPUT_OWED
         → HostRefines (ACall (UpdateCall handle value.now) ∷ []) [] host.old.host
         host.new.host }
     ensures tells { result ≢ OUTPUT_OWED
         → HostTellsItem (ACall (UpdateCall handle value.now)) host.old.host host.new.host }
+    // It is refused exactly if the state machine refuses it, by the status of that reason.
     ensures answers { result ≢ OUTPUT_OWED
         → IfSome host.old.host (AnswersCall (UpdateCall handle value.now) result) }
+    // A refused call changes nothing, except that no notice is there.
     ensures refused { result ≢ DONE → result ≢ OUTPUT_OWED
         → HostFallsSilent host.old.host host.new.host }
     ensures stopped { IfSome host.old.host (λ opened. IsSome opened.host.fault
         → result ≡ HAS_STOPPED) }
+    // A call causes no fault.
     ensures fault { HostKeepsFault host.old.host host.new.host }
+    // The noted table of the table file stays.
     ensures initial { HostKeepsInitial host.old.host host.new.host }
     ensures owes { IfSome host.old.host (WaitsForOutput result) }
+    // While output is pending, nothing changes.
     ensures owed { result ≡ OUTPUT_OWED → host.new.host ≡ host.old.host }
 {
     ask(host, App::Update(handle, value))
@@ -68,6 +74,7 @@ pub extern "C" fn gh_update(host: &mut HostPointer, handle: u16, value: &[u8]) -
 #[unsafe(no_mangle)]
 pub extern "C" fn gh_authorize(host: &mut HostPointer, connection: u16, until: u64) -> u32
     ensures closed { host.old.host ≡ None → result ≡ CLOSED }
+    // As `gh_update`, with all its clauses.
     ensures takes { result ≢ OUTPUT_OWED
         → HostRefines (ACall (AuthorizeCall connection until) ∷ []) [] host.old.host
         host.new.host }
@@ -91,6 +98,7 @@ pub extern "C" fn gh_authorize(host: &mut HostPointer, connection: u16, until: u
 #[unsafe(no_mangle)]
 pub extern "C" fn gh_disconnect(host: &mut HostPointer, connection: u16) -> u32
     ensures closed { host.old.host ≡ None → result ≡ CLOSED }
+    // As `gh_update`, with all its clauses.
     ensures takes { result ≢ OUTPUT_OWED
         → HostRefines (ACall (DisconnectCall connection) ∷ []) [] host.old.host host.new.host }
     ensures tells { result ≢ OUTPUT_OWED
@@ -113,6 +121,7 @@ pub extern "C" fn gh_disconnect(host: &mut HostPointer, connection: u16) -> u32
 #[unsafe(no_mangle)]
 pub extern "C" fn gh_tick(host: &mut HostPointer, time: u64) -> u32
     ensures closed { host.old.host ≡ None → result ≡ CLOSED }
+    // As `gh_update`, with all its clauses.
     ensures takes { result ≢ OUTPUT_OWED
         → HostRefines (ACall (TickCall time) ∷ []) [] host.old.host host.new.host }
     ensures tells { result ≢ OUTPUT_OWED
@@ -135,12 +144,14 @@ pub extern "C" fn gh_tick(host: &mut HostPointer, time: u64) -> u32
 #[unsafe(no_mangle)]
 pub extern "C" fn gh_replace(alloc: Global, host: &mut HostPointer, table: &[u8]) -> u32
     ensures closed { host.old.host ≡ None → result ≡ CLOSED }
+    // The table that the file gives is processed as the next item of the host.
     ensures takes { (contents : Contents) → table_in table.now ≡ Ok contents
         → result < BAD_TABLE → result ≢ OUTPUT_OWED
         → HostRefines (ATable contents ∷ []) [] host.old.host host.new.host }
     ensures tells { (contents : Contents) → table_in table.now ≡ Ok contents
         → result < BAD_TABLE → result ≢ OUTPUT_OWED
         → HostTellsItem (ATable contents) host.old.host host.new.host }
+    // It is refused exactly if the state machine refuses it, by the status of that reason.
     ensures answers { (contents : Contents) → table_in table.now ≡ Ok contents
         → IsNotOfMemory result → result ≢ OUTPUT_OWED
         → IfSome host.old.host (AnswersTable contents result) }
@@ -148,16 +159,21 @@ pub extern "C" fn gh_replace(alloc: Global, host: &mut HostPointer, table: &[u8]
         → IsNotOfMemory result → IfSome host.old.host (λ opened.
         IsSome opened.host.fault → result ≡ HAS_STOPPED) }
     ensures fault { HostKeepsFault host.old.host host.new.host }
+    // If the file has a fault, the status is that of the first.
     ensures file { (fault : TableFault) → table_in table.now ≡ Err fault
         → IsNotOfMemory result → result ≢ OUTPUT_OWED → IfSome host.old.host (λ opened.
         result ≡ BAD_TABLE + table_fault_number fault) }
     ensures refused { result ≢ DONE → result < BAD_TABLE → result ≢ OUTPUT_OWED
         → HostFallsSilent host.old.host host.new.host }
+    // Once it is done, the table of the new file is the noted one.
     ensures initial { (contents : Contents) → table_in table.now ≡ Ok contents → result ≡ DONE
         → IfSome host.new.host (λ opened. opened.initial ≡ contents) }
+    // Else the noted table stays.
     ensures keeps { result ≢ DONE → HostKeepsInitial host.old.host host.new.host }
     ensures owes { IfSome host.old.host (WaitsForOutput result) }
+    // While output is pending, nothing changes.
     ensures owed { result ≡ OUTPUT_OWED → host.new.host ≡ host.old.host }
+    // A file with a fault changes nothing.
     ensures unread { BAD_TABLE < result → host.new.host ≡ host.old.host }
 {
     let Some(open) = host.as_mut() else {

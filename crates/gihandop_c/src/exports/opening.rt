@@ -26,12 +26,19 @@ pub extern "C" fn gh_open(
     config: &HostConfig,
     left_out: &mut usize,
 ) -> u32
+    // An open handle is not opened again.
     ensures already { IsSome host.old.host → result ≡ ALREADY_OPEN }
+    // Else the status is that of the first fault of the first text that has one, or of the
+    // configuration.
     ensures status { host.old.host ≡ None → IsNotOfMemory result
         → result ≡ open_status table.now keys.now rows.now values.now config.now }
+    // The host is at the start that the texts say, and each value of the values text that fits the
+    // table is in its place. It is reported how many do not fit, and the table of the table file is
+    // noted.
     ensures opened { result ≡ DONE
         → IsOpenWith table.now keys.now rows.now values.now config.now left_out.new host.new.host }
     ensures none { result ≢ DONE → left_out.new ≡ 0 }
+    // If none is opened, the handle stays as it was.
     ensures unchanged { result ≢ DONE → host.new.host ≡ host.old.host }
 {
     *left_out = 0;
@@ -56,6 +63,7 @@ pub extern "C" fn gh_open(
 pub extern "C" fn gh_close(alloc: Global, host: &mut HostPointer) -> u32
     ensures closed { host.old.host ≡ None → result ≡ CLOSED }
     ensures done { IsSome host.old.host → result ≡ DONE }
+    // The handle is closed afterwards.
     ensures none { host.new.host ≡ None }
 {
     match host.take(alloc) {
@@ -77,8 +85,10 @@ pub extern "C" fn gh_explain(
     out: &mut [u8],
     count: &mut usize,
 ) -> u32
+    // There are words for a fault exactly if one of the texts has one.
     ensures status { result ≢ OUT_OF_MEMORY → result ≡ explain_status
         (first_faulty table.now keys.now rows.now values.now) count.new (length out.old) }
+    // They begin with the name of the first text that has a fault.
     ensures names { result ≡ DONE → IfSome (first_faulty table.now keys.now rows.now values.now)
         (λ faulty. BeginsWith (name_of faulty) (take count.new out.new)) }
     ensures within { result ≡ DONE → count.new ≤ length out.old }

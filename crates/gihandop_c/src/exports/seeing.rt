@@ -27,10 +27,12 @@ pub extern "C" fn gh_value(
     out: &mut [u8],
     count: &mut usize,
 ) -> u32
+    // Done exactly if the value is there and fits. A missing one is reported before a short buffer.
     ensures status { result ≡ if_open (value_status handle (length out.old)) host.old.host }
     ensures value { result ≡ DONE → IfSome host.old.host (λ opened.
         take count.new out.new ≡ value_at opened.host.server.table.values handle) }
     ensures within { result ≡ DONE → count.new ≤ length out.old }
+    // A short buffer gets the needed length.
     ensures needs { result ≡ SHORT_BUFFER → IfSome host.old.host (λ opened.
         count.new ≡ length (value_at opened.host.server.table.values handle)) }
     ensures none { result ≢ DONE → result ≢ SHORT_BUFFER → count.new ≡ 0 }
@@ -57,6 +59,7 @@ pub extern "C" fn gh_find(
     number: u16,
     handle: &mut u16,
 ) -> u32
+    // Done exactly if there is such a value.
     ensures status { result
         ≡ if_open (find_status service.now characteristic.now number) host.old.host }
     ensures found { result ≡ DONE → IfSome host.old.host (λ opened.
@@ -81,8 +84,11 @@ pub extern "C" fn gh_connection(
     place: usize,
     connection: &mut ConnectionFields,
 ) -> u32
+    // Done exactly if there is one at the place. A structure that is too small is refused, and not
+    // written to.
     ensures status { result
         ≡ if_open (connection_status connection.old.size place) host.old.host }
+    // The structure keeps its size.
     ensures there { result ≡ DONE → IfSome host.old.host (λ opened.
         connection_at connection.old.size opened place ≡ Some connection.new) }
     ensures unchanged { host.new.host ≡ host.old.host }
@@ -99,6 +105,7 @@ pub extern "C" fn gh_connection(
 /// An indication is then late, or an authorization ends. Returns `NOTHING` if neither is pending.
 #[unsafe(no_mangle)]
 pub extern "C" fn gh_deadline(host: &mut HostPointer, time: &mut u64) -> u32
+    // Done exactly if there is such a time.
     ensures status { result ≡ if_open deadline_status host.old.host }
     ensures deadline { result ≡ DONE → IfSome host.old.host (λ opened.
         slots_deadline opened.host.server.time opened.host.server.slots ≡ Some time.new) }
@@ -124,8 +131,10 @@ pub extern "C" fn gh_rows_text(
     count: &mut usize,
 ) -> u32
     ensures closed { host.old.host ≡ None → result ≡ CLOSED }
+    // Done exactly if the text fits, unless memory was refused.
     ensures status { result ≢ OUT_OF_MEMORY
         → result ≡ if_open (rows_text_status (length out.old)) host.old.host }
+    // The text is that of the rows of the host.
     ensures rows { result ≡ DONE → IfSome host.old.host (λ opened.
         take count.new out.new ≡ rows_text opened.host.server.rows) }
     ensures within { result ≡ DONE → count.new ≤ length out.old }
@@ -155,8 +164,11 @@ pub extern "C" fn gh_values_text(
     count: &mut usize,
 ) -> u32
     ensures closed { host.old.host ≡ None → result ≡ CLOSED }
+    // Done exactly if the text fits, unless memory was refused.
     ensures status { result ≢ OUT_OF_MEMORY
         → result ≡ if_open (values_text_status all (length out.old)) host.old.host }
+    // The text is that of the values that differ from those of the noted table: those that a client
+    // may write, or all.
     ensures values { result ≡ DONE → IfSome host.old.host (λ opened.
         take count.new out.new ≡ values_saved all opened) }
     ensures within { result ≡ DONE → count.new ≤ length out.old }
@@ -178,6 +190,7 @@ pub extern "C" fn gh_values_text(
 /// Returns `NOTHING` for a number that no function returns.
 #[unsafe(no_mangle)]
 pub extern "C" fn gh_text(status: u32, out: &mut [u8], count: &mut usize) -> u32
+    // There are words of each status that a function may return, and of no other number.
     ensures status { result ≡ text_status status count.new (length out.old) }
     ensures none { result ≢ DONE → result ≢ SHORT_BUFFER → count.new ≡ 0 }
     ensures untouched { result ≢ DONE → out.new ≡ out.old }
@@ -192,6 +205,7 @@ pub extern "C" fn gh_text(status: u32, out: &mut [u8], count: &mut usize) -> u32
 /// Returns the version: major number times 1,000,000, plus minor times 1,000, plus patch.
 #[unsafe(no_mangle)]
 pub extern "C" fn gh_version() -> u32
+    // The version is 0.2.0.
     ensures version { result ≡ 2000 }
 {
     VERSION
