@@ -1,7 +1,15 @@
+pub mod Connecting
+pub mod Connector
 pub mod Controller
+pub mod ControllerLaws
+pub mod ControllerValue
 pub mod Disk
 pub mod DiskCalls
 pub mod DiskCode
+pub mod Missed
 pub mod Notify
 pub mod Outbound
 pub mod Patience
+pub mod Poller
+pub mod Recording
+pub mod Served

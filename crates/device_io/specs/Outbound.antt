@@ -2,10 +2,10 @@
 use Rattle.std.specs.Prelude.{ℕ, ◌+◌, ◌==◌, ◌++◌, Bool, if◌then◌else◌, [], drop, length, nat_le, Option, Some, None}
 use Rattle.octet_io.specs.Number.{Octets}
 use Rattle.device_io.specs.declared.outbound.Outbound.{Outbound}
-use Rattle.device_io.specs.declared.outbound.TheConstants.{LIMIT}
+use Rattle.device_io.specs.declared.outbound.TheConstants.{MOST_WAITING}
 
 abbrev pub nothing_waits : Outbound
-nothing_waits = record { outbox = record { octets = []; limit = LIMIT }; since = 0 }
+nothing_waits = record { outbox = record { octets = []; limit = MOST_WAITING }; since = 0 }
 
 abbrev pub is_empty : Outbound → Bool
 is_empty outbound = length outbound.outbox.octets == 0

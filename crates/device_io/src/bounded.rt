@@ -1,6 +1,6 @@
 //! A file with a bound on its size.
 
-ghost use Rattle.std.specs.Prelude.{◌≡◌, ◌+◌, ◌≤◌, ◌<◌, length, None, IfOk, IfErr};
+ghost use Rattle.std.specs.Prelude.{◌≡◌, ◌+◌, ◌≤◌, ◌<◌, ◌||◌, false, length, nat_lt, None, IfOk, IfErr};
 
 use octet_io::{Failed, Sink, write_uninterrupted};
 use std::fs::File;
@@ -15,7 +15,10 @@ pub(crate) struct Bounded {
 
 impl Bounded {
     /// Returns an empty file of at most `most` bytes.
-    pub(crate) fn new(file: File, most: u64) -> Bounded {
+    pub(crate) fn new(file: File, most: u64) -> Bounded
+        ensures left { result.left ≡ most }
+        ensures full { result.is_full ≡ false }
+    {
         Bounded {
             file,
             left: most,
@@ -23,7 +26,9 @@ impl Bounded {
         }
     }
 
-    pub(crate) fn is_full(&self) -> bool {
+    pub(crate) fn is_full(&self) -> bool
+        ensures { result ≡ self.now.is_full }
+    {
         self.is_full
     }
 
@@ -33,6 +38,8 @@ impl Bounded {
         ensures progress { IfOk result (λ count. 0 < length bytes.now → 0 < count) }
         ensures counted { IfOk result (λ count. self.new.left + count ≡ self.old.left) }
         ensures failed { IfErr result (λ _. self.new.left ≡ self.old.left) }
+        ensures full { self.new.is_full
+            ≡ (self.old.is_full || nat_lt self.old.left (length bytes.now)) }
     {
         if bytes.len() as u64 > self.left {
             self.is_full = true;

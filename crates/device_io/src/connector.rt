@@ -1,8 +1,10 @@
 //! The connector, which reaches a controller.
 
 ghost use Rattle.std.specs.Prelude.{◌≡◌, ◌↔◌, ◌⊎◌, IsTrue};
+ghost use Rattle.device_io.specs.Connector.{is_tried};
 
 use crate::missed::Missed;
+use crate::poller::{Poller, Source};
 use crate::transport::Transport;
 use std::fs::{File, Files, TryLockError};
 use std::io;
@@ -15,6 +17,9 @@ pub const CONNECT_TIME: u64 = 3_000;
 
 /// Time between attempts, in milliseconds.
 pub const RETRY_TIME: u64 = 500;
+
+/// Time between attempts to accept a controller, in milliseconds.
+pub const ACCEPT_TIME: u64 = 1_000;
 
 /// The user ID of root.
 const ROOT: u32 = 0;
@@ -36,13 +41,16 @@ pub(crate) enum Reach {
     Begun(Transport),
     There(Transport),
     Missed(Missed),
+    /// It is lost again: the system cannot wait for it.
+    Unwatched,
 }
 
 impl Connector<'_> {
-    /// Tries to reach a controller, without waiting.
+    /// Tries to reach a controller, without waiting, and begins to watch it.
     pub(crate) fn reach<R: Files<File = File> + Net<Listener = TcpListener, Stream = TcpStream>>(
         &self,
         rt: &R,
+        poller: &Poller,
     ) -> Reach {
         let reached = match self {
             Connector::Listen(listener) => accept(listener),
@@ -50,14 +58,40 @@ impl Connector<'_> {
             Connector::Serial(path) => open_line(rt, path),
         };
         match reached {
-            Ok(reach) => reach,
+            Ok(reach) => {
+                listen_again(self, poller);
+                watched(reach, poller)
+            }
+            // A controller that cannot be accepted keeps waiting.
             Err(missed) => Reach::Missed(missed),
         }
     }
 
     /// Returns true if the device has to retry until it reaches a controller.
-    pub fn is_tried(&self) -> bool {
+    pub fn is_tried(&self) -> bool
+        ensures tried { result ≡ is_tried self.now }
+    {
         !matches!(self, Connector::Listen(_))
+    }
+}
+
+/// Makes the poller report waiting controllers. If that fails, it reports only the next one.
+pub(crate) fn listen_again(connector: &Connector<'_>, poller: &Poller) {
+    if let Connector::Listen(listener) = connector {
+        let _ = poller.again(listener, Source::Controllers);
+    }
+}
+
+/// Begins to watch what was reached.
+fn watched(reached: Reach, poller: &Poller) -> Reach {
+    let watched = match &reached {
+        Reach::There(transport) => poller.watch(transport, Source::Controller),
+        Reach::Begun(transport) => poller.watch(transport, Source::NewController),
+        _ => return reached,
+    };
+    match watched {
+        Ok(()) => reached,
+        Err(_) => Reach::Unwatched,
     }
 }
 

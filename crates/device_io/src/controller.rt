@@ -1,60 +1,26 @@
-//! The controller, its transport, and the ways to reach it. All times are in milliseconds.
+//! The controller, and the way to the next one. All times are in milliseconds.
 
-ghost use Rattle.std.specs.Prelude.{◌≡◌, is_some};
-ghost use Rattle.std.specs.Option.{option_copied};
-ghost use Rattle.device_io.specs.Controller.{begun_at, due_of, is_late, is_read, is_served, is_served_initialised, needs_a_read, served_by, served_due};
+ghost use Rattle.std.specs.Prelude.{◌≡◌, false, is_ok, is_none, length, None, Some, IfErr, IfOk, Ok};
+ghost use Rattle.std.specs.Option.{option_copied, option_map};
+ghost use Rattle.device_io.specs.Connector.{attempt_of, is_tried};
+ghost use Rattle.device_io.specs.Controller as spec;
+ghost use Rattle.device_io.specs.ControllerLaws.{GivesUpForAFault, KeepsTheNext, Pauses, ServesOne, SparesProgress, TriesAgain, TriesOn};
+ghost use Rattle.device_io.specs.Served.{is_late, words_of};
+ghost use Rattle.device_io.specs.declared.side.Side.TheVariants.{Nobody};
 
-use crate::connector::{CONNECT_TIME, Connector, RETRY_TIME, Reach};
+use crate::connecting::Connecting;
+use crate::connector::{ACCEPT_TIME, CONNECT_TIME, Connector, RETRY_TIME, Reach, listen_again};
 use crate::log::Log;
 use crate::missed::Missed;
-use crate::outbound::Outbound;
-use crate::patience::given_up_at;
-use crate::poller::{Poller, Source};
+use crate::poller::Poller;
+use crate::served::Served;
+use crate::side::Side;
+use crate::system::System;
 use crate::transport::Transport;
 use std::alloc::Global;
-use std::fs::{File, Files};
 use std::io;
-use std::io::ErrorKind;
-use std::net::{Net, TcpListener, TcpStream};
+use std::marker::Model;
 use std::time::Clock;
-
-/// Time between attempts to accept a controller.
-const ACCEPT_TIME: u64 = 1_000;
-
-/// The progress of a controller that is served.
-#[derive(Clone, Copy)]
-pub(crate) enum Progress {
-    /// It was reached at this time, and is not initialised yet.
-    Begun(u64),
-    Initialised,
-}
-
-/// A controller that is served.
-#[derive(Drop)]
-struct Served {
-    transport: Transport,
-    outbound: Outbound,
-    progress: Progress,
-    /// Why it can no longer be served, if known.
-    fault: Option<&'static str>,
-    /// Set until `has_come`.
-    is_new: bool,
-    is_readable: bool,
-    /// Set if nothing arrives after the bytes that can be read now.
-    is_ending: bool,
-}
-
-/// The controller.
-#[derive(Drop)]
-enum Side {
-    Nobody,
-    /// A connection is being made. It is made, or has failed, once it `is_answered`.
-    Next {
-        transport: Transport,
-        is_answered: bool,
-    },
-    Served(Served),
-}
 
 /// The current controller, if any, and the way to reach the next one.
 #[derive(Drop)]
@@ -63,111 +29,25 @@ pub struct Controller<'a> {
     connector: Connector<'a>,
     patience: u64,
     side: Side,
-    /// Why no controller is reached, as the log says.
-    missed: Option<Missed>,
-    /// When to try again.
-    retry: u64,
+    /// When the next one is tried.
+    next: Option<u64>,
     /// Set while no controller may be served.
     is_held: bool,
-    /// Set if a controller connects that is not accepted yet.
-    is_knocking: bool,
 }
 
-impl Progress {
-    /// Returns when it was reached, if it is not initialised yet.
-    fn begun(self) -> Option<u64>
-        ensures { result ≡ begun_at self }
-    {
-        match self {
-            Progress::Begun(reached_at) => Some(reached_at),
-            Progress::Initialised => None,
-        }
-    }
-}
+impl<'a> Model for Controller<'a> {
+    ghost use Rattle.device_io.specs.Connector.{is_tried};
+    ghost use Rattle.device_io.specs.ControllerValue as value;
 
-impl Served {
-    /// Returns when it is given up, unless it makes progress: once it has accepted no waiting bytes
-    /// for `patience`, or was not initialised in that time.
-    fn due(&self, patience: u64) -> Option<u64>
-        ensures { result ≡ served_due patience self.now }
-    {
-        given_up_at(
-            patience,
-            self.outbound.stalled_since(),
-            self.progress.begun(),
-        )
-    }
+    ghost Value = { value.Controller };
 
-    /// Returns why it is given up at `now`, if it is.
-    fn lapse(&self, patience: u64, now: u64) -> Option<&'static str>
-        ensures { is_some result ≡ is_late (served_due patience self.now) now }
-    {
-        if self.due(patience)? > now {
-            return None;
-        }
-        Some(match self.progress {
-            Progress::Initialised => "given up: it takes no octets",
-            Progress::Begun(_) => "given up: it is not initialised in time",
-        })
-    }
-
-    /// Returns true if it can be read or must be given up.
-    fn needs_a_read(&self, patience: u64, now: u64) -> bool
-        ensures { result ≡ needs_a_read patience now self.now }
-    {
-        self.is_readable || self.fault.is_some() || self.lapse(patience, now).is_some()
-    }
-
-    /// Reads once. Returns `None` if nothing can be read yet.
-    fn read(&mut self, poller: &Poller, buffer: &mut [u8]) -> io::Result<Option<usize>> {
-        let read = self.transport.read(buffer)?;
-        let is_short = match read {
-            Some(count) => count < buffer.len() && !self.is_ending,
-            None => true,
-        };
-        if is_short {
-            self.is_readable = false;
-            if read.is_none() || !self.transport.is_emptied() {
-                self.watch_again(poller)?;
-            }
-        }
-        Ok(read)
-    }
-
-    fn watch_again(&self, poller: &Poller) -> io::Result<()> {
-        let source = if self.outbound.waiting().is_empty() {
-            Source::Controller
-        } else {
-            Source::FullController
-        };
-        poller.again(&self.transport, source)
-    }
-
-    /// Queues bytes and writes what it accepts.
-    fn write(&mut self, octets: &[u8], poller: &Poller, now: u64) -> io::Result<()> {
-        let fault = match self.outbound.queue(octets, now) {
-            Ok(true) => return self.write_waiting(poller, now),
-            Ok(false) => "given up: too many octets wait for it",
-            Err(_) => "given up: memory was refused",
-        };
-        self.fault = Some(fault);
-        Err(io::Error::from(ErrorKind::OutOfMemory))
-    }
-
-    fn write_waiting(&mut self, poller: &Poller, now: u64) -> io::Result<()> {
-        for _write in 0..u64::MAX {
-            let rest = self.outbound.waiting();
-            if rest.is_empty() {
-                return Ok(());
-            }
-            let Some(count) = self.transport.write(rest)? else {
-                return self.watch_again(poller);
-            };
-            let count = count.min(rest.len());
-            self.outbound.accepted(count, now);
-        }
-        Ok(())
-    }
+    ghost view = { λ controller. record {
+      patience = controller.patience;
+      is_tried = is_tried controller.connector;
+      side = controller.side;
+      next = controller.next;
+      is_held = controller.is_held;
+    } };
 }
 
 impl<'a> Controller<'a> {
@@ -175,120 +55,130 @@ impl<'a> Controller<'a> {
     ///
     /// It is given up if it accepts no bytes for `patience`, or is not initialised in that time. A
     /// connection is lost after twice that time without any sign of the peer.
-    pub fn new(alloc: Global, connector: Connector<'a>, patience: u64) -> Controller<'a> {
+    #[tactic(auto, using(crate::proofs::Keeping::serves_one, crate::proofs::Keeping::gives_up_for_a_fault, crate::proofs::Keeping::keeps_the_next, crate::proofs::Progress::spares_progress, crate::proofs::Reaching::tries_again, crate::proofs::Reaching::tries_on, crate::proofs::Reaching::pauses))]
+    pub fn new(alloc: Global, connector: Connector<'a>, patience: u64) -> Controller<'a>
+        ensures first { result ≡ spec.at_first (is_tried connector.entry) patience }
+        // The same controller is served until it is lost: no second one is while it is there.
+        ensures serves_one { ServesOne }
+        // It is given up only if it is late, if octets for it do not fit, if memory for them is
+        // refused, or if it cannot be written.
+        ensures faults { GivesUpForAFault }
+        // It is late exactly if it was not initialised within `patience`, or has accepted none of
+        // the octets that wait in that time. The clock is that of the peers.
+        ensures progress { SparesProgress }
+        // After a loss, the next attempt is due within half a second, unless controllers are held
+        // off.
+        ensures tries_again { TriesAgain }
+        // Without a controller, an attempt is due within three seconds, unless they are held off.
+        ensures tries_on { TriesOn }
+        // A controller that connects, or an attempt that is due, is not forgotten.
+        ensures keeps_next { KeepsTheNext }
+        // Two attempts are at least half a second apart.
+        ensures pauses { Pauses }
+    {
+        let next = if connector.is_tried() { Some(0) } else { None };
         Controller {
             alloc,
             connector,
             patience,
-            side: Side::Nobody,
-            missed: None,
-            retry: 0,
+            side: Side::Nobody { missed: None },
+            next,
             is_held: false,
-            is_knocking: false,
         }
     }
 }
 
 impl Controller<'_> {
-    fn served(&self) -> Option<&Served>
-        ensures { option_copied result ≡ served_by self.now.side }
-    {
-        match &self.side {
-            Side::Served(served) => Some(served),
-            Side::Nobody | Side::Next { .. } => None,
-        }
-    }
-
     /// Returns true if a controller is served.
     pub fn is_there(&self) -> bool
-        ensures there { result ≡ is_served self.now }
+        ensures there { result ≡ spec.is_served self.now }
     {
-        self.served().is_some()
+        self.side.served().is_some()
     }
 
     /// Returns true if it can be read or must be given up.
     pub fn is_readable(&self, now: u64) -> bool
-        ensures read { result ≡ is_read now self.now }
+        ensures read { result ≡ spec.is_read now self.now }
     {
-        match self.served() {
+        match self.side.served() {
             Some(served) => served.needs_a_read(self.patience, now),
             None => false,
         }
     }
 
     /// Returns why it can no longer be served, if known.
-    pub fn fault(&self) -> Option<&'static str> {
-        self.served()?.fault
+    pub fn fault(&self) -> Option<&'static str>
+        ensures fault { option_copied result ≡ option_map words_of (spec.fault_of self.now) }
+    {
+        Some(self.side.served()?.fault()?.words())
     }
 
     /// Marks it as initialised. Returns true if that is new.
-    pub fn note_initialised(&mut self) -> bool {
+    pub fn note_initialised(&mut self) -> bool
+        ensures new { result ≡ spec.is_begun self.old }
+        ensures initialised { self.new ≡ spec.after_initialising self.old }
+    {
         match &mut self.side {
-            Side::Served(served) => {
-                let is_new = served.progress.begun().is_some();
-                served.progress = Progress::Initialised;
-                is_new
-            }
-            Side::Nobody | Side::Next { .. } => false,
+            Side::Served(served) => served.initialise(),
+            Side::Nobody { .. } | Side::Next { .. } => false,
         }
     }
 
     /// Returns true if an initialised controller is served.
     pub fn is_initialised(&self) -> bool
-        ensures initialised { result ≡ is_served_initialised self.now }
+        ensures initialised { result ≡ spec.is_served_initialised self.now }
     {
-        match self.served() {
-            Some(served) => served.progress.begun().is_none(),
+        match self.side.served() {
+            Some(served) => served.is_initialised(),
             None => false,
         }
     }
 
     /// Returns when it is given up, unless it makes progress.
     pub fn due(&self) -> Option<u64>
-        ensures due { result ≡ due_of self.now }
+        ensures due { result ≡ spec.due_of self.now }
     {
-        self.served()?.due(self.patience)
+        self.side.served()?.due(self.patience)
     }
 
     /// Returns true if it was reached since the last call.
-    pub fn has_come(&mut self) -> bool {
+    pub fn has_come(&mut self) -> bool
+        ensures new { result ≡ spec.is_new_in self.old }
+        ensures announced { self.new ≡ spec.after_announcing self.old }
+    {
         match &mut self.side {
-            Side::Served(served) => {
-                let is_new = served.is_new;
-                served.is_new = false;
-                is_new
-            }
-            Side::Nobody | Side::Next { .. } => false,
+            Side::Served(served) => served.announce(),
+            Side::Nobody { .. } | Side::Next { .. } => false,
         }
     }
 
     /// Returns when to try to reach a controller, if necessary.
-    pub fn retry(&self) -> Option<u64> {
-        let is_due = self.connector.is_tried() || self.is_knocking;
-        if !self.is_there() && is_due && !self.is_held {
-            Some(self.retry)
-        } else {
+    pub fn retry(&self) -> Option<u64>
+        ensures retry { result ≡ spec.retry_of self.now }
+    {
+        if self.is_there() || self.is_held {
             None
+        } else {
+            self.next
         }
     }
 
     /// Marks it as readable. If `is_ending`, nothing arrives after the bytes that can be read now.
-    pub fn is_ready(&mut self, is_ending: bool) {
+    pub fn note_ready(&mut self, is_ending: bool)
+        ensures ready { self.new ≡ spec.after_ready is_ending self.old }
+    {
         match &mut self.side {
-            Side::Nobody => {}
-            Side::Next { is_answered, .. } => *is_answered = true,
-            Side::Served(served) => {
-                served.is_readable = true;
-                served.is_ending = served.is_ending || is_ending;
-            }
+            Side::Nobody { .. } => {}
+            Side::Next { connecting, .. } => connecting.answer(),
+            Side::Served(served) => served.ready(is_ending),
         }
     }
 
     /// Stops serving the controller.
-    pub fn lose(&mut self, poller: &Poller) {
-        if self.is_there() {
-            self.side = Side::Nobody;
-        }
+    pub fn lose(&mut self, poller: &Poller)
+        ensures lost { self.new ≡ spec.after_loss self.old }
+    {
+        self.side.lose();
         listen_again(&self.connector, poller);
     }
 
@@ -300,197 +190,172 @@ impl Controller<'_> {
         poller: &Poller,
         now: u64,
         buffer: &mut [u8],
-    ) -> io::Result<Option<usize>> {
-        let patience = self.patience;
-        let Side::Served(served) = &mut self.side else {
-            return Ok(None);
-        };
-        if let Some(why) = served.lapse(patience, now) {
-            served.fault = Some(why);
+    ) -> io::Result<Option<usize>>
+        ensures nobody { spec.is_served self.old ≡ false → result ≡ Ok None }
+        ensures sound { IfOk result (λ _. spec.is_over_at now self.old ≡ false) }
+        ensures read { IfOk result (λ read. self.new
+            ≡ spec.after_reading (length buffer.old) read self.old) }
+        ensures failed { IfErr result (λ _. self.new ≡ spec.after_judging now self.old) }
+    {
+        match &mut self.side {
+            Side::Served(served) => served.read(self.patience, poller, now, buffer),
+            Side::Nobody { .. } | Side::Next { .. } => Ok(None),
         }
-        if served.fault.is_some() {
-            return Err(io::Error::from(ErrorKind::TimedOut));
-        }
-        served.read(poller, buffer)
     }
 
     /// Queues bytes and writes what the controller accepts. Returns false if none is there.
     ///
     /// Fails if the controller cannot be written, too many bytes wait, or memory is refused.
-    pub fn write(&mut self, octets: &[u8], poller: &Poller, now: u64) -> io::Result<bool> {
+    pub fn write(&mut self, octets: &[u8], poller: &Poller, now: u64) -> io::Result<bool>
+        ensures there { IfOk result (λ is_there. is_there ≡ spec.is_served self.old) }
+        ensures written { spec.IsWrittenTo octets.now now self.old self.new (is_ok result) }
+    {
         match &mut self.side {
             Side::Served(served) => {
                 served.write(octets, poller, now)?;
                 Ok(true)
             }
-            Side::Nobody | Side::Next { .. } => Ok(false),
+            Side::Nobody { .. } | Side::Next { .. } => Ok(false),
         }
     }
 
     /// Writes waiting bytes as far as the controller accepts them.
-    pub fn flush(&mut self, poller: &Poller, now: u64) {
+    pub fn flush(&mut self, poller: &Poller, now: u64)
+        ensures flushed { spec.IsFlushedTo now self.old self.new }
+    {
         match &mut self.side {
-            Side::Nobody => {}
-            Side::Next { is_answered, .. } => *is_answered = true,
-            Side::Served(served) => {
-                if served.write_waiting(poller, now).is_err() {
-                    served.fault = Some("gone: it cannot be written");
-                }
-            }
+            Side::Nobody { .. } => {}
+            Side::Next { connecting, .. } => connecting.answer(),
+            Side::Served(served) => served.flush(poller, now),
         }
     }
 
     /// Reaches a controller if one connects or if it is time, unless `is_held`.
-    pub fn look<
-        R: Files<File = File> + Net<Listener = TcpListener, Stream = TcpStream> + Clock + Eprint,
-    >(&mut self, connects: bool, is_held: bool, poller: &Poller, log: &Log<'_, R>, now: u64) {
-        self.is_held = is_held;
-        self.is_knocking |= connects;
-        if is_held {
-            self.abandon();
-        }
-        if self.is_answered() {
-            self.finish(poller, log, now);
-        }
-        match self.retry() {
-            Some(due) if due <= now => {
-                self.is_knocking = false;
-                self.reach(poller, log, now);
-            }
-            _ => {}
-        }
-    }
-
-    fn is_answered(&self) -> bool {
-        match &self.side {
-            Side::Next { is_answered, .. } => *is_answered,
-            Side::Nobody | Side::Served(_) => false,
-        }
-    }
-
-    /// Abandons a connection that is being made. Returns true if there was one.
-    fn abandon(&mut self) -> bool {
-        let is_next = matches!(self.side, Side::Next { .. });
-        if is_next {
-            self.side = Side::Nobody;
-        }
-        is_next
-    }
-
-    fn finish<R: Clock + Eprint>(&mut self, poller: &Poller, log: &Log<'_, R>, now: u64) {
-        match std::mem::replace(&mut self.side, Side::Nobody) {
-            Side::Nobody => {}
-            Side::Served(served) => self.side = Side::Served(served),
-            Side::Next { transport, .. } => self.finish_with(transport, poller, log, now),
-        }
-    }
-
-    fn finish_with<R: Clock + Eprint>(
+    pub fn look<R: System>(
         &mut self,
-        transport: Transport,
+        connects: bool,
+        is_held: bool,
         poller: &Poller,
         log: &Log<'_, R>,
         now: u64,
-    ) {
-        self.retry = now.saturating_add(RETRY_TIME);
-        if let Some(error) = transport.connect_error() {
-            return self.miss(Missed::of(&error), log);
-        }
-        let watched = poller.again(&transport, Source::Controller);
-        self.take(transport, watched, log, now);
+    )
+        ensures look { spec.IsLook connects is_held now self.old self.new }
+    {
+        self.note(connects, is_held, now);
+        self.finish(poller, log, now);
+        self.try_next(poller, log, now);
     }
 
-    fn reach<
-        R: Files<File = File> + Net<Listener = TcpListener, Stream = TcpStream> + Clock + Eprint,
-    >(&mut self, poller: &Poller, log: &Log<'_, R>, now: u64) {
-        if self.abandon() {
+    /// Notes whether a controller connects, and whether one may be served.
+    fn note(&mut self, connects: bool, is_held: bool, now: u64)
+        ensures { self.new ≡ spec.after_notice connects is_held now self.old }
+    {
+        self.is_held = is_held;
+        if is_held {
+            self.side.abandon();
+        }
+        if connects {
+            self.next = Some(self.next.unwrap_or(now));
+        }
+    }
+
+    /// Serves the controller whose connection is made.
+    fn finish<R: Clock + Eprint>(&mut self, poller: &Poller, log: &Log<'_, R>, now: u64)
+        ensures { spec.IsFinished now self.old self.new }
+    {
+        if !self.side.is_answered() {
+            return;
+        }
+        let Some(connecting) = self.side.abandon() else {
+            return;
+        };
+        self.next = Some(now.saturating_add(RETRY_TIME));
+        match connecting.made(poller) {
+            Ok(transport) => self.serve(transport, now),
+            Err(missed) => self.miss(missed, log),
+        }
+    }
+
+    /// Returns true if it is time to try to reach a controller.
+    fn is_due(&self, now: u64) -> bool
+        ensures { result ≡ is_late (spec.retry_of self.now) now }
+    {
+        match self.retry() {
+            Some(due) => due <= now,
+            None => false,
+        }
+    }
+
+    /// Tries to reach a controller if it is time.
+    fn try_next<R: System>(&mut self, poller: &Poller, log: &Log<'_, R>, now: u64)
+        ensures { spec.IsTried now self.old self.new }
+    {
+        if !self.is_due(now) {
+            return;
+        }
+        self.end_unanswered(log);
+        let reached = self.connector.reach(log.rt, poller);
+        self.enter(reached, log, now);
+    }
+
+    /// Ends a connection that is being made, and was not answered in time.
+    fn end_unanswered<R: Clock + Eprint>(&mut self, log: &Log<'_, R>)
+        ensures { self.new ≡ spec.with_side (spec.unanswered self.old.side) self.old }
+    {
+        if matches!(self.side, Side::Next { .. }) {
             self.miss(Missed::Silent, log);
         }
-        match self.connector.reach(log.rt) {
-            Reach::Missed(missed) if !self.connector.is_tried() => {
-                // The controller keeps waiting.
-                self.is_knocking = true;
-                self.retry = now.saturating_add(ACCEPT_TIME);
-                self.miss(missed, log);
-            }
-            reached => self.take_reached(reached, poller, log, now),
-        }
     }
 
-    fn take_reached<R: Clock + Eprint>(
-        &mut self,
-        reached: Reach,
-        poller: &Poller,
-        log: &Log<'_, R>,
-        now: u64,
-    ) {
-        if self.connector.is_tried() {
-            self.retry = now.saturating_add(RETRY_TIME);
-        }
-        listen_again(&self.connector, poller);
+    /// Notes the outcome of an attempt to reach a controller.
+    fn enter<R: Clock + Eprint>(&mut self, reached: Reach, log: &Log<'_, R>, now: u64)
+        ensures { self.new ≡ spec.after_attempt (attempt_of reached) now self.old }
+    {
+        self.next = next_after(self.connector.is_tried(), &reached, now);
         match reached {
-            Reach::There(transport) => {
-                let watched = poller.watch(&transport, Source::Controller);
-                self.take(transport, watched, log, now);
-            }
-            Reach::Begun(transport) => self.begin(transport, poller, log, now),
-            Reach::Missed(missed) => self.miss(missed, log),
             Reach::Nobody => {}
+            Reach::Begun(transport) => {
+                self.side = Side::Next {
+                    connecting: Connecting::new(transport),
+                    missed: self.side.missed(),
+                };
+            }
+            Reach::There(transport) => self.serve(transport, now),
+            Reach::Missed(missed) => self.miss(missed, log),
+            Reach::Unwatched => self.miss(Missed::Unwatched, log),
         }
     }
 
-    fn begin<R: Clock + Eprint>(
-        &mut self,
-        transport: Transport,
-        poller: &Poller,
-        log: &Log<'_, R>,
-        now: u64,
-    ) {
-        if poller.watch(&transport, Source::NewController).is_err() {
-            return self.miss(Missed::Unwatched, log);
-        }
-        self.side = Side::Next {
-            transport,
-            is_answered: false,
-        };
-        self.retry = now.saturating_add(CONNECT_TIME);
-    }
-
-    fn take<R: Clock + Eprint>(
-        &mut self,
-        transport: Transport,
-        watched: io::Result<()>,
-        log: &Log<'_, R>,
-        now: u64,
-    ) {
-        if watched.is_err() {
-            return self.miss(Missed::Unwatched, log);
-        }
+    fn serve(&mut self, transport: Transport, now: u64)
+        ensures { self.new ≡ spec.with_side (spec.after_entry now None) self.old }
+    {
         transport.notice_vanished_peer(self.patience.saturating_mul(2));
-        self.missed = None;
-        self.side = Side::Served(Served {
-            transport,
-            outbound: Outbound::new(self.alloc),
-            progress: Progress::Begun(now),
-            fault: None,
-            is_new: true,
-            is_readable: false,
-            is_ending: false,
-        });
+        self.side = Side::Served(Served::new(self.alloc, transport, now));
     }
 
     /// Logs why no controller is reached, unless the log says so already.
-    fn miss<R: Clock + Eprint>(&mut self, missed: Missed, log: &Log<'_, R>) {
-        if self.missed != Some(missed) {
-            self.missed = Some(missed);
+    fn miss<R: Clock + Eprint>(&mut self, missed: Missed, log: &Log<'_, R>)
+        ensures { self.new ≡ spec.with_side (Nobody (Some missed)) self.old }
+    {
+        if self.side.missed() != Some(missed) {
             missed.say(&self.connector, log);
         }
+        self.side = Side::Nobody {
+            missed: Some(missed),
+        };
     }
 }
 
-/// Makes the poller report waiting controllers. If that fails, it reports only the next one.
-fn listen_again(connector: &Connector<'_>, poller: &Poller) {
-    if let Connector::Listen(listener) = connector {
-        let _ = poller.again(listener, Source::Controllers);
-    }
+/// Returns when the next attempt is due without an event.
+fn next_after(is_tried: bool, reached: &Reach, now: u64) -> Option<u64>
+    ensures { result ≡ spec.next_after is_tried (attempt_of reached.now) now }
+{
+    let pause = match reached {
+        Reach::Begun(_) => CONNECT_TIME,
+        // The controller keeps waiting.
+        Reach::Missed(_) if !is_tried => ACCEPT_TIME,
+        _ if is_tried => RETRY_TIME,
+        _ => return None,
+    };
+    Some(now.saturating_add(pause))
 }

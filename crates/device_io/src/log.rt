@@ -3,7 +3,7 @@
 //! Each event is one line, with the time of day in UTC unless systemd's journal adds the time. The
 //! program never waits for the reader of the log: it drops lines and counts them.
 
-ghost use Rattle.std.specs.Prelude.{◌≡◌, ◌++◌, false, Some};
+ghost use Rattle.std.specs.Prelude.{◌≡◌, ◌++◌, ◌<◌, ℕ, false, length, take, Some};
 ghost use Rattle.jiff_core.specs.DateTime.{civil_nanos};
 ghost use Rattle.jiff_core.specs.declared.civil.datetime.DateTime.{DateTime};
 ghost use Rattle.jiff_fmt.specs.Text.{datetime_text, zulu_text};
@@ -27,7 +27,9 @@ use std::{fs, io};
 /// CLOCK_BOOTTIME of Linux, which counts while the machine is suspended.
 const SINCE_BOOT: i32 = 7;
 
-/// PIPE_BUF of Linux: a ready pipe accepts a line of this length without waiting.
+/// The most bytes of a line of the log, with its line feed.
+///
+/// It is PIPE_BUF of Linux: a ready pipe accepts such a line without waiting.
 const LONGEST: usize = 4_096;
 
 /// The clock of the program, and its log.
@@ -168,7 +170,10 @@ fn takes_bytes() -> bool {
 }
 
 /// Returns the prefix of a text that fits a line, cut between two characters.
-fn front_of(text: &str) -> &str {
+fn front_of(text: &str) -> &str
+    ensures front { (end : ℕ) × (result.now ≡ take end text.now) }
+    ensures fits { length result.now < LONGEST }
+{
     let mut end = LONGEST - 1;
     if text.len() <= end {
         return text;

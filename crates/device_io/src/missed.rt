@@ -1,5 +1,9 @@
 //! The reasons for which no controller is reached.
 
+ghost use Rattle.std.specs.Prelude.{◌≡◌};
+ghost use Rattle.std.specs.IoError.{raw_os_error};
+ghost use Rattle.device_io.specs.Missed.{missed_by};
+
 use crate::connector::Connector;
 use crate::log::Log;
 use std::alloc::{AllocError, Global};
@@ -23,7 +27,9 @@ pub(crate) enum Missed {
 
 impl Missed {
     /// Returns the reason that an error is.
-    pub(crate) fn of(error: &io::Error) -> Missed {
+    pub(crate) fn of(error: &io::Error) -> Missed
+        ensures { result ≡ missed_by (raw_os_error error.now) }
+    {
         match error.raw_os_error() {
             Some(number) => Missed::Failed(number),
             None => Missed::Unwatched,

@@ -7,8 +7,11 @@ ghost use Rattle.device_io.specs.Outbound.{after_accepted, fits, nothing_waits, 
 use app_lines::Outbox;
 use std::alloc::{AllocError, Global};
 
-/// The most octets that may wait for a controller.
-const LIMIT: usize = 1_048_576;
+/// The most octets that may wait for a controller or for an application.
+///
+/// One read of a controller causes at most 360,000 for an application: 8 clients each execute 32
+/// prepared writes, and the rest are Write Commands.
+pub const MOST_WAITING: usize = 1_048_576;
 
 /// The octets that wait for a controller, and since when it has accepted none of them.
 #[derive(Drop)]
@@ -22,7 +25,7 @@ impl Outbound {
         ensures { result ≡ nothing_waits }
     {
         Outbound {
-            outbox: Outbox::new(alloc, LIMIT),
+            outbox: Outbox::new(alloc, MOST_WAITING),
             since: 0,
         }
     }

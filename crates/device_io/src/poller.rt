@@ -1,5 +1,11 @@
 //! The poller, which waits until something is ready.
 
+ghost use Rattle.std.specs.Prelude.{◌≡◌, IfOk};
+ghost use Rattle.mio.specs.Events.{items};
+ghost use Rattle.mio.specs.Interest.{is_readable, is_writable};
+ghost use Rattle.device_io.specs.Poller.{nothing_ready, ready_of, token_of, waits_to_read, waits_to_write, with_event, CountsForItsSource};
+
+use mio::event::Event;
 use mio::unix::SourceFd;
 use mio::{Events, Interest, Poll, Token};
 use std::alloc::Global;
@@ -24,7 +30,9 @@ pub enum Source {
 }
 
 impl Source {
-    fn token(self) -> Token {
+    fn token(self) -> Token
+        ensures token { result.0 ≡ token_of self }
+    {
         Token(match self {
             Source::Controller | Source::FullController | Source::NewController => 0,
             Source::Controllers => 1,
@@ -54,6 +62,45 @@ pub struct Ready {
     pub application: bool,
     /// An application connects.
     pub applications: bool,
+}
+
+impl Ready {
+    /// Returns that nothing is ready.
+    fn nothing() -> Ready
+        ensures { result ≡ nothing_ready }
+    {
+        Ready {
+            controller: ControllerReady {
+                is_readable: false,
+                takes_more: false,
+                is_ending: false,
+            },
+            controllers: false,
+            application: false,
+            applications: false,
+        }
+    }
+
+    /// Notes an event.
+    #[tactic(auto, using(crate::proofs::Sources::counts_for_its_source))]
+    fn note(&mut self, event: &Event)
+        ensures noted { self.new ≡ with_event self.old event.now }
+        ensures source { CountsForItsSource }
+    {
+        match event.token().0 {
+            0 => {
+                let is_over = event.is_read_closed() || event.is_error();
+                self.controller = ControllerReady {
+                    is_readable: event.is_readable() || is_over,
+                    takes_more: event.is_writable() || event.is_error(),
+                    is_ending: event.is_read_closed(),
+                };
+            }
+            1 => self.controllers = true,
+            2 => self.application = true,
+            _ => self.applications = true,
+        }
+    }
 }
 
 /// Waits for sockets.
@@ -102,38 +149,29 @@ impl Poller {
     }
 
     /// Waits until something is ready or the timeout is over.
-    pub fn wait(&mut self, timeout: Option<Duration>) -> io::Result<Ready> {
+    pub fn wait(&mut self, timeout: Option<Duration>) -> io::Result<Ready>
+        ensures ready { IfOk result (λ ready. ready ≡ ready_of (items self.new.events)) }
+    {
         self.poll.poll(&mut self.events, timeout)?;
-        let mut ready = Ready {
-            controller: ControllerReady {
-                is_readable: false,
-                takes_more: false,
-                is_ending: false,
-            },
-            controllers: false,
-            application: false,
-            applications: false,
-        };
-        for event in self.events.iter() {
-            match event.token().0 {
-                0 => {
-                    let is_over = event.is_read_closed() || event.is_error();
-                    ready.controller = ControllerReady {
-                        is_readable: event.is_readable() || is_over,
-                        takes_more: event.is_writable() || event.is_error(),
-                        is_ending: event.is_read_closed(),
-                    };
-                }
-                1 => ready.controllers = true,
-                2 => ready.application = true,
-                _ => ready.applications = true,
-            }
-        }
-        Ok(ready)
+        Ok(ready_after(&self.events))
     }
 }
 
-fn interest(source: Source) -> Interest {
+/// Returns what is ready after some events.
+fn ready_after(events: &Events) -> Ready
+    ensures { result ≡ ready_of (items events.now) }
+{
+    let mut ready = Ready::nothing();
+    for event in events.iter() {
+        ready.note(event);
+    }
+    ready
+}
+
+fn interest(source: Source) -> Interest
+    ensures reads { is_readable result ≡ waits_to_read source }
+    ensures writes { is_writable result ≡ waits_to_write source }
+{
     match source {
         Source::Application | Source::FullController => Interest::READABLE | Interest::WRITABLE,
         Source::NewController => Interest::WRITABLE,

@@ -1,5 +1,9 @@
 //! The capture of the packets to and from the controller.
 
+ghost use Rattle.std.specs.Prelude.{◌≡◌, ◌&&◌, ◌||◌, false, is_some, None};
+ghost use Rattle.btsnoop.specs.Capture.{fault_of_next};
+ghost use Rattle.device_io.specs.Recording.{fault_of, words_of};
+
 use crate::bounded::Bounded;
 use crate::file_size::largest_file;
 use crate::log::Log;
@@ -21,7 +25,10 @@ pub struct Recording {
 
 impl Recording {
     /// Returns a recording without a capture.
-    pub fn none() -> Recording {
+    pub fn none() -> Recording
+        ensures none { result.capture ≡ None }
+        ensures told { result.is_told ≡ false }
+    {
         Recording {
             capture: None,
             is_told: false,
@@ -69,27 +76,51 @@ impl Recording {
     }
 
     /// Begins the stream of the next controller.
-    pub fn next_stream(&mut self) {
+    pub fn next_stream(&mut self)
+        // A fault of the packets ends with their stream. A capture that cannot be written stays so.
+        ensures fault { fault_of self.new ≡ fault_of_next (fault_of self.old) }
+        ensures told { self.new.is_told ≡ (self.old.is_told && is_some (fault_of self.new)) }
+    {
         if let Some(capture) = &mut self.capture {
             capture.next_stream();
-            self.is_told = self.is_told && capture.fault().is_some();
+        }
+        self.is_told = self.is_told && self.fault().is_some();
+    }
+
+    /// Returns why no more packets are recorded, if there was a fault.
+    fn fault(&self) -> Option<CaptureFault>
+        ensures { result ≡ fault_of self.now }
+    {
+        match &self.capture {
+            Some(capture) => capture.fault(),
+            None => None,
         }
     }
 
     /// Logs once why recording has stopped.
-    fn tell<R: Clock + Eprint>(&mut self, log: &Log<'_, R>) {
+    fn tell<R: Clock + Eprint>(&mut self, log: &Log<'_, R>)
+        ensures told { self.new.is_told ≡ (self.old.is_told || is_some (fault_of self.old)) }
+        ensures capture { self.new.capture ≡ self.old.capture }
+    {
         let Some(capture) = &self.capture else {
             return;
         };
-        let words = match capture.fault() {
-            None => return,
-            Some(CaptureFault::Packet) => "capture: no packet of at most 1029 octets begins so",
-            Some(_) if capture.sink().is_full() => "capture: full: no more packets are recorded",
-            Some(_) => "capture: not written any more",
+        let Some(fault) = capture.fault() else {
+            return;
         };
         if !self.is_told {
-            self.is_told = true;
-            log.say(words);
+            log.say(words_of(fault, capture.sink().is_full()));
         }
+        self.is_told = true;
+    }
+}
+
+fn words_of(fault: CaptureFault, is_full: bool) -> &'static str
+    ensures { result.now ≡ words_of fault is_full }
+{
+    match fault {
+        CaptureFault::Packet => "capture: no packet of at most 1029 octets begins so",
+        CaptureFault::Write if is_full => "capture: full: no more packets are recorded",
+        CaptureFault::Write => "capture: not written any more",
     }
 }

@@ -12,6 +12,7 @@ use std::io;
 ///
 /// After an error it has one of them, too.
 pub fn replace<D: Disk>(disk: &mut D, text: &[u8]) -> io::Result<()>
+    // A file is replaced by six calls of the system, in this order.
     ensures calls { HasPerformed (replacement text.now) (is_ok result)
         (D.made disk.old) (D.made disk.new) }
     // For each disk, and each moment at which its power fails:

@@ -1,5 +1,7 @@
 //! A text file that is replaced as a whole.
 
+ghost use Rattle.std.specs.Prelude.{◌≡◌};
+
 use crate::file_size::refuse_size;
 use crate::new_file::{NewFile, create_new, remove_left_file, sync_folder};
 use crate::replacing::replace;
@@ -59,7 +61,9 @@ impl SavedFile {
     }
 
     /// Returns the path with links resolved.
-    pub fn path(&self) -> &str {
+    pub fn path(&self) -> &str
+        ensures { result.now ≡ self.now.path.bytes.items }
+    {
         self.path.as_str()
     }
 

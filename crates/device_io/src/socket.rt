@@ -1,6 +1,7 @@
 //! The sockets of applications.
 
-ghost use Rattle.std.specs.Prelude.{◌≤◌, length, IfOk};
+ghost use Rattle.std.specs.Prelude.{◌≡◌, ◌≢◌, ◌≤◌, length, IfOk};
+ghost use Rattle.std.specs.IoError.{error_kind};
 
 use crate::poller::{Poller, Source};
 use std::alloc::Global;
@@ -81,7 +82,12 @@ pub enum Retry {
 }
 
 /// Returns when to try again after an error.
-pub fn retry_after(error: &io::Error) -> Retry {
+pub fn retry_after(error: &io::Error) -> Retry
+    ensures now { error_kind error.now ≡ ErrorKind.Interrupted → result ≡ Retry.Now }
+    ensures later { error_kind error.now ≡ ErrorKind.WouldBlock → result ≡ Retry.Later }
+    ensures never { error_kind error.now ≢ ErrorKind.Interrupted
+        → error_kind error.now ≢ ErrorKind.WouldBlock → result ≡ Retry.Never }
+{
     match error.kind() {
         ErrorKind::Interrupted => Retry::Now,
         ErrorKind::WouldBlock => Retry::Later,

@@ -1,5 +1,9 @@
 //! The stream to and from a controller. Reads and writes never wait.
 
+ghost use Rattle.std.specs.Prelude.{◌≡◌, ◌≢◌, is_err, true, Err, IfErr, IfOk, None, Ok, Some};
+ghost use Rattle.std.specs.IoError.{error_kind};
+
+use crate::socket::{Retry, retry_after};
 use crate::vanished::notice_vanished_peer;
 use std::fs::File;
 use std::io;
@@ -68,13 +72,7 @@ impl Transport {
             Transport::Socket(socket) => socket.read(buffer),
             Transport::Serial(line) => line.read(buffer),
         };
-        match read {
-            Ok(count) => Ok(Some(count)),
-            Err(error) => match error.kind() {
-                ErrorKind::Interrupted | ErrorKind::WouldBlock => Ok(None),
-                _ => Err(error),
-            },
-        }
+        read_of(read)
     }
 
     /// Writes a prefix of some bytes. Returns `None` if nothing fits yet.
@@ -83,15 +81,48 @@ impl Transport {
             Transport::Socket(socket) => socket.write(octets),
             Transport::Serial(line) => line.write(octets),
         };
-        match written {
-            Ok(0) => Err(io::Error::from(ErrorKind::WriteZero)),
-            Ok(count) => Ok(Some(count)),
-            Err(error) => match error.kind() {
-                ErrorKind::Interrupted => Ok(Some(0)),
-                ErrorKind::WouldBlock => Ok(None),
-                _ => Err(error),
-            },
-        }
+        written_of(written)
+    }
+}
+
+/// Returns the outcome of a read that does not wait.
+fn read_of(read: io::Result<usize>) -> io::Result<Option<usize>>
+    ensures read { IfOk read (λ count. result ≡ Ok (Some count)) }
+    ensures interrupted { IfErr read (λ error. error_kind error ≡ ErrorKind.Interrupted
+        → result ≡ Ok None) }
+    ensures nothing { IfErr read (λ error. error_kind error ≡ ErrorKind.WouldBlock
+        → result ≡ Ok None) }
+    ensures failed { IfErr read (λ error. error_kind error ≢ ErrorKind.Interrupted
+        → error_kind error ≢ ErrorKind.WouldBlock → result ≡ Err error) }
+{
+    match read {
+        Ok(count) => Ok(Some(count)),
+        Err(error) => match retry_after(&error) {
+            Retry::Now | Retry::Later => Ok(None),
+            Retry::Never => Err(error),
+        },
+    }
+}
+
+/// Returns the outcome of a write that does not wait.
+fn written_of(written: io::Result<usize>) -> io::Result<Option<usize>>
+    ensures none { IfOk written (λ count. count ≡ 0 → is_err result ≡ true) }
+    ensures written { IfOk written (λ count. count ≢ 0 → result ≡ Ok (Some count)) }
+    ensures interrupted { IfErr written (λ error. error_kind error ≡ ErrorKind.Interrupted
+        → result ≡ Ok (Some 0)) }
+    ensures full { IfErr written (λ error. error_kind error ≡ ErrorKind.WouldBlock
+        → result ≡ Ok None) }
+    ensures failed { IfErr written (λ error. error_kind error ≢ ErrorKind.Interrupted
+        → error_kind error ≢ ErrorKind.WouldBlock → result ≡ Err error) }
+{
+    match written {
+        Ok(0) => Err(io::Error::from(ErrorKind::WriteZero)),
+        Ok(count) => Ok(Some(count)),
+        Err(error) => match retry_after(&error) {
+            Retry::Now => Ok(Some(0)),
+            Retry::Later => Ok(None),
+            Retry::Never => Err(error),
+        },
     }
 }
 

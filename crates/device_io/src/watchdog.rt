@@ -2,7 +2,7 @@
 
 ghost use Rattle.std.specs.Prelude.{◌≡◌, ◌+◌, ◌-◌, ◌^◌, min, Some, IfSome, IsTrue, IsFalse};
 ghost use Rattle.std.specs.Option.{option_map};
-ghost use Rattle.device_io.specs.Controller.{is_late};
+ghost use Rattle.device_io.specs.Served.{is_late};
 ghost use Rattle.device_io.specs.Notify.{half_in_millis};
 
 /// The next feeding of a watchdog, if there is one, and the time between two.
