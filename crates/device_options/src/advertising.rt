@@ -1,21 +1,19 @@
 //! Advertising data (Core 5.0, Vol 3 Part C, 11, and the Supplement to the Core Specification, Part
 //! A).
 
+ghost use Rattle.std.specs.Prelude.{◌≡◌, ◌≤◌, ℕ, length, map, take, None, Some, IfSome};
+ghost use Rattle.std.specs.Option.{option_map};
+ghost use Rattle.device_options.specs.Advertising.{Advertises, IsNamed, before_name, with_part, with_service, with_services};
+
 use arrayvec::ArrayVec;
+use att_table::{is_of_16_bits, read_type, type_octets};
 use le_hci::MAX_ADVERTISING_DATA;
-use uuid::Uuid;
 
 /// Advertising data.
 pub type Data = ArrayVec<u8, MAX_ADVERTISING_DATA>;
 
 /// Flags for general discovery, without BR/EDR.
 const FLAGS: [u8; 3] = [0x02, 0x01, 0x06];
-
-/// The Bluetooth Base UUID, to which a 16-bit UUID is added at bit 96 (Core 5.0, Vol 3 Part B,
-/// 2.5.1).
-const BASE_UUID: u128 = 0x0000_0000_0000_1000_8000_0080_5F9B_34FB;
-
-const BELOW_BIT_96: u128 = 0xFFFF_FFFF_FFFF_FFFF_FFFF_FFFF;
 
 const SERVICES_OF_16_BITS: u8 = 0x03;
 
@@ -28,56 +26,100 @@ const COMPLETE_NAME: u8 = 0x09;
 /// Builds flags, service UUIDs, and the name, shortened to what fits.
 ///
 /// Returns `None` if the services do not fit or one of them is no UUID.
-pub(crate) fn data(services: &[&str], name: &str) -> Option<Data> {
-    let mut data = ArrayVec::new();
-    data.try_extend_from_slice(&FLAGS).ok()?;
+pub(crate) fn data(services: &[&str], name: &str) -> Option<Data>
+    ensures data { IfSome result
+        (λ built. Advertises (map (λ word. word.now) services.now) name.now built.items) }
+    ensures none { before_name (map (λ word. word.now) services.now) ≡ None → result ≡ None }
+{
+    let mut packet = with_services(services)?;
+    add_name(&mut packet, name)?;
+    Some(packet)
+}
+
+/// Returns the flags and the services.
+fn with_services(words: &[&str]) -> Option<Data>
+    ensures { option_map (λ built. built.items) result
+        ≡ before_name (map (λ word. word.now) words.now) }
+{
     let mut short = Data::new();
     let mut long = Data::new();
-    for word in services {
-        add_service(word, &mut short, &mut long)?;
-    }
-    add_part(&mut data, SERVICES_OF_16_BITS, short.as_slice())?;
-    add_part(&mut data, SERVICES_OF_128_BITS, long.as_slice())?;
-    add_name(&mut data, name)?;
-    Some(data)
+    add_services(words, &mut short, &mut long)?;
+    let mut packet = ArrayVec::new();
+    packet.try_extend_from_slice(&FLAGS).ok()?;
+    add_part(&mut packet, SERVICES_OF_16_BITS, short.as_slice())?;
+    add_part(&mut packet, SERVICES_OF_128_BITS, long.as_slice())?;
+    Some(packet)
 }
 
-fn add_service(word: &str, short: &mut Data, long: &mut Data) -> Option<()> {
-    let mut octets = [0; 2];
-    if hex::decode_to_slice(word, &mut octets).is_ok() {
-        let [high, low] = octets;
-        return short.try_extend_from_slice(&[low, high]).ok();
+/// Adds the UUIDs of services, those of 16 bits and those of 128 bits.
+fn add_services(words: &[&str], short: &mut Data, long: &mut Data) -> Option<()>
+    ensures added { IfSome result (λ _. with_services
+        (record { short = short.old.items; long = long.old.items })
+        (map (λ word. word.now) words.now)
+        ≡ Some (record { short = short.new.items; long = long.new.items })) }
+    ensures none { result ≡ None → with_services
+        (record { short = short.old.items; long = long.old.items })
+        (map (λ word. word.now) words.now)
+        ≡ None }
+{
+    for word in words {
+        add_service(read_type(word)?, short, long)?;
     }
-    let uuid = Uuid::parse_str(word).ok()?.as_u128();
-    match u16::try_from(uuid >> 96) {
-        Ok(bits) if uuid & BELOW_BIT_96 == BASE_UUID => {
-            short.try_extend_from_slice(&bits.to_le_bytes()).ok()
-        }
-        _ => long.try_extend_from_slice(&uuid.to_le_bytes()).ok(),
+    Some(())
+}
+
+fn add_service(kind: u128, short: &mut Data, long: &mut Data) -> Option<()>
+    ensures added { IfSome result (λ _. with_service
+        (record { short = short.old.items; long = long.old.items }) kind
+        ≡ Some (record { short = short.new.items; long = long.new.items })) }
+    ensures none { result ≡ None → with_service
+        (record { short = short.old.items; long = long.old.items }) kind ≡ None }
+{
+    let octets = type_octets(kind);
+    if is_of_16_bits(kind) {
+        short.try_extend_from_slice(octets.as_slice()).ok()
+    } else {
+        long.try_extend_from_slice(octets.as_slice()).ok()
     }
 }
 
-fn add_part(data: &mut Data, kind: u8, octets: &[u8]) -> Option<()> {
+/// Adds a part, or nothing if it has no data.
+fn add_part(packet: &mut Data, kind: u8, octets: &[u8]) -> Option<()>
+    ensures added { IfSome result
+        (λ _. with_part packet.old.items kind octets.now ≡ Some packet.new.items) }
+    ensures none { result ≡ None → with_part packet.old.items kind octets.now ≡ None }
+{
     if octets.is_empty() {
         return Some(());
     }
-    let length = u8::try_from(octets.len()).ok()?.checked_add(1)?;
-    data.try_extend_from_slice(&[length, kind]).ok()?;
-    data.try_extend_from_slice(octets).ok()
+    if octets.len() + 2 > packet.remaining_capacity() {
+        return None;
+    }
+    packet.push(octets.len() as u8 + 1);
+    packet.push(kind);
+    packet.try_extend_from_slice(octets).ok()
 }
 
 /// Adds a name, or the prefix that fits, cut between two characters.
-fn add_name(data: &mut Data, name: &str) -> Option<()> {
-    let room = data.remaining_capacity().saturating_sub(2);
+fn add_name(packet: &mut Data, name: &str) -> Option<()>
+    ensures { IfSome result (λ _. IsNamed name.now packet.old.items packet.new.items) }
+{
+    let room = packet.remaining_capacity().saturating_sub(2);
     if name.len() <= room {
-        return add_part(data, COMPLETE_NAME, name.as_bytes());
+        add_part(packet, COMPLETE_NAME, name.as_bytes())
+    } else {
+        add_part(packet, SHORTENED_NAME, front_of(name, room))
     }
-    let mut front = room.min(name.len());
-    for _octet in 0..4 {
-        if let Some(text) = name.get(..front) {
-            return add_part(data, SHORTENED_NAME, text.as_bytes());
-        }
-        front = front.saturating_sub(1);
+}
+
+/// Returns the longest prefix of at most `room` octets that ends between two characters.
+fn front_of(name: &str, room: usize) -> &[u8]
+    requires { room ≤ length name.now }
+    ensures { (front : ℕ) × (result.now ≡ take front name.now) }
+{
+    let mut front = room;
+    while front > 0 && name.get(..front).is_none() {
+        front -= 1;
     }
-    None
+    &name.as_bytes()[..front]
 }
