@@ -150,7 +150,19 @@ watches now writing (Taken holding) fits = full (is_full_in (Taken holding))
     full : (is : Bool) → IsBoundedPlace (watched_by now (if is then on_holding (written writing) (Taken holding) else Taken holding))
     full true = slow (written writing holding) (written-fits writing holding fits) (is_slow_in (Taken (written writing holding)) now)
     full false = slow holding fits (is_slow_in (Taken holding) now)
-watches now writing (Given holding next last_reads) fits = fits
+watches now writing (Given holding next last_reads) fits = full (is_full_in (Given holding next last_reads))
+  where
+    slow : (after : Holding) → IsBoundedHolder after.holder → (is : Bool)
+        → IsBoundedPlace (if is then ended (Given after next last_reads) else watched_in now (Given after next last_reads))
+    slow after bounded true = fits.1
+    slow after bounded false = ((bounded.0, watched-fits after.holder.outgoing now bounded.1), fits.1)
+
+    full : (is : Bool)
+        → IsBoundedPlace
+        (watched_by now (if is then on_holding (written writing) (Given holding next last_reads) else Given holding next last_reads))
+    full true =
+        slow (written writing holding) (written-fits writing holding fits.0) (is_slow_in (Given (written writing holding) next last_reads) now)
+    full false = slow holding fits.0 (is_slow_in (Given holding next last_reads) now)
 watches now writing (Promised next) fits = fits
 
 -- a visitor
@@ -204,14 +216,16 @@ module _ (application : Application) (fits : IsBounded application) where
       application.place fits.place)
   takes true asker.Visitor = record { place = fits.place; visiting = taken-fits application.visiting fits.visiting }
 
-  fill-fits : (reading : Reading) → IsShort reading → (none giving : Bool)
+  fill-fits : (reading : Reading) → IsShort reading → (held giving full : Bool)
       → IsBounded
-      (if none then application
+      (if held then application
       else if giving then record application { place = given application.place }
+      else if full then application
       else record application { place = filled_in reading application.place })
-  fill-fits reading few true giving = fits
-  fill-fits reading few false true = placed (given application.place) (gives application.place fits.place)
-  fill-fits reading few false false = placed (filled_in reading application.place) (fills reading few application.place fits.place)
+  fill-fits reading few true giving full = fits
+  fill-fits reading few false true full = placed (given application.place) (gives application.place fits.place)
+  fill-fits reading few false false true = fits
+  fill-fits reading few false false false = placed (filled_in reading application.place) (fills reading few application.place fits.place)
 
   chooses : (held : Bool) → IsBounded (if held then application else record application { askers = chosen_in application })
   chooses true = fits
@@ -224,7 +238,7 @@ module _ (application : Application) (fits : IsBounded application) where
         visiting = knocks now came application.visiting (application.is_held || is_some application.visiting) fits.visiting;
       }
   event-keeps (Attends now reading) few = attends now reading few application.is_held application.visiting fits.visiting
-  event-keeps (Fills reading) few = fill-fits reading few (application.is_held || is_full_in application.place) (is_giving application.place)
+  event-keeps (Fills reading) few = fill-fits reading few application.is_held (is_giving application.place) (is_full_in application.place)
   event-keeps (Watches now writing) possible = placed _ (watches now writing application.place fits.place)
   event-keeps (Flushes writing) possible = placed _ (on (written writing) (written-fits writing) application.place fits.place)
   event-keeps (Readies writing) possible =

@@ -95,16 +95,19 @@ event-keeps application (Knocks now came) known =
     knocks now came application.visiting (application.is_held || is_some application.visiting) known
 event-keeps application (Attends now reading) known =
     attends application now reading application.is_held application.visiting known known
-event-keeps application (Fills reading) known = filled (application.is_held || is_full_in application.place) (is_giving application.place)
+event-keeps application (Fills reading) known =
+    filled application.is_held (is_giving application.place) (is_full_in application.place)
   where
-    filled : (none giving : Bool)
+    filled : (held giving full : Bool)
         → IsKnown
-        (if none then application
+        (if held then application
         else if giving then record application { place = given application.place }
+        else if full then application
         else record application { place = filled_in reading application.place }).visiting
-    filled true giving = known
-    filled false true = known
-    filled false false = known
+    filled true giving full = known
+    filled false true full = known
+    filled false false true = known
+    filled false false false = known
 event-keeps application (Watches now writing) known = known
 event-keeps application (Flushes writing) known = known
 event-keeps application (Readies writing) known = arrives Ready application.visiting known

@@ -3,11 +3,17 @@ pub mod Due
 pub mod Feeds
 pub mod Knocks
 pub mod Bounded
+pub mod Lasting
 pub mod Lines
 pub mod Readers
+pub mod Replies
 pub mod Succession
 pub mod Tellings
 pub mod Texts
 pub mod Visits
 pub mod Waiting
 pub mod Writes
+pub mod Exchanges
+pub mod Alternating
+pub mod Waking
+pub mod Reached

@@ -1,6 +1,6 @@
 -- Who gets the place.
 use Rattle.std.proofs.Common.{◌≡◌, inl, inr, ℕ, ◌-◌, Bool, true, false, [], ◌∷◌, Option, Some, None, refl, sym, ap, subst, ◌∙◌, arith}
-use Rattle.std.specs.Prelude.{◌&&◌, ◌||◌, if◌then◌else◌, not}
+use Rattle.std.specs.Prelude.{◌&&◌, if◌then◌else◌, not}
 use Rattle.std.specs.Option.{option_map_or}
 use Rattle.octet_io.specs.Number.{Octets}
 use Rattle.device_session.specs.declared.askers.Asker.{Asker}
@@ -99,7 +99,20 @@ watches now writing (Taken holding) = full (is_full_in (Taken holding))
     full : (full : Bool) → GoesOn (Taken holding) (watched_by now (if full then on_holding (written writing) (Taken holding) else Taken holding))
     full true = slow (written writing holding) (writes writing holding) (is_slow_in (Taken (written writing holding)) now)
     full false = slow holding ([], refl, refl) (is_slow_in (Taken holding) now)
-watches now writing (Given holding next last_reads) = stays (Given holding next last_reads)
+watches now writing (Given holding next last_reads) = full (is_full_in (Given holding next last_reads))
+  where
+    slow : (after : Holding) → IsSame holding after → (slow : Bool)
+        → GoesOn (Given holding next last_reads)
+        (if slow then ended (Given after next last_reads) else watched_in now (Given after next last_reads))
+    slow after same true = inr (inl refl)
+    slow after same false = inl (watched_at now after, last_reads, refl, omega arith, omega arith, same)
+
+    full : (full : Bool)
+        → GoesOn (Given holding next last_reads)
+        (watched_by now (if full then on_holding (written writing) (Given holding next last_reads) else Given holding next last_reads))
+    full true =
+        slow (written writing holding) (writes writing holding) (is_slow_in (Given (written writing holding) next last_reads) now)
+    full false = slow holding ([], refl, refl) (is_slow_in (Given holding next last_reads) now)
 watches now writing (Promised next) = inl refl
 
 -- a visit
@@ -186,16 +199,19 @@ pub serves_in_turn : ServesInTurn
 serves_in_turn application (Knocks now came) off = stays application.place
 serves_in_turn application (Attends now reading) off =
     subst (λ (after : Place). GoesOn application.place after) (sym (displaces_nobody application now reading off)) (stays application.place)
-serves_in_turn application (Fills reading) off = filled (application.is_held || is_full_in application.place) (is_giving application.place) refl
+serves_in_turn application (Fills reading) off =
+    filled application.is_held (is_giving application.place) (is_full_in application.place) refl
   where
-    filled : (none giving : Bool) → is_giving application.place ≡ giving
+    filled : (held giving full : Bool) → is_giving application.place ≡ giving
         → GoesOn application.place
-        (if none then application
+        (if held then application
         else if giving then record application { place = given application.place }
+        else if full then application
         else record application { place = filled_in reading application.place }).place
-    filled true giving is = stays application.place
-    filled false true is = gives application.place is
-    filled false false is = fills reading application.place
+    filled true giving full is = stays application.place
+    filled false true full is = gives application.place is
+    filled false false true is = stays application.place
+    filled false false false is = fills reading application.place
 serves_in_turn application (Watches now writing) off = watches now writing application.place
 serves_in_turn application (Flushes writing) off = changes (written writing) (writes writing) application.place
 serves_in_turn application (Readies writing) off = ready-writes writing application.place

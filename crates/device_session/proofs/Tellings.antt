@@ -1,6 +1,6 @@
 -- The octets that wait for the application are the end of the texts that were queued for it.
 use Rattle.std.proofs.Common.{◌≡◌, ◌-◌, ℕ, Bool, true, false, List, [], ◌∷◌, ◌++◌, take, drop, refl, sym, ap, subst, ◌∙◌, append_assoc, append-nil}
-use Rattle.std.specs.Prelude.{◌&&◌, ◌||◌, if◌then◌else◌, fold, not}
+use Rattle.std.specs.Prelude.{◌&&◌, if◌then◌else◌, fold, not}
 use Rattle.std.proofs.lemmas.List.{take-append-drop}
 use Rattle.octet_io.specs.Number.{Octets}
 use Rattle.device_session.specs.declared.askers.Asker.{Asker}
@@ -129,26 +129,32 @@ watches now writing texts (Taken holding) end = full (is_full_in (Taken holding)
     full : (full : Bool) → AtEnd texts (watched_by now (if full then on_holding (written writing) (Taken holding) else Taken holding))
     full true = slow (written writing holding) (writes writing texts holding end) (is_slow_in (Taken (written writing holding)) now)
     full false = slow holding end (is_slow_in (Taken holding) now)
-watches now writing texts (Given holding next last_reads) end = end
+watches now writing texts (Given holding next last_reads) end = full (is_full_in (Given holding next last_reads))
+  where
+    slow : (after : Holding) → IsEnd texts after.holder.outgoing → (slow : Bool)
+        → AtEnd texts (if slow then ended (Given after next last_reads) else watched_in now (Given after next last_reads))
+    slow after end true = tt
+    slow after end false = watched-end now texts after.holder.outgoing end
+
+    full : (full : Bool)
+        → AtEnd texts
+        (watched_by now (if full then on_holding (written writing) (Given holding next last_reads) else Given holding next last_reads))
+    full true =
+        slow (written writing holding) (writes writing texts holding end) (is_slow_in (Given (written writing holding) next last_reads) now)
+    full false = slow holding end (is_slow_in (Given holding next last_reads) now)
 watches now writing texts (Promised next) end = tt
 
 module _ (application : Application) (texts : Octets) (end : AtEnd texts application.place) where
-  fill-end : (reading : Reading) (held full giving : Bool) → is_giving application.place ≡ giving → is_full_in application.place ≡ full
+  fill-end : (reading : Reading) (held giving full : Bool) → is_giving application.place ≡ giving
       → AtEnd (if not held && giving then [] else texts ++ [])
-      (if held || full then application
+      (if held then application
       else if giving then record application { place = given application.place }
+      else if full then application
       else record application { place = filled_in reading application.place }).place
-  fill-end reading true full giving is fulls = no-more texts application.place end
-  fill-end reading false true true is fulls = absurd (not-both application.place is fulls)
-    where
-      not-both : (place : Place) → is_giving place ≡ true → is_full_in place ≡ true → ⊥
-      not-both (Free all_read) is fulls = cc is
-      not-both (Taken holding) is fulls = cc is
-      not-both (Given holding next last_reads) is fulls = cc fulls
-      not-both (Promised next) is fulls = cc fulls
-  fill-end reading false true false is fulls = no-more texts application.place end
-  fill-end reading false false true is fulls = gives texts application.place is
-  fill-end reading false false false is fulls = no-more texts _ (fills reading texts application.place end)
+  fill-end reading true giving full is = no-more texts application.place end
+  fill-end reading false true full is = gives texts application.place is
+  fill-end reading false false true is = no-more texts application.place end
+  fill-end reading false false false is = no-more texts _ (fills reading texts application.place end)
 
   attend-end : (now : ℕ) (reading : Reading) (coming : Bool) → comes application now ≡ coming
       → AtEnd (if coming && is_free application.place then [] else texts ++ []) (after_attending application now reading).place
@@ -179,8 +185,8 @@ event-keeps telling (Knocks now came) end = no-more telling.texts telling.applic
 event-keeps telling (Attends now reading) end =
     attend-end telling.application telling.texts end now reading (comes telling.application now) refl
 event-keeps telling (Fills reading) end =
-    fill-end telling.application telling.texts end reading telling.application.is_held (is_full_in telling.application.place)
-    (is_giving telling.application.place) refl refl
+    fill-end telling.application telling.texts end reading telling.application.is_held (is_giving telling.application.place)
+    (is_full_in telling.application.place) refl
 event-keeps telling (Watches now writing) end = no-more telling.texts _ (watches now writing telling.texts telling.application.place end)
 event-keeps telling (Flushes writing) end =
     no-more telling.texts _ (on (written writing) (writes writing) telling.texts telling.application.place end)

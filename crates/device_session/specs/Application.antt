@@ -19,7 +19,7 @@ use Rattle.device_session.specs.Incoming.Arrival.{Ready, Taken}
 use Rattle.device_session.specs.Place.{acts_in, due_in, ended, filled_in, filled_of, given, has_next, input_in, is_busy_in, is_free, is_full_in, is_giving, is_new, is_slow_in, may_ask_in, next_line_of_any, octets_of_any, on_holding, watched_in, with_next}
 use Rattle.device_session.specs.Seats.{IsShort, Reading, Visiting, Writing, queued, visitor_arrival, visitor_read, welcomed, with_arrival, written}
 use Rattle.device_session.specs.Strangers.{sooner_of}
-use Rattle.device_session.specs.Visitor.{has_something, is_asking, visit_of, visitor_at}
+use Rattle.device_session.specs.Visitor.{has_something, is_asking, is_claiming, visit_of, visitor_at, would_come}
 
 -- Nobody is there, and nobody visits.
 abbrev pub nobody : Application
@@ -97,15 +97,17 @@ after_knock application now came = record application {
 
 abbrev pub after_filling : Application → Reading → Application
 after_filling application reading =
-    if application.is_held || is_full_in application.place then application
+    if application.is_held then application
     else if is_giving application.place
     then record application { place = given application.place }
+    else if is_full_in application.place then application
     else record application { place = filled_in reading application.place }
 
 abbrev pub outcome_of_filling : Application → Filled
 outcome_of_filling application =
-    if application.is_held || is_full_in application.place then filled.Nothing
-    else if is_giving application.place then filled.Replaced else filled_of application.place
+    if application.is_held then filled.Nothing
+    else if is_giving application.place then filled.Replaced
+    else if is_full_in application.place then filled.Nothing else filled_of application.place
 
 abbrev pub with_place : Application → Place → Application
 with_place application place = record application { place = place }
@@ -199,23 +201,33 @@ after_asking application =
     if has_next_line application then with_taken application.askers.asker application
     else application
 
-abbrev pub has_visit : Application → Bool
-has_visit application =
-    option_map_or (λ (visiting : Visiting). has_something visiting.visitor) application.visiting
-    application.is_knocking
+-- A visitor that claims the place while another one waits for it waits, too. Without a visitor, a
+-- connection that waits for its place is accepted, if any is.
+abbrev pub has_visit : Bool → Application → Bool
+has_visit accepts application =
+    option_map_or
+    (λ (visiting : Visiting). has_something visiting.visitor
+    && not (has_next application.place && is_claiming visiting.visitor))
+    application.visiting (application.is_knocking && accepts)
 
 -- There is something to do at once.
-abbrev pub acts_now : Application → Bool
-acts_now application =
+abbrev pub acts_now : Bool → Application → Bool
+acts_now accepts application =
     if application.is_held then is_new application.place
-    else has_visit application || acts_in application.place
+    else has_visit accepts application || acts_in application.place
+
+-- The end of a visit. A visitor that would get the place stays while another one waits for it.
+abbrev pub visit_due : Bool → Option Visiting → Option ℕ
+visit_due next (Some visiting) =
+    if next && would_come visiting.visitor then None else Some visiting.visitor.due
+visit_due next None = None
 
 -- The end of the visit, or the time at which the application is cut off.
 abbrev pub due_of_all : Application → Option ℕ
 due_of_all application =
     sooner_of
     (if application.is_held then None
-    else option_map (λ (visiting : Visiting). visiting.visitor.due) application.visiting)
+    else visit_due (has_next application.place) application.visiting)
     (due_in application.place)
 
 -- The octets that a socket brings, or accepts, are not known. All else is.

@@ -6,7 +6,7 @@ use Rattle.device_session.specs.declared.holder.Holder.{Holder}
 use Rattle.device_session.specs.declared.incoming.Incoming.{Incoming}
 use Rattle.device_session.specs.declared.outgoing.Outgoing.{Outgoing}
 use Rattle.device_session.specs.declared.outgoing.Outgoing.TheVariants.{Open, Deaf}
-use Rattle.device_session.specs.declared.outgoing.TheConstants.{LIMIT}
+use Rattle.device_io.specs.declared.outbound.TheConstants.{MOST_WAITING}
 use Rattle.device_session.specs.declared.place.Place.{Place}
 use Rattle.device_session.specs.declared.place.Place.TheVariants.{Free, Taken, Given, Promised}
 use Rattle.device_session.specs.Application.{after_answer, after_asking, after_attending, after_choosing, after_end, after_filling, after_flush, after_knock, after_ready, after_release, after_telling, after_watch, after_welcome, comes, gives_place, nobody}
@@ -170,11 +170,18 @@ ArePossible application [] = Unit {0}
 ArePossible application (event ∷ events) =
     IsPossible application event × ArePossible (after_event application event) events
 
+-- It became what it is by such events alone.
+unfoldable pub IsReached : Application → Type 0
+IsReached application =
+    (events : List Event) × ArePossible nobody events
+    × (application ≡ application_after events)
+
 abbrev pub IsBoundedInput : Incoming → Type 0
 IsBoundedInput incoming = length incoming.inbox ≤ ROOM
 
 abbrev pub IsBoundedOutput : Outgoing → Type 0
-IsBoundedOutput (Open outbox stalled) = (outbox.limit ≡ LIMIT) × (length outbox.octets ≤ LIMIT)
+IsBoundedOutput (Open outbox stalled) =
+    (outbox.limit ≡ MOST_WAITING) × (length outbox.octets ≤ MOST_WAITING)
 IsBoundedOutput Deaf = Unit {0}
 
 abbrev pub IsBoundedHolder : Holder → Type 0

@@ -1,6 +1,8 @@
+pub mod Acceptance
 pub mod Application
 pub mod ApplicationValue
 pub mod Askers
+pub mod Asking
 pub mod Holder
 pub mod Incoming
 pub mod Laws
@@ -9,7 +11,12 @@ pub mod Links
 pub mod Missed
 pub mod Outgoing
 pub mod PeerClock
+pub mod Pending
 pub mod Place
+pub mod Questions
 pub mod Seats
 pub mod Strangers
+pub mod Telling
+pub mod Timeout
+pub mod Turns
 pub mod Visitor

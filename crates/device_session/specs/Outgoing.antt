@@ -4,10 +4,11 @@ use Rattle.std.specs.Option.{option_map}
 use Rattle.octet_io.specs.Number.{Octets}
 use Rattle.device_session.specs.declared.outgoing.Outgoing.{Outgoing}
 use Rattle.device_session.specs.declared.outgoing.Outgoing.TheVariants.{Open, Deaf}
-use Rattle.device_session.specs.declared.outgoing.TheConstants.{LIMIT, MANY}
+use Rattle.device_io.specs.declared.outbound.TheConstants.{MOST_WAITING}
+use Rattle.device_session.specs.declared.outgoing.TheConstants.{MANY}
 
 abbrev pub empty : Outgoing
-empty = Open (record { octets = []; limit = LIMIT }) None
+empty = Open (record { octets = []; limit = MOST_WAITING }) None
 
 abbrev pub octets_of : Outgoing → Octets
 octets_of (Open outbox stalled) = outbox.octets

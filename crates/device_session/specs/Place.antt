@@ -57,17 +57,22 @@ has_room_in (Taken holding) = holder_has_room holding.holder
 has_room_in (Given holding next last_reads) = holder_has_room holding.holder
 has_room_in place = false
 
--- While an application is replaced, its limits count no more.
+-- Too much waits for the application: nothing may be read that causes more. It may be replaced
+-- already.
 abbrev pub is_full_in : Place → Bool
 is_full_in (Taken holding) = is_full holding.holder.outgoing
+is_full_in (Given holding next last_reads) = is_full holding.holder.outgoing
 is_full_in place = false
 
 abbrev pub due_in : Place → Option ℕ
 due_in (Taken holding) = due holding.slow holding.holder.outgoing
+due_in (Given holding next last_reads) = due holding.slow holding.holder.outgoing
 due_in place = None
 
 abbrev pub is_slow_in : Place → ℕ → Bool
 is_slow_in (Taken holding) now = is_slow holding.slow holding.holder.outgoing now
+is_slow_in (Given holding next last_reads) now =
+    is_slow holding.slow holding.holder.outgoing now
 is_slow_in place now = false
 
 -- The application is served before the visitor.
@@ -76,16 +81,10 @@ is_busy_in (Free all_read) = false
 is_busy_in (Taken holding) = is_busy holding.holder
 is_busy_in place = true
 
-abbrev pub acts_in : Place → Bool
-acts_in (Free all_read) = false
-acts_in (Taken holding) = acts holding.holder
-acts_in place = true
-
--- The next line of the application may be executed. Once it is replaced, a full output does not
--- stop its lines.
+-- The next line of the application may be executed.
 abbrev pub may_ask_in : Place → Bool
 may_ask_in (Taken holding) = may_ask holding.holder
-may_ask_in (Given holding next last_reads) = not holding.holder.is_new && has_line holding.holder
+may_ask_in (Given holding next last_reads) = may_ask holding.holder
 may_ask_in place = false
 
 -- All lines are executed of an application that is replaced, or it was read often enough.
@@ -96,6 +95,16 @@ abbrev pub is_giving : Place → Bool
 is_giving (Given holding next last_reads) = is_over holding.holder last_reads
 is_giving (Promised next) = true
 is_giving place = false
+
+-- There is something to do at once. An application that is replaced is read or given up, or its
+-- lines are executed, unless too much waits for it.
+abbrev pub acts_in : Place → Bool
+acts_in (Free all_read) = false
+acts_in (Taken holding) = acts holding.holder
+acts_in (Given holding next last_reads) =
+    holding.holder.is_new || is_over holding.holder last_reads
+    || not (is_full holding.holder.outgoing)
+acts_in (Promised next) = true
 
 abbrev pub on_holding : (Holding → Holding) → Place → Place
 on_holding change (Taken holding) = Taken (change holding)
@@ -122,6 +131,8 @@ ended place = place
 
 abbrev pub watched_in : ℕ → Place → Place
 watched_in now (Taken holding) = Taken (watched_at now holding)
+watched_in now (Given holding next last_reads) =
+    Given (watched_at now holding) next last_reads
 watched_in now place = place
 
 abbrev pub fits_in : Place → Octets → Bool

@@ -1,6 +1,6 @@
 -- Clients without a key that are disconnected after a time limit: a choice of this profile.
 -- `heard` of a connection is the host's time. All other times are those of the peers' clock.
-use Rattle.std.specs.Prelude.{ℕ, ◌+◌, ◌-◌, ◌^◌, ◌==◌, ◌&&◌, ◌||◌, Bool, false, if◌then◌else◌, is_some, List, map, min, nat_le, unwrap_or, Option, Some, None}
+use Rattle.std.specs.Prelude.{ℕ, ◌+◌, ◌-◌, ◌^◌, ◌==◌, ◌&&◌, ◌||◌, Bool, false, if◌then◌else◌, fold, is_some, List, map, min, nat_le, unwrap_or, Option, Some, None}
 use Rattle.std.specs.List.{find}
 use Rattle.std.specs.Option.{option_map, option_map_or}
 use Rattle.host_api.specs.declared.connection.Connection.{Connection}
@@ -33,8 +33,16 @@ due_of limits stranger =
 abbrev pub is_due : Limits → ℕ → Stranger → Bool
 is_due limits now stranger = option_map_or (λ due. nat_le due now) (due_of limits stranger) false
 
+-- Some clients have a time limit.
+abbrev pub are_limited : Limits → Bool
+are_limited limits = is_some limits.silent || is_some limits.staying
+
 abbrev pub first_due : Limits → ℕ → List Stranger → Option Stranger
 first_due limits now known = find (is_due limits now) known
+
+-- The first time at which one of the clients has been silent, or known, for too long.
+abbrev pub first_limit : Limits → List Stranger → Option ℕ
+first_limit limits known = fold sooner_of None (map (due_of limits) known)
 
 -- The time at which a connection was first found, by its ordinal, which is unique within its host.
 abbrev pub found_at : List Stranger → ℕ → ℕ → ℕ

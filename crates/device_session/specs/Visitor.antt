@@ -1,5 +1,5 @@
 -- A connection that is not the application yet (this profile's own). Times are in milliseconds.
-use Rattle.std.specs.Prelude.{◌≡◌, ◌≢◌, ◌⊎◌, ℕ, ◌+◌, ◌-◌, ◌^◌, ◌<◌, ◌≤◌, ◌&&◌, Bool, true, false, if◌then◌else◌, List, [], min, nat_le, not}
+use Rattle.std.specs.Prelude.{◌≡◌, ◌≢◌, ◌⊎◌, ℕ, ◌+◌, ◌-◌, ◌^◌, ◌<◌, ◌≤◌, ◌&&◌, ◌||◌, Bool, true, false, if◌then◌else◌, List, [], min, nat_le, not}
 use Rattle.octet_io.specs.Number.{Octets}
 use Rattle.app_lines.specs.Inbox.{found_in, line_in}
 use Rattle.app_lines.specs.declared.inbox.Found.{Found}
@@ -57,6 +57,22 @@ asks_by_found Nothing octets free = false
 abbrev pub is_asking : Visitor → Bool → Bool
 is_asking visitor free =
     asks_by_found (found_in visitor.incoming.inbox) visitor.incoming.inbox free
+
+abbrev pub is_claim : LineKind → Bool
+is_claim Claim = true
+is_claim kind = false
+
+abbrev pub claims_by_found : Found → Octets → Bool
+claims_by_found Line octets = is_claim (kind_of (line_in octets))
+claims_by_found found octets = false
+
+-- Its next line claims the place, whether that is free or not.
+abbrev pub is_claiming : Visitor → Bool
+is_claiming visitor = claims_by_found (found_in visitor.incoming.inbox) visitor.incoming.inbox
+
+-- It becomes the application in its time, unless it sends something else.
+abbrev pub would_come : Visitor → Bool
+would_come visitor = is_claiming visitor || is_nothing visitor.incoming
 
 -- A visitor that connected at a time, after it has sent this.
 abbrev pub visitor_after : ℕ → List Arrival → Visitor

@@ -1,7 +1,8 @@
 //! The application, one at a time, and the visitor that may replace it. All times are in
 //! milliseconds.
 
-ghost use Rattle.std.specs.Prelude.{◌≡◌, ◌&&◌, false, true, not, is_some, IfErr, IfOk};
+ghost use Rattle.std.specs.Prelude.{◌≡◌, ◌&&◌, false, true, not, is_some, IfErr, IfOk, IfSome, None};
+ghost use Rattle.std.specs.Bool.{OnFalse, OnTrue};
 ghost use Rattle.device_session.specs.Application as spec;
 ghost use Rattle.device_session.specs.Laws.{Bounds, ComesAlone, ComesRightly, ServesInTurn, TellsInOrder};
 ghost use Rattle.device_session.specs.Place as place;
@@ -9,11 +10,12 @@ ghost use Rattle.device_session.specs.Place as place;
 use crate::askers::{Asker, Askers};
 use crate::place::{Filled, NO_LINE, Place};
 use crate::seats::{NextLine, Visiting};
+use crate::sockets::accept_from;
 use crate::strangers::sooner;
 use crate::visitor::Visit;
 use app_lines::LONGEST;
 use arrayvec::ArrayVec;
-use device_io::{Listener, Poller, Socket};
+use device_io::{Listener, Poller};
 use std::alloc::{AllocError, Global};
 use std::io;
 use std::marker::Model;
@@ -34,6 +36,7 @@ pub(crate) struct Application {
 
 impl Model for Application {
     ghost use Rattle.device_session.specs.ApplicationValue as value;
+    ghost use Rattle.device_session.specs.Laws.{IsReached};
 
     ghost Value = { value.Application };
 
@@ -44,10 +47,19 @@ impl Model for Application {
       is_held = application.is_held;
       is_knocking = application.is_knocking;
     } };
+
+    // The laws hold of it: it became what it is by what they speak of.
+    ghost invariant = { λ application. IsReached (record {
+      place = application.place;
+      visiting = application.visiting;
+      askers = application.askers;
+      is_held = application.is_held;
+      is_knocking = application.is_knocking;
+    }) };
 }
 
 impl Application {
-    #[tactic(auto, using(crate::proofs::Succession::serves_in_turn, crate::proofs::Succession::comes_alone, crate::proofs::Claiming::comes_rightly, crate::proofs::Tellings::tells_in_order, crate::proofs::Bounded::bounds))]
+    #[tactic(auto, using(crate::proofs::Succession::serves_in_turn, crate::proofs::Succession::comes_alone, crate::proofs::Claiming::comes_rightly, crate::proofs::Tellings::tells_in_order, crate::proofs::Bounded::bounds, crate::proofs::Reached::at_first))]
     pub(crate) fn none(alloc: Global) -> Application
         ensures nobody { result ≡ spec.nobody }
         // For all that may happen:
@@ -113,26 +125,12 @@ impl Application {
             Visit::Stays | Visit::Asks => {}
             Visit::Reads => visiting.read(),
             Visit::Leaves => self.visiting = None,
-            Visit::Comes => return self.come(),
+            Visit::Comes => return come(&mut self.place, &mut self.visiting, self.alloc),
         }
         false
     }
 
-    /// Gives the visitor the place, unless another one waits for it.
-    fn come(&mut self) -> bool
-        ensures comes { result ≡ spec.may_come self.old }
-        ensures come { self.new ≡ spec.after_coming self.old }
-    {
-        if self.place.has_next() {
-            return false;
-        }
-        let Some(visiting) = self.visiting.take() else {
-            return false;
-        };
-        self.place.come(self.alloc, visiting);
-        true
-    }
-
+    #[tactic(auto, using(crate::proofs::Reached::by_hold))]
     pub(crate) fn hold(&mut self)
         ensures { self.new ≡ record self.old { is_held = true } }
     {
@@ -140,6 +138,7 @@ impl Application {
     }
 
     /// Reads lines again. A connection may have come in the meantime.
+    #[tactic(auto, using(crate::proofs::Reached::by_release))]
     pub(crate) fn release(&mut self)
         ensures { self.new ≡ spec.after_release self.old }
     {
@@ -152,7 +151,7 @@ impl Application {
         ensures { result ≡ spec.due_of_all self.now }
     {
         let visit = match &self.visiting {
-            Some(visiting) if !self.is_held => Some(visiting.due()),
+            Some(visiting) if !self.is_held => visiting.due(self.place.has_next()),
             _ => None,
         };
         sooner(visit, self.place.due())
@@ -205,6 +204,7 @@ impl Application {
     }
 
     /// Notes that it is sent the current state.
+    #[tactic(auto, using(crate::proofs::Reached::by_welcome))]
     pub(crate) fn welcome(&mut self)
         ensures { self.new ≡ spec.after_welcome self.old }
     {
@@ -212,6 +212,7 @@ impl Application {
     }
 
     /// Answers the visitor. Closes it if it does not accept the whole answer at once.
+    #[tactic(auto, using(crate::proofs::Reached::by_answer))]
     pub(crate) fn answer_visitor(&mut self, text: &[u8])
         ensures { spec.IsAnswered self.old self.new }
     {
@@ -223,6 +224,7 @@ impl Application {
     }
 
     /// Closes the visitor's connection.
+    #[tactic(auto, using(crate::proofs::Reached::by_answer))]
     pub(crate) fn close_visitor(&mut self)
         ensures { self.new ≡ spec.after_answer self.old false }
     {
@@ -236,13 +238,15 @@ impl Application {
     }
 
     /// Ends the application, which may not have read everything.
+    #[tactic(auto, using(crate::proofs::Reached::by_refusal))]
     pub(crate) fn end(&mut self)
         ensures { self.new ≡ spec.after_end self.old }
     {
         self.place.end();
     }
 
-    pub(crate) fn is_ready(&mut self)
+    #[tactic(auto, using(crate::proofs::Reached::by_ready))]
+    pub(crate) fn note_ready(&mut self)
         ensures { spec.IsReady self.old self.new }
     {
         self.place.ready();
@@ -253,21 +257,23 @@ impl Application {
     }
 
     /// Returns true if there is something to do without waiting.
-    pub(crate) fn has_something(&self) -> bool
-        ensures { result ≡ spec.acts_now self.now }
+    ///
+    /// `accepts` is false while no connection is accepted, after a failure.
+    pub(crate) fn has_something(&self, accepts: bool) -> bool
+        ensures { result ≡ spec.acts_now accepts self.now }
     {
         if self.is_held {
             return self.place.is_new();
         }
-        self.has_visit() || self.place.has_something()
+        self.has_visit(accepts) || self.place.has_something()
     }
 
-    fn has_visit(&self) -> bool
-        ensures { result ≡ spec.has_visit self.now }
+    fn has_visit(&self, accepts: bool) -> bool
+        ensures { result ≡ spec.has_visit accepts self.now }
     {
         match &self.visiting {
-            Some(visiting) => visiting.has_something(),
-            None => self.is_knocking,
+            Some(visiting) => visiting.has_something(self.place.has_next()),
+            None => self.is_knocking && accepts,
         }
     }
 
@@ -280,16 +286,20 @@ impl Application {
     /// Reads once, unless a line is there, and returns what has happened.
     ///
     /// After its last line, an application that sends no more is closed.
+    #[tactic(auto, using(crate::proofs::Reached::by_filling))]
     pub(crate) fn fill(&mut self) -> Filled
         ensures outcome { result ≡ spec.outcome_of_filling self.old }
         ensures filled { spec.IsFilled self.old self.new }
     {
-        if self.is_held || self.place.is_full() {
+        if self.is_held {
             return Filled::Nothing;
         }
         if self.place.is_giving() {
             self.place.give(self.alloc);
             return Filled::Replaced;
+        }
+        if self.place.is_full() {
+            return Filled::Nothing;
         }
         self.place.fill()
     }
@@ -305,6 +315,7 @@ impl Application {
     ///
     /// The application's lines go first, up to a limit, so that a visitor sees their effects. A new
     /// application receives the current state first.
+    #[tactic(auto, using(crate::proofs::Reached::by_choosing))]
     pub(crate) fn next_line(&mut self, line: &mut ArrayVec<u8, LONGEST>) -> NextLine
         ensures next { result ≡ spec.next_line_in (spec.after_choosing self.old) }
         ensures line { line.new.items
@@ -334,6 +345,7 @@ impl Application {
     }
 
     /// Returns the next line of the sender of the last one.
+    #[tactic(auto, using(crate::proofs::Reached::by_asking))]
     pub(crate) fn next_line_of_asker(&mut self, line: &mut ArrayVec<u8, LONGEST>) -> NextLine
         ensures next { result ≡ spec.next_line_in self.old }
         ensures line { line.new.items ≡ spec.line_from self.old line.old.items }
@@ -353,6 +365,7 @@ impl Application {
 
     /// Queues a text. Returns false if too much waits: the application is then cut off, as after
     /// an error.
+    #[tactic(auto, using(crate::proofs::Reached::by_telling, crate::proofs::Reached::by_refusal))]
     pub(crate) fn tell(&mut self, text: &[u8]) -> Result<bool, AllocError>
         ensures fits { IfOk result
             (λ is_queued. is_queued ≡ place.fits_in self.old.place text.now) }
@@ -383,6 +396,7 @@ impl Application {
     }
 
     /// Writes what the application accepts.
+    #[tactic(auto, using(crate::proofs::Reached::by_flush))]
     pub(crate) fn flush(&mut self)
         ensures { spec.IsFlushed self.old self.new }
     {
@@ -390,14 +404,19 @@ impl Application {
     }
 }
 
-/// Accepts the next connection, and begins to watch it.
-fn accept_from(listener: &Option<Listener>, poller: &Poller) -> io::Result<Option<Socket>> {
-    let Some(listener) = listener else {
-        return Ok(None);
+/// Gives the visitor the place, unless another one waits for it. Returns true if it did.
+fn come(seat: &mut Place, visitor: &mut Option<Visiting>, alloc: Global) -> bool
+    ensures comes { result ≡ (not (place.has_next seat.old) && is_some visitor.old) }
+    ensures stays { OnFalse result ((seat.new ≡ seat.old) × (visitor.new ≡ visitor.old)) }
+    ensures seated { OnTrue result (IfSome visitor.old
+        (λ next. (seat.new ≡ place.with_next seat.old next) × (visitor.new ≡ None))) }
+{
+    if seat.has_next() {
+        return false;
+    }
+    let Some(next) = visitor.take() else {
+        return false;
     };
-    let Some(socket) = listener.accept(poller)? else {
-        return Ok(None);
-    };
-    socket.watch(poller)?;
-    Ok(Some(socket))
+    seat.come(alloc, next);
+    true
 }

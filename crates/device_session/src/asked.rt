@@ -1,14 +1,19 @@
 //! The lines of the application, and the calls of the host that they make.
 
-ghost use Rattle.std.specs.Prelude.{◌≡◌};
+ghost use Rattle.std.specs.Prelude.{◌≡◌, length, take, Err, IfErr, IfOk, Ok};
+ghost use Rattle.std.specs.Option.{ok_or, option_map};
 ghost use Rattle.app_lines.specs.Command.{command_of};
+ghost use Rattle.app_lines.specs.Names.{handle_of as named_handle};
+ghost use Rattle.host_api.specs.declared.app.AppFault.TheVariants.{NoSuchConnection};
+ghost use Rattle.device_session.specs.Questions as questions;
+ghost use Rattle.device_session.specs.Questions.{called, question_by, question_of, question_of_line, question_of_text};
 ghost use Rattle.device_session.specs.Lines.{kind_of, kind_of_command, kind_of_text};
 
 use app_lines::{Command, Fault, Names, read_line, without_return, word_at};
 use arrayvec::ArrayVec;
 use host_api::{App, AppFault};
-use scripts::Payload;
 use std::str;
+use text_words::Payload;
 
 /// A line of the application that waits for its answer.
 #[derive(Drop)]
@@ -22,10 +27,26 @@ pub enum Asked<'a> {
     TooLong,
 }
 
-pub(crate) fn read_asked(line: &[u8]) -> Asked<'_> {
-    let Ok(text) = str::from_utf8(without_return(line)) else {
-        return Asked::NoText;
-    };
+/// Returns what a line asks.
+#[tactic(auto, unfolding(crate::specs::Questions::question_of_line))]
+pub(crate) fn read_asked(line: &[u8]) -> Asked<'_>
+    ensures { question_of result ≡ question_of_line line.now }
+{
+    read_octets(without_return(line))
+}
+
+fn read_octets(octets: &[u8]) -> Asked<'_>
+    ensures { question_of result ≡ question_of_text octets.now }
+{
+    match str::from_utf8(octets) {
+        Ok(text) => read_text(text),
+        Err(_) => Asked::NoText,
+    }
+}
+
+fn read_text(text: &str) -> Asked<'_>
+    ensures { question_of result ≡ question_by text.now (command_of text.now) }
+{
     match read_line(text) {
         Ok(command) => Asked::Command(command),
         Err(wrong) => Asked::Wrong {
@@ -89,7 +110,12 @@ pub(crate) fn call_of<'b>(
     names: &Names,
     time: u64,
     buffer: &'b mut [u8],
-) -> Result<Option<App<'b>>, AppFault> {
+) -> Result<Option<App<'b>>, AppFault>
+    ensures call { IfOk result (λ call. questions.call_of command.now names.now.named time
+        (length buffer.old) ≡ Ok (option_map called call)) }
+    ensures refused { IfErr result (λ fault. questions.call_of command.now names.now.named time
+        (length buffer.old) ≡ Err fault) }
+{
     Ok(Some(match command {
         Command::Update { handle, value } => App::Update(*handle, decode_into(value, buffer)),
         Command::Allow { name, lasting } => {
@@ -101,11 +127,15 @@ pub(crate) fn call_of<'b>(
     }))
 }
 
-fn handle_of(names: &Names, name: u64) -> Result<u16, AppFault> {
+fn handle_of(names: &Names, name: u64) -> Result<u16, AppFault>
+    ensures { result ≡ ok_or (named_handle name names.now.named) NoSuchConnection }
+{
     names.handle_of(name).ok_or(AppFault::NoSuchConnection)
 }
 
-fn end_of(time: u64, lasting: Option<u64>) -> u64 {
+fn end_of(time: u64, lasting: Option<u64>) -> u64
+    ensures { result ≡ questions.end_of time lasting }
+{
     match lasting {
         Some(lasting) => time.saturating_add(lasting),
         None => u64::MAX,
@@ -113,7 +143,9 @@ fn end_of(time: u64, lasting: Option<u64>) -> u64 {
 }
 
 /// Decodes a value into a buffer, as far as it fits, and returns the prefix used.
-fn decode_into<'b>(value: &Payload<'_>, buffer: &'b mut [u8]) -> &'b [u8] {
+fn decode_into<'b>(value: &Payload<'_>, buffer: &'b mut [u8]) -> &'b [u8]
+    ensures { result.now ≡ take (length buffer.old) value.now }
+{
     let mut octets = ArrayVec::new();
     value.decode(&mut octets);
     let count = octets.len().min(buffer.len());

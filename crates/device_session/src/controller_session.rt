@@ -1,6 +1,9 @@
 //! The controller, the capture of its packets, and the clients without a key.
 
-use crate::strangers::{Limits, Strangers, sooner};
+ghost use Rattle.std.specs.Prelude.{◌≡◌, [], false, is_ok, IfErr, IfOk, IsNone};
+ghost use Rattle.device_io.specs.Controller.{after_judging, after_loss, is_over_at, is_served, IsWrittenTo};
+
+use crate::strangers::{Limits, Strangers};
 use device_io::{Connector, Controller, Log, Poller, Recording};
 use std::alloc::Global;
 use std::io;
@@ -29,15 +32,14 @@ impl<'a> ControllerSession<'a> {
 }
 
 impl ControllerSession<'_> {
-    pub(crate) fn lose(&mut self, poller: &Poller) {
+    pub(crate) fn lose(&mut self, poller: &Poller)
+        ensures controller { self.new.controller ≡ after_loss self.old.controller }
+        ensures strangers { self.new.strangers.known.items ≡ [] }
+        ensures limits { self.new.strangers.limits ≡ self.old.strangers.limits }
+    {
         self.strangers.forget();
         self.recording.next_stream();
         self.controller.lose(poller);
-    }
-
-    /// Returns when the next time limit of the controller, or of trying again to reach one, ends.
-    pub(crate) fn due(&self) -> Option<u64> {
-        sooner(self.controller.due(), self.controller.retry())
     }
 
     /// Reads octets and records them. Returns `None` if nothing can be read yet, and no octets at
@@ -48,7 +50,12 @@ impl ControllerSession<'_> {
         log: &Log<'_, R>,
         now: u64,
         buffer: &'b mut [u8],
-    ) -> io::Result<Option<&'b [u8]>> {
+    ) -> io::Result<Option<&'b [u8]>>
+        ensures nobody { is_served self.old.controller ≡ false → IfOk result IsNone }
+        ensures sound { IfOk result (λ _. is_over_at now self.old.controller ≡ false) }
+        ensures failed { IfErr result (λ _. self.new.controller
+            ≡ after_judging now self.old.controller) }
+    {
         let Some(count) = self.controller.read(poller, now, buffer)? else {
             return Ok(None);
         };
@@ -66,7 +73,11 @@ impl ControllerSession<'_> {
         poller: &Poller,
         log: &Log<'_, R>,
         now: u64,
-    ) -> io::Result<bool> {
+    ) -> io::Result<bool>
+        ensures there { IfOk result (λ is_there. is_there ≡ is_served self.old.controller) }
+        ensures written { IsWrittenTo octets.now now self.old.controller self.new.controller
+            (is_ok result) }
+    {
         let is_there = self.controller.write(octets, poller, now)?;
         if is_there {
             self.recording.went(octets, log);

@@ -2,7 +2,6 @@
 #![tactic(auto)]
 
 mod acceptance;
-mod answering;
 mod application;
 mod asked;
 mod askers;
@@ -13,6 +12,7 @@ mod holder;
 mod incoming;
 mod links;
 mod missed;
+mod next_turn;
 mod opening;
 mod outgoing;
 mod output;
@@ -21,12 +21,13 @@ mod pending;
 mod place;
 mod seats;
 mod session;
+mod session_output;
 mod sockets;
 mod strangers;
+mod timeout;
 mod turns;
 mod visitor;
 
-pub use answering::{add_handle, add_outcome, add_value};
 pub use asked::Asked;
 pub use heard::{Heard, SavedChanges};
 pub use session::Session;

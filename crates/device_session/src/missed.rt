@@ -1,9 +1,10 @@
 //! The values that clients wrote without the application's knowledge.
 
-ghost use Rattle.std.specs.Prelude.{◌≡◌, [], false, true, IfErr, IfOk};
-ghost use Rattle.device_session.specs.Missed.{first_of, rest_of, with_first, with_handle, with_handles};
+ghost use Rattle.std.specs.Prelude.{◌≡◌, [], true, IfErr, IfOk};
+ghost use Rattle.device_session.specs.Missed.{after_last, after_next, first_of, nothing_missed, with_handle, with_handles, with_missed, with_told};
 
 use std::alloc::{AllocError, Global};
+use std::marker::Model;
 
 /// The handles of written values, each once.
 #[derive(Drop)]
@@ -14,10 +15,20 @@ pub(crate) struct Missed {
     told: Vec<u16>,
 }
 
+impl Model for Missed {
+    ghost use Rattle.device_session.specs.Missed as spec;
+
+    ghost Value = { spec.Missed };
+
+    ghost view = { λ missed. record {
+      handles = missed.handles.items;
+      told = missed.told.items;
+    } };
+}
+
 impl Missed {
     pub(crate) fn new(alloc: Global) -> Missed
-        ensures missed { result.handles.items ≡ [] }
-        ensures told { result.told.items ≡ [] }
+        ensures { result ≡ nothing_missed }
     {
         Missed {
             handles: Vec::new(alloc),
@@ -29,11 +40,8 @@ impl Missed {
     ///
     /// An error changes nothing: memory was refused.
     pub(crate) fn add(&mut self, handle: u16) -> Result<(), AllocError>
-        ensures missed { IfOk result
-            (λ _. self.new.handles.items ≡ with_handle self.old.handles.items handle) }
-        ensures unchanged { IfErr result
-            (λ _. self.new.handles.items ≡ self.old.handles.items) }
-        ensures told { self.new.told.items ≡ self.old.told.items }
+        ensures missed { IfOk result (λ _. self.new ≡ with_missed self.old handle) }
+        ensures unchanged { IfErr result (λ _. self.new ≡ self.old) }
     {
         add_handle(&mut self.handles, handle)
     }
@@ -42,10 +50,8 @@ impl Missed {
     ///
     /// An error changes nothing: memory was refused.
     pub(crate) fn tell(&mut self, handle: u16) -> Result<(), AllocError>
-        ensures told { IfOk result
-            (λ _. self.new.told.items ≡ with_handle self.old.told.items handle) }
-        ensures unchanged { IfErr result (λ _. self.new.told.items ≡ self.old.told.items) }
-        ensures missed { self.new.handles.items ≡ self.old.handles.items }
+        ensures told { IfOk result (λ _. self.new ≡ with_told self.old handle) }
+        ensures unchanged { IfErr result (λ _. self.new ≡ self.old) }
     {
         add_handle(&mut self.told, handle)
     }
@@ -55,11 +61,11 @@ impl Missed {
     ///
     /// After an error, for which memory was refused, some of these are not noted.
     pub(crate) fn end(&mut self, has_read_all: bool) -> Result<(), AllocError>
-        ensures told { self.new.told.items ≡ [] }
-        ensures read { has_read_all ≡ true
-            → self.new.handles.items ≡ self.old.handles.items }
-        ensures unread { IfOk result (λ _. has_read_all ≡ false → self.new.handles.items
-            ≡ with_handles self.old.handles.items self.old.told.items) }
+        // If not everything was read, the values of which the application was notified are missed
+        // too.
+        ensures ended { IfOk result (λ _. self.new ≡ after_last has_read_all self.old) }
+        ensures read { has_read_all ≡ true → self.new ≡ after_last has_read_all self.old }
+        ensures told { self.new.told ≡ [] }
     {
         if has_read_all {
             self.told.clear();
@@ -74,15 +80,10 @@ impl Missed {
     ///
     /// An error changes nothing: memory was refused.
     pub(crate) fn next(&mut self) -> Result<Option<u16>, AllocError>
-        ensures first { IfOk result (λ handle. handle ≡ first_of self.old.handles.items) }
-        ensures rest { IfOk result
-            (λ _. self.new.handles.items ≡ rest_of self.old.handles.items) }
-        ensures told { IfOk result (λ _. self.new.told.items
-            ≡ with_first self.old.told.items self.old.handles.items) }
-        ensures unchanged { IfErr result
-            (λ _. self.new.handles.items ≡ self.old.handles.items) }
-        ensures told_unchanged { IfErr result
-            (λ _. self.new.told.items ≡ self.old.told.items) }
+        ensures first { IfOk result (λ handle. handle ≡ first_of self.old.handles) }
+        // Each is noted once as notified.
+        ensures told { IfOk result (λ _. self.new ≡ after_next self.old) }
+        ensures unchanged { IfErr result (λ _. self.new ≡ self.old) }
     {
         if self.handles.is_empty() {
             return Ok(None);

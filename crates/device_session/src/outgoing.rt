@@ -6,13 +6,8 @@ ghost use Rattle.device_session.specs.Outgoing.{after_sent, due, empty, fits, ha
 ghost use Rattle.device_session.specs.declared.outgoing.Outgoing.TheVariants.{Deaf};
 
 use app_lines::Outbox;
+use device_io::MOST_WAITING;
 use std::alloc::{AllocError, Global};
-
-/// The most bytes that may wait for an application.
-///
-/// One read of the controller causes at most 360,000: 8 clients each execute 32 prepared writes,
-/// and the rest are Write Commands.
-const LIMIT: usize = 1_048_576;
 
 /// While more bytes wait for the application, neither it nor the controller is read.
 const MANY: usize = 65_536;
@@ -36,7 +31,7 @@ impl Outgoing {
         ensures spares { SparesReaders }
     {
         Outgoing::Open {
-            outbox: Outbox::new(alloc, LIMIT),
+            outbox: Outbox::new(alloc, MOST_WAITING),
             stalled: None,
         }
     }

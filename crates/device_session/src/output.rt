@@ -1,14 +1,21 @@
 //! Output to the application, and the log of it.
 
-ghost use Rattle.std.specs.Prelude.{◌≡◌, false, true};
-ghost use Rattle.device_session.specs.Application.{is_visitor};
+ghost use Rattle.std.specs.Prelude.{◌≡◌, [], false, is_ok, map, true, Some};
+ghost use Rattle.std.specs.Option.{option_map};
+ghost use Rattle.std.specs.Result.{result_ok};
+ghost use Rattle.app_lines.specs.Told.{told_line};
+ghost use Rattle.device_session.specs.Asking.{stays_open};
+ghost use Rattle.device_session.specs.Application.{after_welcome, IsFlushed};
+ghost use Rattle.device_session.specs.Place.{has_read_all, is_there};
+ghost use Rattle.device_session.specs.declared.pending.Subject.TheVariants.{Value};
+ghost use Rattle.device_session.specs.Telling.{part as text_part, AreLinesTold, AreNoted, AreOthersTold, AreSent, IsAnswer, IsLast, IsNoted, IsPut, IsSavedTold, IsUnsavedTold, IsOwnAnswer, IsSaid, IsSaidOrEnded, IsTold, IsVisitorAnswer};
 
 use crate::acceptance::Acceptance;
 use crate::application::Application;
 use crate::asking::Closing;
-use crate::heard::Heard;
+use crate::heard::{Change, Heard};
 use crate::missed::Missed;
-use crate::pending::{Pending, Subject};
+use crate::pending::{Pending, PendingLine, Subject};
 use crate::place::Filled;
 use app_lines::{Told, add_told};
 use device_io::{Log, Poller};
@@ -24,15 +31,26 @@ pub(crate) fn reply<R: Clock + Eprint>(
     text: Result<Vec<u8>, AllocError>,
 )
     // The answer to a visitor goes to the visitor, and one to the application to nobody else.
-    ensures visitor { is_visitor application.old.askers.asker ≡ true
-        → application.new.place ≡ application.old.place }
-    ensures application { is_visitor application.old.askers.asker ≡ false
-        → application.new.visiting ≡ application.old.visiting }
+    ensures { IsAnswer (option_map (λ text. text.items) (result_ok text)) (stays_open closing)
+        application.old application.new }
 {
     if application.is_visited() {
         reply_to_visitor(application, log, closing, text);
-        return;
+    } else {
+        reply_to_application(application, log, closing, text);
     }
+}
+
+#[tactic(auto, using(crate::proofs::Replies::ends_after_text))]
+fn reply_to_application<R: Clock + Eprint>(
+    application: &mut Application,
+    log: &Log<'_, R>,
+    closing: Closing,
+    text: Result<Vec<u8>, AllocError>,
+)
+    ensures { IsOwnAnswer (option_map (λ text. text.items) (result_ok text)) (stays_open closing)
+        application.old application.new }
+{
     let is_said = say_or_end(application, log, text, "memory: refused for an answer");
     let why = match closing {
         Closing::No => return,
@@ -52,7 +70,8 @@ fn reply_to_visitor<R: Clock + Eprint>(
     closing: Closing,
     text: Result<Vec<u8>, AllocError>,
 )
-    ensures { application.new.place ≡ application.old.place }
+    ensures { IsVisitorAnswer (option_map (λ text. text.items) (result_ok text))
+        (stays_open closing) application.old application.new }
 {
     match text {
         Ok(text) => application.answer_visitor(text.as_slice()),
@@ -67,13 +86,15 @@ fn reply_to_visitor<R: Clock + Eprint>(
 }
 
 /// Sends a text. If memory was refused, logs that, ends the application and returns false.
-pub(crate) fn say_or_end<R: Clock + Eprint>(
+fn say_or_end<R: Clock + Eprint>(
     application: &mut Application,
     log: &Log<'_, R>,
     text: Result<Vec<u8>, AllocError>,
     refused: &str,
 ) -> bool
-    ensures { application.new.visiting ≡ application.old.visiting }
+    ensures said { IsSaidOrEnded (option_map (λ text. text.items) (result_ok text))
+        application.old application.new }
+    ensures outcome { result ≡ is_ok text }
 {
     match text {
         Ok(text) => {
@@ -94,11 +115,56 @@ pub(crate) fn tell<R: Clock + Eprint>(
     application: &mut Application,
     log: &Log<'_, R>,
     told: &Told<'_>,
-) {
+)
+    ensures { IsTold (Some (told_line told.now)) application.old application.new }
+{
     let mut text = Vec::new(alloc);
-    if !application.is_new() && add_told(&mut text, told).is_ok() {
-        say(application, log, text.as_slice());
+    let text = match add_told(&mut text, told) {
+        Ok(()) => Ok(text),
+        Err(_) => Err(AllocError),
+    };
+    tell_text(application, log, text);
+}
+
+/// Sends lines, unless the application lacks the current state. If memory was refused, logs that
+/// and ends it.
+pub(crate) fn tell_text<R: Clock + Eprint>(
+    application: &mut Application,
+    log: &Log<'_, R>,
+    text: Result<Vec<u8>, AllocError>,
+)
+    ensures { IsTold (option_map (λ text. text.items) (result_ok text))
+        application.old application.new }
+{
+    if !application.is_new() {
+        say_or_end(application, log, text, "memory: refused for an application");
     }
+}
+
+/// Sends the lines about updates of visitors, if there are any.
+pub(crate) fn tell_updates<R: Clock + Eprint>(
+    application: &mut Application,
+    log: &Log<'_, R>,
+    lines: Vec<u8>,
+)
+    ensures { AreSent lines.items application.old application.new }
+{
+    if !lines.is_empty() {
+        tell_text(application, log, Ok(lines));
+    }
+}
+
+/// Sends a new application the current state.
+pub(crate) fn welcome<R: Clock + Eprint>(
+    application: &mut Application,
+    log: &Log<'_, R>,
+    text: Result<Vec<u8>, AllocError>,
+)
+    ensures { IsSaidOrEnded (option_map (λ text. text.items) (result_ok text))
+        (after_welcome application.old) application.new }
+{
+    application.welcome();
+    say_or_end(application, log, text, "memory: refused for an application");
 }
 
 /// Sends the notices of a turn to the application and the log, and notes the values written.
@@ -111,23 +177,64 @@ pub(crate) fn tell_heard<R: Clock + Eprint>(
     log: &Log<'_, R>,
     heard: &Heard,
     is_saved: bool,
-) {
+)
+    ensures saved { is_saved ≡ true → IsSavedTold heard.now.is_refused heard.now.text.items
+        heard.now.changes.items heard.now.written.items application.old missed.old
+        application.new missed.new }
+    ensures unsaved { is_saved ≡ false → IsUnsavedTold heard.now.is_refused heard.now.text.items
+        heard.now.changes.items application.old pending.old.lines.items
+        application.new pending.new.lines.items }
+    ensures written { is_saved ≡ false → AreNoted (map Value heard.now.written.items)
+        application.new missed.old missed.new }
+    ensures pending { is_saved ≡ true → pending.new.lines.items ≡ pending.old.lines.items }
+{
     if heard.is_refused {
         log.say("memory: refused for notices");
         application.end();
     }
     if is_saved {
         tell_lines(application, log, heard.text.as_slice());
-        for change in heard.changes.as_slice() {
-            note_told(application, missed, log, change.subject);
-        }
+        note_changes(application, missed, log, heard.changes.as_slice());
     } else {
-        tell_others(application, pending, log, heard);
+        tell_others(
+            application,
+            pending,
+            log,
+            heard.text.as_slice(),
+            heard.changes.as_slice(),
+        );
     }
-    for attribute in heard.written.as_slice() {
+    note_written(application, missed, log, heard.written.as_slice());
+    log_lines(log, heard.log.as_slice());
+}
+
+/// Notes the changes that an application was notified of.
+fn note_changes<R: Clock + Eprint>(
+    application: &Application,
+    missed: &mut Missed,
+    log: &Log<'_, R>,
+    changes: &[Change],
+)
+    ensures { AreNoted (map (λ change. change.subject) changes.now) application.now
+        missed.old missed.new }
+{
+    for change in changes {
+        note_told(application, missed, log, change.subject);
+    }
+}
+
+/// Notes the values written whose changes are not saved.
+fn note_written<R: Clock + Eprint>(
+    application: &Application,
+    missed: &mut Missed,
+    log: &Log<'_, R>,
+    written: &[u16],
+)
+    ensures { AreNoted (map Value written.now) application.now missed.old missed.new }
+{
+    for attribute in written {
         note_told(application, missed, log, Subject::Value(*attribute));
     }
-    log_lines(log, heard.log.as_slice());
 }
 
 /// Sends the lines that wait for no save, and stores the others.
@@ -135,23 +242,42 @@ fn tell_others<R: Clock + Eprint>(
     application: &mut Application,
     pending: &mut Pending,
     log: &Log<'_, R>,
-    heard: &Heard,
-) {
-    let text = heard.text.as_slice();
+    text: &[u8],
+    changes: &[Change],
+)
+    ensures { AreOthersTold text.now 0 changes.now application.old pending.old.lines.items
+        application.new pending.new.lines.items }
+{
     let mut begin = 0;
-    for change in heard.changes.as_slice() {
+    for change in changes {
         tell_lines(application, log, part(text, begin, change.begin));
         begin = change.end;
         let line = part(text, change.begin, change.end);
-        if pending.add(change.subject, line).is_err() {
-            log.say("memory: refused for notices");
-            application.end();
-        }
+        put(application, pending, log, change.subject, line);
     }
     tell_lines(application, log, part(text, begin, text.len()));
 }
 
-fn part(text: &[u8], begin: usize, end: usize) -> &[u8] {
+/// Stores a line until its change is saved.
+fn put<R: Clock + Eprint>(
+    application: &mut Application,
+    pending: &mut Pending,
+    log: &Log<'_, R>,
+    subject: Subject,
+    line: &[u8],
+)
+    ensures { IsPut subject line.now application.old pending.old.lines.items
+        application.new pending.new.lines.items }
+{
+    if pending.add(subject, line).is_err() {
+        log.say("memory: refused for notices");
+        application.end();
+    }
+}
+
+fn part(text: &[u8], begin: usize, end: usize) -> &[u8]
+    ensures { result.now ≡ text_part text.now begin end }
+{
     text.get(begin..end).unwrap_or(&[])
 }
 
@@ -161,18 +287,34 @@ pub(crate) fn tell_pending<R: Clock + Eprint>(
     missed: &mut Missed,
     pending: &mut Pending,
     log: &Log<'_, R>,
-) {
-    for place in 0..pending.count() {
-        if let Some((subject, line)) = pending.line(place) {
-            tell_lines(application, log, line);
-            note_told(application, missed, log, subject);
-        }
-    }
+)
+    // Each line goes to the application once, in order.
+    ensures told { AreLinesTold pending.old.lines.items application.old missed.old
+        application.new missed.new }
+    ensures pending { pending.new.lines.items ≡ [] }
+{
+    tell_each(application, missed, log, pending.lines());
     pending.clear();
 }
 
+fn tell_each<R: Clock + Eprint>(
+    application: &mut Application,
+    missed: &mut Missed,
+    log: &Log<'_, R>,
+    lines: &[PendingLine],
+)
+    ensures { AreLinesTold lines.now application.old missed.old application.new missed.new }
+{
+    for line in lines {
+        tell_lines(application, log, line.text());
+        note_told(application, missed, log, line.subject());
+    }
+}
+
 /// Sends lines, unless the application lacks the current state.
-fn tell_lines<R: Clock + Eprint>(application: &mut Application, log: &Log<'_, R>, lines: &[u8]) {
+fn tell_lines<R: Clock + Eprint>(application: &mut Application, log: &Log<'_, R>, lines: &[u8])
+    ensures { AreSent lines.now application.old application.new }
+{
     if !application.is_new() && !lines.is_empty() {
         say(application, log, lines);
     }
@@ -184,7 +326,9 @@ fn note_told<R: Clock + Eprint>(
     missed: &mut Missed,
     log: &Log<'_, R>,
     subject: Subject,
-) {
+)
+    ensures { IsNoted subject application.now missed.old missed.new }
+{
     let Subject::Value(attribute) = subject else {
         return;
     };
@@ -203,7 +347,12 @@ pub(crate) fn flush<R: Clock + Eprint>(
     application: &mut Application,
     missed: &mut Missed,
     log: &Log<'_, R>,
-) {
+)
+    ensures application { IsFlushed application.old application.new }
+    ensures missed { is_there application.new.place ≡ true → missed.new ≡ missed.old }
+    ensures ended { is_there application.new.place ≡ false
+        → IsLast (has_read_all application.new.place) missed.old missed.new }
+{
     application.flush();
     if !application.is_there() {
         note_end(missed, application.has_read_all(), log);
@@ -232,14 +381,16 @@ pub(crate) fn fill<R: Clock + Eprint>(
     }
 }
 
-fn note_end<R: Clock + Eprint>(missed: &mut Missed, has_read_all: bool, log: &Log<'_, R>) {
+fn note_end<R: Clock + Eprint>(missed: &mut Missed, has_read_all: bool, log: &Log<'_, R>)
+    ensures { IsLast has_read_all missed.old missed.new }
+{
     if missed.end(has_read_all).is_err() {
         log.say("memory: refused for values that an application missed");
     }
 }
 
 fn say<R: Clock + Eprint>(application: &mut Application, log: &Log<'_, R>, text: &[u8])
-    ensures { application.new.visiting ≡ application.old.visiting }
+    ensures { IsSaid text.now application.old application.new }
 {
     match application.tell(text) {
         Ok(true) => {}

@@ -105,7 +105,8 @@ impl Place {
     {
         match self {
             Place::Taken(holding) => holding.holder().outgoing.is_full(),
-            _ => false,
+            Place::Given { holding, .. } => holding.holder().outgoing.is_full(),
+            Place::Free { .. } | Place::Promised(_) => false,
         }
     }
 
@@ -115,7 +116,8 @@ impl Place {
     {
         match self {
             Place::Taken(holding) => holding.due(),
-            _ => None,
+            Place::Given { holding, .. } => holding.due(),
+            Place::Free { .. } | Place::Promised(_) => None,
         }
     }
 
@@ -137,7 +139,16 @@ impl Place {
         match self {
             Place::Free { .. } => false,
             Place::Taken(holding) => holding.holder().has_something(),
-            Place::Given { .. } | Place::Promised(_) => true,
+            Place::Given {
+                holding,
+                last_reads,
+                ..
+            } => {
+                holding.holder().is_new
+                    || is_over(holding.holder(), *last_reads)
+                    || !holding.holder().outgoing.is_full()
+            }
+            Place::Promised(_) => true,
         }
     }
 
@@ -147,9 +158,7 @@ impl Place {
     {
         match self {
             Place::Taken(holding) => holding.holder().may_ask(),
-            Place::Given { holding, .. } => {
-                !holding.holder().is_new && holding.holder().has_line()
-            }
+            Place::Given { holding, .. } => holding.holder().may_ask(),
             Place::Free { .. } | Place::Promised(_) => false,
         }
     }
@@ -164,10 +173,7 @@ impl Place {
                 holding,
                 last_reads,
                 ..
-            } => {
-                let is_read = !holding.holder().is_readable() || *last_reads == 0;
-                is_read && !holding.holder().has_line()
-            }
+            } => is_over(holding.holder(), *last_reads),
             Place::Promised(_) => true,
         }
     }
@@ -336,7 +342,8 @@ impl Place {
     {
         match self {
             Place::Taken(holding) => holding.watch(now),
-            _ => false,
+            Place::Given { holding, .. } => holding.watch(now),
+            Place::Free { .. } | Place::Promised(_) => false,
         }
     }
 }
@@ -350,6 +357,15 @@ fn has_room(holder: &Holder) -> bool
     ensures { result ≡ place.holder_has_room holder.now }
 {
     !holder.is_new && holder.outgoing.has_room()
+}
+
+/// Returns true if all lines of an application that is replaced are processed, or it was read often
+/// enough.
+fn is_over(holder: &Holder, last_reads: u32) -> bool
+    ensures { result ≡ place.is_over holder.now last_reads }
+{
+    let is_read = !holder.is_readable() || last_reads == 0;
+    is_read && !holder.has_line()
 }
 
 /// Begins to give a visitor the place of an application, whose lines are processed first.

@@ -1,7 +1,6 @@
 //! The connections at the application's socket. All times are in milliseconds.
 
-ghost use Rattle.std.specs.Prelude.{◌≡◌};
-ghost use Rattle.std.specs.Prelude.{IfErr, IfOk};
+ghost use Rattle.std.specs.Prelude.{◌≡◌, ◌&&◌, if◌then◌else◌, not, None, Some, IfErr, IfOk};
 ghost use Rattle.std.specs.Bool.{OnFalse, OnTrue};
 ghost use Rattle.app_lines.specs.Inbox.{found_in, line_after};
 ghost use Rattle.app_lines.specs.declared.inbox.Found.TheVariants as found;
@@ -23,10 +22,10 @@ use device_io::Socket;
 use std::alloc::{AllocError, Global};
 use std::marker::Model;
 
-/// How long an application may accept nothing of what waits for it at a path.
+/// The milliseconds in which an application at a path may accept nothing of what waits for it.
 const SLOW_TIME: u64 = 5_000;
 
-/// How long it may accept nothing at a port.
+/// The milliseconds in which an application at a port may accept nothing.
 ///
 /// The other end's system accepts nothing until the application has read some 64 KiB.
 const SLOW_PORT_TIME: u64 = 20_000;
@@ -77,18 +76,26 @@ impl Visiting {
         self.visitor.next(now, is_free)
     }
 
-    /// Returns when its time is over.
-    pub(crate) fn due(&self) -> u64
-        ensures { result ≡ self.now.visitor.due }
+    /// Returns when its time is over. It has no end while the visitor would come but another one
+    /// waits for the place: if there `is_next`.
+    pub(crate) fn due(&self, is_next: bool) -> Option<u64>
+        ensures { result ≡ (if is_next && visitor.would_come self.now.visitor then None
+            else Some self.now.visitor.due) }
     {
-        self.visitor.due()
+        if is_next && self.visitor.would_come() {
+            return None;
+        }
+        Some(self.visitor.due())
     }
 
     /// Returns true if there is something to do before its time is over.
-    pub(crate) fn has_something(&self) -> bool
-        ensures { result ≡ visitor.has_something self.now.visitor }
+    ///
+    /// If there `is_next`, another one waits for the place that it may claim.
+    pub(crate) fn has_something(&self, is_next: bool) -> bool
+        ensures { result ≡ (visitor.has_something self.now.visitor
+            && not (is_next && visitor.is_claiming self.now.visitor)) }
     {
-        self.visitor.has_something()
+        self.visitor.has_something() && !(is_next && self.visitor.is_claiming())
     }
 
     /// Returns true if its next line is answered, and does not claim the application's place.

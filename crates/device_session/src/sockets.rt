@@ -1,4 +1,4 @@
-//! Reads and writes of the sockets of applications.
+//! Connections, reads and writes of the sockets of applications.
 
 ghost use Rattle.std.specs.Prelude.{◌≡◌};
 ghost use Rattle.device_session.specs.Seats.{IsRead, IsSent, IsWritten};
@@ -8,10 +8,26 @@ ghost use Rattle.app_lines.specs.declared.inbox.Found.TheVariants.{Nothing};
 use crate::holder::Holder;
 use crate::incoming::{Incoming, MOST_READ};
 use crate::outgoing::Outgoing;
-use device_io::{Retry, Socket, retry_after};
+use device_io::{Listener, Poller, Retry, Socket, retry_after};
+use std::io;
 
 /// The most bytes of a write. The system takes more only once it has read a whole write.
 const PIECE: usize = 1_024;
+
+/// Accepts the next connection, and begins to watch it.
+pub(crate) fn accept_from(
+    listener: &Option<Listener>,
+    poller: &Poller,
+) -> io::Result<Option<Socket>> {
+    let Some(listener) = listener else {
+        return Ok(None);
+    };
+    let Some(socket) = listener.accept(poller)? else {
+        return Ok(None);
+    };
+    socket.watch(poller)?;
+    Ok(Some(socket))
+}
 
 /// Reads once. Returns false if the socket has failed: then it sends no more.
 pub(crate) fn read_into(socket: &mut Socket, incoming: &mut Incoming) -> bool

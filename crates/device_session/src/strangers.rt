@@ -1,9 +1,9 @@
 //! Clients without a key, and when each is disconnected. All times are milliseconds by the clock
 //! of the peers' time limits unless another clock is named.
 
-ghost use Rattle.std.specs.Prelude.{◌≡◌, []};
+ghost use Rattle.std.specs.Prelude.{◌≡◌, [], is_some};
 ghost use Rattle.std.specs.Option.{option_map};
-ghost use Rattle.device_session.specs.Strangers.{due_of, first_due, found_at, heard_at, is_due, is_silent, keyless_of, sooner_of, stranger_of, strangers_of, time_after};
+ghost use Rattle.device_session.specs.Strangers.{are_limited, due_of, first_due, first_limit, found_at, heard_at, is_due, is_silent, keyless_of, sooner_of, stranger_of, strangers_of, time_after};
 
 use arrayvec::ArrayVec;
 use gatt_laws::MAX_SLOTS;
@@ -121,7 +121,9 @@ impl Strangers {
         self.known.clear();
     }
 
-    pub(crate) fn are_limited(&self) -> bool {
+    pub(crate) fn are_limited(&self) -> bool
+        ensures { result ≡ are_limited self.now.limits }
+    {
         self.limits.silent.is_some() || self.limits.staying.is_some()
     }
 
@@ -135,15 +137,15 @@ impl Strangers {
     }
 
     /// Returns when the first of them is disconnected.
-    pub(crate) fn due(&self) -> Option<u64> {
-        let mut due = None;
-        for stranger in self.known.as_slice() {
-            due = sooner(due, self.limits.due(stranger));
-        }
-        due
+    pub(crate) fn due(&self) -> Option<u64>
+        ensures { result ≡ first_limit self.now.limits self.now.known.items }
+    {
+        first_limit(self.known.as_slice(), &self.limits)
     }
 
-    pub(crate) fn is_due(&self, now: u64) -> bool {
+    pub(crate) fn is_due(&self, now: u64) -> bool
+        ensures { result ≡ is_some (first_due self.now.limits now self.now.known.items) }
+    {
         first_due(self.known.as_slice(), &self.limits, now).is_some()
     }
 
@@ -158,6 +160,16 @@ impl Strangers {
             .retain(|one| one.connection.ordinal != connection.ordinal);
         Some(connection.handle)
     }
+}
+
+fn first_limit(known: &[Stranger], limits: &Limits) -> Option<u64>
+    ensures { result ≡ first_limit limits.now known.now }
+{
+    let mut first = None;
+    for stranger in known {
+        first = sooner(first, limits.due(stranger));
+    }
+    first
 }
 
 fn first_due(known: &[Stranger], limits: &Limits, now: u64) -> Option<Stranger>

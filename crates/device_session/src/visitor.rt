@@ -4,7 +4,7 @@
 ghost use Rattle.std.specs.Prelude.{◌≡◌};
 ghost use Rattle.app_lines.specs.Inbox.{found_in};
 ghost use Rattle.app_lines.specs.declared.inbox.Found.TheVariants.{Nothing};
-ghost use Rattle.device_session.specs.Visitor.{by_input, by_kind, has_something, is_asking, visit_of, visitor_at, ClaimsRightly, LeavesInTime, WakesInTime};
+ghost use Rattle.device_session.specs.Visitor.{by_input, by_kind, has_something, is_asking, is_claiming, visit_of, visitor_at, would_come, ClaimsRightly, LeavesInTime, WakesInTime};
 ghost use Rattle.device_session.specs.declared.visitor.Visit.TheVariants.{Reads};
 
 use crate::asked::{LineKind, line_kind};
@@ -81,6 +81,23 @@ impl Visitor {
         ensures { result ≡ has_something self.now }
     {
         self.incoming.input != Input::Quiet || !matches!(self.incoming.found(), Found::Nothing)
+    }
+
+    /// Returns true if its next line claims the application's place, whether that is free or not.
+    pub(crate) fn is_claiming(&self) -> bool
+        ensures { result ≡ is_claiming self.now }
+    {
+        match self.incoming.found() {
+            Found::Line => matches!(line_kind(self.incoming.first_line()), LineKind::Claim),
+            _ => false,
+        }
+    }
+
+    /// Returns true if it becomes the application in its time, unless it sends something else.
+    pub(crate) fn would_come(&self) -> bool
+        ensures { result ≡ would_come self.now }
+    {
+        self.is_claiming() || self.incoming.is_nothing()
     }
 
     /// Returns true if its next line is answered, and does not claim the application's place.
