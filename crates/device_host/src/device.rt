@@ -7,13 +7,12 @@ use crate::keeping::Keeping;
 use crate::supervision::Supervision;
 use crate::unkeyed::Unkeyed;
 use arrayvec::ArrayVec;
+use device_io::System;
 use device_loop::{Happenings, History, Next, Note};
 use device_options::FileOptions;
 use device_session::{Session, sooner};
 use gatt_host::{App, AppFault, MAX_SLOTS};
 use std::alloc::Global;
-use std::fs::{File, Files};
-use std::net::{Net, TcpListener, TcpStream};
 use std::time::Clock;
 
 /// The event that a device takes next.
@@ -57,9 +56,7 @@ impl<R> Device<'_, R> {
     }
 }
 
-impl<
-    R: Files<File = File> + Net<Listener = TcpListener, Stream = TcpStream> + Clock + Eprint,
-> Happenings for Device<'_, R> {
+impl<R: System> Happenings for Device<'_, R> {
     ghost octets = { λ _. None };
 
     ghost calls = { λ _. None };
@@ -78,10 +75,11 @@ impl<
     }
 }
 
-fn next_of<
-    'b,
-    R: Files<File = File> + Net<Listener = TcpListener, Stream = TcpStream> + Clock + Eprint,
->(device: &mut Device<'_, R>, deadline: Option<u64>, buffer: &'b mut [u8]) -> Next<'b>
+fn next_of<'b, R: System>(
+    device: &mut Device<'_, R>,
+    deadline: Option<u64>,
+    buffer: &'b mut [u8],
+) -> Next<'b>
     ensures history { device.new.history ≡ device.old.history }
 {
     match device.takes {
@@ -98,10 +96,11 @@ fn next_of<
     }
 }
 
-fn next<
-    'b,
-    R: Files<File = File> + Net<Listener = TcpListener, Stream = TcpStream> + Clock + Eprint,
->(session: &mut Session<'_, R>, deadline: Option<u64>, buffer: &'b mut [u8]) -> Next<'b> {
+fn next<'b, R: System>(
+    session: &mut Session<'_, R>,
+    deadline: Option<u64>,
+    buffer: &'b mut [u8],
+) -> Next<'b> {
     if let Some(now) = session.next_tick(deadline) {
         return Next::Call(App::Tick(now));
     }

@@ -5,8 +5,10 @@
 use crate::stop::{Stop, refuse};
 use arrayvec::ArrayVec;
 use gatt_host::{Keys, Rows, Table};
-use shell_files::{ShellFault, judged_keys, judged_rows, judged_table};
-use show_command::{tell_keys_fault, tell_rows_fault, tell_table_fault};
+use shell_files::{
+    ShellFault, judged_keys, judged_rows, judged_table, tell_keys_fault, tell_rows_fault,
+    tell_table_fault,
+};
 use std::alloc::{AllocError, Global};
 use std::fs::{File, Files};
 use std::io::ErrorKind;
@@ -25,6 +27,44 @@ pub(crate) struct TableFile {
     pub(crate) text: Vec<u8>,
 }
 
+/// The content of a file whose refusal has a place.
+trait Content {
+    fn judge(alloc: Global, octets: &[u8]) -> Result<Self, ShellFault>;
+
+    /// Adds the place and the fault of a refused file. On `Err` memory was refused.
+    fn tell_fault(alloc: Global, place: &mut Vec<u8>, octets: &[u8]) -> Result<(), AllocError>;
+}
+
+impl Content for Table {
+    fn judge(alloc: Global, octets: &[u8]) -> Result<Table, ShellFault> {
+        judged_table(alloc, octets)
+    }
+
+    fn tell_fault(alloc: Global, place: &mut Vec<u8>, octets: &[u8]) -> Result<(), AllocError> {
+        tell_table_fault(alloc, place, octets)
+    }
+}
+
+impl Content for Keys {
+    fn judge(alloc: Global, octets: &[u8]) -> Result<Keys, ShellFault> {
+        judged_keys(alloc, octets)
+    }
+
+    fn tell_fault(alloc: Global, place: &mut Vec<u8>, octets: &[u8]) -> Result<(), AllocError> {
+        tell_keys_fault(alloc, place, octets)
+    }
+}
+
+impl Content for Rows {
+    fn judge(alloc: Global, octets: &[u8]) -> Result<Rows, ShellFault> {
+        judged_rows(alloc, octets)
+    }
+
+    fn tell_fault(alloc: Global, place: &mut Vec<u8>, octets: &[u8]) -> Result<(), AllocError> {
+        tell_rows_fault(alloc, place, octets)
+    }
+}
+
 pub(crate) fn read_table<R: Files<File = File> + Eprint>(
     alloc: Global,
     rt: &R,
@@ -33,13 +73,9 @@ pub(crate) fn read_table<R: Files<File = File> + Eprint>(
     let Some(text) = read_file(alloc, rt, path)? else {
         return Err(refuse(rt, format!(in alloc; "{path}: not there").ok()));
     };
-    match judged_table(alloc, text.as_slice()) {
+    match judged(alloc, path, text.as_slice()) {
         Ok(table) => Ok(TableFile { table, text }),
-        Err(fault) => {
-            let mut place = Vec::new(alloc);
-            let told = tell_table_fault(alloc, &mut place, text.as_slice());
-            Err(refuse_at(alloc, rt, path, fault, told, place.as_slice()))
-        }
+        Err(refusal) => Err(refuse(rt, refusal)),
     }
 }
 
@@ -60,19 +96,11 @@ pub(crate) fn judged_key_file<R: Files<File = File>>(
     rt: &R,
     path: &str,
 ) -> Result<KeyFile, Option<String>> {
-    let text = match octets_of(alloc, rt, path) {
-        Ok(Some(text)) => text,
-        Ok(None) => return Err(format!(in alloc; "{path}: not there").ok()),
-        Err(refusal) => return Err(refusal),
+    let Some(text) = octets_of(alloc, rt, path)? else {
+        return Err(format!(in alloc; "{path}: not there").ok());
     };
-    match judged_keys(alloc, text.as_slice()) {
-        Ok(keys) => Ok(KeyFile { keys, text }),
-        Err(fault) => {
-            let mut place = Vec::new(alloc);
-            let told = tell_keys_fault(alloc, &mut place, text.as_slice());
-            Err(refusal_at(alloc, path, fault, told, place.as_slice()))
-        }
-    }
+    let keys = judged(alloc, path, text.as_slice())?;
+    Ok(KeyFile { keys, text })
 }
 
 /// Reads a subscriptions file. A missing file counts as an empty one.
@@ -82,12 +110,20 @@ pub(crate) fn read_subscriptions<R: Files<File = File> + Eprint>(
     path: &str,
 ) -> Result<Rows, Stop> {
     let text = read_file(alloc, rt, path)?.unwrap_or(Vec::new(alloc));
-    match judged_rows(alloc, text.as_slice()) {
+    match judged(alloc, path, text.as_slice()) {
         Ok(rows) => Ok(rows),
+        Err(refusal) => Err(refuse(rt, refusal)),
+    }
+}
+
+/// Reads the content of a file. A refusal: as of `judged_key_file`.
+fn judged<T: Content>(alloc: Global, path: &str, octets: &[u8]) -> Result<T, Option<String>> {
+    match T::judge(alloc, octets) {
+        Ok(content) => Ok(content),
         Err(fault) => {
             let mut place = Vec::new(alloc);
-            let told = tell_rows_fault(alloc, &mut place, text.as_slice());
-            Err(refuse_at(alloc, rt, path, fault, told, place.as_slice()))
+            let told = T::tell_fault(alloc, &mut place, octets);
+            Err(refusal_at(alloc, path, fault, told, place.as_slice()))
         }
     }
 }
@@ -119,17 +155,6 @@ fn octets_of<R: Files<File = File>>(
         Err(ShellFault::Memory) => Err(None),
         Err(_) => Err(format!(in alloc; "{path}: cannot be read").ok()),
     }
-}
-
-fn refuse_at<R: Eprint>(
-    alloc: Global,
-    rt: &R,
-    path: &str,
-    fault: ShellFault,
-    told: Result<(), AllocError>,
-    place: &[u8],
-) -> Stop {
-    refuse(rt, refusal_at(alloc, path, fault, told, place))
 }
 
 fn refusal_at(

@@ -23,11 +23,11 @@ const RETRY_TIME: u64 = 1_000;
 #[derive(Drop)]
 pub(crate) enum Contents {
     Subscriptions,
-    State(Served),
+    State(SavedState),
 }
 
 #[derive(Drop)]
-pub(crate) struct Served {
+pub(crate) struct SavedState {
     pub(crate) text: Vec<u8>,
     /// The table with the values of its file.
     pub(crate) initial: Table,
@@ -163,12 +163,13 @@ impl Keeping {
 
     /// Saves a host if necessary and if it is time. Returns true if everything is saved.
     ///
-    /// Logs when saving begins to fail, or succeeds again. The application is sent nothing.
+    /// Logs when saving begins to fail, or succeeds again.
     pub(crate) fn save<R: Files<File = File> + Clock + Eprint>(
         &mut self,
         host: &Host,
         session: &mut Session<'_, R>,
     ) -> bool
+        // The application, its place and its output stay as they are.
         ensures application { session.new.application ≡ session.old.application }
     {
         if self.changes.is_made(session.log().now()) {

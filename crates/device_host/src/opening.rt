@@ -4,7 +4,7 @@
 
 use crate::files::{KeyFile, TableFile, read_keys, read_table};
 use crate::finding::{find_saved, find_subscriptions, is_of_another_table};
-use crate::keeping::{Contents, Keeping, Served};
+use crate::keeping::{Contents, Keeping, SavedState};
 use crate::restoring::{
     Subscriptions, known_subscriptions, log_dropped, restore_values, set_whole_range,
 };
@@ -58,7 +58,7 @@ fn open_with_keys<R: Files<File = File> + Clock + Eprint>(
             alloc, log, options, path, table, keys,
         ),
         Saved::State { folder, all_values } => {
-            let served = Served {
+            let served = SavedState {
                 text,
                 initial: table,
                 saves: if all_values {
@@ -113,7 +113,7 @@ fn open_with_state<R: Files<File = File> + Clock + Eprint>(
     log: &Log<'_, R>,
     options: &HostOptions<'_>,
     folder: &str,
-    served: Served,
+    served: SavedState,
     keys: Keys,
 ) -> Result<(Host, Option<Keeping>), Stop> {
     let mut locks = Vec::new(alloc);

@@ -2,12 +2,10 @@
 
 ghost use Rattle.std.specs.Prelude.{None, Some};
 
+use device_io::MOST_WAITING;
 use device_loop::{Outgoing, withhold};
 use octet_io::{Failed, Sink};
 use std::alloc::Global;
-
-/// The most octets that may wait.
-const LIMIT: usize = 1_048_576;
 
 #[derive(Drop)]
 pub(crate) struct ToController {
@@ -28,7 +26,7 @@ impl Sink for ToController {
     ghost failures = { λ _. None };
 
     fn write(&mut self, buf: &[u8]) -> Result<usize, Failed> {
-        let fits = buf.len() <= LIMIT.saturating_sub(self.octets.len());
+        let fits = buf.len() <= MOST_WAITING.saturating_sub(self.octets.len());
         if fits && self.octets.extend_from_slice(buf).is_ok() {
             Ok(buf.len())
         } else {

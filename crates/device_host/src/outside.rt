@@ -6,16 +6,13 @@ use crate::device::Device;
 use crate::saving::save;
 use crate::telling::tell;
 use crate::turn_notices::Hearing;
+use device_io::System;
 use device_loop::{Note, Outside, Saving, Sending};
 use device_session::Session;
 use gatt_host::Host;
-use std::fs::{File, Files};
-use std::net::{Net, TcpListener, TcpStream};
 use std::time::Clock;
 
-impl<
-    R: Files<File = File> + Net<Listener = TcpListener, Stream = TcpStream> + Clock + Eprint,
-> Outside<Hearing> for Device<'_, R> {
+impl<R: System> Outside<Hearing> for Device<'_, R> {
     fn save(&mut self, host: &Host, listener: &mut Hearing) -> Saving {
         let saving = save(self, host, listener);
         self.history = self.history.with(&Note::Saved(&saving, host));

@@ -1,5 +1,9 @@
 //! The line `reload`: the key file is read again, and the host is opened again with its keys.
 
+ghost use Rattle.std.specs.Prelude.{◌≡◌};
+ghost use Rattle.device_host.specs.Answers.{IsAnsweredOrPutOff, IsSomehowAnswered};
+ghost use Rattle.device_host.specs.Silence.{IsSameOrHeld};
+
 use crate::course::Course;
 use crate::device::Device;
 use crate::files::{KeyFile, judged_key_file};
@@ -30,7 +34,12 @@ enum Answer {
 pub(crate) fn begin_reload<R: Files<File = File> + Clock + Eprint>(
     device: &mut Device<'_, R>,
     host: &Host,
-) {
+)
+    ensures application { IsSameOrHeld device.old.session.application
+        device.new.session.application }
+    // The line is answered at once, or once the host is opened again.
+    ensures asking { IsAnsweredOrPutOff device.old.session.asking device.new.session.asking }
+{
     match read_again(device, host) {
         Ok(None) => {
             device
@@ -41,7 +50,7 @@ pub(crate) fn begin_reload<R: Files<File = File> + Clock + Eprint>(
         }
         Ok(Some(keys)) => {
             let until = device.session.log().now().saturating_add(ENDING_TIME);
-            device.session.forget_asked();
+            device.session.put_off_answer();
             device.session.hold();
             device
                 .session
@@ -132,7 +141,10 @@ pub(crate) fn reopen_with_keys<R: Files<File = File> + Clock + Eprint>(
     };
     let refused = unknown_saved(device.alloc, &device.files, host.rows(), &file.keys);
     let (opened, said) = match refused {
-        Ok(()) => (exchange_keys(device, host, file, settings), Answer::Done),
+        Ok(()) => match exchange_keys(device, host, file, settings) {
+            Ok(host) => (Ok(host), Answer::Done),
+            Err(stop) => (Err(stop), Answer::Refused(None)),
+        },
         Err(refusal) => {
             drop(file);
             (
@@ -175,7 +187,10 @@ fn exchange_keys<R: Files<File = File> + Clock + Eprint>(
 }
 
 /// Prepares the answer to the line `reload`, and logs a refusal.
-fn answer_reload<R: Clock + Eprint>(device: &mut Device<'_, R>, answer: &Answer) {
+fn answer_reload<R: Clock + Eprint>(device: &mut Device<'_, R>, answer: &Answer)
+    ensures application { device.new.session.application ≡ device.old.session.application }
+    ensures asking { IsSomehowAnswered device.old.session.asking device.new.session.asking }
+{
     let text = match answer {
         Answer::Done => answer_text(device.alloc, &Reply::Done),
         Answer::Refused(refusal) => {

@@ -18,7 +18,7 @@ pub(crate) fn save<R: Files<File = File> + Clock + Eprint>(
 ) -> Saving
     ensures history { device.new.history ≡ device.old.history }
     ensures heard { hearing.new.received ≡ hearing.old.received }
-    // The application is sent nothing.
+    // The application, its place and its output stay as they are.
     ensures application { device.new.session.application ≡ device.old.session.application }
 {
     let is_saved = match &mut device.keeping {

@@ -1,5 +1,10 @@
 //! Serves one controller after another.
 
+ghost use Rattle.std.specs.Prelude.{◌≡◌, IfOk};
+ghost use Rattle.std.specs.List.{flat_map};
+ghost use Rattle.gatt_host.specs.Connections.{connections_in};
+ghost use Rattle.device_host.specs.Answers.{end_line};
+
 use crate::answers::note_event;
 use crate::course::Course;
 use crate::device::{Device, Takes};
@@ -8,16 +13,17 @@ use crate::opening::{open_host, reopen};
 use crate::outgoing::ToController;
 use crate::reload::reopen_with_keys;
 use crate::starting::{Start, begin_capture, reaching};
+use crate::state_lines::add_ends;
 use crate::stop::Stop;
 use crate::stopping::{finish, is_stopped, reset};
 use crate::supervision::{Activity, Supervision};
 use crate::turn_notices::Hearing;
-use app_lines::{Names, Told, add_named_line};
-use device_io::{Log, Supervisor};
+use app_lines::{Names, Told};
+use device_io::{Log, Supervisor, System};
 use device_loop::{End, Sending, serve_happenings, serve_turn};
 use device_options::{HostOptions, HostSettings, OptionTexts};
 use device_session::{Heard, SavedChanges, Session};
-use gatt_host::{Host, HostFault, Notice};
+use gatt_host::{Host, HostFault};
 use shell_files::ShellFault;
 use std::alloc::{AllocError, Global};
 use std::fs::{File, Files};
@@ -101,17 +107,18 @@ fn number_of_start<R: RandomSource>(rt: &R) -> u64 {
     u64::from(u32::from_le_bytes(octets))
 }
 
-fn prepare_and_serve<
-    R: Files<File = File> + Net<Listener = TcpListener, Stream = TcpStream> + Clock + Eprint,
->(alloc: Global, log: Log<'_, R>, options: &HostOptions<'_>, start: Start) -> Result<(), Stop> {
+fn prepare_and_serve<R: System>(
+    alloc: Global,
+    log: Log<'_, R>,
+    options: &HostOptions<'_>,
+    start: Start,
+) -> Result<(), Stop> {
     let (host, keeping, key_text) = open_host(alloc, &log, options)?;
     listen_and_serve(alloc, log, options, host, keeping, key_text, start)
 }
 
 /// Listens, and serves a host. Dropping hosts and devices as a whole keeps the proof small.
-fn listen_and_serve<
-    R: Files<File = File> + Net<Listener = TcpListener, Stream = TcpStream> + Clock + Eprint,
->(
+fn listen_and_serve<R: System>(
     alloc: Global,
     log: Log<'_, R>,
     options: &HostOptions<'_>,
@@ -136,9 +143,11 @@ fn listen_and_serve<
 /// Serves a host after a first save, which is retried later if it fails.
 ///
 /// If the save replaces the state of another table, that state is kept first.
-fn save_and_serve<
-    R: Files<File = File> + Net<Listener = TcpListener, Stream = TcpStream> + Clock + Eprint,
->(options: &HostOptions<'_>, host: Host, device: &mut Device<'_, R>) -> Result<(), Stop> {
+fn save_and_serve<R: System>(
+    options: &HostOptions<'_>,
+    host: Host,
+    device: &mut Device<'_, R>,
+) -> Result<(), Stop> {
     if let Some(keeping) = &mut device.keeping {
         if let Err(stop) = keeping.keep_before(device.session.log()) {
             drop(host);
@@ -156,9 +165,11 @@ fn save_and_serve<
 }
 
 /// Serves each controller with the data of the one before, or only one.
-fn serve_each<
-    R: Files<File = File> + Net<Listener = TcpListener, Stream = TcpStream> + Clock + Eprint,
->(device: &mut Device<'_, R>, host: Host, options: &HostOptions<'_>) -> Result<(), Stop> {
+fn serve_each<R: System>(
+    device: &mut Device<'_, R>,
+    host: Host,
+    options: &HostOptions<'_>,
+) -> Result<(), Stop> {
     let mut host = host;
     let mut hearing = hearing_of(device, options.log_values);
     let mut outcome = Ok(());
@@ -203,9 +214,11 @@ fn hearing_of<R>(device: &Device<'_, R>, logs_values: bool) -> Hearing {
     )
 }
 
-fn serve_one<
-    R: Files<File = File> + Net<Listener = TcpListener, Stream = TcpStream> + Clock + Eprint,
->(device: &mut Device<'_, R>, host: &mut Host, hearing: &mut Hearing) -> Over {
+fn serve_one<R: System>(
+    device: &mut Device<'_, R>,
+    host: &mut Host,
+    hearing: &mut Hearing,
+) -> Over {
     hearing.begin();
     // The connections belong to the last controller.
     device.session.know(&hearing.heard);
@@ -234,9 +247,11 @@ fn serve_one<
     }
 }
 
-fn serve_turns<
-    R: Files<File = File> + Net<Listener = TcpListener, Stream = TcpStream> + Clock + Eprint,
->(device: &mut Device<'_, R>, host: &mut Host, heard: &mut Hearing) -> Over {
+fn serve_turns<R: System>(
+    device: &mut Device<'_, R>,
+    host: &mut Host,
+    heard: &mut Hearing,
+) -> Over {
     let mut out = ToController::new(device.alloc);
     for _turn in 0..u64::MAX {
         if let Some(over) = over_in_turn(device, host, &mut out, heard) {
@@ -247,9 +262,7 @@ fn serve_turns<
 }
 
 /// Serves one turn. Returns why serving has ended, if so.
-fn over_in_turn<
-    R: Files<File = File> + Net<Listener = TcpListener, Stream = TcpStream> + Clock + Eprint,
->(
+fn over_in_turn<R: System>(
     device: &mut Device<'_, R>,
     host: &mut Host,
     out: &mut ToController,
@@ -294,9 +307,7 @@ fn supervise<R: Clock + Eprint>(device: &mut Device<'_, R>, host: &Host) {
 }
 
 /// Serves an event, and then the other lines of the same read: one save covers all of them.
-fn serve_events<
-    R: Files<File = File> + Net<Listener = TcpListener, Stream = TcpStream> + Clock + Eprint,
->(
+fn serve_events<R: System>(
     device: &mut Device<'_, R>,
     host: &mut Host,
     out: &mut ToController,
@@ -324,10 +335,10 @@ fn tell_over<R: Clock + Eprint>(
     match over {
         Over::Gone(how) => session.log().say_of("controller", how),
         Over::Stopped(fault) => tell_stopped(alloc, session, fault),
-        Over::Reloads => session
+        Over::Reloads if session.has_controller() => session
             .log()
             .say_of("controller", "released: the keys have changed"),
-        Over::Asked | Over::Unsaved => {}
+        Over::Reloads | Over::Asked | Over::Unsaved => {}
     }
     if session.is_serving() {
         let ends = ends_of_connections(alloc, session.names(), host);
@@ -338,14 +349,12 @@ fn tell_over<R: Clock + Eprint>(
 }
 
 /// Returns a line for each connection that ends because its controller is gone.
-fn ends_of_connections(alloc: Global, names: &Names, host: &Host) -> Result<Vec<u8>, AllocError> {
+fn ends_of_connections(alloc: Global, names: &Names, host: &Host) -> Result<Vec<u8>, AllocError>
+    ensures ends { IfOk result (λ text. text.items
+        ≡ flat_map (end_line names.now.named) (connections_in host.now)) }
+{
     let mut text = Vec::new(alloc);
-    for connection in host.connections() {
-        let handle = connection.handle;
-        if let Some(name) = names.name_of(handle) {
-            add_named_line(&mut text, name, &Notice::Disconnected { handle })?;
-        }
-    }
+    add_ends(&mut text, names, host)?;
     Ok(text)
 }
 

@@ -7,7 +7,7 @@ use crate::stop::{Stop, refuse_socket};
 use crate::supervision::Supervision;
 use crate::unkeyed::Unkeyed;
 use arrayvec::ArrayVec;
-use device_io::Log;
+use device_io::{Log, System};
 use device_loop::History;
 use device_options::{ApplicationAddress, ControllerAddress, HostOptions};
 use device_session::{Limits, Session};
@@ -15,8 +15,6 @@ use std::alloc::Global;
 use std::fs::{File, Files};
 use std::io;
 use std::io::ErrorKind;
-use std::net::{Net, TcpListener, TcpStream};
-use std::time::Clock;
 
 /// A number and the supervision that a start gets from the system.
 #[derive(Clone, Copy)]
@@ -27,10 +25,7 @@ pub(crate) struct Start {
 }
 
 /// Returns a device with its sockets open. If this fails, no file has changed.
-pub(crate) fn reaching<
-    'a,
-    R: Files<File = File> + Net<Listener = TcpListener, Stream = TcpStream> + Clock + Eprint,
->(
+pub(crate) fn reaching<'a, R: System>(
     log: Log<'a, R>,
     alloc: Global,
     options: &HostOptions<'a>,
@@ -131,9 +126,10 @@ fn suffix_of(error: &io::Error) -> &'static str {
 }
 
 /// Begins the capture, if any: only once nothing else can stop the start.
-pub(crate) fn begin_capture<
-    R: Files<File = File> + Net<Listener = TcpListener, Stream = TcpStream> + Clock + Eprint,
->(session: &mut Session<'_, R>, options: &HostOptions<'_>) -> Result<(), Stop> {
+pub(crate) fn begin_capture<R: System>(
+    session: &mut Session<'_, R>,
+    options: &HostOptions<'_>,
+) -> Result<(), Stop> {
     match session.record(options.files.capture, options.files.capture_size) {
         Ok(()) => Ok(()),
         Err(_) => Err(Stop::File),

@@ -1,13 +1,17 @@
 //! The stop of a device that the line `stop` asks for.
 
+ghost use Rattle.std.specs.Prelude.{◌≡◌};
+ghost use Rattle.device_session.specs.Asking.{after_delay};
+ghost use Rattle.device_host.specs.Silence.{held};
+
 use crate::course::Course;
 use crate::device::Device;
 use app_lines::{Reply, add_reply};
 use arrayvec::ArrayVec;
+use device_io::System;
 use gatt_host::{Host, MAX_SLOTS};
 use std::alloc::{AllocError, Global};
 use std::fs::{File, Files};
-use std::net::{Net, TcpListener, TcpStream};
 use std::time::Clock;
 
 /// Time limit for the connections to end, in milliseconds.
@@ -20,8 +24,12 @@ const RESET_TIME: u64 = 1_000;
 const RESET: [u8; 4] = [0x01, 0x03, 0x0C, 0x00];
 
 /// Begins to stop a device: its connections end first, and no more lines are read.
-pub(crate) fn begin_stop<R: Clock + Eprint>(device: &mut Device<'_, R>) {
-    device.session.forget_asked();
+pub(crate) fn begin_stop<R: Clock + Eprint>(device: &mut Device<'_, R>)
+    ensures application { device.new.session.application
+        ≡ held device.old.session.application }
+    ensures asking { device.new.session.asking ≡ after_delay device.old.session.asking }
+{
+    device.session.put_off_answer();
     device.session.hold();
     device.session.log().say("stop");
     device.supervision.stopping();
@@ -51,9 +59,7 @@ pub(crate) fn is_stopped<R: Clock + Eprint>(device: &mut Device<'_, R>, host: &H
 
 /// Saves once more, resets the controller, so that it stops advertising, and answers `stop`.
 /// Returns true if everything is saved.
-pub(crate) fn finish<
-    R: Files<File = File> + Net<Listener = TcpListener, Stream = TcpStream> + Clock + Eprint,
->(device: &mut Device<'_, R>, host: &Host) -> bool {
+pub(crate) fn finish<R: System>(device: &mut Device<'_, R>, host: &Host) -> bool {
     let failure = save_last(device, host);
     reset(device);
     let text = last_answer(device.alloc, &failure);
@@ -96,9 +102,7 @@ fn last_answer(alloc: Global, failure: &Option<String>) -> Result<Vec<u8>, Alloc
 }
 
 /// Resets the controller, so that it stops advertising.
-pub(crate) fn reset<
-    R: Files<File = File> + Net<Listener = TcpListener, Stream = TcpStream> + Clock + Eprint,
->(device: &mut Device<'_, R>) {
+pub(crate) fn reset<R: System>(device: &mut Device<'_, R>) {
     if let Ok(true) = device.session.write(&RESET) {
         wait_for_reset(device);
     }
@@ -107,9 +111,7 @@ pub(crate) fn reset<
 /// Waits until the controller answers, perhaps the Reset, or disconnects.
 ///
 /// A stream that is closed before it is read may lose the last bytes written.
-fn wait_for_reset<
-    R: Files<File = File> + Net<Listener = TcpListener, Stream = TcpStream> + Clock + Eprint,
->(device: &mut Device<'_, R>) {
+fn wait_for_reset<R: System>(device: &mut Device<'_, R>) {
     let until = device.session.log().now().saturating_add(RESET_TIME);
     let mut buffer = [0; 256];
     for _turn in 0..u64::MAX {

@@ -1,11 +1,12 @@
 //! The answers and notices of a turn, once its changes are saved or known to be unsaved.
 
-ghost use Rattle.std.specs.Prelude.{◌≡◌};
+ghost use Rattle.std.specs.Prelude.{◌≡◌, Bool, IfOk};
+ghost use Rattle.device_host.specs.Answers.{state_lines};
 
 use crate::device::Device;
-use crate::state_lines::{add_connections, add_subscriptions};
+use crate::state_lines::{add_secured, add_state};
 use crate::turn_notices::Hearing;
-use app_lines::{Names, Told, add_told};
+use app_lines::{Names, Told};
 use arrayvec::ArrayVec;
 use att_numbers::limit::MAX_ATTRIBUTES;
 use device_loop::Saving;
@@ -74,11 +75,7 @@ fn secured_text(
     heard: &Heard,
 ) -> Result<Vec<u8>, AllocError> {
     let mut text = Vec::new(alloc);
-    for connection in host.connections() {
-        if heard.secured().contains(&connection.handle) {
-            add_subscriptions(&mut text, names, host, &connection)?;
-        }
-    }
+    add_secured(&mut text, names, host, heard.secured())?;
     Ok(text)
 }
 
@@ -88,7 +85,7 @@ fn welcome<R: Clock + Eprint>(device: &mut Device<'_, R>, host: &Host)
 {
     let session = &mut device.session;
     if session.has_new_application() {
-        let text = standing_text(device.alloc, device.started, session, host);
+        let text = state_text(device.alloc, device.started, session, host);
         session.welcome(text);
         if let Some(keeping) = &device.keeping {
             keeping.tell_failure(session);
@@ -96,24 +93,23 @@ fn welcome<R: Clock + Eprint>(device: &mut Device<'_, R>, host: &Host)
     }
 }
 
-fn standing_text<R>(
+fn state_text<R>(
     alloc: Global,
     started: u64,
     session: &Session<'_, R>,
     host: &Host,
-) -> Result<Vec<u8>, AllocError> {
-    let told = if session.is_serving() {
-        Told::Serving
-    } else {
-        Told::Waiting
-    };
+) -> Result<Vec<u8>, AllocError>
+    ensures state { (is_serving : Bool) × IfOk result (λ text. text.items
+        ≡ state_lines started is_serving session.now.names.named host.now) }
+{
     let mut text = Vec::new(alloc);
-    add_told(&mut text, &Told::Started(started))?;
-    add_told(&mut text, &told)?;
-    add_connections(&mut text, session.names(), host)?;
-    for connection in host.connections() {
-        add_subscriptions(&mut text, session.names(), host, &connection)?;
-    }
+    add_state(
+        &mut text,
+        started,
+        session.is_serving(),
+        session.names(),
+        host,
+    )?;
     Ok(text)
 }
 

@@ -1,0 +1,10 @@
+use Rattle.std.proofs.Common.{◌++◌, ap, ◌∙◌}
+use Rattle.std.specs.List.{flat_map}
+use Rattle.device_host.specs.Answers.{lines_of_subscriptions}
+use Rattle.device_host.proofs.state_lines.add_all_subscriptions.Goals as goal
+
+pub loop-connection-init : goal.loop-connection-init
+loop-connection-init c = record {
+  told = ap (λ left. c.args.text.now.items ++ flat_map (lines_of_subscriptions c.args.names.now.named c.args.host.now) left)
+      (c.into_iter-connection-iterator.ensures.into_iter_gives ∙ c.connections-connection-items.ensures.server);
+}
