@@ -1,4 +1,4 @@
-"""The crates with their contracts, and the tables of the documents that cite them."""
+"""The clauses of the crates, and the tables of the documents."""
 
 import functools
 import os
@@ -16,18 +16,13 @@ def texts(folder, suffix):
 
 
 class Crate:
-    """The functions of a crate with their clauses, its traits, and the fields of its records."""
+    """The functions of a crate with their clauses."""
 
     def __init__(self, name):
-        folder = f"{ROOT}/crates/{name}"
         # By the name of a function: whether it is public, the type that it belongs to, its clauses.
-        self.functions = {}
-        self.types, self.members, self.aliases = set(), set(), {}
-        for text in texts(f"{folder}/src", ".rt"):
+        self.functions, self.aliases = {}, {}
+        for text in texts(f"{ROOT}/crates/{name}/src", ".rt"):
             self.read(text)
-        specs = "\n".join(texts(f"{folder}/specs", ".antt"))
-        self.fields = set(re.findall(r"^ +pub (\w+)(?: [^:]*)?:", specs, re.M))
-        self.records = set(re.findall(r"\b([A-Z]\w+)\b", specs))
 
     def read(self, text):
         owner, is_trait, indent = None, False, 0
@@ -40,12 +35,9 @@ class Crate:
                 words = re.sub(r"<[^<>]*(?:<[^<>]*>[^<>]*)*>", "", header[4])
                 owner = words.split(" for ")[-1].split(":")[0].split("(")[0].strip().lstrip("&").split()[-1:]
                 owner, is_trait, indent = (owner or [""])[0], header[3] == "trait", len(header[1])
-                self.types |= {owner, words.split(" for ")[0].split(":")[0].strip()}
             elif line[: indent + 1] == " " * indent + "}":
                 owner, is_trait = None, False
-            self.types |= set(re.findall(r"\b(?:struct|enum|trait) (\w+)", line))
             self.aliases.update(re.findall(r"\btype (\w+)(?:<.*?>)? = (\w+)", line))
-            self.members |= set(re.findall(r"ghost (\w+)\s*[:=]", line))
             found = re.match(
                 r' *((?:pub(?:\([a-z]+\))? )?)(?:const )?(?:unsafe )?(?:extern "C" )?fn (\w+)', line
             )
@@ -80,25 +72,10 @@ class Crate:
         owner = self.aliases.get(owner, owner)
         return [it for it in self.functions.get(function, []) if not owner or it[1] == owner]
 
-    def has(self, clause):
-        """Whether a function has this clause, or a trait this member."""
-        return clause in self.members or any(
-            clause in one[2] for all_of in self.functions.values() for one in all_of
-        )
-
 
 @functools.cache
 def crate_of(name):
     return Crate(name)
-
-
-def is_crate(name):
-    return os.path.isdir(f"{ROOT}/crates/{name}/src")
-
-
-def is_program(name):
-    """Whether a crate is a program, which has no public functions."""
-    return os.path.isfile(f"{ROOT}/crates/{name}/src/main.rt")
 
 
 def names_in(text):

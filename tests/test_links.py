@@ -1,7 +1,7 @@
 """Tries the links of the documents: each resolves, and each page links the words that are Gihandop's own.
 
 These are the rows with an anchor of "Words of Gihandop" in the glossary. A page links one at its first use
-outside headings, code and other links, and once, except API, CONTRACTS and what docs/model makes. Words
+outside headings, code and other links, and once, except API, CONTRACTS and what tools/check/model makes. Words
 that are also everyday English (EVERYDAY) are linked by hand. No page links a word of the trade.
 """
 
@@ -52,7 +52,7 @@ def test_a_page_leads_somewhere(page):
 
 @pytest.mark.parametrize("page", [it for it in PAGES if it not in APART])
 def test_a_page_links_terms(page):
-    text = blanked(r"(?s)<!-- docs/model makes.*?<!-- docs/model ends", without_code(text_of(page)))
+    text = blanked(r"(?s)<!-- tools/check/model makes.*?<!-- tools/check/model ends", without_code(text_of(page)))
     prose = blanked(r"(?m)^#.*$|^\|.*\n(?=\|-)|\[[^]]*\]\([^)]*\)|\bBSD-3-Clause\b", text)
     links = [(it[1], it.start()) for it in re.finditer(r"\]\([^)]*GLOSSARY\.md#([^)]*)\)", text)]
     places = dict(links)

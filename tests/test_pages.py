@@ -12,8 +12,8 @@ pytestmark = pytest.mark.without_program
 
 # What makes pages, or counts in all of them. Each prints what is wrong.
 SCRIPTS = [
-    "docs/api --check", "docs/tables --check", "docs/model --check", "docs/contracts --check", "docs/manual --check",
-    "docs/prose", "tools/licences",
+    "tools/check/api --check", "tools/check/tables --check", "tools/check/model --check", "tools/check/contracts --check", "tools/check/manual --check",
+    "tools/check/prose", "tools/licences",
 ]
 
 

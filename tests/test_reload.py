@@ -16,6 +16,7 @@ from parties.homes import AT_GUEST, AT_OWNER, guest_comes, has_saved, owner_come
 from parties.places import write_text
 from parties.supervised import Supervisor
 from parties.tables import GUEST_NAME, KEYS, OWNER_NAME, SENSOR, VALUE, VALUE_CONFIG, spelled
+from parties.watching import highest, limit, spent
 
 RESET = 0x0C03
 SAME = "keys: the same as before: "
@@ -321,6 +322,26 @@ def test_an_application_that_comes_meanwhile(place):
     other.say("connections")
     controller.until(lambda: controller.is_gone, 6)
     assert (visitor.line(), other.line()) == ("ok", "ok")
+
+
+def test_an_application_that_is_accepted_later(place):
+    """A device that cannot accept an application takes no processor time until it tries again, after a reload too."""
+    place.keys.put(0, 1)
+    device = place.start()
+    controller = place.controller()
+    application = place.home.application()
+    limit(device, highest(device) + 1)
+    with socket.socket(socket.AF_UNIX) as later:
+        later.connect(place.socket)
+        device.said("application: not accepted: ")
+        limit(device, 1024)
+        place.keys.put(1)
+        application.say("reload")
+        controller.until(lambda: controller.is_gone, 6)
+        before = spent(device.process.pid)
+        time.sleep(0.5)
+        assert spent(device.process.pid) - before < 50, "processor time of 0.5 seconds, in milliseconds"
+        assert later.recv(9) == b"+ started", "accepted, and the application after a second"
 
 
 def test_the_supervisor(place, folder):

@@ -186,7 +186,7 @@ def test_the_pdus_of_the_tutorial(program):
     assert printed("./gatt_shell att < examples/att_first.txt", program).split() == answers
 
 
-@pytest.mark.parametrize("script", ["docs/manual", "docs/tables"])
+@pytest.mark.parametrize("script", ["tools/check/manual", "tools/check/tables"])
 def test_what_needs_the_program(program, script):
     """The manual pages and the tables of cases are what their sources and the program make."""
     words = [script, "--check", program]

@@ -17,7 +17,7 @@ SERVICES = [
     ("services = []", "services: there is no such key"),
     ("service = 1", "service: it has to be an array of tables"),
     ('service = [{ uuid = "1800" }, 1]', "service 2: it has to be a table"),
-    ('[[service]]\nuuid = "18zz"', "service 1, uuid: a uuid is none, or is one that may not stand there"),
+    ('[[service]]\nuuid = "18zz"', "service 1, uuid: this is no UUID, or this UUID is not allowed here"),
     ("[[service]]\nuuid = 1", "service 1, uuid: it has to be a string"),
     (
         """\
@@ -26,7 +26,7 @@ uuid = "1800"
 [[service]]
 uuid = "1801"
 include = [0, 1]""",
-        "service 2, include 2: an include of a service that does not stand before",
+        "service 2, include 2: an include of a service that is not before it",
     ),
 ]
 
@@ -163,7 +163,7 @@ properties = ["read"]
 [[service]]
 uuid = "zz"
 """,
-        "service 1, characteristic 1, descriptor 2, uuid: a uuid is none, or is one that may not stand there",
+        "service 1, characteristic 1, descriptor 2, uuid: this is no UUID, or this UUID is not allowed here",
     ),
     (
         """\

@@ -8,6 +8,7 @@ import pytest
 
 from parties import DOOR, PATIENCE, Device, look, soon
 from parties.doors import LISTEN
+from parties.watching import spent
 
 OWNER_STANDS = ["+ connected 1 0 00:11:22:33:44:55", "+ secured 1 16 1 0"]
 
@@ -66,6 +67,60 @@ def test_many_lines_of_a_replaced_application(folder):
             other.sendall(b"application\n")
             sender.makefile().read()
     assert soon(lambda: look(path, f"value {value}") == [f"value {value} cd"]), "its last line"
+
+
+def much_asked(folder, more=""):
+    """A device, its socket, and a connection to it with the place, which reads none of its many long answers."""
+    path = f"{folder}/much.socket"
+    with open(f"{folder}/much.toml", "w", encoding="ascii") as file:
+        file.write(f'[[service]]\nuuid = "1800"\n[[service.characteristic]]\nuuid = "2a00"\nvalue = "{"ab" * 512}"\n')
+        file.write('max = 512\nproperties = ["read"]\n')
+    device = Device(f"{folder}/much.toml", DOOR[1], *LISTEN, "--application", path)
+    device.said("ready")
+    sender = reach(path)
+    sender.sendall(b"application\n")
+    assert sender.recv(9) == b"+ started", "it has the place"
+    threading.Thread(target=sender.sendall, args=[("value 3\n" * 1_300 + more).encode()], daemon=True).start()
+    time.sleep(0.5)
+    return device, path, sender
+
+
+def test_much_output_of_a_replaced_application(folder):
+    """The lines of an application that is replaced wait until it reads, as those of any other: each is executed.
+
+    Of the answers it may lose what its connection does not accept when the last line is done, at most 64 KiB.
+    """
+    _device, path, sender = much_asked(folder, "update 3 cd\n")
+    with sender, reach(path) as other:
+        other.sendall(b"application\n")
+        received = b""
+        for _ in range(6):
+            time.sleep(2)
+            received += sender.recv(2_048)
+        lines = (received + sender.makefile("rb").read()).decode().splitlines()
+        assert lines.count(f"value 3 {'ab' * 512}") >= 1_300 - 64, "each answer but the last ones, of 1.3 MB in all"
+        assert other.recv(9) == b"+ started", "the next one"
+    assert soon(lambda: look(path, "value 3") == ["value 3 cd"]), "the value, by its last line"
+
+
+def test_a_deaf_replaced_application(folder):
+    """One that reads nothing is cut off after its time. Till then others are answered, or wait without haste."""
+    device, path, sender = much_asked(folder)
+    with sender, reach(path) as other:
+        begun = time.monotonic()
+        other.sendall(b"application\n")
+        assert look(path, "value 3") == [f"value 3 {'ab' * 512}"], "a question"
+        with reach(path) as third:
+            third.sendall(b"application\n")
+            time.sleep(0.5)
+            before = spent(device.process.pid)
+            time.sleep(1.5)
+            assert spent(device.process.pid) - before < 150, "processor time of 1.5 seconds, in milliseconds"
+            device.said("application cut off: it does not read")
+            other.settimeout(PATIENCE)
+            assert other.recv(9) == b"+ started", "the next one"
+            assert 3 < time.monotonic() - begun < 15, "in time"
+            assert third.makefile().readline().startswith("+ started"), "and the third"
 
 
 def test_a_look(door):

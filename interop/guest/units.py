@@ -74,7 +74,7 @@ def serves(part, name, times=1):
 
 
 def units(part):
-    """Starts the application, which starts the others. Then each is killed, stopped and started again."""
+    """The units of systemd 252: each is killed, stopped and started again, and has only its privileges."""
     part.check("bluetoothd starts", systemctl("start", "bluetooth"), "")
     part.check("bluetoothd has the device's controller", soon(lambda: is_up(1)), True)
     part.check("the key: loaded", load(0, AUTHENTICATED), 0)

@@ -270,20 +270,20 @@ static const struct {
     {101, {
         "table: it is not TOML",
         "table: a key that has to be there is not",
-        "table: a uuid is none, or is one that may not stand there",
+        "table: this is no UUID, or this UUID is not allowed here",
         "table: a value is not an even number of hexadecimal digits",
         "table: a value of more than 512 octets, or a max out of its range",
         "table: a need with a key_size out of its range, or with another key",
         "table: a property that is unknown or not allowed there, or a config with "
         "nothing to configure",
         "table: more attributes, configurations or octets than a table may have",
-        "table: an include of a service that does not stand before",
+        "table: an include of a service that is not before it",
         "table: memory was refused",
         "table: a key that is unknown, or of another TOML type than its own",
     }},
     {201, {
         "keys: it is not TOML",
-        "keys: a key that each entry has to have is not there",
+        "keys: a key that has to be there is not",
         "keys: an address or a kind is none",
         "keys: a rand or an ltk is not that many hexadecimal digits",
         "keys: a size is out of its range",

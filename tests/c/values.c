@@ -186,7 +186,7 @@ static void explanations(void)
     CHECK(is_explained(door, no_keys, "", "10 fff1 01\n", ""));
     CHECK(is_explained("", no_keys, "", "", "table: service: the key is missing"));
     CHECK(is_explained("service = [{ uuid = \"1800\" }, { uuid = \"18\" }]", no_keys, "", "",
-                       "table: service 2, uuid: a uuid is none, or is one that may not stand there"));
+                       "table: service 2, uuid: this is no UUID, or this UUID is not allowed here"));
     CHECK(is_explained("service = ", no_keys, "", "",
                        "table: line 1, column 11: invalid value, expected a string, number, boolean, "
                        "date-time, array or inline table"));

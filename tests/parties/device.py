@@ -1,5 +1,7 @@
 """The program as it runs as a device, with its log."""
 
+import os
+import select
 import signal
 import subprocess
 import threading
@@ -16,24 +18,34 @@ class Device:
     def __init__(self, *words, through=()):
         """The words of the command, and those of a program that runs it, if one does."""
         words = [*through, PROGRAM, "host", *words]
-        self.process = subprocess.Popen(words, stderr=subprocess.PIPE, text=True)
+        self.process = subprocess.Popen(words, stderr=subprocess.PIPE)
         Device.started.append(self.process)
         # The lines of standard error as they are, and without their first word, which is the time.
         self.lines = []
         self.log = []
+        self.begun = b""
         self.is_over = False
         self.changed = threading.Condition()
         threading.Thread(target=self.read, daemon=True).start()
 
     def read(self):
-        for line in self.process.stderr:
+        while not self.is_over:
+            select.select([self.process.stderr], [], [])
             with self.changed:
-                self.lines.append(line.rstrip("\n"))
-                self.log.append(line.rstrip("\n").split(" ", 1)[-1])
-                self.changed.notify_all()
+                self.take()
         self.process.stderr.close()
-        with self.changed:
-            self.is_over = True
+
+    def take(self):
+        """Takes what the program has written by now."""
+        while not self.is_over and select.select([self.process.stderr], [], [], 0)[0]:
+            octets = os.read(self.process.stderr.fileno(), 65_536)
+            *lines, self.begun = (self.begun + octets).split(b"\n")
+            if not octets:
+                self.is_over = True
+                lines = [self.begun] if self.begun else []
+            texts = [it.decode() for it in lines]
+            self.lines += texts
+            self.log += [it.split(" ", 1)[-1] for it in texts]
             self.changed.notify_all()
 
     def said(self, begin, count=1):
@@ -52,6 +64,7 @@ class Device:
     def logged(self, *begins):
         """The lines of the log that begin so, as they are now."""
         with self.changed:
+            self.take()
             return [it for it in self.log if it.startswith(begins)]
 
     def port(self):
