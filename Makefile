@@ -137,7 +137,7 @@ MANUAL = $(wildcard docs/man/*.[1-9])
 
 .PHONY: manual
 manual: $(PROGRAM)
-	docs/manual $(PROGRAM) docs/man
+	tools/check/manual $(PROGRAM) docs/man
 
 check: all
 	GATT_SHELL=$(PROGRAM) GIHANDOP_ARCHIVE=$(ARCHIVE) tests/pytest -q tests/test_c_*.py tests/test_rust*.py tests/test_install.py
