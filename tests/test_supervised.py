@@ -1,6 +1,7 @@
 """Tries what a device says to its supervisor, as systemd is one, and the units that rest on it."""
 
 import os
+import re
 import shutil
 import signal
 import subprocess
@@ -8,10 +9,13 @@ import time
 
 import pytest
 
-from parties import DOOR, OWNER, PATIENCE, ROOT, STRANGER, Device, controller_at, look
+from parties import DOOR, OWNER, PATIENCE, ROOT, STRANGER, Device, controller_at, look, text_of
+from parties.homes import write
 from parties.supervised import Supervisor
+from parties.tables import VALUE
 
 WAITING = "STATUS=waiting for a controller"
+DEVICES = ["bridge/gihandop@.service", "examples/device/door.service"]
 UNITS = [
     "bridge/gihandop@.service", "bridge/hci_bridge@.service", "examples/device/door.service",
     "examples/device/lock.service",
@@ -132,7 +136,7 @@ def test_units(folder, action):
 
 
 @pytest.mark.without_program
-@pytest.mark.parametrize("unit", ["bridge/gihandop@.service", "examples/device/door.service"])
+@pytest.mark.parametrize("unit", DEVICES)
 def test_what_a_unit_says(unit):
     """The units of a device wait until it is ready, have its keys read again, and have a watchdog."""
     with open(f"{ROOT}/{unit}") as file:
@@ -140,3 +144,39 @@ def test_what_a_unit_says(unit):
     assert (lines["Type"], lines["NotifyAccess"]) == ("notify", "main")
     assert lines["ExecReload"] == lines["ExecStop"].replace(" stop", " reload"), "the same socket"
     assert int(lines["WatchdogSec"]) >= 30, "a slow disk is no hang"
+
+
+def calls_of(name):
+    """The system calls of a name in SystemCallFilter: a call, or a group of names."""
+    if not name.startswith("@"):
+        return {name}
+    ended = subprocess.run(["systemd-analyze", "syscall-filter", name], capture_output=True, text=True, check=True)
+    names = [it.strip() for it in ended.stdout.splitlines()[1:]]
+    return set().union(*(calls_of(it) for it in names if it and not it.startswith("#")))
+
+
+def allowed_by(unit):
+    """The system calls that a unit allows, by its lines in their order."""
+    allowed = set()
+    for words in re.findall(r"(?m)^SystemCallFilter=(.*)$", text_of(f"{ROOT}/{unit}")):
+        named = set().union(*(calls_of(it) for it in words.strip("~").split()))
+        allowed = allowed - named if words.startswith("~") else allowed | named
+    return allowed
+
+
+def test_system_calls(home):
+    """A device that serves, saves twice and stops does no system call that its unit forbids."""
+    for tool in ("strace", "systemd-analyze"):
+        if shutil.which(tool) is None:
+            pytest.skip(f"there is no {tool} here")
+    trace = f"{home.folder}/trace"
+    device, controller = home.start(through=["strace", "-f", "-qq", "-o", trace])
+    for value in ("0102", "0103"):
+        assert write(controller, VALUE, value) == "13", "a value is saved"
+    controller.close()
+    assert look(home.socket, "reload", "stop") == ["ok", "ok"]
+    device.process.wait(PATIENCE)
+    done = set(re.findall(r"(?m)^\d+ +(\w+)\(", text_of(trace)))
+    assert {"fsync", "rename"} <= done, "the trace has them"
+    for unit in DEVICES:
+        assert done - allowed_by(unit) == set(), f"{unit}: what it forbids"
