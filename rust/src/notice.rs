@@ -48,9 +48,10 @@ pub enum Notice<'a> {
 }
 
 impl<'a> Notice<'a> {
-    fn of(fields: &ffi::gh_notice, value: &'a [u8]) -> Notice<'a> {
+    /// Returns the notice with these fields, or `None` if its kind is not known.
+    fn of(fields: &ffi::gh_notice, value: &'a [u8]) -> Option<Notice<'a>> {
         let (connection, attribute) = (fields.connection, fields.attribute);
-        match fields.kind {
+        Some(match fields.kind {
             ffi::GH_CONNECTED => Notice::Connected {
                 connection,
                 peer: Peer {
@@ -91,8 +92,9 @@ impl<'a> Notice<'a> {
                 connection,
                 attribute,
             },
-            kind => unreachable!("the archive is not that of this crate: notice {kind}"),
-        }
+            // A later archive may have more kinds.
+            _ => return None,
+        })
     }
 
     /// Returns the handle of the connection.
@@ -121,7 +123,9 @@ impl<'a> Notice<'a> {
     }
 }
 
-/// The notices of one packet or one call, in their order. It owns the values that were written.
+/// The notices of one packet or one call, in their order. It owns the values that were written. A
+/// notice of an archive that is newer than this crate is left out if the crate does not know its
+/// kind.
 ///
 /// ```
 /// # fn print(notices: &gihandop::Notices) {
@@ -138,9 +142,12 @@ pub struct Notices {
 }
 
 impl Notices {
+    /// Adds a notice, unless its kind is not known.
     pub(crate) fn push(&mut self, fields: ffi::gh_notice, value: &[u8]) {
-        self.fields.push((fields, value.len()));
-        self.values.extend_from_slice(value);
+        if Notice::of(&fields, value).is_some() {
+            self.fields.push((fields, value.len()));
+            self.values.extend_from_slice(value);
+        }
     }
 
     /// Returns an iterator over the notices.
@@ -186,7 +193,7 @@ impl<'a> Iterator for NoticesIter<'a> {
         let (fields, length) = self.fields.next()?;
         let (value, rest) = self.values.split_at(*length);
         self.values = rest;
-        Some(Notice::of(fields, value))
+        Notice::of(fields, value)
     }
 
     fn size_hint(&self) -> (usize, Option<usize>) {
@@ -197,3 +204,38 @@ impl<'a> Iterator for NoticesIter<'a> {
 impl ExactSizeIterator for NoticesIter<'_> {}
 
 impl FusedIterator for NoticesIter<'_> {}
+
+#[cfg(test)]
+mod tests {
+    use super::*;
+
+    #[test]
+    fn a_notice_of_an_unknown_kind_is_left_out() {
+        let mut notices = Notices::default();
+        for kind in [
+            ffi::GH_CONNECTED,
+            ffi::GH_SKIPPED + 1,
+            ffi::GH_WRITTEN,
+            0,
+            u8::MAX,
+        ] {
+            let fields = ffi::gh_notice {
+                kind,
+                connection: 64,
+                attribute: 10,
+                ..ffi::gh_notice::new()
+            };
+            let value: &[u8] = if kind == ffi::GH_WRITTEN { &[1] } else { &[] };
+            notices.push(fields, value);
+        }
+        let found: Vec<Notice> = notices.iter().collect();
+        assert!(matches!(found[0], Notice::Connected { connection: 64, .. }));
+        let written = Notice::Written {
+            connection: 64,
+            attribute: 10,
+            value: &[1],
+        };
+        assert_eq!(found[1..], [written]);
+        assert_eq!((notices.len(), notices.iter().len()), (2, 2));
+    }
+}
