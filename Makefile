@@ -38,7 +38,7 @@ FISH = $(wildcard completions/*.fish)
 # The documents lie as in the repository, with the sources that they link, so that their links lead somewhere.
 DOCUMENTS = README.md CHANGELOG.md CONTRIBUTING.md SECURITY.md LICENSE-APACHE LICENSE-MIT LICENSE-THIRD-PARTY \
     $(wildcard docs/*.md docs/*.png docs/schema/*.json) $(wildcard python/*.* python/gihandop/*.*) \
-    include/gihandop.h include/gihandop_serve.h c/heap.c c/serve.c rust/examples/lockd.rs
+    include/gihandop.h include/gihandop_serve.h c/heap.c c/serve.c $(wildcard rust/examples/*.rs)
 EXAMPLES = $(sort $(shell find examples -type f ! -name '*.pyc'))
 
 all: $(ARCHIVE) $(PROGRAM) $(BUILD)/libgihandop_heap.a $(BUILD)/libgihandop_serve.a $(BUILD)/gihandop.pc \

@@ -7,7 +7,7 @@ import pytest
 
 from parties.building import is_marked, once, ran, run
 from parties.compiling import ARCHIVE
-from parties.places import ROOT, write_text
+from parties.places import ROOT, text_of, write_text
 from parties.rust import AT, MANIFEST, cargo_env, need_rust
 
 need_rust()
@@ -77,6 +77,14 @@ def test_program_without_an_archive(folder):
     ended = run(["cargo", "build", "--example", "lockd", *AT], env=env)
     assert ended.returncode != 0, "it is not linked"
     assert "no program can be linked" in ended.stdout.partition("gh_open")[0], "why"
+
+
+def test_first():
+    """The first example prints what a client reads, as docs/C.md says."""
+    words = ["cargo", "--quiet", "run", "--example", "first", *AT, "--", "examples/door.toml"]
+    said = ran(words, env=cargo_env()).splitlines()
+    assert said[-1] == "0b4c6f636b", said
+    assert "prints what the client reads, `0b4c6f636b`" in text_of(f"{ROOT}/docs/C.md"), "the page"
 
 
 def test_version_text():

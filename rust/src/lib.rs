@@ -9,7 +9,7 @@
 //! tools/unproved gihandop_c
 //! export GIHANDOP_LIB=$PWD/crates/gihandop_c/out/unproved
 //! export RUSTFLAGS="-Clink-arg=-Wl,--whole-archive,$GIHANDOP_LIB/asan.a,--no-whole-archive -Clink-arg=-lm"
-//! cargo build --manifest-path rust/Cargo.toml --example lockd
+//! cargo run --manifest-path rust/Cargo.toml --example first -- examples/door.toml
 //! ```
 //!
 //! `tools/prove gihandop_c` proves it and makes the library for a product, which needs no variables.
