@@ -1,7 +1,8 @@
 """Makes Debian's packages from two copies of the checkout, and looks what they have.
 
 If the environment variable NEW_ROOT is set, the packages are also installed in a new root of Debian in a
-folder, which needs mmdebstrap, root and the network. There debian/tests are run, and the packages are purged.
+folder, which needs mmdebstrap, root and the network. There debian/tests are run, and the packages are purged:
+once in the folder, and once while systemd runs there, by systemd-nspawn.
 """
 
 import glob
@@ -13,12 +14,15 @@ import time
 import pytest
 
 from parties.building import is_marked, once, ran, run
-from parties.places import ROOT, text_of
+from parties.compiling import IS_INSTRUMENTED
+from parties.places import ROOT, text_of, write_text
 from parties.releases import checkout_at, copied, files_below, need
 
 BRANCH = "bookworm"
 # Folders of a root that others change.
-OTHERS = ("/proc", "/sys", "/dev", "/tmp", "/run", "/var/cache", "/var/log", "/var/lib/dpkg", "/var/lib/apt")
+OTHERS = (
+    "/packages", "/proc", "/sys", "/dev", "/tmp", "/run", "/var/cache", "/var/log", "/var/lib/dpkg", "/var/lib/apt",
+)
 # Each package with a file, and the file of the checkout that it is.
 OUTPUTS = [
     ("gihandop", "usr/bin/gatt_shell", "crates/gatt_shell/out/gatt_shell"),
@@ -26,6 +30,32 @@ OUTPUTS = [
     ("python3-gihandop", "usr/lib/python3/dist-packages/gihandop/__init__.py", "python/gihandop/__init__.py"),
 ]
 INSIDE = {"PATH": "/usr/sbin:/usr/bin:/sbin:/bin", "DEBIAN_FRONTEND": "noninteractive", "LC_ALL": "C.UTF-8"}
+# A service that runs a script once the root is booted, and then ends the system.
+SCRIPT = """[Unit]
+After=multi-user.target
+[Service]
+Type=oneshot
+TimeoutStartSec=infinity
+ExecStart=/packages/script
+StandardOutput=file:/packages/log
+StandardError=file:/packages/log
+ExecStopPost=/usr/bin/systemctl --no-block poweroff
+"""
+# What the script does after the tests: a device runs, and the packages are installed again, removed and purged.
+RUNNING = """install -d /etc/gihandop
+install -m 600 -o gihandop examples/door.toml /etc/gihandop/table.toml
+install -m 600 -o gihandop examples/keys.toml /etc/gihandop/keys.toml
+systemctl enable --now gihandop@hci0
+gatt_shell tell /run/gihandop/hci0.application update 10 01
+process=$(systemctl show --property=MainPID --value gihandop@hci0)
+apt-get -qq -y install --reinstall {files}
+test "$(systemctl show --property=MainPID --value gihandop@hci0)" = "$process"
+apt-get -qq -y remove gihandop
+test "$(systemctl is-active gihandop@hci0 hci_bridge@hci0 | sort -u)" = inactive
+test -e /var/lib/gihandop/hci0/state
+apt-get -qq -y purge {names}
+test ! -e /run/gihandop
+"""
 
 
 @pytest.fixture
@@ -134,9 +164,9 @@ def test_modules(packages):
 
 
 def test_lintian(packages):
-    """lintian finds no error."""
+    """lintian finds no error, and nothing that it warns of."""
     need("the packages", "lintian", "lintian")
-    ran(["lintian", "--allow-root", "--fail-on", "error", *glob.glob(f"{packages}/*.changes")])
+    ran(["lintian", "--allow-root", "--fail-on", "error,warning", *glob.glob(f"{packages}/*.changes")])
 
 
 def listing(new):
@@ -148,36 +178,91 @@ def listing(new):
     return set(found)
 
 
-def test_new_root(packages, checkout, folder):
-    """The packages are installed in a new root, work there, and leave nothing when they are purged."""
+def tests_of(checkout):
+    """The tests of debian/tests, each with what it depends on and whether it needs a booted root."""
+    found = []
+    for text in text_of(f"{checkout}/debian/tests/control").split("\n\n"):
+        fields = dict(it.split(": ", 1) for it in text.splitlines())
+        is_booted = "isolation-container" in fields.get("Restrictions", "")
+        found.append((fields["Tests"], fields["Depends"].split(", "), is_booted))
+    return found
+
+
+def make_root(path, packages, checkout):
+    """Makes a root of Debian with what debian/tests need, and the packages and the sources in /packages."""
+    needed = {it for _, depends, _ in tests_of(checkout) for it in depends}
+    own = {it for it in needed if any(name.startswith(f"{it}_") for name in names_of(packages))}
+    outside = ",".join(sorted({"adduser", "python3"} | needed - own))
+    ran(["mmdebstrap", "--variant=apt", f"--include={outside}", BRANCH, path])
+
+
+@pytest.fixture
+def root(packages, checkout, folder):
+    """A new root of Debian in a folder, with the packages and the sources in /packages."""
     if not os.environ.get("NEW_ROOT"):
         pytest.skip("a new root: it needs the network, so it is made only if NEW_ROOT is set")
     if os.getuid():
         pytest.skip("a new root: root is needed")
     need("a new root", "mmdebstrap", "mmdebstrap", "chroot")
-    new, names = f"{folder}/root", names_of(packages)
-    tests = text_of(f"{checkout}/debian/tests/control")
-    needed = set(re.findall(r"[\w.+-]+", " ".join(re.findall(r"(?m)^Depends: (.*)$", tests))))
-    own = {it for it in needed if any(name.startswith(f"{it}_") for name in names)}
-    outside = ",".join(sorted({"adduser", "python3"} | needed - own))
-    ran(["mmdebstrap", "--variant=apt", f"--include={outside}", BRANCH, new])
-    apt = ["chroot", new, "apt-get", "-qq", "-y"]
-    before = listing(new)
-    os.makedirs(f"{new}/packages")
-    for it in names:
+    made, new = once("root", lambda path: make_root(path, packages, checkout)), f"{folder}/root"
+    ran(["cp", "-a", made, new])
+    os.makedirs(f"{new}/packages/bin")
+    for it in names_of(packages):
         shutil.copy(f"{packages}/{it}", f"{new}/packages")
-    files = [f"/packages/{it}" for it in names]
-    ran([*apt, "install", *files], "install the packages", env=INSIDE)
     ignored = shutil.ignore_patterns(".git", "out")
     shutil.copytree(checkout, f"{new}/packages/source", symlinks=True, ignore=ignored)
-    for it in re.findall(r"(?m)^Tests: (\w+)$", tests):
-        line = f"cd /packages/source && timeout 60 debian/tests/{it}"
-        ran(["chroot", new, "sh", "-c", line], f"debian/tests/{it}", env=INSIDE)
+    if IS_INSTRUMENTED:
+        # A program with such an archive is linked in this way only.
+        cc = write_text(f"{new}/packages/bin/cc", '#!/bin/sh\nexec /usr/bin/cc -fsanitize=address "$@"\n')
+        os.chmod(cc, 0o755)
+    return new
+
+
+def line_of(name):
+    """The line of a shell that runs a test of debian/tests."""
+    path = "PATH=/packages/bin:$PATH " if name == "library" else ""
+    return f"{path}timeout 300 debian/tests/{name}"
+
+
+def test_new_root(packages, checkout, root):
+    """The packages are installed in a new root, work there, and leave nothing when they are purged."""
+    apt = ["chroot", root, "apt-get", "-qq", "-y"]
+    before = listing(root)
+    files = [f"/packages/{it}" for it in names_of(packages)]
+    ran([*apt, "install", *files], "install the packages", env=INSIDE)
+    for name, _, is_booted in tests_of(checkout):
+        if not is_booted:
+            # AddressSanitizer needs /proc, which is mounted as long as the test runs.
+            played = f"cd /packages/source && {line_of(name)}"
+            line = f"mount -t proc proc {root}/proc && exec chroot {root} sh -c '{played}'"
+            ran(["unshare", "--mount", "sh", "-c", line], f"debian/tests/{name}", env=INSIDE)
     ran([*apt, "install", "--reinstall", *files], "reinstall", env=INSIDE)
-    os.makedirs(f"{new}/var/lib/gihandop/hci0")
-    ran([*apt, "purge", *(it.partition("_")[0] for it in names)], "purge", env=INSIDE)
-    shutil.rmtree(f"{new}/packages")
+    os.makedirs(f"{root}/var/lib/gihandop/hci0")
+    ran([*apt, "purge", *(it.partition("_")[0] for it in names_of(packages))], "purge", env=INSIDE)
     # Older versions of the files with the users are left by whatever makes one.
     users = r"/etc/g?shadow-|/etc/(passwd|group)-"
-    left = sorted(it for it in listing(new) - before if not re.fullmatch(users, it))
+    left = sorted(it for it in listing(root) - before if not re.fullmatch(users, it))
     assert left == [], "what purge leaves"
+
+
+def test_booted_root(packages, checkout, root):
+    """While systemd runs in a new root, the units work there, an upgrade leaves a device, and a purge ends it."""
+    need("a booted root", "systemd-container", "systemd-nspawn")
+    names = names_of(packages)
+    files = " ".join(f"/packages/{it}" for it in names)
+    lines = ["#!/bin/sh", "set -eux", "exec 2>&1", *(f"export {name}={value}" for name, value in INSIDE.items())]
+    lines += [f"apt-get -qq -y install {files}", "cd /packages/source"]
+    lines += [line_of(it) for it, _, _ in tests_of(checkout)]
+    lines.append(RUNNING.format(files=files, names=" ".join(it.partition("_")[0] for it in names)))
+    script = write_text(f"{root}/packages/script", "\n".join([*lines, "echo all of it\n"]))
+    os.chmod(script, 0o755)
+    write_text(f"{root}/etc/systemd/system/script.service", SCRIPT)
+    wanted = f"{root}/etc/systemd/system/multi-user.target.wants"
+    os.makedirs(wanted, exist_ok=True)
+    os.symlink("../script.service", f"{wanted}/script.service")
+    words = ["--quiet", "--register=no", "--keep-unit", "--private-network", "--console=read-only", "--boot"]
+    said = run(["systemd-nspawn", "-D", root, *words], timeout=900).stdout
+    log = text_of(f"{root}/packages/log") if os.path.exists(f"{root}/packages/log") else said
+    assert log.endswith("\nall of it\n"), log[-3_000:]
+    left = sorted(it for it in listing(root) if re.search("gihandop|hci_bridge|gatt_shell", it))
+    assert left == ["/etc/gihandop", "/etc/gihandop/keys.toml", "/etc/gihandop/table.toml"], "what purge leaves"
