@@ -10,7 +10,7 @@ use std::process::Command;
 const ARCHIVE: &str = "libgihandop_c.a";
 const MAKER: &str = "`tools/prove gihandop_c`";
 const MAKER_FOR_AARCH64: &str = "`tools/prove --target aarch64-unknown-linux-gnu gihandop_c`";
-const UNPROVED: &str = "`tools/unproved gihandop_c` one without proofs, after a minute";
+const UNPROVED: &str = "`tools/unproved gihandop_c` one without proofs, in one to three minutes";
 /// What `tools/unproved` leaves in an archive.
 const MARK: &[u8] = b"(not proved)";
 

@@ -3,7 +3,7 @@
 //! proved what the library makes of bytes and calls; this crate is not proved.
 //!
 //! `cargo doc`, `cargo check` and `cargo clippy` need no library. For a first program compile it without
-//! proofs, which takes a minute, in the repository:
+//! proofs, which takes one to three minutes, in the repository:
 //!
 //! ```sh
 //! tools/unproved gihandop_c
