@@ -53,6 +53,9 @@ pub enum Error {
     Rows(Fault),
     /// The values are refused.
     Values(Fault),
+
+    /// A status that this crate does not know, of a newer library.
+    Unknown(u32),
 }
 
 /// The first fault of a file, and its place there.
@@ -102,6 +105,7 @@ impl Error {
             Error::Keys(fault) => ffi::GH_BAD_KEYS + fault.number,
             Error::Rows(fault) => ffi::GH_BAD_ROWS + fault.number,
             Error::Values(fault) => ffi::GH_BAD_VALUES + fault.number,
+            Error::Unknown(status) => *status,
         }
     }
 
@@ -183,7 +187,8 @@ pub(crate) fn result_of(status: u32, handle: u16) -> Result<(), Error> {
         ffi::GH_TIME_WENT_BACK => Error::TimeWentBack,
         ffi::GH_HAS_STOPPED => Error::HasStopped,
         ffi::GH_NO_SERVICE_CHANGED => Error::NoServiceChanged,
-        _ => unreachable!("the archive is not that of this crate: status {status}"),
+        // A later archive may have more statuses.
+        _ => Error::Unknown(status),
     })
 }
 
@@ -226,7 +231,7 @@ impl From<Error> for io::Error {
             Error::Desync | Error::BadEvent | Error::BadInit | Error::Hardware => {
                 io::ErrorKind::InvalidData
             }
-            Error::OutputOwed | Error::HasStopped => io::ErrorKind::Other,
+            Error::OutputOwed | Error::HasStopped | Error::Unknown(_) => io::ErrorKind::Other,
             _ => io::ErrorKind::InvalidInput,
         };
         io::Error::new(kind, error)
@@ -265,6 +270,17 @@ mod tests {
     fn a_number_without_words_is_told_as_such() {
         assert_eq!(words_of(199), "status 199");
         assert_eq!(words_of(u32::MAX), format!("status {}", u32::MAX));
+    }
+
+    #[test]
+    fn an_unknown_status_is_an_error_too() {
+        for status in [9, 29, 48, 500, u32::MAX] {
+            let error = result_of_files(status, Files::default()).expect_err("not done");
+            assert_eq!(error, Error::Unknown(status));
+            assert_eq!(error.to_string(), format!("status {status}"));
+            // From 20 to 39 a status says that the host has stopped.
+            assert_eq!(error.is_final(), status == 29);
+        }
     }
 
     #[test]
