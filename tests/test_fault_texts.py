@@ -1,7 +1,7 @@
 """Compares the texts of faults for C with those that the types of the faults print in Rust.
 
-`gh_text` prints no argument, so the table of C has texts of its own: they are those of `Display`, in the order of
-the faults' numbers, up to the argument.
+`gh_text` prints no argument, so the table of C has texts of its own: they are those of `text`, or else of `Display`, in
+the order of the faults' numbers, up to the argument.
 """
 
 import re
@@ -26,10 +26,13 @@ def texts_for_c(name):
 
 
 def texts_by_number(fault, path):
-    """Returns the text that `Display` prints for each number, up to its argument."""
+    """Returns the text of each number, up to its argument: of the function `text`, or else of `Display`."""
     text = text_of(path)
     numbers = dict(re.findall(rf"{fault}::(\w+)(?:\(_\))? => (\d+),", text))
-    shown = text[text.index(f"impl fmt::Display for {fault} ") :].split("\n}\n")[0]
+    begin, end = text.find("    pub fn text(self)"), "\n    }\n"
+    if begin < 0:
+        begin, end = text.index(f"impl fmt::Display for {fault} "), "\n}\n"
+    shown = text[begin:].split(end)[0]
     texts = dict(re.findall(rf'{fault}::(\w+)(?:\(\w+\))? =>\s*\{{?\s*(?:return write!\(f, )?"([^"]*)"', shown))
     assert numbers and numbers.keys() == texts.keys()
     return [texts[name].partition(": {")[0] for name in sorted(numbers, key=lambda it: int(numbers[it]))]
