@@ -187,6 +187,7 @@ def test_a_busy_controller(door, application):
     """An application is answered while its controller always has something to say."""
     is_over, stream = threading.Event(), door.controller.stream
     stream.settimeout(PATIENCE)
+    asked, heard = [0], [0]
 
     def until_the_end(act):
         try:
@@ -196,7 +197,17 @@ def test_a_busy_controller(door, application):
             # The device has ended.
             assert is_over.is_set(), "the device serves its controller"
 
-    says, hears = lambda: stream.sendall(ASKED * 100), lambda: stream.recv(65_536)
+    def says():
+        """Asks more while 10,000 answers or fewer are not heard. A controller for which 1 MiB waits is given up."""
+        if asked[0] - heard[0] <= 10_000 * len(ANSWERED):
+            stream.sendall(ASKED * 100)
+            asked[0] += 100 * len(ANSWERED)
+        else:
+            time.sleep(0.001)
+
+    def hears():
+        heard[0] += len(stream.recv(65_536))
+
     acts = [Act(until_the_end, it) for it in (says, hears)]
     time.sleep(0.2)
     for _ in range(10):
