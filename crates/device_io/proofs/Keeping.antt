@@ -11,9 +11,9 @@ use Rattle.device_io.specs.declared.served.Input.TheVariants.{Quiet, Readable, E
 use Rattle.device_io.specs.declared.side.Side.{Side}
 use Rattle.device_io.specs.declared.side.Side.TheVariants as variant
 use Rattle.device_io.specs.Connector.{Attempt}
-use Rattle.device_io.specs.Controller.{after_finish, after_look, after_notice, answered, is_answered_in, on_served, served_by, with_side}
+use Rattle.device_io.specs.Controller.{after_finish, after_notice, after_try, answered, is_answered_in, on_served, served_by, with_side}
 use Rattle.device_io.specs.ControllerLaws.{Event, GivesUpForAFault, KeepsTheNext, ServesOne, fault_by, latest_fault, served_after, tries}
-use Rattle.device_io.specs.ControllerLaws.Event.{Readies, Reads, Judges, Writes, Flushes, Announces, Initialises, LosesIt, Looks}
+use Rattle.device_io.specs.ControllerLaws.Event.{Readies, Reads, Judges, Writes, Flushes, Announces, Initialises, LosesIt, Notes, Finishes, Tries}
 use Rattle.device_io.specs.ControllerValue.{Controller}
 use Rattle.device_io.specs.Served.{Served, after_acceptance, after_queuing, fault_in, has_room_for, input_after, is_late, lapse_of, ready_in, served_due, with_fault}
 use Rattle.device_io.specs.Served.Sending.{Accepts, Fails, Refuses}
@@ -46,10 +46,19 @@ served-side (variant.Served found) served is = ap side_of is
 served-side (variant.Nobody missed) served is = cc is
 served-side (variant.Next connecting missed) served is = cc is
 
-looks-on : (controller : Controller) (served : Served) (connects held : Bool) (now : ℕ) (failure : Option Missed) (attempt : Attempt)
-    → served_by (after_look connects held now failure attempt (with_side (variant.Served served) controller)).side ≡ Some served
-looks-on controller served connects true now failure attempt = refl
-looks-on controller served connects false now failure attempt = refl
+notes-on : (controller : Controller) (served : Served) (connects held : Bool) (now : ℕ)
+    → served_by (after_notice connects held now (with_side (variant.Served served) controller)).side ≡ Some served
+notes-on controller served connects true now = refl
+notes-on controller served connects false now = refl
+
+tries-on : (controller : Controller) (served : Served) (now : ℕ) (attempt : Attempt)
+    → served_by (after_try attempt now (with_side (variant.Served served) controller)).side ≡ Some served
+tries-on controller served now attempt = refl
+
+serves-on : (change : Controller → Controller) (controller : Controller) (served : Served) → served_by controller.side ≡ Some served
+    → served_by (change (with_side (variant.Served served) controller)).side ≡ Some served
+    → served_by (change controller).side ≡ Some served
+serves-on change controller served is = subst (λ (one : Side). served_by (change (with_side one controller)).side ≡ Some served) (sym (served-side controller.side served is))
 
 pub serves_one : ServesOne
 serves_one controller served (Readies ends) stays is = changed-answered (λ (before : Served). served_after controller.patience before (Readies ends)) controller.side served is
@@ -60,9 +69,9 @@ serves_one controller served (Flushes now sending) stays is = changed-answered (
 serves_one controller served Announces stays is = changed (λ (before : Served). served_after controller.patience before Announces) controller.side served is
 serves_one controller served Initialises stays is = changed (λ (before : Served). served_after controller.patience before Initialises) controller.side served is
 serves_one controller served LosesIt stays is = cc stays
-serves_one controller served (Looks connects held now failure attempt) stays is =
-    subst (λ (one : Side). served_by (after_look connects held now failure attempt (with_side one controller)).side ≡ Some served)
-    (sym (served-side controller.side served is)) (looks-on controller served connects held now failure attempt)
+serves_one controller served (Notes connects held now) stays is = serves-on (after_notice connects held now) controller served is (notes-on controller served connects held now)
+serves_one controller served (Finishes now failure) stays is = serves-on (after_finish now failure) controller served is refl
+serves_one controller served (Tries now attempt) stays is = serves-on (after_try attempt now) controller served is (tries-on controller served now attempt)
 
 -- faults
 ready-fault : (ends : Bool) (input : Input) → fault_in (ready_in ends input) ≡ fault_in input
@@ -111,7 +120,9 @@ fault-after patience served (Flushes now Refuses) = refl
 fault-after patience served Announces = refl
 fault-after patience served Initialises = refl
 fault-after patience served LosesIt = refl
-fault-after patience served (Looks connects held now failure attempt) = refl
+fault-after patience served (Notes connects held now) = refl
+fault-after patience served (Finishes now failure) = refl
+fault-after patience served (Tries now attempt) = refl
 
 abbrev fault-in-any : Option Served → Option Fault
 fault-in-any = option_and_then (λ (served : Served). fault_in served.input)
@@ -149,6 +160,6 @@ keeps_the_next controller (Flushes now sending) untried some = some
 keeps_the_next controller Announces untried some = some
 keeps_the_next controller Initialises untried some = some
 keeps_the_next controller LosesIt untried some = some
-keeps_the_next controller (Looks connects held now failure attempt) untried some =
-    not-tried (tries controller (Looks connects held now failure attempt)) _ (after_finish now failure (after_notice connects held now controller)) untried
-    (finished now failure (after_notice connects held now controller) (noticed connects _ controller.next refl some))
+keeps_the_next controller (Notes connects held now) untried some = noticed connects _ controller.next refl some
+keeps_the_next controller (Finishes now failure) untried some = finished now failure controller some
+keeps_the_next controller (Tries now attempt) untried some = not-tried (tries controller (Tries now attempt)) _ controller untried some

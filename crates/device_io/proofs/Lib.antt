@@ -3,6 +3,7 @@ pub mod Keeping
 pub mod Making
 pub mod Performing
 pub mod Progress
+pub mod Reached
 pub mod Reaching
 pub mod Sources
 pub mod Writes

@@ -9,7 +9,7 @@ use Rattle.device_io.specs.declared.served.Fault.TheVariants.{TooMuch}
 use Rattle.device_io.specs.declared.served.Progress.{Progress}
 use Rattle.device_io.specs.declared.served.Progress.TheVariants.{New, Begun, Initialised}
 use Rattle.device_io.specs.ControllerLaws.{Event, Progressing, SparesProgress, is_slow, is_waited_for, progress_after, with_event}
-use Rattle.device_io.specs.ControllerLaws.Event.{Readies, Reads, Judges, Writes, Flushes, Announces, Initialises, LosesIt, Looks}
+use Rattle.device_io.specs.ControllerLaws.Event.{Readies, Reads, Judges, Writes, Flushes, Announces, Initialises, LosesIt, Notes, Finishes, Tries}
 use Rattle.device_io.specs.Outbound.{after_accepted, is_empty, stalled_since}
 use Rattle.device_io.specs.Patience.{given_up_at, wait_end}
 use Rattle.device_io.specs.Served.{Served, after_acceptance, after_queuing, announced_in, begun_at, has_room_for, is_late, lapse_of, served_at, served_due, with_fault}
@@ -81,7 +81,9 @@ step-moved patience progressing (Flushes now Refuses) kept =
 step-moved patience progressing Announces kept = kept
 step-moved patience progressing Initialises kept = kept
 step-moved patience progressing LosesIt kept = kept
-step-moved patience progressing (Looks connects held now failure attempt) kept = kept
+step-moved patience progressing (Notes connects held now) kept = kept
+step-moved patience progressing (Finishes now failure) kept = kept
+step-moved patience progressing (Tries now attempt) kept = kept
 
 -- since it was reached
 abbrev begun : ℕ → Bool → Option ℕ
@@ -136,7 +138,9 @@ step-begins patience reached progressing Announces kept =
     announced-goes-on progressing.served.progress ∙ goes-on reached progressing.served progressing.is_initialised kept
 step-begins patience reached progressing Initialises kept = ap (begun reached) (or-true progressing.is_initialised)
 step-begins patience reached progressing LosesIt kept = goes-on reached progressing.served progressing.is_initialised kept
-step-begins patience reached progressing (Looks connects held now failure attempt) kept = goes-on reached progressing.served progressing.is_initialised kept
+step-begins patience reached progressing (Notes connects held now) kept = goes-on reached progressing.served progressing.is_initialised kept
+step-begins patience reached progressing (Finishes now failure) kept = goes-on reached progressing.served progressing.is_initialised kept
+step-begins patience reached progressing (Tries now attempt) kept = goes-on reached progressing.served progressing.is_initialised kept
 
 abbrev Keeps : ℕ → Progressing → Type 0
 Keeps reached progressing = Moved progressing.served progressing.moved × Begins reached progressing

@@ -7,9 +7,9 @@ use Rattle.device_io.specs.declared.side.Side.{Side}
 use Rattle.device_io.specs.declared.side.Side.TheVariants as variant
 use Rattle.device_io.specs.Connector.{Attempt}
 use Rattle.device_io.specs.Connector.Attempt.{Begins, FindsNobody, Loses, Misses, Reaches}
-use Rattle.device_io.specs.Controller.{abandoned, after_attempt, after_entry, after_finish, after_notice, answered, at_first, is_answered_in, lost, missed_in, next_after, on_served, retry_of, served_by, side_after, unanswered, with_side}
+use Rattle.device_io.specs.Controller.{abandoned, after_attempt, after_entry, after_finish, after_notice, after_try, answered, at_first, is_answered_in, lost, missed_in, next_after, on_served, retry_of, served_by, side_after, unanswered, with_side}
 use Rattle.device_io.specs.ControllerLaws.{AreInOrder, AreUntil, Event, IsDueFrom, IsDueUntil, Pauses, TriesAgain, TriesOn, Trying, after_event, controller_after, trying_after, with_try}
-use Rattle.device_io.specs.ControllerLaws.Event.{Readies, Reads, Judges, Writes, Flushes, Announces, Initialises, LosesIt, Looks}
+use Rattle.device_io.specs.ControllerLaws.Event.{Readies, Reads, Judges, Writes, Flushes, Announces, Initialises, LosesIt, Notes, Finishes, Tries}
 use Rattle.device_io.specs.ControllerValue.{Controller}
 use Rattle.device_io.specs.Patience.{wait_end}
 use Rattle.device_io.specs.Served.{Served, after_announcement, after_arrival, after_flush, after_initialisation, after_read, after_write, is_late, judged}
@@ -104,27 +104,24 @@ tried-attempt : (attempt : Attempt) (past now : ℕ) (controller : Controller) �
 tried-attempt attempt past now controller before tried =
     (tried, subst (λ (tried : Bool). Until now (side_after attempt past controller.side) (next_after tried attempt past)) (sym tried) (attempt-until attempt past now controller.side before))
 
-tried-look : (connects held : Bool) (past : ℕ) (failure : Option Missed) (attempt : Attempt) (now : ℕ) (controller : Controller) → past ≤ now
-    → Tried now controller → Tried now (after_event controller (Looks connects held past failure attempt))
-tried-look connects held past failure attempt now controller before due =
-    either (Tried now) (is_late (retry_of finished) past) _ finished
-    (tried-attempt attempt past now (with_side (unanswered finished.side) finished) before finished-due.0) finished-due
-  where
-    noticed : Controller
-    noticed = after_notice connects held past controller
+tried-notice : (connects held : Bool) (past now : ℕ) (controller : Controller) → Tried now controller
+    → Tried now (after_notice connects held past controller)
+tried-notice connects held past now controller due = (
+  due.0,
+  until-same now controller.side (after_notice connects held past controller).side (after_notice connects held past controller).next
+      (held-as-long held controller.side) (noticed-until connects now past controller.side controller.next due.1),
+)
 
-    noticed-due : Tried now noticed
-    noticed-due = (
-      due.0,
-      until-same now controller.side noticed.side noticed.next (held-as-long held controller.side)
-          (noticed-until connects now past controller.side controller.next due.1),
-    )
+tried-finish : (past : ℕ) (failure : Option Missed) (now : ℕ) (controller : Controller) → past ≤ now → Tried now controller
+    → Tried now (after_finish past failure controller)
+tried-finish past failure now controller before due =
+    either (Tried now) (is_answered_in controller.side) _ controller (due.0, retries past now (after_entry past failure) before) due
 
-    finished : Controller
-    finished = after_finish past failure noticed
-
-    finished-due : Tried now finished
-    finished-due = either (Tried now) (is_answered_in noticed.side) _ noticed (due.0, retries past now (after_entry past failure) before) noticed-due
+tried-try : (attempt : Attempt) (past now : ℕ) (controller : Controller) → past ≤ now → Tried now controller
+    → Tried now (after_try attempt past controller)
+tried-try attempt past now controller before due =
+    either (Tried now) (is_late (retry_of controller) past) _ controller
+    (tried-attempt attempt past now (with_side (unanswered controller.side) controller) before due.0) due
 
 tried-event : (now : ℕ) (controller : Controller) (event : Event) (events : List Event) → AreUntil now (event ∷ events) → Tried now controller
     → Tried now (after_event controller event)
@@ -151,8 +148,9 @@ tried-event now controller Initialises events order due =
     (due.0, until-same now controller.side _ controller.next (served-as-long after_initialisation controller.side) due.1)
 tried-event now controller LosesIt events order due =
     (due.0, until now controller.side (lost controller.side) controller.next (lost-longer controller.side) due.1)
-tried-event now controller (Looks connects held past failure attempt) events order due =
-    tried-look connects held past failure attempt now controller order.0 due
+tried-event now controller (Notes connects held past) events order due = tried-notice connects held past now controller due
+tried-event now controller (Finishes past failure) events order due = tried-finish past failure now controller order.0 due
+tried-event now controller (Tries past attempt) events order due = tried-try attempt past now controller order.0 due
 
 rest-until : (now : ℕ) (event : Event) (events : List Event) → AreUntil now (event ∷ events) → AreUntil now events
 unfolding AreUntil
@@ -164,7 +162,9 @@ rest-until now (Flushes past sending) events order = order
 rest-until now Announces events order = order
 rest-until now Initialises events order = order
 rest-until now LosesIt events order = order
-rest-until now (Looks connects held past failure attempt) events order = order.1
+rest-until now (Notes connects held past) events order = order.1
+rest-until now (Finishes past failure) events order = order.1
+rest-until now (Tries past attempt) events order = order.1
 
 tried-events : (now : ℕ) (controller : Controller) (events : List Event) → AreUntil now events → Tried now controller
     → Tried now (fold after_event controller events)
@@ -247,28 +247,27 @@ both-ways : (P : Option ℕ → Controller → Type 0) (test : Bool) (time befor
 both-ways P true time before one two first second = first
 both-ways P false time before one two first second = second
 
-spaced-look : (connects held : Bool) (now : ℕ) (failure : Option Missed) (attempt : Attempt) (before : ℕ) (trying : Trying) → before ≤ now
-    → IsSpaced before trying.tried_at trying.controller
-    → let after : Trying = with_try trying (Looks connects held now failure attempt) in IsSpaced now after.tried_at after.controller
-spaced-look connects held now failure attempt before trying order spaced =
-    both-ways (IsSpaced now) (is_late (retry_of finished) now) (Some now) trying.tried_at _ finished
-    (finished-spaced.0, subst (λ (tried : Bool). IsPaused now (Some now) (next_after tried attempt now)) (sym finished-spaced.0) (attempt-paused attempt now))
-    finished-spaced
-  where
-    noticed : Controller
-    noticed = after_notice connects held now trying.controller
+spaced-notice : (connects held : Bool) (now before : ℕ) (trying : Trying) → before ≤ now → IsSpaced before trying.tried_at trying.controller
+    → IsSpaced now trying.tried_at (after_notice connects held now trying.controller)
+spaced-notice connects held now before trying order spaced = (
+  spaced.0,
+  paused-later before now trying.tried_at (after_notice connects held now trying.controller).next order
+      (noticed-paused connects before now trying.tried_at trying.controller.next spaced.1),
+)
 
-    noticed-paused-by : IsPaused before trying.tried_at noticed.next
-    noticed-paused-by = noticed-paused connects before now trying.tried_at trying.controller.next spaced.1
+spaced-finish : (now : ℕ) (failure : Option Missed) (before : ℕ) (trying : Trying) → before ≤ now → IsSpaced before trying.tried_at trying.controller
+    → IsSpaced now trying.tried_at (after_finish now failure trying.controller)
+spaced-finish now failure before trying order spaced =
+    either (IsSpaced now trying.tried_at) (is_answered_in trying.controller.side) _ trying.controller
+    (spaced.0, finish-paused before now trying.tried_at trying.controller.next order spaced.1)
+    (spaced.0, paused-later before now trying.tried_at trying.controller.next order spaced.1)
 
-    finished : Controller
-    finished = after_finish now failure noticed
-
-    finished-spaced : IsSpaced now trying.tried_at finished
-    finished-spaced =
-        either (IsSpaced now trying.tried_at) (is_answered_in noticed.side) _ noticed
-        (spaced.0, finish-paused before now trying.tried_at noticed.next order noticed-paused-by)
-        (spaced.0, paused-later before now trying.tried_at noticed.next order noticed-paused-by)
+spaced-try : (now : ℕ) (attempt : Attempt) (before : ℕ) (trying : Trying) → before ≤ now → IsSpaced before trying.tried_at trying.controller
+    → let after : Trying = with_try trying (Tries now attempt) in IsSpaced now after.tried_at after.controller
+spaced-try now attempt before trying order spaced =
+    both-ways (IsSpaced now) (is_late (retry_of trying.controller) now) (Some now) trying.tried_at _ trying.controller
+    (spaced.0, subst (λ (tried : Bool). IsPaused now (Some now) (next_after tried attempt now)) (sym spaced.0) (attempt-paused attempt now))
+    (spaced.0, paused-later before now trying.tried_at trying.controller.next order spaced.1)
 
 spaced-events : (before : ℕ) (trying : Trying) (events : List Event) → AreInOrder before events → IsSpaced before trying.tried_at trying.controller
     → let last : Trying = fold with_try trying events in (now : ℕ) × IsSpaced now last.tried_at last.controller
@@ -284,9 +283,15 @@ spaced-events before trying (Flushes now sending ∷ events) order spaced =
 spaced-events before trying (Announces ∷ events) order spaced = spaced-events before (with_try trying Announces) events order spaced
 spaced-events before trying (Initialises ∷ events) order spaced = spaced-events before (with_try trying Initialises) events order spaced
 spaced-events before trying (LosesIt ∷ events) order spaced = spaced-events before (with_try trying LosesIt) events order spaced
-spaced-events before trying (Looks connects held now failure attempt ∷ events) order spaced =
-    spaced-events now (with_try trying (Looks connects held now failure attempt)) events order.1
-    (spaced-look connects held now failure attempt before trying order.0 spaced)
+spaced-events before trying (Notes connects held now ∷ events) order spaced =
+    spaced-events now (with_try trying (Notes connects held now)) events order.1
+    (spaced-notice connects held now before trying order.0 spaced)
+spaced-events before trying (Finishes now failure ∷ events) order spaced =
+    spaced-events now (with_try trying (Finishes now failure)) events order.1
+    (spaced-finish now failure before trying order.0 spaced)
+spaced-events before trying (Tries now attempt ∷ events) order spaced =
+    spaced-events now (with_try trying (Tries now attempt)) events order.1
+    (spaced-try now attempt before trying order.0 spaced)
 
 paused-at : (now : ℕ) (tried_at next : Option ℕ) (time : ℕ) → tried_at ≡ Some time → IsPaused now tried_at next
     → IsDueFrom (wait_end RETRY_TIME time) next

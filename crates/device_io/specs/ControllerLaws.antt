@@ -7,7 +7,7 @@ use Rattle.device_io.specs.declared.missed.Missed.{Missed}
 use Rattle.device_io.specs.declared.served.Fault.{Fault}
 use Rattle.device_io.specs.declared.served.Fault.TheVariants.{NoMemory, NotWritten, TooMuch}
 use Rattle.device_io.specs.Connector.{Attempt}
-use Rattle.device_io.specs.Controller.{after_announcing, after_finish, after_flushing, after_initialising, after_judging, after_look, after_loss, after_notice, after_reading, after_ready, after_writing, at_first, fault_of, retry_of, served_by}
+use Rattle.device_io.specs.Controller.{after_announcing, after_finish, after_flushing, after_initialising, after_judging, after_loss, after_notice, after_reading, after_ready, after_try, after_writing, at_first, fault_of, retry_of, served_by}
 use Rattle.device_io.specs.ControllerValue.{Controller}
 use Rattle.device_io.specs.Outbound.{is_empty}
 use Rattle.device_io.specs.Patience.{wait_end}
@@ -25,8 +25,12 @@ pub data Event : Type 0 where
   Announces : Event
   Initialises : Event
   LosesIt : Event
-  -- Another one is looked for.
-  Looks : (connects held : Bool) (now : ℕ) (failure : Option Missed) (attempt : Attempt) → Event
+  -- The three parts of a look for another one: maybe one connects, or controllers are held off;
+  Notes : (connects held : Bool) (now : ℕ) → Event
+  -- an answered connection is made, or fails;
+  Finishes : (now : ℕ) (failure : Option Missed) → Event
+  -- and another one is tried if it is time.
+  Tries : (now : ℕ) (attempt : Attempt) → Event
 
 abbrev pub after_event : Controller → Event → Controller
 after_event controller (Readies ends) = after_ready ends controller
@@ -37,12 +41,19 @@ after_event controller (Flushes now sending) = after_flushing now sending contro
 after_event controller Announces = after_announcing controller
 after_event controller Initialises = after_initialising controller
 after_event controller LosesIt = after_loss controller
-after_event controller (Looks connects held now failure attempt) =
-    after_look connects held now failure attempt controller
+after_event controller (Notes connects held now) = after_notice connects held now controller
+after_event controller (Finishes now failure) = after_finish now failure controller
+after_event controller (Tries now attempt) = after_try attempt now controller
 
 -- The controller of a device after its start and these events.
 abbrev pub controller_after : Bool → ℕ → List Event → Controller
 controller_after tried patience events = fold after_event (at_first tried patience) events
+
+-- It became what it is by such events alone.
+unfoldable pub IsReached : Controller → Type 0
+IsReached controller =
+    (tried : Bool) × (patience : ℕ) × (events : List Event)
+    × (controller ≡ controller_after tried patience events)
 
 -- A served controller after an event that does not lose it.
 abbrev pub served_after : ℕ → Served → Event → Served
@@ -145,11 +156,12 @@ SparesProgress =
     is_late (served_due patience progressing.served) now
     ≡ is_slow patience reached progressing now
 
--- No look is later than this.
+-- No part of a look is later than this.
 unfoldable pub AreUntil : ℕ → List Event → Type 0
 AreUntil now [] = Unit {0}
-AreUntil now (Looks connects held time failure attempt ∷ later) =
-    (time ≤ now) × AreUntil now later
+AreUntil now (Notes connects held time ∷ later) = (time ≤ now) × AreUntil now later
+AreUntil now (Finishes time failure ∷ later) = (time ≤ now) × AreUntil now later
+AreUntil now (Tries time attempt ∷ later) = (time ≤ now) × AreUntil now later
 AreUntil now (event ∷ later) = AreUntil now later
 
 abbrev pub IsDueUntil : ℕ → Option ℕ → Type 0
@@ -174,8 +186,7 @@ TriesOn =
 
 -- This event tries to reach a controller.
 abbrev pub tries : Controller → Event → Bool
-tries controller (Looks connects held now failure attempt) =
-    is_late (retry_of (after_finish now failure (after_notice connects held now controller))) now
+tries controller (Tries now attempt) = is_late (retry_of controller) now
 tries controller event = false
 
 -- A controller that connects, or an attempt that is due, is not forgotten before it is tried.
@@ -190,9 +201,8 @@ pub record Trying : Type 0 where
   pub tried_at : Option ℕ
 
 abbrev pub tried_by : Controller → Option ℕ → Event → Option ℕ
-tried_by controller before (Looks connects held now failure attempt) =
-    if is_late (retry_of (after_finish now failure (after_notice connects held now controller))) now
-    then Some now else before
+tried_by controller before (Tries now attempt) =
+    if is_late (retry_of controller) now then Some now else before
 tried_by controller before event = before
 
 abbrev pub with_try : Trying → Event → Trying
@@ -208,11 +218,12 @@ trying_after patience events =
 abbrev pub IsDueFrom : ℕ → Option ℕ → Type 0
 IsDueFrom earliest due = (time : ℕ) × (due ≡ Some time) × (earliest ≤ time)
 
--- No look is before an earlier one.
+-- No part of a look is before an earlier one.
 unfoldable pub AreInOrder : ℕ → List Event → Type 0
 AreInOrder before [] = Unit {0}
-AreInOrder before (Looks connects held now failure attempt ∷ later) =
-    (before ≤ now) × AreInOrder now later
+AreInOrder before (Notes connects held now ∷ later) = (before ≤ now) × AreInOrder now later
+AreInOrder before (Finishes now failure ∷ later) = (before ≤ now) × AreInOrder now later
+AreInOrder before (Tries now attempt ∷ later) = (before ≤ now) × AreInOrder now later
 AreInOrder before (event ∷ later) = AreInOrder before later
 
 -- The next attempt to reach a controller is at least half a second after the last one.

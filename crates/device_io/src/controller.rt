@@ -6,17 +6,13 @@ ghost use Rattle.device_io.specs.Connector.{attempt_of, is_tried};
 ghost use Rattle.device_io.specs.Controller as spec;
 ghost use Rattle.device_io.specs.ControllerLaws.{GivesUpForAFault, KeepsTheNext, Pauses, ServesOne, SparesProgress, TriesAgain, TriesOn};
 ghost use Rattle.device_io.specs.Served.{is_late, words_of};
-ghost use Rattle.device_io.specs.declared.side.Side.TheVariants.{Nobody};
 
-use crate::connecting::Connecting;
 use crate::connector::{ACCEPT_TIME, CONNECT_TIME, Connector, RETRY_TIME, Reach, listen_again};
 use crate::log::Log;
 use crate::missed::Missed;
 use crate::poller::Poller;
-use crate::served::Served;
 use crate::side::Side;
 use crate::system::System;
-use crate::transport::Transport;
 use std::alloc::Global;
 use std::io;
 use std::marker::Model;
@@ -37,6 +33,7 @@ pub struct Controller<'a> {
 
 impl<'a> Model for Controller<'a> {
     ghost use Rattle.device_io.specs.Connector.{is_tried};
+    ghost use Rattle.device_io.specs.ControllerLaws.{IsReached};
     ghost use Rattle.device_io.specs.ControllerValue as value;
 
     ghost Value = { value.Controller };
@@ -48,6 +45,15 @@ impl<'a> Model for Controller<'a> {
       next = controller.next;
       is_held = controller.is_held;
     } };
+
+    // The laws hold of it: it became what it is by what they speak of.
+    ghost invariant = { λ controller. IsReached (record {
+      patience = controller.patience;
+      is_tried = is_tried controller.connector;
+      side = controller.side;
+      next = controller.next;
+      is_held = controller.is_held;
+    }) };
 }
 
 impl<'a> Controller<'a> {
@@ -114,6 +120,7 @@ impl Controller<'_> {
     }
 
     /// Marks it as initialised. Returns true if that is new.
+    #[tactic(auto, using(crate::proofs::Reached::by_initialising))]
     pub fn note_initialised(&mut self) -> bool
         ensures new { result ≡ spec.is_begun self.old }
         ensures initialised { self.new ≡ spec.after_initialising self.old }
@@ -142,6 +149,7 @@ impl Controller<'_> {
     }
 
     /// Returns true if it was reached since the last call.
+    #[tactic(auto, using(crate::proofs::Reached::by_announcing))]
     pub fn has_come(&mut self) -> bool
         ensures new { result ≡ spec.is_new_in self.old }
         ensures announced { self.new ≡ spec.after_announcing self.old }
@@ -175,6 +183,7 @@ impl Controller<'_> {
     }
 
     /// Stops serving the controller.
+    #[tactic(auto, using(crate::proofs::Reached::by_loss))]
     pub fn lose(&mut self, poller: &Poller)
         ensures lost { self.new ≡ spec.after_loss self.old }
     {
@@ -271,8 +280,8 @@ impl Controller<'_> {
         };
         self.next = Some(now.saturating_add(RETRY_TIME));
         match connecting.made(poller) {
-            Ok(transport) => self.serve(transport, now),
-            Err(missed) => self.miss(missed, log),
+            Ok(transport) => self.side.serve(self.alloc, transport, self.patience, now),
+            Err(missed) => self.side.miss(missed, &self.connector, log),
         }
     }
 
@@ -293,56 +302,18 @@ impl Controller<'_> {
         if !self.is_due(now) {
             return;
         }
-        self.end_unanswered(log);
+        self.side.end_unanswered(&self.connector, log);
         let reached = self.connector.reach(log.rt, poller);
-        self.enter(reached, log, now);
-    }
-
-    /// Ends a connection that is being made, and was not answered in time.
-    fn end_unanswered<R: Clock + Eprint>(&mut self, log: &Log<'_, R>)
-        ensures { self.new ≡ spec.with_side (spec.unanswered self.old.side) self.old }
-    {
-        if matches!(self.side, Side::Next { .. }) {
-            self.miss(Missed::Silent, log);
-        }
-    }
-
-    /// Notes the outcome of an attempt to reach a controller.
-    fn enter<R: Clock + Eprint>(&mut self, reached: Reach, log: &Log<'_, R>, now: u64)
-        ensures { self.new ≡ spec.after_attempt (attempt_of reached) now self.old }
-    {
         self.next = next_after(self.connector.is_tried(), &reached, now);
         match reached {
             Reach::Nobody => {}
-            Reach::Begun(transport) => {
-                self.side = Side::Next {
-                    connecting: Connecting::new(transport),
-                    missed: self.side.missed(),
-                };
+            Reach::Begun(transport) => self.side.begin(transport),
+            Reach::There(transport) => {
+                self.side.serve(self.alloc, transport, self.patience, now);
             }
-            Reach::There(transport) => self.serve(transport, now),
-            Reach::Missed(missed) => self.miss(missed, log),
-            Reach::Unwatched => self.miss(Missed::Unwatched, log),
+            Reach::Missed(missed) => self.side.miss(missed, &self.connector, log),
+            Reach::Unwatched => self.side.miss(Missed::Unwatched, &self.connector, log),
         }
-    }
-
-    fn serve(&mut self, transport: Transport, now: u64)
-        ensures { self.new ≡ spec.with_side (spec.after_entry now None) self.old }
-    {
-        transport.notice_vanished_peer(self.patience.saturating_mul(2));
-        self.side = Side::Served(Served::new(self.alloc, transport, now));
-    }
-
-    /// Logs why no controller is reached, unless the log says so already.
-    fn miss<R: Clock + Eprint>(&mut self, missed: Missed, log: &Log<'_, R>)
-        ensures { self.new ≡ spec.with_side (Nobody (Some missed)) self.old }
-    {
-        if self.side.missed() != Some(missed) {
-            missed.say(&self.connector, log);
-        }
-        self.side = Side::Nobody {
-            missed: Some(missed),
-        };
     }
 }
 
