@@ -17,3 +17,4 @@ pub mod Exchanges
 pub mod Alternating
 pub mod Waking
 pub mod Reached
+pub mod Steps

@@ -115,10 +115,13 @@ abbrev pub answer_in : Unanswered → Result (Unit {0}) AppFault
 answer_in (Line answer) = answer
 answer_in unanswered = Ok tt
 
+abbrev pub refused_with : Result (Option Call) AppFault → Unanswered → Unanswered
+refused_with (Ok call) unanswered = unanswered
+refused_with (Err fault) unanswered = called_with (Err fault) unanswered
+
 -- A line that names no connection is refused without a call.
 abbrev pub refused_by : Result (Option Call) AppFault → Asking → Asking
-refused_by (Ok call) asking = asking
-refused_by (Err fault) asking = after_call (Err fault) asking
+refused_by call asking = record asking { unanswered = refused_with call asking.unanswered }
 
 -- A line is taken only if it may be.
 abbrev pub call_if : Bool → Application → Asking → List Named → ℕ → ℕ
@@ -255,6 +258,10 @@ at_start = record {
 
 abbrev pub exchange_after : List Step → Exchange
 exchange_after steps = fold with_step at_start steps
+
+-- It became what it is by such steps alone.
+unfoldable pub IsReached : Asking → Type 0
+IsReached asking = (steps : List Step) × (asking ≡ (exchange_after steps).asking)
 
 -- All texts in their order, unless memory was refused for one. There are none without a text.
 abbrev pub all_joined : List (Option Octets) → Option (Option Octets)

@@ -1,13 +1,13 @@
 //! The lines of the application or of a visitor, and their answers.
 
-ghost use Rattle.std.specs.Prelude.{◌≡◌, length, Ok, Some, None, IfErr, IfOk};
+ghost use Rattle.std.specs.Prelude.{◌≡◌, length, IfErr, IfOk, IfSome, None, Ok, Some};
 ghost use Rattle.std.specs.Option.{option_map};
 ghost use Rattle.std.specs.Result.{result_ok};
 ghost use Rattle.device_session.specs.Application.{after_choosing};
 ghost use Rattle.device_session.specs.Asking as spec;
 ghost use Rattle.device_session.specs.Asking.{AnswersEachLine, EndsWithClosing, IsAnswerKept};
 ghost use Rattle.device_session.specs.Lines.{kind_of};
-ghost use Rattle.device_session.specs.Questions.{called, question_in, question_of};
+ghost use Rattle.device_session.specs.Questions.{call_in, called, question_in, question_of};
 
 use crate::application::Application;
 use crate::asked::{Asked, LineKind, call_of, line_kind, read_asked};
@@ -66,10 +66,19 @@ impl Model for Asking {
       answers = option_map (λ answers. option_map (λ text. text.items) (result_ok answers))
           asking.answers;
     } };
+
+    // The laws hold of it: it became what it is by the steps that they speak of.
+    ghost invariant = { λ asking. spec.IsReached (record {
+      line = asking.line.items;
+      unanswered = asking.unanswered;
+      closing = asking.closing;
+      answers = option_map (λ answers. option_map (λ text. text.items) (result_ok answers))
+          asking.answers;
+    }) };
 }
 
 impl Asking {
-    #[tactic(auto, using(crate::proofs::Exchanges::answers_each_line, crate::proofs::Exchanges::ends_with_closing))]
+    #[tactic(auto, using(crate::proofs::Exchanges::answers_each_line, crate::proofs::Exchanges::ends_with_closing, crate::proofs::Steps::at_first))]
     pub(crate) fn nothing() -> Asking
         ensures nothing { result ≡ spec.nothing_asked }
         // After any calls, in any order: each line gets one answer. The answers that are sent next
@@ -111,8 +120,9 @@ impl Asking {
             return None;
         }
         let next = application.next_line(&mut self.line);
-        self.take(next);
-        self.call(names, time, buffer)
+        let line = self.line.as_slice();
+        take(next, line, &mut self.unanswered, &mut self.closing);
+        call(line, &mut self.unanswered, names, time, buffer)
     }
 
     /// Reads the next line of the sender of the last one, as `next_call` does. Reads none unless it
@@ -136,56 +146,17 @@ impl Asking {
             return None;
         }
         let next = application.next_line_of_asker(&mut self.line);
-        self.take(next);
-        self.call(names, time, buffer)
-    }
-
-    fn call<'a>(&mut self, names: &Names, time: u64, buffer: &'a mut [u8]) -> Option<App<'a>>
-        ensures call { option_map called result ≡ spec.call_made
-            (spec.call_by self.old names.now.named time (length buffer.old)) }
-        ensures refused { self.new ≡ spec.refused_by
-            (spec.call_by self.old names.now.named time (length buffer.old)) self.old }
-    {
-        let call = match self.asked() {
-            Asked::Command(command) => call_of(&command, names, time, buffer),
-            _ => Ok(None),
-        };
-        match call {
-            Ok(call) => call,
-            Err(fault) => {
-                self.answered(Err(fault));
-                None
-            }
-        }
-    }
-
-    fn take(&mut self, next: NextLine)
-        ensures { self.new ≡ spec.with_next_line next self.old.line self.old }
-    {
-        match next.found {
-            Found::Nothing => {}
-            Found::TooLong => {
-                self.unanswered = Unanswered::TooLong;
-                self.closing = Closing::LineTooLong;
-            }
-            Found::Line => {
-                self.unanswered = Unanswered::Line(Ok(()));
-                self.closing = if next.is_first && is_wrong(self.line.as_slice()) {
-                    Closing::FirstLineWrong
-                } else {
-                    Closing::No
-                };
-            }
-        }
+        let line = self.line.as_slice();
+        take(next, line, &mut self.unanswered, &mut self.closing);
+        call(line, &mut self.unanswered, names, time, buffer)
     }
 
     /// Stores the answer to the call of the line that waits.
+    #[tactic(auto, using(crate::proofs::Steps::by_call))]
     pub(crate) fn answered(&mut self, answer: Result<(), AppFault>)
         ensures { self.new ≡ spec.after_call answer self.old }
     {
-        if let Unanswered::Line(_) = self.unanswered {
-            self.unanswered = Unanswered::Line(answer);
-        }
+        answer_call(&mut self.unanswered, answer);
     }
 
     /// Returns the answer to the call of the line that waits.
@@ -201,11 +172,7 @@ impl Asking {
     pub(crate) fn asked(&self) -> Asked<'_>
         ensures { question_of result ≡ question_in self.now.unanswered self.now.line }
     {
-        match self.unanswered {
-            Unanswered::Line(_) => read_asked(self.line.as_slice()),
-            Unanswered::TooLong => Asked::TooLong,
-            Unanswered::Nothing | Unanswered::Later => Asked::Nothing,
-        }
+        asked_in(self.unanswered, self.line.as_slice())
     }
 
     fn is_waiting(&self) -> bool
@@ -215,6 +182,7 @@ impl Asking {
     }
 
     /// Puts off the answer to the line that waits.
+    #[tactic(auto, using(crate::proofs::Steps::by_delay))]
     pub(crate) fn put_off(&mut self)
         ensures { self.new ≡ spec.after_delay self.old }
     {
@@ -253,25 +221,92 @@ impl Asking {
         !self.is_waiting() && self.closing == Closing::No && are_few(&self.answers)
     }
 
-    /// Removes the answers that wait, and returns them.
-    pub(crate) fn take_answers(&mut self) -> Option<Result<Vec<u8>, AllocError>>
-        ensures answers { option_map (λ answers. option_map (λ text. text.items)
-            (result_ok answers)) result ≡ self.old.answers }
-        ensures taken { self.new ≡ record self.old { answers = None } }
+    /// Removes the answers that wait, and returns them, with why the connection is closed then. It
+    /// is not closed before the answer to a line that still waits.
+    #[tactic(auto, using(crate::proofs::Steps::by_reply))]
+    pub(crate) fn take_reply(&mut self) -> Option<(Result<Vec<u8>, AllocError>, Closing)>
+        ensures answers { option_map (λ reply. option_map (λ text. text.items)
+            (result_ok reply.0)) result ≡ self.old.answers }
+        ensures closing { IfSome result (λ reply. reply.1 ≡ spec.closing_now self.old) }
+        ensures taken { self.new ≡ spec.replied self.old }
     {
-        self.answers.take()
+        let answers = self.answers.take()?;
+        let closing = match self.unanswered {
+            Unanswered::Nothing => std::mem::replace(&mut self.closing, Closing::No),
+            Unanswered::Line(_) | Unanswered::TooLong | Unanswered::Later => Closing::No,
+        };
+        Some((answers, closing))
     }
+}
 
-    /// Returns whether the connection is closed after the answers, and forgets it. It is not closed
-    /// before the answer to a line that still waits.
-    pub(crate) fn take_closing(&mut self) -> Closing
-        ensures closing { result ≡ spec.closing_now self.old }
-        ensures taken { self.new ≡ spec.without_closing self.old }
-    {
-        if self.is_waiting() {
-            return Closing::No;
+/// Stores a line that was just read. Changes nothing if none was.
+fn take(next: NextLine, line: &[u8], unanswered: &mut Unanswered, closing: &mut Closing)
+    ensures unanswered { unanswered.new
+        ≡ spec.unanswered_after next.found unanswered.old }
+    ensures closing { closing.new
+        ≡ spec.closing_after next.found next.is_first line.now closing.old }
+{
+    match next.found {
+        Found::Nothing => {}
+        Found::TooLong => {
+            *unanswered = Unanswered::TooLong;
+            *closing = Closing::LineTooLong;
         }
-        std::mem::replace(&mut self.closing, Closing::No)
+        Found::Line => {
+            *unanswered = Unanswered::Line(Ok(()));
+            *closing = if next.is_first && is_wrong(line) {
+                Closing::FirstLineWrong
+            } else {
+                Closing::No
+            };
+        }
+    }
+}
+
+/// Returns the call of the host that a line makes, if any. Refuses one that names no connection.
+fn call<'a>(
+    line: &[u8],
+    unanswered: &mut Unanswered,
+    names: &Names,
+    time: u64,
+    buffer: &'a mut [u8],
+) -> Option<App<'a>>
+    ensures call { option_map called result ≡ spec.call_made (call_in
+        (question_in unanswered.old line.now) names.now.named time (length buffer.old)) }
+    ensures refused { unanswered.new ≡ spec.refused_with (call_in
+        (question_in unanswered.old line.now) names.now.named time (length buffer.old))
+        unanswered.old }
+{
+    let call = match asked_in(*unanswered, line) {
+        Asked::Command(command) => call_of(&command, names, time, buffer),
+        _ => Ok(None),
+    };
+    match call {
+        Ok(call) => call,
+        Err(fault) => {
+            answer_call(unanswered, Err(fault));
+            None
+        }
+    }
+}
+
+/// Stores the answer to the call of a line.
+fn answer_call(unanswered: &mut Unanswered, answer: Result<(), AppFault>)
+    ensures { unanswered.new ≡ spec.called_with answer unanswered.old }
+{
+    if let Unanswered::Line(_) = *unanswered {
+        *unanswered = Unanswered::Line(answer);
+    }
+}
+
+/// Returns what the last line asks, if it waits and its answer is not put off.
+fn asked_in(unanswered: Unanswered, line: &[u8]) -> Asked<'_>
+    ensures { question_of result ≡ question_in unanswered line.now }
+{
+    match unanswered {
+        Unanswered::Line(_) => read_asked(line),
+        Unanswered::TooLong => Asked::TooLong,
+        Unanswered::Nothing | Unanswered::Later => Asked::Nothing,
     }
 }
 

@@ -160,8 +160,7 @@ impl<R: Clock + Eprint> Session<'_, R> {
             self.new.application }
         ensures updated { self.new.updated ≡ self.old.updated }
     {
-        if let Some(text) = self.asking.take_answers() {
-            let closing = self.asking.take_closing();
+        if let Some((text, closing)) = self.asking.take_reply() {
             reply(&mut self.application, &self.log, closing, text);
         }
     }
