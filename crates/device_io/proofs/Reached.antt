@@ -1,27 +1,58 @@
 -- Each method of the controller is an event of its laws.
-use Rattle.std.proofs.Common.{◌≡◌, ◌++◌, ℕ, Bool, [], ◌∷◌, Option, sym, ap, ◌∙◌}
-use Rattle.std.specs.Prelude.{IfErr, IfOk, Result, Err, Ok}
+use Rattle.std.proofs.Common.{◌≡◌, ◌++◌, ℕ, Bool, true, false, List, [], ◌∷◌, Option, refl, sym, subst, ap, ◌∙◌}
+use Rattle.std.specs.Prelude.{if◌then◌else◌, IfErr, IfOk, Result, Err, Ok}
 use Rattle.std.proofs.lemmas.List.Sums.{fold-append}
 use Rattle.octet_io.specs.Number.{Octets}
-use Rattle.device_io.specs.Controller.{after_announcing, after_initialising, after_judging, after_loss, after_notice, after_reading, after_ready, IsFinished, IsFlushedTo, IsTried, IsWrittenTo}
+use Rattle.device_io.specs.Controller.{after_announcing, after_initialising, after_judging, after_loss, after_notice, after_reading, after_ready, is_answered_in, retry_of, IsFinished, IsFlushedTo, IsTried, IsWrittenTo}
 use Rattle.device_io.specs.Controller as spec
-use Rattle.device_io.specs.ControllerLaws.{Event, after_event, IsReached}
+use Rattle.device_io.specs.ControllerLaws.{Event, after_event, controller_after, IsReached}
 use Rattle.device_io.specs.ControllerLaws.Event.{Readies, Reads, Judges, Writes, Flushes, Announces, Initialises, LosesIt, Notes, Finishes, Tries}
 use Rattle.device_io.specs.ControllerValue.{Controller}
+use Rattle.device_io.specs.Served.{is_late}
+
+-- No event changes the way to controllers, or the patience with them.
+abbrev Keeps : Controller → Controller → Type 0
+Keeps before after = (after.is_tried ≡ before.is_tried) × (after.patience ≡ before.patience)
+
+either : (before one other : Controller) (test : Bool) → Keeps before one → Keeps before other → Keeps before (if test then one else other)
+either before one other true first second = first
+either before one other false first second = second
+
+kept : (controller : Controller) (event : Event) → Keeps controller (after_event controller event)
+kept controller (Readies ends) = (refl, refl)
+kept controller (Reads room read) = (refl, refl)
+kept controller (Judges now) = (refl, refl)
+kept controller (Writes octets now sending) = (refl, refl)
+kept controller (Flushes now sending) = (refl, refl)
+kept controller Announces = (refl, refl)
+kept controller Initialises = (refl, refl)
+kept controller LosesIt = (refl, refl)
+kept controller (Notes connects held now) = (refl, refl)
+kept controller (Finishes now failure) = either controller _ controller (is_answered_in controller.side) (refl, refl) (refl, refl)
+kept controller (Tries now attempt) = either controller _ controller (is_late (retry_of controller) now) (refl, refl) (refl, refl)
+
+-- It begins with what it keeps.
+from : (events : List Event) (after : Controller) (tried : Bool) (patience : ℕ) → after ≡ controller_after tried patience events
+    → after.is_tried ≡ tried → after.patience ≡ patience → after ≡ controller_after after.is_tried after.patience events
+from events after tried patience same is_tried is_patience =
+    same ∙ ap (λ (tried : Bool). controller_after tried patience events) (sym is_tried)
+    ∙ ap (λ (patience : ℕ). controller_after after.is_tried patience events) (sym is_patience)
 
 reached : (before after : Controller) (event : Event) → IsReached before → after ≡ after_event before event → IsReached after
 unfolding IsReached
-reached before after event (tried, patience, events, same) step = (
-  tried,
-  patience,
-  events ++ event ∷ [],
-  step ∙ ap (λ (earlier : Controller). after_event earlier event) same
-      ∙ sym (fold-append after_event (spec.at_first tried patience) events (event ∷ [])),
-)
+reached before after event (events, same) step =
+    let keeps : Keeps before after = subst (λ (next : Controller). Keeps before next) (sym step) (kept before event) in (
+      events ++ event ∷ [],
+      from (events ++ event ∷ []) after before.is_tried before.patience
+          (step ∙ ap (λ (earlier : Controller). after_event earlier event) same
+          ∙ sym (fold-append after_event (spec.at_first before.is_tried before.patience) events (event ∷ [])))
+          keeps.0 keeps.1,
+    )
 
 pub at_first : (tried : Bool) (patience : ℕ) (after : Controller) → after ≡ spec.at_first tried patience → IsReached after
 unfolding IsReached
-at_first tried patience after same = (tried, patience, [], same)
+at_first tried patience after same =
+    ([], from [] after tried patience same (ap (λ (one : Controller). one.is_tried) same) (ap (λ (one : Controller). one.patience) same))
 
 pub by_ready : (ends : Bool) (before after : Controller) → IsReached before → after ≡ after_ready ends before → IsReached after
 by_ready ends before after known same = reached before after (Readies ends) known same

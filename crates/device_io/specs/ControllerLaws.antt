@@ -25,11 +25,11 @@ pub data Event : Type 0 where
   Announces : Event
   Initialises : Event
   LosesIt : Event
-  -- The three parts of a look for another one: maybe one connects, or controllers are held off;
+  -- A look for another one has three parts. First, one may connect, or controllers are held off.
   Notes : (connects held : Bool) (now : ℕ) → Event
-  -- an answered connection is made, or fails;
+  -- Then an answered connection is made, or fails.
   Finishes : (now : ℕ) (failure : Option Missed) → Event
-  -- and another one is tried if it is time.
+  -- Another one is tried if it is time.
   Tries : (now : ℕ) (attempt : Attempt) → Event
 
 abbrev pub after_event : Controller → Event → Controller
@@ -52,8 +52,8 @@ controller_after tried patience events = fold after_event (at_first tried patien
 -- It became what it is by such events alone.
 unfoldable pub IsReached : Controller → Type 0
 IsReached controller =
-    (tried : Bool) × (patience : ℕ) × (events : List Event)
-    × (controller ≡ controller_after tried patience events)
+    (events : List Event)
+    × (controller ≡ controller_after controller.is_tried controller.patience events)
 
 -- A served controller after an event that does not lose it.
 abbrev pub served_after : ℕ → Served → Event → Served
