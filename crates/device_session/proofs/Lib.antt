@@ -17,4 +17,5 @@ pub mod Exchanges
 pub mod Alternating
 pub mod Waking
 pub mod Reached
+pub mod Noting
 pub mod Steps

@@ -1,6 +1,5 @@
 -- An application whose connection is closed after its answer is ended.
 use Rattle.std.proofs.Common.{◌≡◌, ◌⊎◌, inl, inr, ℕ, ◌+◌, ◌<◌, ◌≤◌, Bool, true, false, List, drop, get_or, length, map, refl, sym, ap, subst, ◌∙◌}
-use Rattle.std.specs.Prelude.{if◌then◌else◌}
 use Rattle.std.proofs.lemmas.List.{drop_all, drop_more}
 use Rattle.octet_io.specs.Number.{Octets}
 use Rattle.device_session.specs.declared.heard.Change.{Change}

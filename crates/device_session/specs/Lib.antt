@@ -9,6 +9,7 @@ pub mod Laws
 pub mod Lines
 pub mod Links
 pub mod Missed
+pub mod Notices
 pub mod Outgoing
 pub mod PeerClock
 pub mod Pending
@@ -20,3 +21,4 @@ pub mod Telling
 pub mod Timeout
 pub mod Turns
 pub mod Visitor
+pub mod Waits

@@ -1,5 +1,5 @@
 -- The values that clients wrote without the application's knowledge (this profile's own).
-use Rattle.std.specs.Prelude.{ℕ, Bool, ◌==◌, ◌++◌, if◌then◌else◌, List, [], ◌∷◌, drop, fold, Option, Some, None}
+use Rattle.std.specs.Prelude.{◌≡◌, ℕ, Bool, ◌==◌, ◌++◌, if◌then◌else◌, List, [], ◌∷◌, drop, fold, Option, Some, None}
 use Rattle.std.specs.List.{list_any}
 
 -- No application was notified of the values at the first handles. The current one was notified of
@@ -18,6 +18,11 @@ with_handle handles handle =
 
 abbrev pub with_handles : List ℕ → List ℕ → List ℕ
 with_handles handles more = fold with_handle handles more
+
+-- The first ones of some handles are noted.
+abbrev pub IsNotedUpTo : List ℕ → List ℕ → List ℕ → Type 0
+IsNotedUpTo more before after =
+    (noted rest : List ℕ) × (noted ++ rest ≡ more) × (after ≡ with_handles before noted)
 
 abbrev pub with_missed : Missed → ℕ → Missed
 with_missed missed handle =

@@ -6,7 +6,7 @@ use Rattle.device_io.specs.ControllerValue.{Controller}
 use Rattle.device_io.specs.Controller.{after_announcing, after_initialising, is_begun}
 use Rattle.device_session.specs.Application.{after_answer, after_end, after_telling, is_visitor}
 use Rattle.device_session.specs.ApplicationValue.{Application}
-use Rattle.device_session.specs.Missed.{Missed, after_last, with_missed, with_told}
+use Rattle.device_session.specs.Missed.{Missed, after_last, with_missed, with_told, IsNotedUpTo}
 use Rattle.device_session.specs.Pending.{Line, with_line, without_subject}
 use Rattle.device_session.specs.Place.{fits_in, is_new, is_there}
 use Rattle.device_session.specs.declared.pending.Subject.{Subject}
@@ -93,6 +93,7 @@ IsNoted subject application before after =
 pub record IsLast (all_read : Bool) (before after : Missed) : Type 0 where
   pub none_told : after.told ≡ []
   pub read : all_read ≡ true → after ≡ after_last true before
+  pub kept : IsNotedUpTo before.told before.handles after.handles
 
 -- Each line is sent once, in order, and the value that it is about is noted.
 unfoldable pub AreLinesTold : List Line → Application → Missed → Application → Missed → Type 0

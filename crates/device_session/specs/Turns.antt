@@ -13,6 +13,11 @@ abbrev pub after_tick : Turns → ℕ → Turns
 after_tick turns now =
     if nat_le now turns.time then turns else record turns { time = now; is_told = true }
 
+-- A turn of the clock of the device, which reads the time.
+abbrev pub IsTick : Turns → Option ℕ → Turns → Type 0
+IsTick before time after =
+    (now : ℕ) × (time ≡ tick_at before now) × (after ≡ after_tick before now)
+
 -- The controller is read if it is readable, except in a second turn running while other input is
 -- there.
 abbrev pub reads : Turns → Bool → Bool → Bool

@@ -1,7 +1,8 @@
 //! The controller, the capture of its packets, and the clients without a key.
 
 ghost use Rattle.std.specs.Prelude.{◌≡◌, [], false, is_ok, IfErr, IfOk, IsNone};
-ghost use Rattle.device_io.specs.Controller.{after_judging, after_loss, is_over_at, is_served, IsWrittenTo};
+ghost use Rattle.device_io.specs.Connector.{is_tried};
+ghost use Rattle.device_io.specs.Controller.{after_judging, after_loss, at_first, is_over_at, is_served, IsWrittenTo};
 
 use crate::strangers::{Limits, Strangers};
 use device_io::{Connector, Controller, Log, Poller, Recording};
@@ -22,7 +23,11 @@ impl<'a> ControllerSession<'a> {
         connector: Connector<'a>,
         patience: u64,
         limits: Limits,
-    ) -> ControllerSession<'a> {
+    ) -> ControllerSession<'a>
+        ensures controller { result.controller ≡ at_first (is_tried connector.entry) patience }
+        ensures limits { result.strangers.limits ≡ limits }
+        ensures strangers { result.strangers.known.items ≡ [] }
+    {
         ControllerSession {
             controller: Controller::new(alloc, connector, patience),
             recording: Recording::none(),

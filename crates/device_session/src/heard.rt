@@ -1,10 +1,15 @@
 //! The notices of the host in one turn.
 
+ghost use Rattle.std.specs.Prelude.{◌≡◌, ◌++◌, false, true, OnOk};
+ghost use Rattle.app_lines.specs.NoticeText.{named_line};
+ghost use Rattle.device_session.specs.Notices as spec;
+
 use crate::links::Links;
 use crate::pending::Subject;
 use app_lines::{Names, add_named_line, add_number, connection_of};
 use host_api::Notice;
 use std::alloc::{AllocError, Global};
+use std::marker::Model;
 
 /// The changes by clients that a device saves.
 #[derive(Clone, Copy, PartialEq, Eq)]
@@ -44,9 +49,28 @@ pub struct Heard {
     pub(crate) is_refused: bool,
 }
 
+impl Model for Heard {
+    ghost use Rattle.device_session.specs.Notices as spec;
+
+    ghost Value = { spec.Heard };
+
+    ghost view = { λ heard. record {
+      saved = heard.saved;
+      text = heard.text.items;
+      changes = heard.changes.items;
+      written = heard.written.items;
+      secured = heard.secured.items;
+      names = heard.names;
+      links = heard.links.links.items;
+      is_refused = heard.is_refused;
+    } };
+}
+
 impl Heard {
     /// Returns a record without notices and connections.
-    pub fn new(alloc: Global, logs_values: bool, saved: SavedChanges) -> Heard {
+    pub fn new(alloc: Global, logs_values: bool, saved: SavedChanges) -> Heard
+        ensures { result ≡ spec.at_first saved }
+    {
         Heard {
             text: Vec::new(alloc),
             saved,
@@ -62,19 +86,25 @@ impl Heard {
     }
 
     /// Forgets all notices and connections, for a new controller.
-    pub fn begin(&mut self) {
+    pub fn begin(&mut self)
+        ensures { self.new ≡ spec.begun self.old }
+    {
         self.clear();
         self.names.forget();
         self.links.forget();
     }
 
     /// Returns true if there was no notice.
-    pub fn is_nothing(&self) -> bool {
-        self.log.is_empty() && !self.is_refused
+    pub fn is_nothing(&self) -> bool
+        ensures { result ≡ spec.is_nothing self.now }
+    {
+        self.text.is_empty() && !self.is_refused
     }
 
     /// Drops the notices of the turn.
-    pub fn clear(&mut self) {
+    pub fn clear(&mut self)
+        ensures { self.new ≡ spec.cleared self.old }
+    {
         self.text.clear();
         self.changes.clear();
         self.log.clear();
@@ -84,23 +114,20 @@ impl Heard {
     }
 
     /// Adds a notice.
-    pub fn hear(&mut self, notice: Notice<'_>) {
+    pub fn hear(&mut self, notice: Notice<'_>)
+        // Unless memory was refused: each notice has one line, after those before.
+        ensures heard { self.new.is_refused ≡ false
+            → self.new ≡ spec.after_notice notice.entry self.old }
+        ensures refused { self.old.is_refused ≡ true → self.new.is_refused ≡ true }
+        ensures names { self.new.names ≡ spec.names_after notice.entry self.old.names }
+    {
         let handle = connection_of(&notice);
-        if let Notice::Secured { .. } = notice
-            && self.secured.push(handle).is_err()
-        {
-            self.is_refused = true;
-        }
-        if self.note_link(&notice).is_err() {
-            self.is_refused = true;
-        }
         if let Notice::Connected { .. } = notice {
             self.names.connect(handle);
         }
-        // A name is never missing: a host has no more connections than there are names.
-        if let Some(name) = self.names.name_of(handle)
-            && self.add_change(name, &notice).is_err()
-        {
+        let noted = self.note_link(&notice);
+        let added = self.add_change(&notice);
+        if noted.is_err() || added.is_err() {
             self.is_refused = true;
         }
         if let Notice::Disconnected { .. } = notice {
@@ -109,23 +136,44 @@ impl Heard {
     }
 
     /// Returns the connections that got a key in the turn.
-    pub fn secured(&self) -> &[u16] {
+    pub fn secured(&self) -> &[u16]
+        ensures { result.now ≡ self.now.secured }
+    {
         self.secured.as_slice()
     }
 
-    fn note_link(&mut self, notice: &Notice<'_>) -> Result<(), AllocError> {
+    fn note_link(&mut self, notice: &Notice<'_>) -> Result<(), AllocError>
+        ensures ok { OnOk result (self.new ≡ record self.old {
+          links = spec.links_after notice.now self.old.links;
+          secured = spec.secured_after notice.now self.old.secured;
+        }) }
+        ensures names { self.new.names ≡ self.old.names }
+        ensures refused { self.new.is_refused ≡ self.old.is_refused }
+    {
         match *notice {
             Notice::Connected { handle, peer } => self.links.connect(handle, peer)?,
             Notice::Disconnected { handle } => self.links.disconnect(handle),
-            Notice::Secured { handle, .. } => self.links.note_key(handle, true),
+            Notice::Secured { handle, .. } => {
+                self.links.note_key(handle, true);
+                self.secured.push(handle)?;
+            }
             Notice::Unsecured { handle } => self.links.note_key(handle, false),
             _ => {}
         }
         Ok(())
     }
 
-    /// Adds the lines of a notice, and notes the change that it reports.
-    fn add_change(&mut self, name: u64, notice: &Notice<'_>) -> Result<(), AllocError> {
+    /// Adds the line of a notice, and notes the change that it reports.
+    ///
+    /// A name is never missing: a host has no more connections than there are names.
+    fn add_change(&mut self, notice: &Notice<'_>) -> Result<(), AllocError>
+        ensures ok { OnOk result (self.new ≡ spec.with_line notice.now self.old) }
+        ensures names { self.new.names ≡ self.old.names }
+        ensures refused { self.new.is_refused ≡ self.old.is_refused }
+    {
+        let Some(name) = self.names.name_of(connection_of(notice)) else {
+            return Ok(());
+        };
         let begin = self.text.len();
         self.add(name, notice)?;
         match (self.saved_subject(notice), notice) {
@@ -144,7 +192,9 @@ impl Heard {
     }
 
     /// Returns the subject of a change that is saved.
-    fn saved_subject(&self, notice: &Notice<'_>) -> Option<Subject> {
+    fn saved_subject(&self, notice: &Notice<'_>) -> Option<Subject>
+        ensures { result ≡ spec.subject_of notice.now self.now }
+    {
         match *notice {
             Notice::Written { attribute, .. } if self.saved == SavedChanges::All => {
                 Some(Subject::Value(attribute))
@@ -161,7 +211,14 @@ impl Heard {
         }
     }
 
-    fn add(&mut self, name: u64, notice: &Notice<'_>) -> Result<(), AllocError> {
+    /// Adds the line of a notice for the application, and the one for the log.
+    fn add(&mut self, name: u64, notice: &Notice<'_>) -> Result<(), AllocError>
+        ensures ok { OnOk result (self.new ≡ record self.old {
+          text = self.old.text ++ named_line name notice.now;
+        }) }
+        ensures names { self.new.names ≡ self.old.names }
+        ensures refused { self.new.is_refused ≡ self.old.is_refused }
+    {
         add_named_line(&mut self.text, name, notice)?;
         match notice {
             Notice::Connected { .. } => add_connected(&mut self.log, name, notice),

@@ -1,7 +1,7 @@
 //! The values that clients wrote without the application's knowledge.
 
 ghost use Rattle.std.specs.Prelude.{◌≡◌, [], true, IfErr, IfOk};
-ghost use Rattle.device_session.specs.Missed.{after_last, after_next, first_of, nothing_missed, with_handle, with_handles, with_missed, with_told};
+ghost use Rattle.device_session.specs.Missed.{after_last, after_next, first_of, nothing_missed, with_handle, with_handles, with_missed, with_told, IsNotedUpTo};
 
 use std::alloc::{AllocError, Global};
 use std::marker::Model;
@@ -66,6 +66,9 @@ impl Missed {
         ensures ended { IfOk result (λ _. self.new ≡ after_last has_read_all self.old) }
         ensures read { has_read_all ≡ true → self.new ≡ after_last has_read_all self.old }
         ensures told { self.new.told ≡ [] }
+        // None that was missed before is lost, and those of which it was notified are noted as far
+        // as there is memory.
+        ensures kept { IsNotedUpTo self.old.told self.old.handles self.new.handles }
     {
         if has_read_all {
             self.told.clear();
@@ -106,8 +109,9 @@ fn add_handle(handles: &mut Vec<u16>, handle: u16) -> Result<(), AllocError>
 }
 
 fn add_handles(handles: &mut Vec<u16>, more: &[u16]) -> Result<(), AllocError>
-    ensures { IfOk result
+    ensures added { IfOk result
         (λ _. handles.new.items ≡ with_handles handles.old.items more.now) }
+    ensures kept { IsNotedUpTo more.now handles.old.items handles.new.items }
 {
     for handle in more {
         add_handle(handles, *handle)?;

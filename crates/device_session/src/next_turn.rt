@@ -1,13 +1,20 @@
 //! The wait of a session for its next turn. All times are in milliseconds.
 
-ghost use Rattle.std.specs.Prelude.{◌≡◌};
+ghost use Rattle.std.specs.Prelude.{◌≡◌, ◌&&◌, ◌||◌, false, not, true, None};
 ghost use Rattle.device_session.specs.Strangers.{first_limit};
 ghost use Rattle.device_session.specs.Timeout.{application_acts, limits_of, reads_controller, session_acts, timeout_of};
+ghost use Rattle.device_session.specs.Turns.{after_reading, reads, IsTick};
+ghost use Rattle.device_session.specs.Acceptance.{accepts_at};
+ghost use Rattle.device_session.specs.Place.{is_there};
+ghost use Rattle.device_session.specs.Waits.{has_other, readied_if, AreSame, IsAcceptanceIf, IsFlushedIf, IsReadyIf, IsTakenIn, IsWait};
 
+use crate::acceptance::Acceptance;
+use crate::application::Application;
 use crate::output::{accept, fill};
 use crate::session::Session;
 use crate::timeout::timeout_of;
-use device_io::{Ready, System};
+use device_io::{Controller, ControllerReady, Log, Poller, Ready, System};
+use std::alloc::Global;
 use std::time::{Clock, Duration};
 
 impl<R: Clock + Eprint> Session<'_, R> {
@@ -15,7 +22,21 @@ impl<R: Clock + Eprint> Session<'_, R> {
     ///
     /// It is not read while too much waits for the application, so that no client can cause that to
     /// be cut off.
-    pub fn is_controller_next(&mut self) -> bool {
+    pub fn is_controller_next(&mut self) -> bool
+        ensures read { result ≡ reads self.old.turns (reads_controller
+            self.old.clock.counted self.old.controller.controller self.old.application)
+            (has_other self.old.controller.strangers.limits
+            self.old.controller.strangers.known.items self.old.clock.counted
+            self.old.acceptance self.old.application) }
+        ensures turns { self.new.turns ≡ after_reading self.old.turns (reads_controller
+            self.old.clock.counted self.old.controller.controller self.old.application)
+            (has_other self.old.controller.strangers.limits
+            self.old.controller.strangers.known.items self.old.clock.counted
+            self.old.acceptance self.old.application) }
+        ensures application { self.new.application ≡ self.old.application }
+        ensures asking { self.new.asking ≡ self.old.asking }
+        ensures names { self.new.names ≡ self.old.names }
+    {
         let has_other = self.controller.strangers.is_due(self.clock.time()) || self.has_something();
         let is_readable = self.is_controller_readable();
         self.turns.is_read(is_readable, has_other)
@@ -67,7 +88,44 @@ impl<R: System> Session<'_, R> {
     /// Waits for something to do, and returns the time in milliseconds if it has advanced.
     ///
     /// In the turn after a returned time, returns `None` without waiting.
-    pub fn next_tick(&mut self, deadline: Option<u64>) -> Option<u64> {
+    pub fn next_tick(&mut self, deadline: Option<u64>) -> Option<u64>
+        ensures told { self.old.turns.is_told ≡ true → result ≡ None }
+        ensures time { self.old.turns.is_told ≡ false → IsTick self.old.turns result
+            self.new.turns }
+        ensures turns { self.old.turns.is_told ≡ true → self.new.turns
+            ≡ record self.old.turns { is_told = false } }
+        ensures same { self.old.turns.is_told ≡ true → AreSame (record {
+          clock = self.old.clock;
+          application = self.old.application;
+          missed = self.old.missed;
+          acceptance = self.old.acceptance;
+          controller = self.old.controller.controller;
+        }) (record {
+          clock = self.new.clock;
+          application = self.new.application;
+          missed = self.new.missed;
+          acceptance = self.new.acceptance;
+          controller = self.new.controller.controller;
+        }) }
+        ensures waited { self.old.turns.is_told ≡ false
+            → IsWait self.old.waits_for_application (record {
+              clock = self.old.clock;
+              application = self.old.application;
+              missed = self.old.missed;
+              acceptance = self.old.acceptance;
+              controller = self.old.controller.controller;
+            }) (record {
+              clock = self.new.clock;
+              application = self.new.application;
+              missed = self.new.missed;
+              acceptance = self.new.acceptance;
+              controller = self.new.controller.controller;
+            }) }
+        ensures asking { self.new.asking ≡ self.old.asking }
+        ensures names { self.new.names ≡ self.old.names }
+        ensures pending { self.new.pending ≡ self.old.pending }
+        ensures updated { self.new.updated ≡ self.old.updated }
+    {
         if self.turns.was_told() {
             return None;
         }
@@ -75,7 +133,26 @@ impl<R: System> Session<'_, R> {
         self.turns.tick(self.log.now())
     }
 
-    fn wait(&mut self, deadline: Option<u64>) {
+    fn wait(&mut self, deadline: Option<u64>)
+        ensures waited { IsWait self.old.waits_for_application (record {
+          clock = self.old.clock;
+          application = self.old.application;
+          missed = self.old.missed;
+          acceptance = self.old.acceptance;
+          controller = self.old.controller.controller;
+        }) (record {
+          clock = self.new.clock;
+          application = self.new.application;
+          missed = self.new.missed;
+          acceptance = self.new.acceptance;
+          controller = self.new.controller.controller;
+        }) }
+        ensures turns { self.new.turns ≡ self.old.turns }
+        ensures asking { self.new.asking ≡ self.old.asking }
+        ensures names { self.new.names ≡ self.old.names }
+        ensures pending { self.new.pending ≡ self.old.pending }
+        ensures updated { self.new.updated ≡ self.old.updated }
+    {
         self.clock.count(self.log.now());
         let now = self.clock.time();
         fill(
@@ -96,33 +173,101 @@ impl<R: System> Session<'_, R> {
         }
     }
 
-    fn take_in(&mut self, ready: Ready) {
+    fn take_in(&mut self, ready: Ready)
+        ensures taken { IsTakenIn ready self.old.waits_for_application (record {
+          clock = self.old.clock;
+          application = self.old.application;
+          missed = self.old.missed;
+          acceptance = self.old.acceptance;
+          controller = self.old.controller.controller;
+        }) (record {
+          clock = self.new.clock;
+          application = self.new.application;
+          missed = self.new.missed;
+          acceptance = self.new.acceptance;
+          controller = self.new.controller.controller;
+        }) }
+        ensures turns { self.new.turns ≡ self.old.turns }
+        ensures asking { self.new.asking ≡ self.old.asking }
+        ensures names { self.new.names ≡ self.old.names }
+        ensures pending { self.new.pending ≡ self.old.pending }
+        ensures updated { self.new.updated ≡ self.old.updated }
+    {
         let now = self.clock.time();
-        let controller = ready.controller;
-        if controller.is_readable {
-            self.controller.controller.note_ready(controller.is_ending);
-        }
-        if controller.takes_more {
-            self.controller.controller.flush(&self.poller, now);
-        }
-        if ready.application {
-            self.application.note_ready();
-        }
-        let connects = ready.applications || self.application.is_knocking();
-        if self.acceptance.is_due(connects, now) {
-            accept(
-                self.alloc,
-                &mut self.application,
-                &mut self.acceptance,
-                &self.poller,
-                &self.log,
-                now,
-            );
-        }
-        let is_held = self.waits_for_application && !self.application.is_there();
+        note_controller(
+            &mut self.controller.controller,
+            ready.controller,
+            &self.poller,
+            now,
+        );
+        note_application(&mut self.application, ready.application);
+        accept_if_due(
+            self.alloc,
+            &mut self.application,
+            &mut self.acceptance,
+            ready.applications,
+            &self.poller,
+            &self.log,
+            now,
+        );
+        let is_held = self.is_held();
         self.controller
             .controller
             .look(ready.controllers, is_held, &self.poller, &self.log, now);
+    }
+
+    /// Returns true if no controller is served because there is no application.
+    fn is_held(&self) -> bool
+        ensures { result ≡ (self.now.waits_for_application
+            && not (is_there self.now.application.place)) }
+    {
+        self.waits_for_application && !self.application.is_there()
+    }
+}
+
+/// Notes that the controller can be read, and writes if it accepts more.
+fn note_controller(
+    controller: &mut Controller<'_>,
+    ready: ControllerReady,
+    poller: &Poller,
+    now: u64,
+)
+    ensures { IsFlushedIf ready.takes_more now
+        (readied_if ready.is_readable ready.is_ending controller.old) controller.new }
+{
+    if ready.is_readable {
+        controller.note_ready(ready.is_ending);
+    }
+    if ready.takes_more {
+        controller.flush(poller, now);
+    }
+}
+
+fn note_application(application: &mut Application, is_ready: bool)
+    ensures { IsReadyIf is_ready application.old application.new }
+{
+    if is_ready {
+        application.note_ready();
+    }
+}
+
+/// Accepts the next visitor if one connects, or if its delay is over.
+fn accept_if_due<R: Clock + Eprint>(
+    alloc: Global,
+    application: &mut Application,
+    acceptance: &mut Acceptance,
+    connects: bool,
+    poller: &Poller,
+    log: &Log<'_, R>,
+    now: u64,
+)
+    ensures { IsAcceptanceIf (accepts_at acceptance.old
+        (connects || application.old.is_knocking) now) now
+        application.old acceptance.old application.new acceptance.new }
+{
+    let connects = connects || application.is_knocking();
+    if acceptance.is_due(connects, now) {
+        accept(alloc, application, acceptance, poller, log, now);
     }
 }
 

@@ -5,10 +5,11 @@ ghost use Rattle.std.specs.Option.{option_map};
 ghost use Rattle.std.specs.Result.{result_ok};
 ghost use Rattle.app_lines.specs.Told.{told_line};
 ghost use Rattle.device_session.specs.Asking.{stays_open};
-ghost use Rattle.device_session.specs.Application.{after_welcome, IsFlushed};
+ghost use Rattle.device_session.specs.Application.{after_welcome, IsAttended, IsFlushed};
 ghost use Rattle.device_session.specs.Place.{has_read_all, is_there};
 ghost use Rattle.device_session.specs.declared.pending.Subject.TheVariants.{Value};
 ghost use Rattle.device_session.specs.Telling.{part as text_part, AreLinesTold, AreNoted, AreOthersTold, AreSent, IsAnswer, IsLast, IsNoted, IsPut, IsSavedTold, IsUnsavedTold, IsOwnAnswer, IsSaid, IsSaidOrEnded, IsTold, IsVisitorAnswer};
+ghost use Rattle.device_session.specs.Waits.{enters, IsAcceptance, IsLastIf, IsRead};
 
 use crate::acceptance::Acceptance;
 use crate::application::Application;
@@ -178,13 +179,13 @@ pub(crate) fn tell_heard<R: Clock + Eprint>(
     heard: &Heard,
     is_saved: bool,
 )
-    ensures saved { is_saved ≡ true → IsSavedTold heard.now.is_refused heard.now.text.items
-        heard.now.changes.items heard.now.written.items application.old missed.old
+    ensures saved { is_saved ≡ true → IsSavedTold heard.now.is_refused heard.now.text
+        heard.now.changes heard.now.written application.old missed.old
         application.new missed.new }
-    ensures unsaved { is_saved ≡ false → IsUnsavedTold heard.now.is_refused heard.now.text.items
-        heard.now.changes.items application.old pending.old.lines.items
+    ensures unsaved { is_saved ≡ false → IsUnsavedTold heard.now.is_refused heard.now.text
+        heard.now.changes application.old pending.old.lines.items
         application.new pending.new.lines.items }
-    ensures written { is_saved ≡ false → AreNoted (map Value heard.now.written.items)
+    ensures written { is_saved ≡ false → AreNoted (map Value heard.now.written)
         application.new missed.old missed.new }
     ensures pending { is_saved ≡ true → pending.new.lines.items ≡ pending.old.lines.items }
 {
@@ -366,7 +367,9 @@ pub(crate) fn fill<R: Clock + Eprint>(
     missed: &mut Missed,
     log: &Log<'_, R>,
     now: u64,
-) {
+)
+    ensures { IsRead now application.old missed.old application.new missed.new }
+{
     attend(application, missed, log, now);
     if application.is_giving_place() {
         tell(alloc, application, log, &Told::Replaced);
@@ -411,12 +414,17 @@ pub(crate) fn log_lines<R: Clock + Eprint>(log: &Log<'_, R>, lines: &[u8]) {
     }
 }
 
+/// Reads from the visitor, or makes it the application.
 fn attend<R: Clock + Eprint>(
     application: &mut Application,
     missed: &mut Missed,
     log: &Log<'_, R>,
     now: u64,
-) {
+)
+    ensures attended { IsAttended now application.old application.new }
+    ensures missed { IsLastIf (enters application.old now) (has_read_all application.old.place)
+        missed.old missed.new }
+{
     let was_there = application.is_there();
     let has_read_all = application.has_read_all();
     if application.attend(now) {
@@ -435,7 +443,9 @@ pub(crate) fn accept<R: Clock + Eprint>(
     poller: &Poller,
     log: &Log<'_, R>,
     now: u64,
-) {
+)
+    ensures { IsAcceptance now application.old acceptance.old application.new acceptance.new }
+{
     match application.accept(poller, now) {
         Ok(is_accepted) => acceptance.succeed(is_accepted),
         Err(error) => {

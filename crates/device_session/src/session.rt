@@ -1,18 +1,20 @@
 //! The session of a device with its controller and its application.
 
-ghost use Rattle.std.specs.Prelude.{◌≡◌, ◌&&◌, [], false, is_ok, is_some, length, true, unwrap_or, IfErr, IfNone, IfOk, IfSome, IsNone, None, Some};
+ghost use Rattle.std.specs.Prelude.{◌≡◌, ◌&&◌, [], false, Bool, is_ok, is_some, length, true, unwrap_or, IfErr, IfNone, IfOk, IfSome, IsNone, None, Some};
 ghost use Rattle.std.specs.Option.{option_map};
 ghost use Rattle.gatt_laws.specs.machine.Calls.{DisconnectCall};
-ghost use Rattle.device_io.specs.Controller.{after_judging, after_loss, fault_of, is_over_at, is_served, is_served_initialised, IsWrittenTo};
+ghost use Rattle.device_io.specs.Controller.{after_judging, after_loss, at_first as untried, fault_of, is_over_at, is_served, is_served_initialised, IsWrittenTo};
 ghost use Rattle.device_io.specs.Served.{words_of};
-ghost use Rattle.device_session.specs.Application.{after_choosing, after_release, has_next_line, is_visitor};
-ghost use Rattle.device_session.specs.Asking.{after_call, after_delay, answer_in, application_if, asked_if, call_if, call_made, may_begin, may_continue, with_answer, IsAnswerKept};
-ghost use Rattle.device_session.specs.Missed.{after_next_if, next_if};
+ghost use Rattle.device_session.specs.Acceptance.{accepting};
+ghost use Rattle.device_session.specs.Application.{after_choosing, after_release, has_next_line, is_visitor, nobody};
+ghost use Rattle.device_session.specs.Asking.{after_call, after_delay, answer_in, application_if, asked_if, call_if, call_made, may_begin, may_continue, nothing_asked, with_answer, IsAnswerKept};
+ghost use Rattle.device_session.specs.Missed.{after_next_if, next_if, nothing_missed};
 ghost use Rattle.device_session.specs.Pending.{without_subject};
 ghost use Rattle.device_session.specs.Place.{has_room_in, is_new};
 ghost use Rattle.device_session.specs.Questions.{called, question_in, question_of};
 ghost use Rattle.device_session.specs.Strangers.{are_limited, first_due, strangers_of};
 ghost use Rattle.device_session.specs.Timeout.{lacks_application};
+ghost use Rattle.device_session.specs.Turns.{at_first};
 ghost use Rattle.device_session.specs.declared.pending.Subject.TheVariants.{Value};
 
 use crate::acceptance::Acceptance;
@@ -72,7 +74,22 @@ impl<'a, R: Net<Listener = TcpListener, Stream = TcpStream> + Clock + Eprint> Se
         waits_for_application: bool,
         patience: u64,
         limits: Limits,
-    ) -> io::Result<Session<'a, R>> {
+    ) -> io::Result<Session<'a, R>>
+        ensures application { IfOk result (λ session. session.application ≡ nobody) }
+        ensures asking { IfOk result (λ session. session.asking ≡ nothing_asked) }
+        ensures missed { IfOk result (λ session. session.missed ≡ nothing_missed) }
+        ensures pending { IfOk result (λ session. session.pending.lines.items ≡ []) }
+        ensures updated { IfOk result (λ session. session.updated.items ≡ []) }
+        ensures turns { IfOk result (λ session. session.turns ≡ at_first) }
+        ensures acceptance { IfOk result (λ session. session.acceptance ≡ accepting) }
+        ensures waits { IfOk result
+            (λ session. session.waits_for_application ≡ waits_for_application) }
+        ensures strangers { IfOk result
+            (λ session. session.controller.strangers.limits ≡ limits) }
+        ensures controller { IfOk result
+            (λ session. (is_tried : Bool) × (session.controller.controller
+            ≡ untried is_tried patience)) }
+    {
         let poller = Poller::new(alloc, log.rt)?;
         let connector = connector_to(alloc, &log, &poller, address)?;
         let clock = PeerClock::new(log.now());
@@ -285,6 +302,11 @@ impl<'a, R> Session<'a, R> {
         ensures controller { self.new.controller.controller
             ≡ self.old.controller.controller }
         ensures application { self.new.application ≡ self.old.application }
+        ensures asking { self.new.asking ≡ self.old.asking }
+        ensures missed { self.new.missed ≡ self.old.missed }
+        ensures pending { self.new.pending ≡ self.old.pending }
+        ensures updated { self.new.updated ≡ self.old.updated }
+        ensures names { self.new.names ≡ self.old.names }
     {
         self.controller.strangers.look(keyless, self.clock.time());
     }
@@ -308,6 +330,10 @@ impl<'a, R> Session<'a, R> {
         ensures unchanged { IfErr result (λ _. self.new.missed ≡ self.old.missed) }
         ensures application { self.new.application ≡ self.old.application }
         ensures asking { self.new.asking ≡ self.old.asking }
+        ensures pending { self.new.pending ≡ self.old.pending }
+        ensures updated { self.new.updated ≡ self.old.updated }
+        ensures names { self.new.names ≡ self.old.names }
+        ensures controller { self.new.controller ≡ self.old.controller }
     {
         if self.application.has_room() {
             self.missed.next()

@@ -31,6 +31,10 @@ impl<R: Clock + Eprint> Session<'_, R> {
         ensures unchanged { is_initialised_first is_initialised self.old.controller.controller
             ≡ false → self.new.application ≡ self.old.application }
         ensures asking { self.new.asking ≡ self.old.asking }
+        ensures missed { self.new.missed ≡ self.old.missed }
+        ensures pending { self.new.pending ≡ self.old.pending }
+        ensures updated { self.new.updated ≡ self.old.updated }
+        ensures names { self.new.names ≡ self.old.names }
     {
         if self.controller.controller.has_come() {
             self.log.say("controller");
@@ -49,6 +53,10 @@ impl<R: Clock + Eprint> Session<'_, R> {
         ensures ended { is_there self.new.application.place ≡ false
             → IsLast (has_read_all self.new.application.place) self.old.missed self.new.missed }
         ensures asking { self.new.asking ≡ self.old.asking }
+        ensures pending { self.new.pending ≡ self.old.pending }
+        ensures updated { self.new.updated ≡ self.old.updated }
+        ensures names { self.new.names ≡ self.old.names }
+        ensures controller { self.new.controller ≡ self.old.controller }
     {
         flush(&mut self.application, &mut self.missed, &self.log);
     }
@@ -58,6 +66,11 @@ impl<R: Clock + Eprint> Session<'_, R> {
         ensures application { IsTold (Some (told_line told.now)) self.old.application
             self.new.application }
         ensures asking { self.new.asking ≡ self.old.asking }
+        ensures missed { self.new.missed ≡ self.old.missed }
+        ensures pending { self.new.pending ≡ self.old.pending }
+        ensures updated { self.new.updated ≡ self.old.updated }
+        ensures names { self.new.names ≡ self.old.names }
+        ensures controller { self.new.controller ≡ self.old.controller }
     {
         tell(self.alloc, &mut self.application, &self.log, told);
     }
@@ -67,17 +80,19 @@ impl<R: Clock + Eprint> Session<'_, R> {
     /// If the changes of clients are not saved, the lines about them wait.
     pub fn tell_heard(&mut self, heard: &Heard, is_saved: bool)
         // The lines about changes wait only if these are not saved.
-        ensures saved { is_saved ≡ true → IsSavedTold heard.now.is_refused heard.now.text.items
-            heard.now.changes.items heard.now.written.items self.old.application
+        ensures saved { is_saved ≡ true → IsSavedTold heard.now.is_refused heard.now.text
+            heard.now.changes heard.now.written self.old.application
             self.old.missed self.new.application self.new.missed }
         ensures unsaved { is_saved ≡ false → IsUnsavedTold heard.now.is_refused
-            heard.now.text.items heard.now.changes.items self.old.application
+            heard.now.text heard.now.changes self.old.application
             self.old.pending.lines.items self.new.application self.new.pending.lines.items }
-        ensures written { is_saved ≡ false → AreNoted (map Value heard.now.written.items)
+        ensures written { is_saved ≡ false → AreNoted (map Value heard.now.written)
             self.new.application self.old.missed self.new.missed }
         ensures pending { is_saved ≡ true
             → self.new.pending.lines.items ≡ self.old.pending.lines.items }
         ensures asking { self.new.asking ≡ self.old.asking }
+        ensures updated { self.new.updated ≡ self.old.updated }
+        ensures names { self.new.names ≡ self.old.names }
     {
         tell_heard(
             &mut self.application,
@@ -96,6 +111,8 @@ impl<R: Clock + Eprint> Session<'_, R> {
             self.old.missed self.new.application self.new.missed }
         ensures pending { self.new.pending.lines.items ≡ [] }
         ensures asking { self.new.asking ≡ self.old.asking }
+        ensures updated { self.new.updated ≡ self.old.updated }
+        ensures names { self.new.names ≡ self.old.names }
     {
         tell_pending(
             &mut self.application,
@@ -110,6 +127,10 @@ impl<R: Clock + Eprint> Session<'_, R> {
         ensures application { IsTold (option_map (λ text. text.items) (result_ok ends))
             self.old.application self.new.application }
         ensures asking { self.new.asking ≡ self.old.asking }
+        ensures missed { self.new.missed ≡ self.old.missed }
+        ensures pending { self.new.pending ≡ self.old.pending }
+        ensures updated { self.new.updated ≡ self.old.updated }
+        ensures names { self.new.names ≡ self.old.names }
     {
         if let Ok(text) = &ends {
             log_lines(&self.log, text.as_slice());
@@ -135,6 +156,11 @@ impl<R: Clock + Eprint> Session<'_, R> {
         ensures application { IsTold (option_map (λ text. text.items) (result_ok text))
             self.old.application self.new.application }
         ensures asking { self.new.asking ≡ self.old.asking }
+        ensures missed { self.new.missed ≡ self.old.missed }
+        ensures pending { self.new.pending ≡ self.old.pending }
+        ensures updated { self.new.updated ≡ self.old.updated }
+        ensures names { self.new.names ≡ self.old.names }
+        ensures controller { self.new.controller ≡ self.old.controller }
     {
         tell_text(&mut self.application, &self.log, text);
     }
@@ -146,6 +172,9 @@ impl<R: Clock + Eprint> Session<'_, R> {
             (stays_open (closing_now self.old.asking)) self.old.updated.items
             self.old.application self.new.application }
         ensures updated { self.new.updated.items ≡ [] }
+        ensures missed { self.new.missed ≡ self.old.missed }
+        ensures pending { self.new.pending ≡ self.old.pending }
+        ensures names { self.new.names ≡ self.old.names }
     {
         self.send_answers();
         let updated = std::mem::replace(&mut self.updated, Vec::new(self.alloc));
@@ -159,6 +188,9 @@ impl<R: Clock + Eprint> Session<'_, R> {
             (stays_open (closing_now self.old.asking)) self.old.application
             self.new.application }
         ensures updated { self.new.updated ≡ self.old.updated }
+        ensures missed { self.new.missed ≡ self.old.missed }
+        ensures pending { self.new.pending ≡ self.old.pending }
+        ensures names { self.new.names ≡ self.old.names }
     {
         if let Some((text, closing)) = self.asking.take_reply() {
             reply(&mut self.application, &self.log, closing, text);
@@ -170,6 +202,11 @@ impl<R: Clock + Eprint> Session<'_, R> {
         ensures application { IsSaidOrEnded (option_map (λ text. text.items) (result_ok text))
             (after_welcome self.old.application) self.new.application }
         ensures asking { self.new.asking ≡ self.old.asking }
+        ensures missed { self.new.missed ≡ self.old.missed }
+        ensures pending { self.new.pending ≡ self.old.pending }
+        ensures updated { self.new.updated ≡ self.old.updated }
+        ensures names { self.new.names ≡ self.old.names }
+        ensures controller { self.new.controller ≡ self.old.controller }
     {
         welcome(&mut self.application, &self.log, text);
     }
