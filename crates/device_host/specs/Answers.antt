@@ -1,6 +1,6 @@
 -- The answer to each line of an application, and the state that a new one reads (this profile's
 -- own).
-use Rattle.std.specs.Prelude.{◌≡◌, ◌⊎◌, ℕ, ◌==◌, ◌++◌, if◌then◌else◌, Bool, List, [], codes, Option, Some, None, Result, Err}
+use Rattle.std.specs.Prelude.{◌≡◌, ◌⊎◌, ℕ, ◌==◌, ◌++◌, if◌then◌else◌, Bool, true, false, List, [], codes, Option, Some, None, Result, Err}
 use Rattle.std.specs.List.{flat_map, list_any}
 use Rattle.std.specs.Option.{option_and_then}
 use Rattle.octet_io.specs.Number.{Octets}
@@ -21,6 +21,8 @@ use Rattle.app_lines.specs.declared.command.Command.{Command}
 use Rattle.app_lines.specs.declared.command.Command.TheVariants as command
 use Rattle.app_lines.specs.declared.names.Named.{Named}
 use Rattle.app_lines.specs.declared.told.Told.TheVariants.{Serving, Started, Waiting}
+use Rattle.device_host.specs.declared.course.Course.{Course}
+use Rattle.device_host.specs.declared.course.Course.TheVariants as course
 use Rattle.device_session.specs.Asking.{Asking, after_delay, IsAnswerKept}
 use Rattle.device_session.specs.Questions.{Question, Nothing, Asks, IsWrong, NoText, TooLong}
 
@@ -69,6 +71,11 @@ IsSomehowAnswered before after = (text : Octets) × IsAnswerKept (Some text) bef
 abbrev pub IsAnsweredOrPutOff : Asking → Asking → Type 0
 IsAnsweredOrPutOff before after =
     IsSomehowAnswered before after ⊎ (after ≡ after_delay before)
+
+-- The device neither stops nor reloads.
+abbrev pub serves : Course → Bool
+serves course.Serves = true
+serves other = false
 
 abbrev pub bad : Octets → Octets
 bad words = line (codes "bad: " ++ words)

@@ -1,3 +1,4 @@
 pub mod Answers
 pub mod Changes
+pub mod Order
 pub mod Silence

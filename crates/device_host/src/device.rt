@@ -1,6 +1,8 @@
 //! The events of a host: those of its controller, its application and the clock.
 
-ghost use Rattle.std.specs.Prelude.{◌≡◌, None, Some};
+ghost use Rattle.std.specs.Prelude.{◌≡◌, length, true, None, Some};
+ghost use Rattle.device_session.specs.Asking.{application_if, asked_if, may_continue};
+ghost use Rattle.device_host.specs.Order.{takes_line, takes_nothing};
 
 use crate::course::Course;
 use crate::keeping::Keeping;
@@ -81,6 +83,19 @@ fn next_of<'b, R: System>(
     buffer: &'b mut [u8],
 ) -> Next<'b>
     ensures history { device.new.history ≡ device.old.history }
+    // While the changes before are to be saved, no line is read.
+    ensures unread { takes_nothing device.old.takes ≡ true
+        → device.new.session.application ≡ device.old.session.application }
+    ensures unasked { takes_nothing device.old.takes ≡ true
+        → device.new.session.asking ≡ device.old.session.asking }
+    // Only the sender of the last line is read before the save.
+    ensures line { takes_line device.old.takes ≡ true → device.new.session.asking
+        ≡ asked_if (may_continue device.old.session.asking) device.old.session.application
+        device.old.session.asking device.old.session.names.named
+        device.old.session.turns.time (length buffer.old) }
+    ensures read { takes_line device.old.takes ≡ true → device.new.session.application
+        ≡ application_if (may_continue device.old.session.asking)
+        device.old.session.application device.old.session.application }
 {
     match device.takes {
         Takes::Nothing => Next::Octets(&[]),

@@ -1,6 +1,9 @@
 //! The saved data of a host.
 
 ghost use Rattle.std.specs.Prelude.{◌≡◌};
+ghost use Rattle.std.specs.Option.{option_map};
+ghost use Rattle.device_host.specs.Changes.{is_all_saved, retry_of, with_change};
+ghost use Rattle.device_host.specs.Order.{IsFailureTold, IsSavingTold};
 
 use crate::before::keep_before;
 use crate::changes::Changes;
@@ -146,7 +149,9 @@ impl Keeping {
         keep_before(self.alloc, log, &self.file, self.contents.table_text())
     }
 
-    pub(crate) fn retry(&self) -> Option<u64> {
+    pub(crate) fn retry(&self) -> Option<u64>
+        ensures { result ≡ retry_of self.now.changes }
+    {
         self.changes.retry()
     }
 
@@ -157,7 +162,9 @@ impl Keeping {
     }
 
     /// Notes that something has changed that is saved.
-    pub(crate) fn note_change(&mut self) {
+    pub(crate) fn note_change(&mut self)
+        ensures { self.new.changes ≡ with_change self.old.changes }
+    {
         self.changes = self.changes.with_change();
     }
 
@@ -169,6 +176,7 @@ impl Keeping {
         host: &Host,
         session: &mut Session<'_, R>,
     ) -> bool
+        ensures saved { result ≡ is_all_saved self.new.changes }
         // The application, its place and its output stay as they are.
         ensures application { session.new.application ≡ session.old.application }
     {
@@ -184,7 +192,9 @@ impl Keeping {
         &mut self,
         host: &Host,
         session: &mut Session<'_, R>,
-    ) -> Option<&str> {
+    ) -> Option<&str>
+        ensures application { session.new.application ≡ session.old.application }
+    {
         if !self.changes.are_saved() {
             self.save_now(host, session);
         }
@@ -214,7 +224,18 @@ impl Keeping {
     }
 
     /// Tells the application, once, that saving fails or succeeds again.
-    pub(crate) fn tell_news<R: Clock + Eprint>(&mut self, session: &mut Session<'_, R>) {
+    pub(crate) fn tell_news<R: Clock + Eprint>(&mut self, session: &mut Session<'_, R>)
+        ensures news { IsSavingTold self.old.news
+            (option_map (λ words. words.bytes.items) self.old.failure)
+            session.old.application session.new.application }
+        ensures failure { self.new.failure ≡ self.old.failure }
+        ensures missed { session.new.missed ≡ session.old.missed }
+        ensures pending { session.new.pending ≡ session.old.pending }
+        ensures updated { session.new.updated ≡ session.old.updated }
+        ensures names { session.new.names ≡ session.old.names }
+        ensures asking { session.new.asking ≡ session.old.asking }
+        ensures controller { session.new.controller ≡ session.old.controller }
+    {
         match self.news {
             News::Nothing => {}
             News::Fails => self.tell_failure(session),
@@ -224,7 +245,16 @@ impl Keeping {
     }
 
     /// Notifies the application if the last save failed.
-    pub(crate) fn tell_failure<R: Clock + Eprint>(&self, session: &mut Session<'_, R>) {
+    pub(crate) fn tell_failure<R: Clock + Eprint>(&self, session: &mut Session<'_, R>)
+        ensures failure { IsFailureTold (option_map (λ words. words.bytes.items) self.now.failure)
+            session.old.application session.new.application }
+        ensures missed { session.new.missed ≡ session.old.missed }
+        ensures pending { session.new.pending ≡ session.old.pending }
+        ensures updated { session.new.updated ≡ session.old.updated }
+        ensures names { session.new.names ≡ session.old.names }
+        ensures asking { session.new.asking ≡ session.old.asking }
+        ensures controller { session.new.controller ≡ session.old.controller }
+    {
         if let Some(failure) = &self.failure {
             session.tell(&Told::Unsaved(failure.as_str()));
         }

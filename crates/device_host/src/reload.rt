@@ -1,7 +1,8 @@
 //! The line `reload`: the key file is read again, and the host is opened again with its keys.
 
-ghost use Rattle.std.specs.Prelude.{◌≡◌};
-ghost use Rattle.device_host.specs.Answers.{IsAnsweredOrPutOff, IsSomehowAnswered};
+ghost use Rattle.std.specs.Prelude.{◌≡◌, false, true};
+ghost use Rattle.device_session.specs.Asking.{after_delay};
+ghost use Rattle.device_host.specs.Answers.{serves, IsAnsweredOrPutOff, IsSomehowAnswered};
 ghost use Rattle.device_host.specs.Silence.{IsSameOrHeld};
 
 use crate::course::Course;
@@ -39,6 +40,11 @@ pub(crate) fn begin_reload<R: Files<File = File> + Clock + Eprint>(
         device.new.session.application }
     // The line is answered at once, or once the host is opened again.
     ensures asking { IsAnsweredOrPutOff device.old.session.asking device.new.session.asking }
+    // It is put off exactly if the device then reloads.
+    ensures now { serves device.old.course ≡ true → serves device.new.course ≡ true
+        → IsSomehowAnswered device.old.session.asking device.new.session.asking }
+    ensures later { serves device.old.course ≡ true → serves device.new.course ≡ false
+        → device.new.session.asking ≡ after_delay device.old.session.asking }
 {
     match read_again(device, host) {
         Ok(None) => {
@@ -190,6 +196,7 @@ fn exchange_keys<R: Files<File = File> + Clock + Eprint>(
 fn answer_reload<R: Clock + Eprint>(device: &mut Device<'_, R>, answer: &Answer)
     ensures application { device.new.session.application ≡ device.old.session.application }
     ensures asking { IsSomehowAnswered device.old.session.asking device.new.session.asking }
+    ensures course { device.new.course ≡ device.old.course }
 {
     let text = match answer {
         Answer::Done => answer_text(device.alloc, &Reply::Done),

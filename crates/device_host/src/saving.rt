@@ -1,6 +1,9 @@
 //! The save of a turn.
 
-ghost use Rattle.std.specs.Prelude.{◌≡◌};
+ghost use Rattle.std.specs.Prelude.{◌≡◌, true};
+ghost use Rattle.std.specs.Option.{option_map_or};
+ghost use Rattle.device_host.specs.Changes.{is_all_saved};
+ghost use Rattle.device_host.specs.Order.{is_saved};
 
 use crate::device::Device;
 use crate::turn_notices::Hearing;
@@ -18,6 +21,9 @@ pub(crate) fn save<R: Files<File = File> + Clock + Eprint>(
 ) -> Saving
     ensures history { device.new.history ≡ device.old.history }
     ensures heard { hearing.new.received ≡ hearing.old.received }
+    // The changes are saved exactly if none is left.
+    ensures saved { is_saved result ≡ option_map_or (λ keeping. is_all_saved keeping.changes)
+        device.new.keeping true }
     // The application, its place and its output stay as they are.
     ensures application { device.new.session.application ≡ device.old.session.application }
 {

@@ -1,6 +1,7 @@
 //! The notices of the host in one turn.
 
-ghost use Rattle.std.specs.Prelude.{◌≡◌, Some};
+ghost use Rattle.std.specs.Prelude.{◌≡◌, false, Some};
+ghost use Rattle.device_session.specs.Notices.{after_notice, begun};
 
 use device_loop::{Received, Unsaved};
 use device_session::Heard;
@@ -30,15 +31,29 @@ impl Hearing {
         }
     }
 
-    pub(crate) fn begin(&mut self) {
+    pub(crate) fn begin(&mut self)
+        ensures heard { self.new.heard ≡ begun self.old.heard }
+    {
         self.heard.begin();
         self.unsaved.clear();
         self.is_change = false;
     }
 
+    /// Adds a notice to those of the turn.
+    fn add(&mut self, notice: Notice<'_>)
+        // Unless memory was refused: each notice has one line, after those before.
+        ensures lines { self.new.heard.is_refused ≡ false
+            → self.new.heard ≡ after_notice notice.entry self.old.heard }
+        ensures received { self.new.received ≡ self.old.received }
+    {
+        self.note(&notice);
+        self.heard.hear(notice);
+    }
+
     /// Notes whether a notice reports a change of what is saved.
     fn note(&mut self, notice: &Notice<'_>)
         ensures received { self.new.received ≡ self.old.received }
+        ensures heard { self.new.heard ≡ self.old.heard }
     {
         self.is_change |= match notice {
             Notice::Written { .. } => self.saves_values,
@@ -56,7 +71,6 @@ impl Listener for Hearing {
 
     fn hear(&mut self, notice: Notice<'_>) {
         self.received = self.received.with(&notice);
-        self.note(&notice);
-        self.heard.hear(notice);
+        self.add(notice);
     }
 }
