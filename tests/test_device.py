@@ -184,7 +184,7 @@ def test_a_day_by_tshark(folder):
 
 @pytest.mark.long(31)
 def test_a_late_indication(folder):
-    """An indication that is never confirmed is late after 30 seconds."""
+    """An indication that is never confirmed is late after 30 seconds, of which the device was stopped for 8."""
     path = f"{folder}/bell.socket"
     device = Device(*BELL, "--listen", "127.0.0.1:0", "--application", path)
     controller = controller_at(device)
@@ -198,8 +198,11 @@ def test_a_late_indication(folder):
     assert bell.ask("update 3 01") == "ok", "the bell"
     assert controller.hears(64) == "1d030001", "is indicated"
     begun = time.monotonic()
+    device.process.send_signal(signal.SIGSTOP)
+    time.sleep(8)
+    device.process.send_signal(signal.SIGCONT)
     assert bell.line(40) == "+ timed-out 1", "it is late"
-    assert 29 < time.monotonic() - begun, "after 30 seconds"
+    assert 29 < time.monotonic() - begun < 35, "after 30 seconds, whatever the device did in them"
     assert bell.ask("update 3 02") == "ok", "nothing more"
     assert controller.hears(64, 0.5) is None, "is told"
 
