@@ -29,7 +29,7 @@ REFUSED = "crates/refused_memory/out/refused_memory"
 PAGE = "crates/playground/out/page.html"
 AARCH64 = "aarch64-unknown-linux-gnu"
 # The tests wait most of the time.
-TESTS = ["tests/pytest", "-q", "-r", "fEs", "-n", str(3 * (os.cpu_count() or 1))]
+TESTS = ["tests/pytest", "-q", "-r", "fEs", "-n", str(3 * len(os.sched_getaffinity(0)))]
 # The tests of what is made of the library for C, and of what is installed.
 ARCHIVED = [f"test_{it}.py" for it in ("c_*", "install", "packages", "release", "rust*", "uninstall")]
 EMULATED = "test_aarch64.py"
