@@ -1,11 +1,12 @@
 -- The keys of a file, one after the other.
-use Rattle.std.proofs.Common.{◌≡◌, ℕ, ◌+◌, ◌<◌, Bool, false, ◌||◌, List, [], ◌∷◌, drop, length, get_or, arith, ◌∙◌, ap, sym}
-use Rattle.std.specs.Prelude.{slice_get, Option, Some}
+use Rattle.std.proofs.Common.{◌≡◌, ℕ, ◌+◌, ◌<◌, Bool, false, ◌||◌, List, [], ◌∷◌, drop, length, arith, ◌∙◌, ap, sym, refl}
+use Rattle.std.specs.Prelude.{slice_get, Option, None, Some}
 use Rattle.std.specs.List.{list_any}
 use Rattle.std.specs.Option.{option_map, option_map_or}
 use Rattle.std.proofs.lemmas.List.{at_drop_more}
 use Rattle.std.proofs.lemmas.Option.{slice_get-get_or}
 use Rattle.att_policy.specs.declared.standing.KeyFacts.{KeyFacts}
+use Rattle.le_hci.specs.declared.peer.Peer.{Peer}
 use Rattle.le_security.specs.declared.entry.Entry.{Entry}
 use Rattle.le_security.specs.Keys.{facts_at}
 use Rattle.gatt_rights.specs.Columns.{with_column, with_columns}
@@ -28,3 +29,10 @@ next_test test (key ∷ keys) at within =
     at_drop_more (λ (left : List Entry). list_any test left) (key ∷ keys) at key within
     ∙ ap (λ (found : Option Entry). option_map_or test found false || list_any test (drop (at + 1) (key ∷ keys)))
     (sym (slice_get-get_or (key ∷ keys) at key within))
+
+-- what is said of a peer is said of its entry
+pub of_peer : {Y : Type 0} (list_of : Peer → List Y) (found : Option Entry)
+    → option_map_or list_of (option_map (λ (entry : Entry). entry.peer) found) []
+    ≡ option_map_or (λ (entry : Entry). list_of entry.peer) found []
+of_peer list_of None = refl
+of_peer list_of (Some entry) = refl

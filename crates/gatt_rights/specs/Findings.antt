@@ -1,60 +1,81 @@
 -- The findings in a table, for its author (this profile's own).
-use Rattle.std.specs.Prelude.{ℕ, ◌==◌, ◌&&◌, Bool, true, false, not, if◌then◌else◌, nat_lt, is_some, List, [], ◌∷◌, ◌++◌, length, Option, Some, None}
-use Rattle.std.specs.List.{find, flat_map, list_all, list_any}
+use Rattle.std.specs.Prelude.{ℕ, ◌==◌, ◌&&◌, ◌||◌, Bool, true, false, not, if◌then◌else◌, nat_lt, is_none, is_some, List, [], ◌∷◌, ◌++◌, length, slice_index, Option, Some, None}
+use Rattle.std.specs.List.{flat_map, list_all, list_any}
 use Rattle.att_numbers.specs.Types.{Handle}
+use Rattle.att_policy.specs.declared.guard.Need.{Need}
 use Rattle.att_policy.specs.declared.standing.KeyFacts.{KeyFacts}
 use Rattle.att_policy.specs.Need.{needs_authentication_of}
 use Rattle.att_attributes.specs.declared.attr.Attr.{Attr}
 use Rattle.att_attributes.specs.declared.attr.Role.{Role}
 use Rattle.att_attributes.specs.declared.attr.Role.TheVariants.{Declaration, Value, Configuration, Descriptor}
-use Rattle.att_attributes.specs.Attributes.{attribute_at}
+use Rattle.att_attributes.specs.Attributes.{attribute_at, is_value}
 use Rattle.att_attributes.specs.Group.{group_end_at, is_service_type}
+use Rattle.att_table.specs.Changer.{changer_of}
+use Rattle.att_table.specs.Table.{Contents}
+use Rattle.le_hci.specs.declared.peer.Peer.{Peer}
+use Rattle.le_hci.specs.declared.peer.TheConstants.{RANDOM_ADDRESS}
+use Rattle.le_security.specs.declared.entry.Entry.{Entry}
 use Rattle.gatt_rights.specs.declared.finding.Finding.{Finding}
-use Rattle.gatt_rights.specs.declared.finding.Finding.TheVariants.{OpenWrite, ShortKey, EasyWrite, IdleReadRule, IdleWriteRule, ForgedAddress, NoSubscriber, DeafReader, Unused, EmptyService, IdleKey, NoKeyMatters}
-use Rattle.gatt_rights.specs.Held.{adds_nothing, is_deaf_reader, is_short_writer, may_subscribe, may_use, may_write}
-use Rattle.gatt_rights.specs.Needs.{asks_less, has_idle_read_rule, has_idle_write_rule, is_announced, trusts_an_address}
+use Rattle.gatt_rights.specs.declared.finding.Finding.TheVariants.{OpenWrite, ShortKey, EasyWrite, IdleReadRule, IdleWriteRule, ForgedAddress, NoSubscriber, LastingSubscription, EasySubscription, NoProperty, Unused, EmptyService, NoServiceChanged, IdleKey, NoKeyMatters, PrivateAddress}
+use Rattle.gatt_rights.specs.Held.{adds_nothing, least_short_size, may_follow, may_use, may_write}
+use Rattle.gatt_rights.specs.Needs.{asks_less, asks_more, has_idle_read_rule, has_idle_write_rule, has_no_property, is_announced, is_subscription_forgeable, subscription_need, trusts_an_address}
 
 abbrev pub note : Bool → Finding → List Finding
 note true finding = finding ∷ []
 note false finding = []
 
--- A short key, if there is one.
-abbrev pub short_key_note : Handle → Option (Option KeyFacts) → List Finding
-short_key_note handle (Some (Some key)) = ShortKey handle key.size ∷ []
-short_key_note handle _ = []
+-- The shortest key that may write, if a short one may.
+abbrev pub short_key_note : Handle → Option ℕ → List Finding
+short_key_note handle (Some size) = ShortKey handle size ∷ []
+short_key_note handle None = []
 
 abbrev pub short_key_findings : List Attr → List (Option KeyFacts) → Attr → List Finding
 short_key_findings attributes columns attr =
     if needs_authentication_of attr.guard.write
-    then short_key_note attr.handle (find (is_short_writer attributes attr.handle) columns)
+    then short_key_note attr.handle (least_short_size attributes attr.handle columns)
     else []
 
 -- The findings from the rules of an attribute.
-unfoldable pub rule_findings : Attr → List Finding
-rule_findings attr =
+unfoldable pub rule_findings : List Attr → Attr → List Finding
+rule_findings attributes attr =
     note (asks_less attr.guard) (EasyWrite attr.handle)
     ++ note (has_idle_read_rule attr.guard) (IdleReadRule attr.handle)
     ++ note (has_idle_write_rule attr.guard) (IdleWriteRule attr.handle)
-    ++ note (trusts_an_address attr.guard) (ForgedAddress attr.handle)
+    ++ note
+    (trusts_an_address attr.guard || is_subscription_forgeable attributes attr.handle)
+    (ForgedAddress attr.handle)
 
--- A value that is announced to nobody, or not to all who may read it.
-abbrev pub hearing_findings : List Attr → List (Option KeyFacts) → Attr → List Finding
-hearing_findings attributes columns attr =
-    if list_any (may_subscribe attributes attr.handle) columns
-    then note (list_any (is_deaf_reader attributes attr.handle) columns) (DeafReader attr.handle)
-    else NoSubscriber attr.handle ∷ []
+-- A client that has subscribed is sent the value for as long as it meets the needs of reading.
+abbrev pub subscription_findings : Attr → Option Need → List Finding
+subscription_findings attr None = []
+subscription_findings attr (Some need) =
+    note (asks_more need attr.guard.read) (LastingSubscription attr.handle)
+    ++ note (asks_more attr.guard.read need) (EasySubscription attr.handle)
 
-abbrev pub announced_findings : List Attr → List (Option KeyFacts) → Attr → List Finding
+-- There is a key, and neither one nor none passes the test.
+abbrev pub is_for_no_key : (Option KeyFacts → Bool) → List (Option KeyFacts) → Bool
+is_for_no_key test columns = nat_lt 1 (length columns) && not (list_any test columns)
+
+-- A value that is sent to nobody, or to others than may subscribe.
+unfoldable pub announced_findings : List Attr → List (Option KeyFacts) → Attr → List Finding
 announced_findings attributes columns attr =
-    if is_announced attr.guard.properties then hearing_findings attributes columns attr else []
+    if is_announced attr.guard.properties
+    then note (is_for_no_key (may_follow attributes attr.handle) columns) (NoSubscriber attr.handle)
+    ++ subscription_findings attr (subscription_need attributes attr.handle)
+    else []
+
+abbrev pub unused_findings : List Attr → List (Option KeyFacts) → Attr → List Finding
+unused_findings attributes columns attr =
+    if has_no_property attr.guard.properties then NoProperty attr.handle ∷ []
+    else note (is_for_no_key (may_use attributes attr.handle) columns) (Unused attr.handle)
 
 unfoldable pub used_findings : List Attr → List (Option KeyFacts) → Attr → List Finding
 used_findings attributes columns attr =
     note (may_write attributes None false attr.handle) (OpenWrite attr.handle)
     ++ short_key_findings attributes columns attr
-    ++ rule_findings attr
+    ++ rule_findings attributes attr
     ++ announced_findings attributes columns attr
-    ++ note (not (list_any (may_use attributes attr.handle) columns)) (Unused attr.handle)
+    ++ unused_findings attributes columns attr
 
 -- The group of the attribute at a handle has no other attribute.
 abbrev pub ends_at_once : List Attr → Handle → Bool
@@ -86,7 +107,30 @@ key_findings attributes columns =
     then note (nat_lt 1 (length columns)) NoKeyMatters
     else flat_map (idle_key attributes) columns
 
--- In the order of handles, and then those of the keys.
-abbrev pub findings_of : List Attr → List (Option KeyFacts) → List Finding
-findings_of attributes columns =
-    flat_map (attribute_findings attributes columns) attributes ++ key_findings attributes columns
+abbrev pub is_announced_value : Attr → Bool
+is_announced_value attr = is_value attr.role && is_announced attr.guard.properties
+
+-- Clients that subscribe remember handles, and only Service Changed has them forget these (Core
+-- 5.0, Vol 3 Part G, 2.5.2).
+abbrev pub table_findings : Contents → List Finding
+table_findings table =
+    note (is_none (changer_of table) && list_any is_announced_value table.attributes)
+    NoServiceChanged
+
+-- The two most significant bits of a static random address are ones; a private one changes (Core
+-- 5.0, Vol 6 Part B, 1.3.2).
+abbrev pub is_private : Peer → Bool
+is_private peer = (peer.kind == RANDOM_ADDRESS) && nat_lt (slice_index peer.address 5) 192
+
+abbrev pub private_finding : Peer → List Finding
+private_finding peer = note (is_private peer) (PrivateAddress peer)
+
+abbrev pub address_findings : Entry → List Finding
+address_findings entry = private_finding entry.peer
+
+-- In the order of handles, then those of the table and of the keys.
+abbrev pub findings_of : Contents → List Entry → List (Option KeyFacts) → List Finding
+findings_of table keys columns =
+    flat_map (attribute_findings table.attributes columns) table.attributes
+    ++ table_findings table ++ key_findings table.attributes columns
+    ++ flat_map address_findings keys

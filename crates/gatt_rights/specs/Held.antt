@@ -1,5 +1,5 @@
 -- The rights that no key, and each kind of key, gives.
-use Rattle.std.specs.Prelude.{ℕ, ◌||◌, ◌&&◌, Bool, true, false, not, nat_lt, List, Option, Some, None}
+use Rattle.std.specs.Prelude.{ℕ, ◌||◌, ◌&&◌, Bool, true, false, if◌then◌else◌, fold, min, nat_lt, List, Option, Some, None}
 use Rattle.std.specs.Bool.{beq}
 use Rattle.std.specs.List.{list_all}
 use Rattle.att_numbers.specs.Types.{Handle}
@@ -20,25 +20,41 @@ may_write attributes key is_authorized handle =
 
 -- From here on the link is authorized.
 abbrev pub may_subscribe : List Attr → Handle → Option KeyFacts → Bool
-may_subscribe attributes handle key =
+may_subscribe attributes handle key = may_with attributes key true handle Right.Subscribe
+
+abbrev pub may_be_sent : List Attr → Handle → Option KeyFacts → Bool
+may_be_sent attributes handle key =
     may_with attributes key true handle Right.Notify
     || may_with attributes key true handle Right.Indicate
+
+-- It may subscribe, and then be sent the value.
+abbrev pub may_follow : List Attr → Handle → Option KeyFacts → Bool
+may_follow attributes handle key =
+    may_subscribe attributes handle key && may_be_sent attributes handle key
 
 abbrev pub may_use : List Attr → Handle → Option KeyFacts → Bool
 may_use attributes handle key =
     may_with attributes key true handle Right.Read
-    || (may_write attributes key true handle || may_subscribe attributes handle key)
+    || (may_write attributes key true handle
+    || (may_be_sent attributes handle key || may_subscribe attributes handle key))
 
-abbrev pub is_deaf_reader : List Attr → Handle → Option KeyFacts → Bool
-is_deaf_reader attributes handle key =
-    may_with attributes key true handle Right.Read && not (may_subscribe attributes handle key)
+-- The size of a key of less than 16 octets that may write.
+abbrev pub short_size : List Attr → Handle → Option KeyFacts → Option ℕ
+short_size attributes handle None = None
+short_size attributes handle (Some key) =
+    if nat_lt key.size 16 && may_write attributes (Some key) true handle
+    then Some key.size
+    else None
 
-abbrev pub is_short : Option KeyFacts → Bool
-is_short None = false
-is_short (Some key) = nat_lt key.size 16
+abbrev pub lesser : Option ℕ → Option ℕ → Option ℕ
+lesser None other = other
+lesser (Some one) None = Some one
+lesser (Some one) (Some other) = Some (min one other)
 
-abbrev pub is_short_writer : List Attr → Handle → Option KeyFacts → Bool
-is_short_writer attributes handle key = is_short key && may_write attributes key true handle
+-- The least of them.
+abbrev pub least_short_size : List Attr → Handle → List (Option KeyFacts) → Option ℕ
+least_short_size attributes handle columns =
+    fold (λ least key. lesser least (short_size attributes handle key)) None columns
 
 -- The key gives no right that no key does not give.
 abbrev pub is_same_right : List Attr → Option KeyFacts → Bool → Handle → Right → Bool
@@ -52,7 +68,8 @@ has_same_rights attributes key is_authorized handle =
     && (is_same_right attributes key is_authorized handle Right.Write
     && (is_same_right attributes key is_authorized handle Right.Command
     && (is_same_right attributes key is_authorized handle Right.Notify
-    && is_same_right attributes key is_authorized handle Right.Indicate)))
+    && (is_same_right attributes key is_authorized handle Right.Indicate
+    && is_same_right attributes key is_authorized handle Right.Subscribe))))
 
 abbrev pub adds_nothing_at : List Attr → Option KeyFacts → Handle → Bool
 adds_nothing_at attributes key handle =

@@ -1,11 +1,15 @@
 -- The requirements of an attribute, and whether they fit each other (this profile's own).
-use Rattle.std.specs.Prelude.{Bool, ◌||◌, ◌&&◌, not, nat_lt}
+use Rattle.std.specs.Prelude.{◌+◌, Bool, false, ◌||◌, ◌&&◌, if◌then◌else◌, not, nat_lt, List, Option, Some, None}
+use Rattle.std.specs.Option.{option_and_then, option_map_or}
+use Rattle.att_numbers.specs.Types.{Handle}
 use Rattle.att_policy.specs.declared.guard.Guard.{Guard}
 use Rattle.att_policy.specs.declared.guard.Need.{Need}
 use Rattle.att_policy.specs.declared.guard.Properties.{Properties}
 use Rattle.att_policy.specs.declared.guard.TheConstants.Properties.{READ, WRITE_WITHOUT_RESPONSE, WRITE, NOTIFY, INDICATE}
 use Rattle.att_policy.specs.Need.{needs_encryption_of, needs_authentication_of, key_size_of}
 use Rattle.att_policy.specs.Policy.{has_property}
+use Rattle.att_attributes.specs.declared.attr.Attr.{Attr}
+use Rattle.att_attributes.specs.Attributes.{attribute_at, is_configuration}
 
 abbrev pub is_announced : Properties → Bool
 is_announced properties = has_property properties NOTIFY || has_property properties INDICATE
@@ -18,6 +22,9 @@ is_heard properties = has_property properties READ || is_announced properties
 abbrev pub is_written : Properties → Bool
 is_written properties =
     has_property properties WRITE || has_property properties WRITE_WITHOUT_RESPONSE
+
+abbrev pub has_no_property : Properties → Bool
+has_no_property properties = not (is_heard properties || is_written properties)
 
 abbrev pub asks_nothing : Need → Bool
 asks_nothing need = not (needs_encryption_of need) && not need.authorized
@@ -48,3 +55,20 @@ abbrev pub trusts_an_address : Guard → Bool
 trusts_an_address guard =
     (is_heard guard.properties && trusts_address guard.read)
     || (is_written guard.properties && trusts_address guard.write)
+
+-- The need for the write of a configuration.
+abbrev pub configuration_need : List Attr → Handle → Option Need
+configuration_need attributes handle =
+    option_and_then
+    (λ (attr : Attr). if is_configuration attr.role then Some attr.guard.write else None)
+    (attribute_at attributes handle)
+
+-- The need for a subscription to the value at a handle.
+abbrev pub subscription_need : List Attr → Handle → Option Need
+subscription_need attributes handle =
+    option_and_then (λ (attr : Attr). configuration_need attributes (handle + 1))
+    (attribute_at attributes handle)
+
+abbrev pub is_subscription_forgeable : List Attr → Handle → Bool
+is_subscription_forgeable attributes handle =
+    option_map_or trusts_address (subscription_need attributes handle) false

@@ -1,19 +1,23 @@
 //! The findings in a table, for its author.
 
 ghost use Rattle.std.specs.Prelude.{◌≡◌, ◌++◌, ◌∷◌, [], IfOk, OnOk};
-ghost use Rattle.std.specs.List.{flat_map};
-ghost use Rattle.gatt_rights.specs.Findings.{announced_findings, attribute_findings, ends_at_once, findings_of, hearing_findings, idle_key, key_findings, note, rule_findings, service_findings, short_key_findings, short_key_note, used_findings};
+ghost use Rattle.std.specs.List.{flat_map, list_any};
+ghost use Rattle.std.specs.Option.{option_copied, option_map_or};
+ghost use Rattle.gatt_rights.specs.Findings.{address_findings, announced_findings, attribute_findings, ends_at_once, findings_of, idle_key, is_private, key_findings, note, private_finding, rule_findings, service_findings, short_key_findings, subscription_findings, is_announced_value, table_findings, unused_findings, used_findings};
+ghost use Rattle.gatt_rights.specs.Needs.{configuration_need, is_subscription_forgeable, subscription_need};
 
 use crate::held::{
-    adds_nothing, all_add_nothing, anybody_may_subscribe, anybody_may_use, has_deaf_reader,
-    may_write, short_writer,
+    adds_nothing, all_add_nothing, anybody_may_follow, anybody_may_use, least_short_size, may_write,
 };
 use crate::needs::{
-    asks_less, has_idle_read_rule, has_idle_write_rule, is_announced, trusts_an_address,
+    asks_less, asks_more, has_idle_read_rule, has_idle_write_rule, has_no_property, is_announced,
+    trusts_address, trusts_an_address,
 };
 use crate::rights::all_attributes;
-use att_policy::KeyFacts;
+use att_policy::{KeyFacts, Need};
 use att_table::{Attr, Role, Table, is_service};
+use le_hci::{Peer, RANDOM_ADDRESS};
+use le_security::Keys;
 use std::alloc::{AllocError, Global};
 
 /// Something that a table permits, or forbids, perhaps without its author's intent.
@@ -33,35 +37,47 @@ pub enum Finding {
     IdleWriteRule(u16),
     /// An authorization without encryption: an address can be forged.
     ForgedAddress(u16),
-    /// It has the property notify or indicate, but nobody may subscribe.
+    /// It has the property notify or indicate, but no key may both subscribe and be sent it.
     NoSubscriber(u16),
-    /// Some who may read it may not subscribe.
-    DeafReader(u16),
-    /// Nobody may use it.
+    /// To subscribe it asks for something that being sent the value does not need.
+    LastingSubscription(u16),
+    /// To subscribe it asks for less than to be sent the value.
+    EasySubscription(u16),
+    /// No property: nobody may use it.
+    NoProperty(u16),
+    /// No key may use it.
     Unused(u16),
     /// A service without characteristics and includes.
     EmptyService(u16),
+    /// A value that may be subscribed to, but no Service Changed value.
+    NoServiceChanged,
     /// These keys permit no more than no key.
     IdleKey(KeyFacts),
     /// No key permits more than no key.
     NoKeyMatters,
+    /// A key for a private address, which its peer changes.
+    PrivateAddress(Peer),
 }
 
-/// Returns the findings of each attribute in order of handles, and then those of the keys.
+/// Returns the findings of each attribute in order of handles, then those of the table and of the
+/// keys.
 ///
 /// `columns` are those of `columns_of`.
 pub fn findings(
     alloc: Global,
     table: &Table,
+    keys: &Keys,
     columns: &[Option<KeyFacts>],
 ) -> Result<Vec<Finding>, AllocError>
     // Each finding is reported exactly if its definition holds.
     ensures { IfOk result
-        (λ findings. findings.items ≡ findings_of table.now.attributes columns.now) }
+        (λ findings. findings.items ≡ findings_of table.now keys.now columns.now) }
 {
     let mut findings = Vec::new(alloc);
     add_all(&mut findings, table, columns, all_attributes(table))?;
+    add_of_table(&mut findings, table)?;
     add_of_keys(&mut findings, table, columns)?;
+    add_of_addresses(&mut findings, keys)?;
     Ok(findings)
 }
 
@@ -117,9 +133,25 @@ fn add_of_used(
     let is_open = may_write(table, None, false, attr.handle);
     add_if(findings, is_open, Finding::OpenWrite(attr.handle))?;
     add_short_key(findings, table, columns, attr)?;
-    add_of_rules(findings, attr)?;
+    add_of_rules(findings, table, attr)?;
     add_of_announced(findings, table, columns, attr)?;
-    let is_unused = !anybody_may_use(table, columns, attr.handle);
+    add_unused(findings, table, columns, attr)
+}
+
+/// Adds a finding if nobody may use an attribute. Without keys, nobody is known who might.
+fn add_unused(
+    findings: &mut Vec<Finding>,
+    table: &Table,
+    columns: &[Option<KeyFacts>],
+    attr: &Attr,
+) -> Result<(), AllocError>
+    ensures ok { OnOk result (findings.new.items ≡ findings.old.items
+        ++ unused_findings table.now.attributes columns.now attr.now) }
+{
+    if has_no_property(attr.guard.properties) {
+        return add(findings, Finding::NoProperty(attr.handle));
+    }
+    let is_unused = columns.len() > 1 && !anybody_may_use(table, columns, attr.handle);
     add_if(findings, is_unused, Finding::Unused(attr.handle))
 }
 
@@ -135,15 +167,16 @@ fn add_short_key(
     if !attr.guard.write.needs_authentication() {
         return Ok(());
     }
-    match short_writer(table, columns, attr.handle) {
-        Some(Some(key)) => add(findings, Finding::ShortKey(attr.handle, key.size)),
-        _ => Ok(()),
+    match least_short_size(table, columns, attr.handle) {
+        Some(size) => add(findings, Finding::ShortKey(attr.handle, size)),
+        None => Ok(()),
     }
 }
 
 #[tactic(auto, unfolding(crate::specs::Findings::rule_findings))]
-fn add_of_rules(findings: &mut Vec<Finding>, attr: &Attr) -> Result<(), AllocError>
-    ensures ok { OnOk result (findings.new.items ≡ findings.old.items ++ rule_findings attr.now) }
+fn add_of_rules(findings: &mut Vec<Finding>, table: &Table, attr: &Attr) -> Result<(), AllocError>
+    ensures ok { OnOk result (findings.new.items ≡ findings.old.items
+        ++ rule_findings table.now.attributes attr.now) }
 {
     let guard = &attr.guard;
     add_if(findings, asks_less(guard), Finding::EasyWrite(attr.handle))?;
@@ -157,13 +190,41 @@ fn add_of_rules(findings: &mut Vec<Finding>, attr: &Attr) -> Result<(), AllocErr
         has_idle_write_rule(guard),
         Finding::IdleWriteRule(attr.handle),
     )?;
-    add_if(
-        findings,
-        trusts_an_address(guard),
-        Finding::ForgedAddress(attr.handle),
-    )
+    let is_forgeable = trusts_an_address(guard) || is_subscription_forgeable(table, attr.handle);
+    add_if(findings, is_forgeable, Finding::ForgedAddress(attr.handle))
 }
 
+/// Returns true if a subscription needs an authorization without encryption.
+fn is_subscription_forgeable(table: &Table, handle: u16) -> bool
+    ensures { result ≡ is_subscription_forgeable table.now.attributes handle }
+{
+    match subscription_need(table, handle) {
+        Some(need) => trusts_address(&need),
+        None => false,
+    }
+}
+
+/// Returns what a subscription to the value at a handle needs.
+fn subscription_need(table: &Table, handle: u16) -> Option<Need>
+    ensures { result ≡ subscription_need table.now.attributes handle }
+{
+    match table.get(handle) {
+        Some(_) => configuration_need(table, handle + 1),
+        None => None,
+    }
+}
+
+/// Returns what the write of the CCCD at a handle needs.
+fn configuration_need(table: &Table, handle: u16) -> Option<Need>
+    ensures { result ≡ configuration_need table.now.attributes handle }
+{
+    match table.get(handle) {
+        Some(attr) if attr.role == Role::Configuration => Some(attr.guard.write),
+        _ => None,
+    }
+}
+
+#[tactic(auto, unfolding(crate::specs::Findings::announced_findings))]
 fn add_of_announced(
     findings: &mut Vec<Finding>,
     table: &Table,
@@ -176,23 +237,58 @@ fn add_of_announced(
     if !is_announced(attr.guard.properties) {
         return Ok(());
     }
-    add_of_hearing(findings, table, columns, attr)
+    let has_no_subscriber = columns.len() > 1 && !anybody_may_follow(table, columns, attr.handle);
+    add_if(
+        findings,
+        has_no_subscriber,
+        Finding::NoSubscriber(attr.handle),
+    )?;
+    add_of_subscription(findings, table, attr)
 }
 
-fn add_of_hearing(
+/// Adds what differs between the needs of a subscription and those of being sent the value.
+fn add_of_subscription(
     findings: &mut Vec<Finding>,
     table: &Table,
-    columns: &[Option<KeyFacts>],
     attr: &Attr,
 ) -> Result<(), AllocError>
     ensures ok { OnOk result (findings.new.items ≡ findings.old.items
-        ++ hearing_findings table.now.attributes columns.now attr.now) }
+        ++ subscription_findings attr.now
+        (subscription_need table.now.attributes attr.now.handle)) }
 {
-    if !anybody_may_subscribe(table, columns, attr.handle) {
-        return add(findings, Finding::NoSubscriber(attr.handle));
-    }
-    let is_heard_less = has_deaf_reader(table, columns, attr.handle);
-    add_if(findings, is_heard_less, Finding::DeafReader(attr.handle))
+    let Some(need) = subscription_need(table, attr.handle) else {
+        return Ok(());
+    };
+    add_if(
+        findings,
+        asks_more(&need, &attr.guard.read),
+        Finding::LastingSubscription(attr.handle),
+    )?;
+    add_if(
+        findings,
+        asks_more(&attr.guard.read, &need),
+        Finding::EasySubscription(attr.handle),
+    )
+}
+
+fn add_of_table(findings: &mut Vec<Finding>, table: &Table) -> Result<(), AllocError>
+    ensures ok { OnOk result (findings.new.items ≡ findings.old.items ++ table_findings table.now) }
+{
+    let is_unannounced = table.changer().is_none() && has_announced(table);
+    add_if(findings, is_unannounced, Finding::NoServiceChanged)
+}
+
+/// Returns true if a value may be subscribed to.
+fn has_announced(table: &Table) -> bool
+    ensures { result ≡ list_any is_announced_value table.now.attributes }
+{
+    all_attributes(table).iter().any(is_announced_value)
+}
+
+fn is_announced_value(attr: &Attr) -> bool
+    ensures { result ≡ is_announced_value attr.now }
+{
+    attr.role == Role::Value && is_announced(attr.guard.properties)
 }
 
 fn add_of_keys(
@@ -238,6 +334,33 @@ fn add_idle_key(
         }
         None => Ok(()),
     }
+}
+
+fn add_of_addresses(findings: &mut Vec<Finding>, keys: &Keys) -> Result<(), AllocError>
+    ensures ok { OnOk result (findings.new.items
+        ≡ findings.old.items ++ flat_map address_findings keys.now) }
+{
+    for at in 0..keys.count() {
+        add_of_address(findings, keys.peer(at))?;
+    }
+    Ok(())
+}
+
+fn add_of_address(findings: &mut Vec<Finding>, peer: Option<&Peer>) -> Result<(), AllocError>
+    ensures ok { OnOk result (findings.new.items
+        ≡ findings.old.items ++ option_map_or private_finding (option_copied peer.entry) []) }
+{
+    match peer {
+        Some(peer) => add_if(findings, is_private(peer), Finding::PrivateAddress(*peer)),
+        None => Ok(()),
+    }
+}
+
+/// Returns true if an address is random and not static (Core 5.0, Vol 6 Part B, 1.3.2).
+fn is_private(peer: &Peer) -> bool
+    ensures { result ≡ is_private peer.now }
+{
+    peer.kind == RANDOM_ADDRESS && peer.address[5] < 0xC0
 }
 
 fn add_if(findings: &mut Vec<Finding>, holds: bool, finding: Finding) -> Result<(), AllocError>

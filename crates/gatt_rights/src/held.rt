@@ -1,16 +1,17 @@
 //! The rights that no key, and each kind of key, gives.
 
-ghost use Rattle.std.specs.Prelude.{◌≡◌, ◌||◌, ◌&&◌, not};
+ghost use Rattle.std.specs.Prelude.{◌≡◌, ◌||◌, ◌&&◌};
 ghost use Rattle.std.specs.Bool.{beq};
-ghost use Rattle.std.specs.List.{find, list_all, list_any};
-ghost use Rattle.std.specs.Option.{option_copied};
-ghost use Rattle.gatt_rights.specs.Held.{adds_nothing, adds_nothing_at, has_same_rights, is_deaf_reader, is_same_right, is_short, is_short_writer, may_subscribe, may_use, may_with, may_write};
+ghost use Rattle.std.specs.List.{list_all, list_any};
+ghost use Rattle.gatt_rights.specs.Held.{adds_nothing, adds_nothing_at, has_same_rights, is_same_right, least_short_size, lesser, may_be_sent, may_follow, may_subscribe, may_use, may_with, may_write, short_size};
+ghost use Rattle.gatt_rights.specs.Laws.{DependsOnKeyAndTime};
 
 use crate::rights::{Right, all_attributes, may, standing_of};
 use att_policy::KeyFacts;
 use att_table::Table;
 
 /// Returns true if a link with this key or none, authorized or not, has a right.
+#[tactic(auto, using(crate::proofs::Standings::depends_on_key_and_time))]
 pub fn may_with(
     table: &Table,
     key: Option<KeyFacts>,
@@ -18,7 +19,9 @@ pub fn may_with(
     handle: u16,
     right: Right,
 ) -> bool
-    ensures { result ≡ may_with table.now.attributes key is_authorized handle right }
+    ensures exact { result ≡ may_with table.now.attributes key is_authorized handle right }
+    // A key, and whether the application authorizes the connection now, decide all rights.
+    ensures all { DependsOnKeyAndTime }
 {
     may(table, &standing_of(key, is_authorized), handle, right)
 }
@@ -36,28 +39,36 @@ pub(crate) fn may_write(
         || may_with(table, key, is_authorized, handle, Right::Command)
 }
 
-/// Returns true if it may subscribe to notifications or to indications, once authorized.
+/// Returns true if it may subscribe, once authorized.
 pub(crate) fn may_subscribe(table: &Table, key: Option<KeyFacts>, handle: u16) -> bool
     ensures { result ≡ may_subscribe table.now.attributes handle key }
+{
+    may_with(table, key, true, handle, Right::Subscribe)
+}
+
+/// Returns true if it may be sent a value by notifications or by indications, once authorized.
+fn may_be_sent(table: &Table, key: Option<KeyFacts>, handle: u16) -> bool
+    ensures { result ≡ may_be_sent table.now.attributes handle key }
 {
     may_with(table, key, true, handle, Right::Notify)
         || may_with(table, key, true, handle, Right::Indicate)
 }
 
+/// Returns true if it may subscribe to a value and then be sent it, once authorized.
+pub(crate) fn may_follow(table: &Table, key: Option<KeyFacts>, handle: u16) -> bool
+    ensures { result ≡ may_follow table.now.attributes handle key }
+{
+    may_subscribe(table, key, handle) && may_be_sent(table, key, handle)
+}
+
 /// Returns true if it may use an attribute at all, once authorized.
-pub(crate) fn may_use(table: &Table, key: Option<KeyFacts>, handle: u16) -> bool
+pub fn may_use(table: &Table, key: Option<KeyFacts>, handle: u16) -> bool
     ensures { result ≡ may_use table.now.attributes handle key }
 {
     may_with(table, key, true, handle, Right::Read)
         || may_write(table, key, true, handle)
+        || may_be_sent(table, key, handle)
         || may_subscribe(table, key, handle)
-}
-
-/// Returns true if it may read but not subscribe, once authorized.
-pub(crate) fn is_deaf_reader(table: &Table, key: Option<KeyFacts>, handle: u16) -> bool
-    ensures { result ≡ is_deaf_reader table.now.attributes handle key }
-{
-    may_with(table, key, true, handle, Right::Read) && !may_subscribe(table, key, handle)
 }
 
 pub(crate) fn anybody_may_use(table: &Table, columns: &[Option<KeyFacts>], handle: u16) -> bool
@@ -66,51 +77,47 @@ pub(crate) fn anybody_may_use(table: &Table, columns: &[Option<KeyFacts>], handl
     columns.iter().any(|key| may_use(table, *key, handle))
 }
 
-pub(crate) fn anybody_may_subscribe(
+pub(crate) fn anybody_may_follow(table: &Table, columns: &[Option<KeyFacts>], handle: u16) -> bool
+    ensures { result ≡ list_any (may_follow table.now.attributes handle) columns.now }
+{
+    columns.iter().any(|key| may_follow(table, *key, handle))
+}
+
+/// Returns the least size of the keys of less than 16 octets that may write, once authorized.
+pub(crate) fn least_short_size(
     table: &Table,
     columns: &[Option<KeyFacts>],
     handle: u16,
-) -> bool
-    ensures { result ≡ list_any (may_subscribe table.now.attributes handle) columns.now }
+) -> Option<u8>
+    ensures { result ≡ least_short_size table.now.attributes handle columns.now }
 {
-    columns.iter().any(|key| may_subscribe(table, *key, handle))
+    let mut least = None;
+    for key in columns {
+        least = lesser(least, short_size(table, *key, handle));
+    }
+    least
 }
 
-pub(crate) fn has_deaf_reader(table: &Table, columns: &[Option<KeyFacts>], handle: u16) -> bool
-    ensures { result ≡ list_any (is_deaf_reader table.now.attributes handle) columns.now }
+fn lesser(one: Option<u8>, other: Option<u8>) -> Option<u8>
+    ensures { result ≡ lesser one other }
 {
-    columns
-        .iter()
-        .any(|key| is_deaf_reader(table, *key, handle))
-}
-
-fn is_short(key: Option<KeyFacts>) -> bool
-    ensures { result ≡ is_short key }
-{
-    match key {
-        Some(key) => key.size < 16,
-        None => false,
+    match (one, other) {
+        (Some(one), Some(other)) => Some(one.min(other)),
+        (one, None) => one,
+        (None, other) => other,
     }
 }
 
-fn is_short_writer(table: &Table, key: Option<KeyFacts>, handle: u16) -> bool
-    ensures { result ≡ is_short_writer table.now.attributes handle key }
+/// Returns the size of a key of less than 16 octets that may write, once authorized.
+fn short_size(table: &Table, key: Option<KeyFacts>, handle: u16) -> Option<u8>
+    ensures { result ≡ short_size table.now.attributes handle key }
 {
-    is_short(key) && may_write(table, key, true, handle)
-}
-
-/// Returns the first key of less than 16 octets that may write, once authorized.
-pub(crate) fn short_writer<'a>(
-    table: &Table,
-    columns: &'a [Option<KeyFacts>],
-    handle: u16,
-) -> Option<&'a Option<KeyFacts>>
-    ensures { option_copied result
-        ≡ find (is_short_writer table.now.attributes handle) columns.now }
-{
-    columns
-        .iter()
-        .find(|key| is_short_writer(table, **key, handle))
+    let key = key?;
+    if key.size < 16 && may_write(table, Some(key), true, handle) {
+        Some(key.size)
+    } else {
+        None
+    }
 }
 
 fn is_same_right(
@@ -134,6 +141,7 @@ fn has_same_rights(table: &Table, key: Option<KeyFacts>, is_authorized: bool, ha
         && is_same_right(table, key, is_authorized, handle, Right::Command)
         && is_same_right(table, key, is_authorized, handle, Right::Notify)
         && is_same_right(table, key, is_authorized, handle, Right::Indicate)
+        && is_same_right(table, key, is_authorized, handle, Right::Subscribe)
 }
 
 fn adds_nothing_at(table: &Table, key: Option<KeyFacts>, handle: u16) -> bool

@@ -1,7 +1,7 @@
 //! The requirements of an attribute, and whether they fit each other.
 
 ghost use Rattle.std.specs.Prelude.{◌≡◌};
-ghost use Rattle.gatt_rights.specs.Needs.{asks_less, asks_more, asks_nothing, has_idle_read_rule, has_idle_write_rule, is_announced, is_heard, is_written, trusts_an_address, trusts_address};
+ghost use Rattle.gatt_rights.specs.Needs.{asks_less, asks_more, asks_nothing, has_idle_read_rule, has_idle_write_rule, has_no_property, is_announced, is_heard, is_written, trusts_an_address, trusts_address};
 
 use att_policy::{Guard, Need, Properties};
 use bitflags::Flags;
@@ -28,6 +28,13 @@ pub fn is_written(properties: Properties) -> bool
         || properties.contains(Properties::WRITE_WITHOUT_RESPONSE)
 }
 
+/// Returns true if no property permits any use.
+pub(crate) fn has_no_property(properties: Properties) -> bool
+    ensures { result ≡ has_no_property properties }
+{
+    !is_heard(properties) && !is_written(properties)
+}
+
 fn asks_nothing(need: &Need) -> bool
     ensures { result ≡ asks_nothing need.now }
 {
@@ -35,7 +42,7 @@ fn asks_nothing(need: &Need) -> bool
 }
 
 /// Returns true if one need has a part that the other lacks.
-fn asks_more(one: &Need, other: &Need) -> bool
+pub(crate) fn asks_more(one: &Need, other: &Need) -> bool
     ensures { result ≡ asks_more one.now other.now }
 {
     (one.needs_encryption() && !other.needs_encryption())
@@ -45,7 +52,8 @@ fn asks_more(one: &Need, other: &Need) -> bool
         || (one.authorized && !other.authorized)
 }
 
-fn trusts_address(need: &Need) -> bool
+/// Returns true if a need is met by an authorization alone, without encryption.
+pub(crate) fn trusts_address(need: &Need) -> bool
     ensures { result ≡ trusts_address need.now }
 {
     need.authorized && !need.needs_encryption()

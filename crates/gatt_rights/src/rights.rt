@@ -4,12 +4,14 @@ ghost use Rattle.std.specs.Prelude.{◌≡◌, is_none};
 ghost use Rattle.std.specs.Option.{option_copied};
 ghost use Rattle.att_policy.specs.Policy.{first_broken_of};
 ghost use Rattle.att_attributes.specs.Attributes.{guard_at, is_configuration_at};
-ghost use Rattle.gatt_rights.specs.Rights.{accepts_bits, hears_of, is_told, may_of, standing_with_key};
+ghost use Rattle.gatt_rights.specs.Laws.{SendsByRights};
+ghost use Rattle.gatt_rights.specs.Rights.{is_sent, is_sent_of, may_of, standing_with_key, subscribes_at, subscribes_of};
 
+use crate::needs::is_announced;
 use att_policy::{Access, Guard, KeyFacts, Standing, first_broken, may_hear};
 use att_table::{Attr, Role, Table};
 
-/// A use of an attribute by a client, named as the property that permits it.
+/// A use of an attribute by a client.
 #[derive(Clone, Copy, PartialEq, Eq)]
 pub enum Right {
     Read,
@@ -17,10 +19,12 @@ pub enum Right {
     Write,
     /// By Write Commands.
     Command,
-    /// To subscribe to notifications, and to be sent them.
+    /// To be sent notifications of a value, if the client has subscribed, whenever that was.
     Notify,
-    /// To subscribe to indications, and to be sent them.
+    /// To be sent indications of a value, if the client has subscribed, whenever that was.
     Indicate,
+    /// To subscribe to a value: to write its CCCD.
+    Subscribe,
 }
 
 /// The CCCD bit for notifications (Core 5.0, Vol 3 Part G, 3.3.3.3).
@@ -42,19 +46,22 @@ pub fn standing_of(key: Option<KeyFacts>, is_authorized: bool) -> Standing
 }
 
 /// Returns true if a connection may use the attribute at a handle so.
-///
-/// It may be notified only of a value whose CCCD it may write.
+#[tactic(auto, using(crate::proofs::Standings::sends_by_rights))]
 pub fn may(table: &Table, standing: &Standing, handle: u16, right: Right) -> bool
-    // A right is exactly what the server grants: an access that breaks no rule, or a first
-    // subscription that it accepts, after which the connection may be notified of the value.
-    ensures { result ≡ may_of table.now.attributes standing.entry.now handle right }
+    // A right is exactly what the server grants: an access that breaks no rule, a value that it
+    // sends to a client with this bit in its row, or a subscription that it accepts.
+    ensures exact { result ≡ may_of table.now.attributes standing.entry.now handle right }
+    // With any row of bits, the server sends a value exactly if the row asks for notifications or
+    // indications and the connection has the right to be sent these.
+    ensures sent { SendsByRights }
 {
     match right {
         Right::Read => is_permitted(Access::Read, table, standing, handle),
         Right::Write => is_permitted(Access::Write, table, standing, handle),
         Right::Command => is_permitted(Access::Command, table, standing, handle),
-        Right::Notify => hears(table, standing, handle, NOTIFICATION),
-        Right::Indicate => hears(table, standing, handle, INDICATION),
+        Right::Notify => is_sent(table, standing, handle, NOTIFICATION),
+        Right::Indicate => is_sent(table, standing, handle, INDICATION),
+        Right::Subscribe => subscribes(table, standing, handle),
     }
 }
 
@@ -74,26 +81,42 @@ fn guard_of(table: &Table, handle: u16) -> Option<&Guard>
     Some(&table.get(handle)?.guard)
 }
 
-#[tactic(auto, using(crate::proofs::Subscribing::no_attribute))]
-fn hears(table: &Table, standing: &Standing, handle: u16, bits: u8) -> bool
-    ensures { result ≡ hears_of table.now.attributes standing.entry.now handle bits }
+/// Returns true if the host sends the value at a handle to a client that asks for it by this bit.
+#[tactic(auto, using(crate::proofs::Subscribing::sent))]
+fn is_sent(table: &Table, standing: &Standing, handle: u16, bit: u8) -> bool
+    ensures { result ≡ is_sent_of table.now.attributes standing.entry.now handle bit }
 {
     match table.get(handle) {
-        Some(attr) => {
-            accepts(table, standing, &attr.guard, handle + 1, bits) && is_told(attr, standing, bits)
-        }
+        Some(attr) => is_sent_by(attr, standing, bit),
         None => false,
     }
 }
 
-/// Returns true if a connection may write these bits to the CCCD at a handle, behind a value with
-/// this guard.
-fn accepts(table: &Table, standing: &Standing, guard: &Guard, handle: u16, bits: u8) -> bool
-    ensures { result ≡ accepts_bits table.now.attributes standing.entry.now guard.now handle bits }
+fn is_sent_by(attr: &Attr, standing: &Standing, bit: u8) -> bool
+    ensures { result ≡ is_sent attr.now standing.entry.now bit }
+{
+    attr.role == Role::Value && may_hear(&attr.guard, bit, standing)
+}
+
+/// Returns true if the server accepts that a connection subscribes to the value at a handle.
+#[tactic(auto, using(crate::proofs::Subscribing::subscribes))]
+fn subscribes(table: &Table, standing: &Standing, handle: u16) -> bool
+    ensures { result ≡ subscribes_of table.now.attributes standing.entry.now handle }
+{
+    match table.get(handle) {
+        Some(attr) => accepts(table, standing, &attr.guard, handle + 1),
+        None => false,
+    }
+}
+
+/// Returns true if a connection may write all bits of the CCCD at a handle, behind a value with
+/// this guard, and there is one.
+fn accepts(table: &Table, standing: &Standing, guard: &Guard, handle: u16) -> bool
+    ensures { result ≡ subscribes_at table.now.attributes standing.entry.now guard.now handle }
 {
     is_configuration(table, handle)
         && is_permitted(Access::Write, table, standing, handle)
-        && bits & guard.properties.configuration_bits() == bits
+        && is_announced(guard.properties)
 }
 
 fn is_configuration(table: &Table, handle: u16) -> bool
@@ -103,12 +126,6 @@ fn is_configuration(table: &Table, handle: u16) -> bool
         Some(attr) => attr.role == Role::Configuration,
         None => false,
     }
-}
-
-fn is_told(attr: &Attr, standing: &Standing, bits: u8) -> bool
-    ensures { result ≡ is_told attr.now standing.entry.now bits }
-{
-    attr.role == Role::Value && may_hear(&attr.guard, bits, standing)
 }
 
 /// Returns all attributes of a table.
