@@ -8,5 +8,5 @@ mod type_text;
 
 pub use line::{add_length, add_table, told_value};
 pub use names::name_of;
-pub use rights::add_size;
+pub use rights::{add_heard_words, add_need, add_size, add_written_words};
 pub use type_text::add_type;

@@ -72,8 +72,9 @@ fn add_written(text: &mut Vec<u8>, guard: &Guard) -> Result<(), AllocError>
     add_need(text, &guard.write)
 }
 
+/// Adds the properties by which a client receives a value. On `Err` memory was refused.
 #[tactic(auto, unfolding(crate::specs::Rights::heard_words))]
-fn add_heard_words(text: &mut Vec<u8>, properties: Properties) -> Result<(), AllocError>
+pub fn add_heard_words(text: &mut Vec<u8>, properties: Properties) -> Result<(), AllocError>
     ensures ok { OnOk result (text.new.items ≡ text.old.items ++ heard_words properties) }
 {
     add_word(text, properties, Properties::READ, b" read")?;
@@ -81,8 +82,9 @@ fn add_heard_words(text: &mut Vec<u8>, properties: Properties) -> Result<(), All
     add_word(text, properties, Properties::INDICATE, b" indicate")
 }
 
+/// Adds the properties by which a client writes a value. On `Err` memory was refused.
 #[tactic(auto, unfolding(crate::specs::Rights::written_words))]
-fn add_written_words(text: &mut Vec<u8>, properties: Properties) -> Result<(), AllocError>
+pub fn add_written_words(text: &mut Vec<u8>, properties: Properties) -> Result<(), AllocError>
     ensures ok { OnOk result (text.new.items ≡ text.old.items ++ written_words properties) }
 {
     add_word(text, properties, Properties::WRITE, b" write")?;
@@ -118,8 +120,11 @@ fn need_words(alloc: Global, need: &Need) -> Result<Vec<u8>, AllocError>
     Ok(words)
 }
 
+/// Adds what a need asks of a link, after a space; nothing if it asks nothing.
+///
+/// On `Err` memory was refused.
 #[tactic(auto, unfolding(crate::specs::Rights::need_words))]
-fn add_need(text: &mut Vec<u8>, need: &Need) -> Result<(), AllocError>
+pub fn add_need(text: &mut Vec<u8>, need: &Need) -> Result<(), AllocError>
     ensures ok { OnOk result (text.new.items ≡ text.old.items ++ need_words need.now) }
 {
     if need.needs_encryption() {

@@ -20,13 +20,15 @@ rights_where has =
       command = has Right.Command;
       notify = has Right.Notify;
       indicate = has Right.Indicate;
+      subscribe = has Right.Subscribe;
     }
 
--- Read, write, write without response (a command), notified, indicated.
+-- Read, write, write without response (a command), notified, indicated, subscribe.
 unfoldable pub letters_of : Rights → Octets
 letters_of rights =
     letter_if rights.read 114 ++ letter_if rights.write 119 ++ letter_if rights.command 99
     ++ letter_if rights.notify 110 ++ letter_if rights.indicate 105
+    ++ letter_if rights.subscribe 115
 
 -- The rights that need no authorization, and those that do.
 abbrev pub always_of : List Attr → Handle → Option KeyFacts → Rights

@@ -59,7 +59,8 @@ column_text keys columns column =
 
 abbrev pub signs_text : Octets
 signs_text =
-    codes "r read  w write  c write without response  n be notified  i be indicated" ++ 10
+    codes "r read  w write  c write without response  s subscribe" ++ 10
+    ∷ codes "n be notified  i be indicated (if it has subscribed, whenever that was)" ++ 10
     ∷ codes "( ) only while the application authorizes the connection  . nothing" ++ 10 ∷ 10 ∷ []
 
 unfoldable pub legend_text : List Entry → List Column → Octets

@@ -1,5 +1,6 @@
 pub mod Cell
 pub mod Columns
+pub mod Kinds
 pub mod Legend
 pub mod Look
 pub mod Matrix

@@ -6,9 +6,10 @@ use Rattle.octet_io.specs.Number.{Octets}
 use Rattle.att_numbers.specs.Types.{Handle}
 use Rattle.att_policy.specs.declared.standing.KeyFacts.{KeyFacts}
 use Rattle.gatt_rights.specs.declared.finding.Finding.{Finding}
-use Rattle.gatt_rights.specs.declared.finding.Finding.TheVariants.{OpenWrite, ShortKey, EasyWrite, IdleReadRule, IdleWriteRule, ForgedAddress, NoSubscriber, DeafReader, Unused, EmptyService, IdleKey, NoKeyMatters}
+use Rattle.gatt_rights.specs.declared.finding.Finding.TheVariants.{OpenWrite, ShortKey, EasyWrite, IdleReadRule, IdleWriteRule, ForgedAddress, NoSubscriber, LastingSubscription, EasySubscription, NoProperty, Unused, EmptyService, NoServiceChanged, IdleKey, NoKeyMatters, PrivateAddress}
+use Rattle.le_hci.specs.declared.peer.Peer.{Peer}
 use Rattle.text_words.specs.Cells.{right}
-use Rattle.rights_text.specs.Legend.{strength_text}
+use Rattle.rights_text.specs.Legend.{peer_words, strength_text}
 
 abbrev pub at_handle : Handle → Octets → Octets
 at_handle handle words = right 5 (decimal handle) ++ codes "  " ++ words
@@ -23,6 +24,10 @@ short_key_words handle size = at_handle handle (codes "a key of ") ++ size_words
 abbrev pub idle_key_words : KeyFacts → Octets
 idle_key_words key =
     codes "       a " ++ strength_text key ++ codes " permits no more than no key"
+
+abbrev pub private_address_words : Peer → Octets
+private_address_words peer =
+    codes "       " ++ peer_words peer ++ codes " is a private address, which its client changes"
 
 -- Each finding has the key of the file that would change it.
 abbrev pub finding_words : Finding → Octets
@@ -39,14 +44,23 @@ finding_words (ForgedAddress handle) =
     at_handle handle
     (codes "`authorized` without `encrypted`: a stranger can use the address of another")
 finding_words (NoSubscriber handle) =
-    at_handle handle (codes "nobody may subscribe to it: `config` and `read` exclude all")
-finding_words (DeafReader handle) =
-    at_handle handle (codes "some who may read it may not subscribe: compare `config` and `read`")
+    at_handle handle (codes "nobody with a key of the file may subscribe to it and be sent it")
+finding_words (LastingSubscription handle) =
+    at_handle handle
+    (codes "who subscribed once is sent it as long as `read` permits: `config` needs more")
+finding_words (EasySubscription handle) =
+    at_handle handle
+    (codes "to subscribe needs less than to be sent it: compare `config` and `read`")
+finding_words (NoProperty handle) =
+    at_handle handle (codes "nobody may use it: `properties` is empty")
 finding_words (Unused handle) =
-    at_handle handle (codes "nobody may use it: no key of the key file meets its rules")
+    at_handle handle (codes "nobody with a key of the key file may use it")
 finding_words (EmptyService handle) = at_handle handle (codes "a service without characteristics")
+finding_words NoServiceChanged =
+    codes "       no Service Changed (1801, 2a05): after another table clients use old handles"
 finding_words (IdleKey key) = idle_key_words key
 finding_words NoKeyMatters = codes "       no key makes a difference to this table"
+finding_words (PrivateAddress peer) = private_address_words peer
 
 abbrev pub finding_text : Finding → Octets
 finding_text finding = finding_words finding ++ 10 ∷ []

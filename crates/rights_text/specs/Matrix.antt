@@ -1,5 +1,5 @@
 -- The rights of a table as a matrix (this profile's own).
-use Rattle.std.specs.Prelude.{◌≡◌, ℕ, ◌==◌, ◌&&◌, Bool, not, if◌then◌else◌, nat_lt, nat_le, List, [], ◌∷◌, ◌++◌, length, take, codes}
+use Rattle.std.specs.Prelude.{◌≡◌, ℕ, ◌-◌, ◌==◌, ◌&&◌, Bool, not, if◌then◌else◌, nat_lt, nat_le, List, [], ◌∷◌, ◌++◌, drop, length, take, codes}
 use Rattle.std.specs.Fmt.{decimal}
 use Rattle.std.specs.List.{flat_map, list_all}
 use Rattle.hex.specs.Hex.{encode_lower}
@@ -23,8 +23,18 @@ use Rattle.rights_text.specs.Cell.{cell_text}
 abbrev pub cut_text : Octets → Octets
 cut_text name = if nat_lt 28 (length name) then take 26 name ++ codes ".." else name
 
+-- A UUID of 128 bits is cut in its middle.
+abbrev pub middle_cut_text : Octets → Octets
+middle_cut_text name =
+    if nat_lt 28 (length name) then take 13 name ++ codes ".." ++ drop (length name - 13) name
+    else name
+
+abbrev pub short_name : Bool → Octets → Octets
+short_name is_long name = if is_long then middle_cut_text name else cut_text name
+
 abbrev pub name_text : AttributeType → Octets
-name_text kind = cut_text (type_text (type_octets kind))
+name_text kind =
+    short_name (length (type_octets kind) == 16) (type_text (type_octets kind))
 
 -- A letter, a digit or a sign, but no quotation mark and no backslash.
 abbrev pub is_plain : ℕ → Bool

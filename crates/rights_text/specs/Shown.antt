@@ -19,7 +19,7 @@ columns_for keys = named_from 65 (columns_among keys)
 abbrev pub explained : Contents → List Entry → Octets
 explained table keys =
     legend_text keys (columns_for keys)
-    ++ 10 ∷ look_text (findings_of table.attributes (columns_among keys))
+    ++ 10 ∷ look_text (findings_of table keys (columns_among keys))
 
 -- The matrix is followed by its meaning; only the widths are not given.
 pub record ShowsRights (table : Contents) (keys : List Entry) (old new : Octets) : Type 0 where

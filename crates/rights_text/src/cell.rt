@@ -25,6 +25,7 @@ pub struct Rights {
     pub command: bool,
     pub notify: bool,
     pub indicate: bool,
+    pub subscribe: bool,
 }
 
 /// Returns the cell of an attribute and a key.
@@ -59,7 +60,8 @@ fn add_letters(text: &mut Vec<u8>, rights: Rights) -> Result<(), AllocError>
     add_if(text, rights.write, b'w')?;
     add_if(text, rights.command, b'c')?;
     add_if(text, rights.notify, b'n')?;
-    add_if(text, rights.indicate, b'i')
+    add_if(text, rights.indicate, b'i')?;
+    add_if(text, rights.subscribe, b's')
 }
 
 fn always(table: &Table, asked: Asked) -> Rights
@@ -71,6 +73,7 @@ fn always(table: &Table, asked: Asked) -> Rights
         command: is_always(table, asked, Right::Command),
         notify: is_always(table, asked, Right::Notify),
         indicate: is_always(table, asked, Right::Indicate),
+        subscribe: is_always(table, asked, Right::Subscribe),
     }
 }
 
@@ -83,6 +86,7 @@ fn once(table: &Table, asked: Asked) -> Rights
         command: is_once(table, asked, Right::Command),
         notify: is_once(table, asked, Right::Notify),
         indicate: is_once(table, asked, Right::Indicate),
+        subscribe: is_once(table, asked, Right::Subscribe),
     }
 }
 

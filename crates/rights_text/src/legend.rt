@@ -14,7 +14,8 @@ use le_security::Keys;
 use std::alloc::AllocError;
 use text_words::{add_number, add_octets};
 
-const SIGNS: &[u8] = b"r read  w write  c write without response  n be notified  i be indicated
+const SIGNS: &[u8] = b"r read  w write  c write without response  s subscribe
+n be notified  i be indicated (if it has subscribed, whenever that was)
 ( ) only while the application authorizes the connection  . nothing
 
 ";
@@ -81,7 +82,7 @@ pub(crate) fn add_strength(text: &mut Vec<u8>, key: KeyFacts) -> Result<(), Allo
 }
 
 #[tactic(auto, unfolding(crate::specs::Legend::flags_text))]
-fn add_flags(text: &mut Vec<u8>, key: KeyFacts) -> Result<(), AllocError>
+pub(crate) fn add_flags(text: &mut Vec<u8>, key: KeyFacts) -> Result<(), AllocError>
     ensures ok { OnOk result (text.new.items ≡ text.old.items ++ flags_text key) }
 {
     add_if(text, key.authenticated, b", authenticated")?;

@@ -3,6 +3,7 @@
 
 mod cell;
 mod columns;
+mod kinds;
 mod layout;
 mod legend;
 mod look;
@@ -12,6 +13,7 @@ mod value;
 
 pub use cell::{Rights, cell_of};
 pub use columns::{Column, named_columns};
+pub use kinds::add_kinds;
 pub use layout::Layout;
 pub use legend::{add_key, add_legend, add_peer_words};
 pub use show::add_rights;

@@ -2,11 +2,12 @@
 
 ghost use Rattle.std.specs.Prelude.{◌≡◌, ◌++◌, OnOk};
 ghost use Rattle.std.specs.List.{flat_map};
-ghost use Rattle.rights_text.specs.Look.{at_handle, finding_text, finding_words, idle_key_words, look_text, short_key_words, size_words};
+ghost use Rattle.rights_text.specs.Look.{at_handle, finding_text, finding_words, idle_key_words, look_text, private_address_words, short_key_words, size_words};
 
-use crate::legend::add_strength;
+use crate::legend::{add_peer_words, add_strength};
 use att_policy::KeyFacts;
 use gatt_rights::Finding;
+use le_hci::Peer;
 use std::alloc::AllocError;
 use text_words::{add_number, add_octets, add_right_number};
 
@@ -71,25 +72,38 @@ fn add_words(text: &mut Vec<u8>, finding: Finding) -> Result<(), AllocError>
         Finding::NoSubscriber(handle) => add_at(
             text,
             handle,
-            b"nobody may subscribe to it: `config` and `read` exclude all",
+            b"nobody with a key of the file may subscribe to it and be sent it",
         ),
-        Finding::DeafReader(handle) => add_at(
+        Finding::LastingSubscription(handle) => add_at(
             text,
             handle,
-            b"some who may read it may not subscribe: compare `config` and `read`",
+            b"who subscribed once is sent it as long as `read` permits: `config` needs more",
         ),
+        Finding::EasySubscription(handle) => add_at(
+            text,
+            handle,
+            b"to subscribe needs less than to be sent it: compare `config` and `read`",
+        ),
+        Finding::NoProperty(handle) => {
+            add_at(text, handle, b"nobody may use it: `properties` is empty")
+        }
         Finding::Unused(handle) => add_at(
             text,
             handle,
-            b"nobody may use it: no key of the key file meets its rules",
+            b"nobody with a key of the key file may use it",
         ),
         Finding::EmptyService(handle) => {
             add_at(text, handle, b"a service without characteristics")
         }
+        Finding::NoServiceChanged => add_octets(
+            text,
+            b"       no Service Changed (1801, 2a05): after another table clients use old handles",
+        ),
         Finding::IdleKey(key) => add_idle_key(text, key),
         Finding::NoKeyMatters => {
             add_octets(text, b"       no key makes a difference to this table")
         }
+        Finding::PrivateAddress(peer) => add_private_address(text, &peer),
     }
 }
 
@@ -118,6 +132,14 @@ fn add_size(text: &mut Vec<u8>, size: u8) -> Result<(), AllocError>
         text,
         b" may write it: `key_size = 16` in `write` would exclude it",
     )
+}
+
+fn add_private_address(text: &mut Vec<u8>, peer: &Peer) -> Result<(), AllocError>
+    ensures ok { OnOk result (text.new.items ≡ text.old.items ++ private_address_words peer.now) }
+{
+    add_octets(text, b"       ")?;
+    add_peer_words(text, peer)?;
+    add_octets(text, b" is a private address, which its client changes")
 }
 
 fn add_idle_key(text: &mut Vec<u8>, key: KeyFacts) -> Result<(), AllocError>

@@ -60,6 +60,6 @@ fn add_explanation(
 {
     add_legend(text, keys, columns)?;
     add_octets(text, b"\n")?;
-    let found = findings(alloc, table, kinds)?;
+    let found = findings(alloc, table, keys, kinds)?;
     add_look(text, &found)
 }

@@ -2,22 +2,45 @@
 
 ghost use Rattle.std.specs.Prelude.{◌≡◌, ◌++◌, ◌∷◌, [], if◌then◌else◌, IfOk, OnOk};
 ghost use Rattle.std.specs.List.{list_all};
-ghost use Rattle.rights_text.specs.Matrix.{cut_text, hex_text, is_plain, is_text, name_text, quoted_text, value_text};
+ghost use Rattle.rights_text.specs.Matrix.{cut_text, hex_text, is_plain, is_text, middle_cut_text, name_text, quoted_text, short_name, value_text};
 
 use att_table::type_octets;
 use gatt_show::add_type;
 use std::alloc::{AllocError, Global};
 use text_words::{add_hex, add_octets};
 
-/// Returns the text of a type, cut after 28 octets.
+/// Returns the text of a type, cut to 28 octets: a UUID of 128 bits in its middle.
 pub(crate) fn name_of(alloc: Global, kind: u128) -> Result<Vec<u8>, AllocError>
     ensures { IfOk result (λ name. name.items ≡ name_text kind) }
 {
+    let octets = type_octets(kind);
     let mut name = Vec::new(alloc);
-    add_type(&mut name, type_octets(kind).as_slice())?;
+    add_type(&mut name, octets.as_slice())?;
     let mut cut = Vec::new(alloc);
-    add_cut(&mut cut, &name)?;
+    add_name(&mut cut, &name, octets.len() == 16)?;
     Ok(cut)
+}
+
+fn add_name(text: &mut Vec<u8>, name: &[u8], is_long: bool) -> Result<(), AllocError>
+    ensures ok { OnOk result (text.new.items ≡ text.old.items ++ short_name is_long name.now) }
+{
+    if is_long {
+        add_middle_cut(text, name)
+    } else {
+        add_cut(text, name)
+    }
+}
+
+fn add_middle_cut(text: &mut Vec<u8>, name: &[u8]) -> Result<(), AllocError>
+    ensures ok { OnOk result (text.new.items ≡ text.old.items ++ middle_cut_text name.now) }
+{
+    if name.len() > 28 {
+        add_octets(text, name.split_at(13).0)?;
+        add_octets(text, b"..")?;
+        add_octets(text, name.split_at(name.len() - 13).1)
+    } else {
+        add_octets(text, name)
+    }
 }
 
 fn add_cut(text: &mut Vec<u8>, name: &[u8]) -> Result<(), AllocError>
