@@ -10,7 +10,7 @@ use Rattle.le_security.specs.declared.entry.Entry.{Entry}
 use Rattle.gatt_rights.specs.declared.rights.Right.{Right}
 use Rattle.may_command.specs.declared.words.Wrong.{Wrong}
 
--- A right has the word for its property.
+-- A right has the word for its property, or its own.
 abbrev pub right_of : Octets → Option Right
 right_of word =
     if bytes_eq word (codes "read") then Some Right.Read
@@ -18,6 +18,7 @@ right_of word =
     else if bytes_eq word (codes "command") then Some Right.Command
     else if bytes_eq word (codes "notify") then Some Right.Notify
     else if bytes_eq word (codes "indicate") then Some Right.Indicate
+    else if bytes_eq word (codes "subscribe") then Some Right.Subscribe
     else None
 
 -- An address may have its type before it.

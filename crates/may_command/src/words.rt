@@ -24,7 +24,8 @@ impl Wrong {
     /// Returns a sentence about the word.
     pub fn words(self) -> &'static str {
         match self {
-            Wrong::Right => "RIGHT: it is none of read, write, command, notify and indicate",
+            Wrong::Right =>
+                "RIGHT: it is none of read, write, command, notify, indicate and subscribe",
             Wrong::Handle => "HANDLE: it is no number from 0 to 65535",
             Wrong::Peer => "PEER: it is neither `stranger` nor an address as c0:00:00:00:00:01",
             Wrong::NoKey => "PEER: KEYS has no key of this peer; ask for `stranger`",
@@ -35,7 +36,7 @@ impl Wrong {
     }
 }
 
-/// Reads a right by the word for its property in a table file.
+/// Reads a right by its word: that of its property in a table file, or `subscribe`.
 pub(crate) fn read_right(word: &str) -> Option<Right>
     ensures { result ≡ right_of word.now }
 {
@@ -45,6 +46,7 @@ pub(crate) fn read_right(word: &str) -> Option<Right>
         "command" => Some(Right::Command),
         "notify" => Some(Right::Notify),
         "indicate" => Some(Right::Indicate),
+        "subscribe" => Some(Right::Subscribe),
         _ => None,
     }
 }

@@ -25,6 +25,7 @@ property_word Right.Write = codes "write"
 property_word Right.Command = codes "command"
 property_word Right.Notify = codes "notify"
 property_word Right.Indicate = codes "indicate"
+property_word Right.Subscribe = codes "notify` or `indicate"
 
 -- The access that a right is; a subscription is a write of the configuration.
 abbrev pub access_of : Right → Access
@@ -94,7 +95,7 @@ verdict_front Yes = codes "yes"
 verdict_front (Refused rule code) = codes "no: "
 verdict_front NoConfiguration = codes "no: it may not subscribe: "
 verdict_front (NoSubscription configuration rule code) = codes "no: it may not subscribe: "
-verdict_front (Silent rule) = codes "no: it may subscribe, but nothing is sent: "
+verdict_front (Silent rule) = codes "no: nothing is sent: "
 
 -- The rule of an access, of the configuration behind a value, or of reading.
 abbrev pub verdict_rule : List Attr → Handle → Right → Verdict → Octets

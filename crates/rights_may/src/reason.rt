@@ -39,7 +39,7 @@ fn verdict_front(verdict: Verdict) -> &'static str
         Verdict::Yes => "yes",
         Verdict::Refused(..) => "no: ",
         Verdict::NoConfiguration | Verdict::NoSubscription(..) => "no: it may not subscribe: ",
-        Verdict::Silent(_) => "no: it may subscribe, but nothing is sent: ",
+        Verdict::Silent(_) => "no: nothing is sent: ",
     }
 }
 
@@ -134,6 +134,7 @@ fn property_word(right: Right) -> &'static str
         Right::Command => "command",
         Right::Notify => "notify",
         Right::Indicate => "indicate",
+        Right::Subscribe => "notify` or `indicate",
     }
 }
 
@@ -144,7 +145,7 @@ fn access_of(right: Right) -> Access
     match right {
         Right::Read => Access::Read,
         Right::Command => Access::Command,
-        Right::Write | Right::Notify | Right::Indicate => Access::Write,
+        Right::Write | Right::Notify | Right::Indicate | Right::Subscribe => Access::Write,
     }
 }
 

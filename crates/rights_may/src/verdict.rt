@@ -4,13 +4,13 @@ ghost use Rattle.std.specs.Prelude.{◌≡◌};
 ghost use Rattle.att_policy.specs.Policy.{first_broken_of, first_unmet_rule_of};
 ghost use Rattle.att_attributes.specs.Attributes.{guard_at, is_configuration_at};
 ghost use Rattle.gatt_rights.specs.Rights.{may_of};
-ghost use Rattle.rights_may.specs.Verdict.{access_verdict, broken_at, has_bits, hearing_verdict, is_yes, sent_verdict, subscription_verdict, verdict_by_tests, verdict_of};
+ghost use Rattle.rights_may.specs.Verdict.{access_verdict, broken_at, has_bit, is_yes, sending_verdict, sent_verdict, subscription_answer, subscription_verdict, verdict_of, write_verdict};
 ghost use Rattle.std.specs.Option.{option_copied};
 
 use att_numbers::error_code;
 use att_policy::{Access, Guard, INDICATION, Properties, Rule, Standing, first_broken};
 use att_table::{Attr, Role, Table};
-use gatt_rights::Right;
+use gatt_rights::{Right, is_announced};
 
 /// The CCCD bit for notifications (Core 5.0, Vol 3 Part G, 3.3.3.3).
 const NOTIFICATION: u8 = 0x01;
@@ -21,12 +21,12 @@ pub enum Verdict {
     Yes,
     /// The access breaks this rule, and is refused by this error code.
     Refused(Rule, u8),
-    /// The attribute is no value with a CCCD, so nobody may subscribe to it.
+    /// The attribute has no property notify or indicate, so nobody may subscribe to it.
     NoConfiguration,
     /// The write of the CCCD at this handle breaks this rule, and is refused by this error code.
-    /// The rule is `Property` if the value has no property for the subscription.
     NoSubscription(u16, Rule, u8),
-    /// The write of the CCCD is accepted, but nothing is sent by this rule for reading.
+    /// Nothing is sent to a client that has subscribed, by this rule for reading. The rule is
+    /// `Property` if the attribute is no value with the property.
     Silent(Rule),
 }
 
@@ -65,8 +65,9 @@ fn of_use(table: &Table, standing: &Standing, handle: u16, right: Right) -> Verd
         Right::Read => of_access(Access::Read, table, standing, handle),
         Right::Write => of_access(Access::Write, table, standing, handle),
         Right::Command => of_access(Access::Command, table, standing, handle),
-        Right::Notify => of_hearing(table, standing, handle, NOTIFICATION),
-        Right::Indicate => of_hearing(table, standing, handle, INDICATION),
+        Right::Notify => of_sending(table, standing, handle, NOTIFICATION),
+        Right::Indicate => of_sending(table, standing, handle, INDICATION),
+        Right::Subscribe => of_subscription(table, standing, handle),
     }
 }
 
@@ -86,31 +87,34 @@ fn guard_of(table: &Table, handle: u16) -> Option<&Guard>
     Some(&table.get(handle)?.guard)
 }
 
-/// Returns the answer to a subscription by these bits to the value at a handle.
-#[tactic(auto, using(crate::proofs::Subscribing::subscription))]
-fn of_hearing(table: &Table, standing: &Standing, handle: u16, bits: u8) -> Verdict
-    ensures { result
-        ≡ hearing_verdict table.now.attributes standing.entry.now handle bits }
+/// Returns whether the value at a handle is sent to a client that has subscribed by this bit.
+fn of_sending(table: &Table, standing: &Standing, handle: u16, bit: u8) -> Verdict
+    ensures { result ≡ sending_verdict table.now.attributes standing.entry.now handle bit }
 {
     match table.get(handle) {
-        Some(attr) => of_subscription(table, standing, attr, handle + 1, bits),
+        Some(attr) if attr.role == Role::Value && has_bit(attr, bit) => of_reading(attr, standing),
+        Some(_) => Verdict::Silent(Rule::Property),
         None => Verdict::Refused(Rule::HandleExists, error_code::INVALID_HANDLE),
     }
 }
 
-/// Returns the answer to a write of these bits to the handle behind an attribute.
-fn of_subscription(
-    table: &Table,
-    standing: &Standing,
-    attr: &Attr,
-    handle: u16,
-    bits: u8,
-) -> Verdict
-    ensures { result ≡ subscription_verdict table.now.attributes standing.entry.now attr.now
-        handle bits }
+/// Returns the answer to a subscription to the value at a handle.
+#[tactic(auto, using(crate::proofs::Subscribing::subscription))]
+fn of_subscription(table: &Table, standing: &Standing, handle: u16) -> Verdict
+    ensures { result ≡ subscription_verdict table.now.attributes standing.entry.now handle }
 {
-    if attr.role == Role::Value && is_configuration(table, handle) {
-        return of_configuration(table, standing, attr, handle, bits);
+    match table.get(handle) {
+        Some(attr) => of_announced(table, standing, attr, handle + 1),
+        None => Verdict::Refused(Rule::HandleExists, error_code::INVALID_HANDLE),
+    }
+}
+
+/// Returns the answer to a subscription by the CCCD at a handle, after an attribute.
+fn of_announced(table: &Table, standing: &Standing, attr: &Attr, handle: u16) -> Verdict
+    ensures { result ≡ subscription_answer table.now.attributes standing.entry.now attr.now handle }
+{
+    if is_announced(attr.guard.properties) && is_configuration(table, handle) {
+        return of_configuration(table, standing, handle);
     }
     Verdict::NoConfiguration
 }
@@ -124,29 +128,21 @@ pub(crate) fn is_configuration(table: &Table, handle: u16) -> bool
     }
 }
 
-fn of_configuration(
-    table: &Table,
-    standing: &Standing,
-    attr: &Attr,
-    handle: u16,
-    bits: u8,
-) -> Verdict
-    ensures { result ≡ verdict_by_tests handle
-        (broken_at table.now.attributes standing.entry.now handle) (has_bits attr.now bits)
-        (first_unmet_rule_of attr.now.guard.read standing.entry.now) }
+fn of_configuration(table: &Table, standing: &Standing, handle: u16) -> Verdict
+    ensures { result
+        ≡ write_verdict handle (broken_at table.now.attributes standing.entry.now handle) }
 {
     match first_broken(Access::Write, guard_of(table, handle), standing) {
         Some((rule, code)) => Verdict::NoSubscription(handle, rule, code),
-        None if has_bits(attr, bits) => of_reading(attr, standing),
-        None => Verdict::NoSubscription(handle, Rule::Property, error_code::OUT_OF_RANGE),
+        None => Verdict::Yes,
     }
 }
 
-/// Returns true if the properties of a value permit these bits of its CCCD.
-fn has_bits(attr: &Attr, bits: u8) -> bool
-    ensures { result ≡ has_bits attr.now bits }
+/// Returns true if a value has the property that this bit of its CCCD asks for.
+fn has_bit(attr: &Attr, bit: u8) -> bool
+    ensures { result ≡ has_bit attr.now bit }
 {
-    bits & attr.guard.properties.configuration_bits() == bits
+    bit & attr.guard.properties.configuration_bits() != 0
 }
 
 /// Returns the answer by the requirements of reading alone, without the property.
