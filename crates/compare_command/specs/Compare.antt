@@ -1,5 +1,5 @@
 -- The text that `compare` prints.
-use Rattle.std.specs.Prelude.{◌≡◌, Bool, List, Option, Some, None, Ok, IfSome}
+use Rattle.std.specs.Prelude.{◌≡◌, Bool, List, [], Option, Some, None, Ok, IfSome}
 use Rattle.std.specs.Io.KnownBytes.{Appends}
 use Rattle.att_table.specs.Table.{Contents}
 use Rattle.le_security.specs.declared.entry.Entry.{Entry}
@@ -9,6 +9,11 @@ use Rattle.rights_compare.specs.Gains.{opens}
 use Rattle.shell_files.specs.KeyFile.{keys_in}
 use Rattle.shell_files.specs.TableFile.{table_in}
 
+-- The keys are those of the key file, if it is known; without one, of an empty file.
+abbrev pub HasKeys : Option (Option Octets) → List Entry → Type 0
+HasKeys None keys = keys_in [] ≡ Ok keys
+HasKeys (Some key_file) keys = IfSome key_file (λ octets. keys_in octets ≡ Ok keys)
+
 -- The new keys are those of the new key file, if it is known; without one, the keys stay.
 abbrev pub HasNewKeys : Option (Option Octets) → List Entry → List Entry → Type 0
 HasNewKeys None keys new_keys = new_keys ≡ keys
@@ -16,16 +21,16 @@ HasNewKeys (Some key_file) keys new_keys =
     IfSome key_file (λ octets. keys_in octets ≡ Ok new_keys)
 
 -- All files are accepted; what the new ones open and close is printed.
-pub record AreCompared (old_file new_file key_file : Option Octets)
-    (new_key_file : Option (Option Octets)) (held holds : Option Octets) (is_opened : Bool)
+pub record AreCompared (old_file new_file : Option Octets)
+    (key_file new_key_file : Option (Option Octets)) (held holds : Option Octets) (is_opened : Bool)
     : Type 0 where
   pub old : Contents
   pub has_old : IfSome old_file (λ octets. table_in octets ≡ Ok old)
   pub new : Contents
   pub has_new : IfSome new_file (λ octets. table_in octets ≡ Ok new)
   pub keys : List Entry
-  pub has_keys : IfSome key_file (λ octets. keys_in octets ≡ Ok keys)
+  pub has_keys : HasKeys key_file keys
   pub new_keys : List Entry
   pub has_new_keys : HasNewKeys new_key_file keys new_keys
-  pub opened : is_opened ≡ opens new.attributes new_keys old.attributes keys
+  pub opened : is_opened ≡ opens new new_keys old keys
   pub printed : Appends held holds (comparison_text new new_keys old keys)

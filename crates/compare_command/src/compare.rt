@@ -7,14 +7,14 @@ ghost use Rattle.rights_compare.specs.Compared.{comparison_text};
 ghost use Rattle.rights_compare.specs.Gains.{opens};
 ghost use Rattle.shell_files.specs.KeyFile.{keys_in, IsKeyFileFault};
 ghost use Rattle.shell_files.specs.TableFile.{table_in, IsTableFileFault};
-ghost use Rattle.compare_command.specs.Compare.{AreCompared, HasNewKeys};
+ghost use Rattle.compare_command.specs.Compare.{AreCompared, HasKeys, HasNewKeys};
 ghost use Rattle.shell_files.specs.Fault.{IsTableOrKeysFault};
 
 use att_table::Table;
 use le_security::Keys;
 use rights_compare::{add_comparison, opens};
 use shell_files::{
-    KeysPath, LazyFile, ShellFault, TablePath, print, read_key_file_at, read_table_at,
+    KeysPath, LazyFile, ShellFault, TablePath, judged_keys, print, read_key_file_at, read_table_at,
 };
 use std::alloc::Global;
 use std::fs::Files;
@@ -29,24 +29,25 @@ pub struct CompareNames<'a> {
     pub new_keys: &'a str,
 }
 
-/// Checks two table files, a key file and a new one, if there is one, and prints what the new files
-/// open and close.
+/// Checks two table files, and a key file and a new one if there are such, and prints what the new
+/// files open and close.
 ///
-/// Returns true if they open a right. Without a new key file the keys stay. On an error `place` has
-/// the name of the file that was read last, and the place and the fault of a refused one.
+/// Returns true if they open a right. Without a key file there is no key; without a new key file
+/// the keys stay. On an error `place` has the name of the file that was read last, and the place
+/// and the fault of a refused one.
 pub fn compare_files<O: Read, N: Read, K: Read, L: Read, W: Write>(
     alloc: Global,
     names: CompareNames<'_>,
     old: &mut O,
     new: &mut N,
-    keys: &mut K,
+    keys: &mut Option<K>,
     new_keys: &mut Option<L>,
     writer: &mut W,
     place: &mut Vec<u8>,
 ) -> Result<bool, ShellFault>
     // The comparison of these files is printed, and true returned exactly if a right is opened.
     ensures done { IfOk result (AreCompared (O.remaining old.old) (N.remaining new.old)
-        (K.remaining keys.old) (option_map L.remaining new_keys.old)
+        (option_map K.remaining keys.old) (option_map L.remaining new_keys.old)
         (W.contents writer.old) (W.contents writer.new)) }
     ensures place { IsOk result → place.new.items ≡ [] }
     ensures nothing_printed { IfErr result (λ fault. fault ≢ ShellFault.Unwritten
@@ -55,7 +56,7 @@ pub fn compare_files<O: Read, N: Read, K: Read, L: Read, W: Write>(
 {
     let old = named_table(alloc, names.old, old, place)?;
     let new = named_table(alloc, names.new, new, place)?;
-    let keys = named_keys(alloc, names.keys, keys, place)?;
+    let keys = keys_before(alloc, names.keys, keys, place)?;
     match new_keys {
         Some(reader) => {
             let new_keys = named_keys(alloc, names.new_keys, reader, place)?;
@@ -97,6 +98,25 @@ fn named_keys<R: Read>(
     read_key_file_at(alloc, reader, place)
 }
 
+/// Reads the keys of a key file, or those of an empty one.
+fn keys_before<K: Read>(
+    alloc: Global,
+    name: &str,
+    keys: &mut Option<K>,
+    place: &mut Vec<u8>,
+) -> Result<Keys, ShellFault>
+    ensures keys { IfOk result (λ read. HasKeys (option_map K.remaining keys.old) read) }
+    ensures faults { IfErr result IsKeyFileFault }
+{
+    match keys {
+        Some(reader) => named_keys(alloc, name, reader, place),
+        None => {
+            place.clear();
+            judged_keys(alloc, b"")
+        }
+    }
+}
+
 /// Replaces a place by the name of a file.
 fn begin(name: &str, place: &mut Vec<u8>) -> Result<(), ShellFault>
     ensures faults { IfErr result (λ fault. fault ≡ ShellFault.Memory) }
@@ -115,7 +135,7 @@ fn print_comparison<W: Write>(
     writer: &mut W,
 ) -> Result<bool, ShellFault>
     ensures opened { IfOk result (λ is_opened. is_opened
-        ≡ opens table.now.attributes keys.now other.now.attributes other_keys.now) }
+        ≡ opens table.now keys.now other.now other_keys.now) }
     ensures printed { IsOk result → Appends (W.contents writer.old) (W.contents writer.new)
         (comparison_text table.now keys.now other.now other_keys.now) }
     ensures nothing_printed { IfErr result (λ fault. fault ≢ ShellFault.Unwritten
@@ -135,7 +155,7 @@ fn print_comparison<W: Write>(
 pub struct ComparePaths<'a> {
     pub old: TablePath<'a>,
     pub new: TablePath<'a>,
-    pub keys: KeysPath<'a>,
+    pub keys: Option<KeysPath<'a>>,
     pub new_keys: Option<KeysPath<'a>>,
 }
 
@@ -158,7 +178,7 @@ pub fn compare_paths<F: Files, W: Write>(
     let names = names_of(paths);
     let mut old = LazyFile::new(files, paths.old.0);
     let mut new = LazyFile::new(files, paths.new.0);
-    let mut keys = LazyFile::new(files, paths.keys.0);
+    let mut keys = key_file(files, paths.keys);
     let mut new_keys = key_file(files, paths.new_keys);
     compare_files(
         alloc,
@@ -176,11 +196,15 @@ fn names_of<'a>(paths: ComparePaths<'a>) -> CompareNames<'a> {
     CompareNames {
         old: paths.old.0,
         new: paths.new.0,
-        keys: paths.keys.0,
-        new_keys: match paths.new_keys {
-            Some(KeysPath(path)) => path,
-            None => paths.keys.0,
-        },
+        keys: name_of(paths.keys),
+        new_keys: name_of(paths.new_keys),
+    }
+}
+
+fn name_of(path: Option<KeysPath<'_>>) -> &str {
+    match path {
+        Some(KeysPath(path)) => path,
+        None => "",
     }
 }
 

@@ -1,16 +1,20 @@
 //! The rights that a new table and key file open and close, as `compare` prints them.
 
-ghost use Rattle.std.specs.Prelude.{◌≡◌, ◌++◌, IfOk, OnOk};
+ghost use Rattle.std.specs.Prelude.{◌≡◌, ◌++◌, All, false, IfOk, OnOk};
 ghost use Rattle.att_table.specs.Changer.{changer_of};
-ghost use Rattle.rights_text.specs.Legend.{legend_text};
-ghost use Rattle.rights_compare.specs.Compared.{closed_lines, closed_text, columns_for, comparison_text, dropped_section, explained, gains_lines, gone_section, has_changer, moved_section, moves_text, new_section, opened_lines, opened_text, reached_text, section};
+ghost use Rattle.rights_compare.specs.Compared.{changed_section, closed_lines, closed_text, columns_for, comparison_text, dropped_section, explained, gains_lines, gone_section, has_changer, kinds_of_both, lasting_section, legend_of, moved_section, moves_text, new_section, opened_lines, opened_text, places_text, reached_text, section, without_last};
 ghost use Rattle.rights_compare.specs.Gains.{opens};
+ghost use Rattle.rights_compare.specs.Laws.{PermitsNoMore};
+ghost use Rattle.rights_compare.specs.Pairing.{pairs_of};
 
-use crate::gaining::{columns_of_both, gains_keys, gains_rights};
-use crate::lines::{add_gaining_keys, add_gains};
-use crate::moves::{add_alone, add_dropped, add_moved};
+use crate::changed::add_changed;
+use crate::gaining::{gains_keys, gains_rights};
+use crate::lines::{add_gaining_keys, add_pair_lines};
+use crate::moves::{add_alone, add_dropped, add_lasting, add_moved};
+use crate::pairing::{Pair, pairs_of};
+use att_policy::KeyFacts;
 use att_table::Table;
-use gatt_rights::all_attributes;
+use gatt_rights::{add_columns, all_attributes, columns_of, every_kind};
 use le_security::Keys;
 use rights_text::{Column, add_legend, named_columns};
 use std::alloc::{AllocError, Global};
@@ -18,10 +22,10 @@ use text_words::add_octets;
 
 /// Returns true if a table and a key file give a right that the others do not.
 ///
-/// A link gains a right if it has one, with a key of a kind that is in either key file or without
-/// one, and has it not to the attribute of the other table that corresponds. A peer gains rights by
-/// a key of another kind than it has in the other file, if such a key permits more than none. On
-/// `Err` memory was refused.
+/// A table gives a right if a link with some kind of key, or without one, has it to an attribute,
+/// and may have lacked it before. It surely had it if the attribute that corresponds gave it. If
+/// this one is uncertain, all attributes of the type must have given it. A peer gains rights by a
+/// key that permits a use that no link of it was permitted. On `Err` memory was refused.
 pub fn opens(
     alloc: Global,
     table: &Table,
@@ -29,13 +33,35 @@ pub fn opens(
     other: &Table,
     other_keys: &Keys,
 ) -> Result<bool, AllocError>
-    // True exactly if a right is opened: to an attribute, for a link with no key or a kind of key
-    // of the files, authorized or not; or by a new kind of key of a peer.
-    ensures { IfOk result (λ is_open. is_open
-        ≡ opens table.now.attributes keys.now other.now.attributes other_keys.now) }
+    // True exactly if a right is opened: to an attribute, for a link with no key or any kind of
+    // key, authorized or not; or by a key of a peer.
+    ensures exact { IfOk result (λ is_open. is_open
+        ≡ opens table.now keys.now other.now other_keys.now) }
+    // If nothing is opened, each connection that may use a value or a descriptor might use so
+    // before what corresponds to it.
+    ensures no_more { IfOk result (λ is_open. is_open ≡ false
+        → All (PermitsNoMore table.now.attributes other.now.attributes)
+        (pairs_of table.now other.now)) }
 {
-    let columns = columns_of_both(alloc, other_keys, keys)?;
-    Ok(gains_rights(table, other, &columns) || gains_keys(other_keys, table, keys))
+    any_opened(alloc, table, keys, other, other_keys)
+}
+
+fn any_opened(
+    alloc: Global,
+    table: &Table,
+    keys: &Keys,
+    other: &Table,
+    other_keys: &Keys,
+) -> Result<bool, AllocError>
+    ensures { IfOk result (λ is_open. is_open
+        ≡ opens table.now keys.now other.now other_keys.now) }
+{
+    let kinds = every_kind(alloc)?;
+    let pairs = pairs_of(alloc, table, other)?;
+    if gains_rights(alloc, table, other, &kinds, &pairs)? {
+        return Ok(true);
+    }
+    gains_keys(alloc, other_keys, table, keys)
 }
 
 /// Adds what a table and a key file open and close, compared with others.
@@ -51,55 +77,65 @@ pub fn add_comparison(
     other_keys: &Keys,
 ) -> Result<(), AllocError>
     // The rights that the new files open and close, by attribute and kind of key, the attributes
-    // that moved, and the subscriptions that `Host::replace` would drop.
+    // that moved, and the subscriptions that `Host::replace` would drop or keep.
     ensures ok { OnOk result (text.new.items ≡ text.old.items
         ++ comparison_text table.now keys.now other.now other_keys.now) }
 {
-    let columns = named_columns(alloc, &columns_of_both(alloc, other_keys, keys)?)?;
-    let mut opened = gains_lines(alloc, &columns, table, keys, other, other_keys)?;
-    let closed = gains_lines(alloc, &columns, other, other_keys, table, keys)?;
+    let kinds = every_kind(alloc)?;
+    let columns = columns_for(alloc, keys, other_keys)?;
+    let mut opened = gains_lines(alloc, &kinds, &columns, table, keys, other, other_keys)?;
+    let closed = gains_lines(alloc, &kinds, &columns, other, other_keys, table, keys)?;
     add_opened(text, &opened)?;
     add_closed(text, &closed)?;
-    add_moves(alloc, text, table, other)?;
+    add_moves(alloc, text, &kinds, &columns, table, other)?;
     add_octets(text, reached_text(table, other).as_bytes())?;
     add_octets(&mut opened, &closed)?;
-    add_explanation(text, &opened, keys, &columns)
+    add_explanation(alloc, text, &opened, keys, &columns)
 }
 
+/// Returns the columns of the kinds of keys in two key files.
+fn columns_for(alloc: Global, keys: &Keys, other_keys: &Keys) -> Result<Vec<Column>, AllocError>
+    ensures { IfOk result (λ columns. columns.items ≡ columns_for keys.now other_keys.now) }
+{
+    named_columns(alloc, &kinds_of_both(alloc, other_keys, keys)?)
+}
+
+fn kinds_of_both(
+    alloc: Global,
+    keys: &Keys,
+    others: &Keys,
+) -> Result<Vec<Option<KeyFacts>>, AllocError>
+    ensures { IfOk result (λ kinds. kinds.items ≡ kinds_of_both keys.now others.now) }
+{
+    if keys.count() == 0 && others.count() == 0 {
+        return Ok(Vec::new(alloc));
+    }
+    let mut kinds = columns_of(alloc, keys)?;
+    add_columns(&mut kinds, others)?;
+    Ok(kinds)
+}
+
+#[tactic(auto, unfolding(crate::specs::Compared::gains_lines))]
 fn gains_lines(
     alloc: Global,
+    kinds: &[Option<KeyFacts>],
     columns: &[Column],
     table: &Table,
     keys: &Keys,
     other: &Table,
     other_keys: &Keys,
 ) -> Result<Vec<u8>, AllocError>
-    ensures { IfOk result (λ lines. lines.items ≡ gains_lines columns.now
-        table.now.attributes keys.now other.now.attributes other_keys.now) }
+    ensures { IfOk result (λ lines. lines.items ≡ gains_lines kinds.now columns.now
+        table.now keys.now other.now other_keys.now) }
 {
     let mut lines = Vec::new(alloc);
-    add_gains_lines(alloc, &mut lines, columns, table, keys, other, other_keys)?;
+    let pairs = pairs_of(alloc, table, other)?;
+    add_pair_lines(alloc, &mut lines, table, other, kinds, columns, &pairs)?;
+    add_gaining_keys(alloc, &mut lines, other_keys, table, keys)?;
     Ok(lines)
 }
 
-#[tactic(auto, unfolding(crate::specs::Compared::gains_lines))]
-fn add_gains_lines(
-    alloc: Global,
-    lines: &mut Vec<u8>,
-    columns: &[Column],
-    table: &Table,
-    keys: &Keys,
-    other: &Table,
-    other_keys: &Keys,
-) -> Result<(), AllocError>
-    ensures ok { OnOk result (lines.new.items ≡ lines.old.items ++ gains_lines columns.now
-        table.now.attributes keys.now other.now.attributes other_keys.now) }
-{
-    add_gains(alloc, lines, table, other, columns, all_attributes(table))?;
-    add_gaining_keys(lines, other_keys, table, keys)
-}
-
-/// Adds lines behind their heading, or other words in place of a heading without lines.
+/// Adds lines after their heading, or other words in place of a heading without lines.
 fn add_section(
     text: &mut Vec<u8>,
     heading: &[u8],
@@ -122,71 +158,115 @@ fn add_section(
 fn add_opened(text: &mut Vec<u8>, lines: &[u8]) -> Result<(), AllocError>
     ensures ok { OnOk result (text.new.items ≡ text.old.items ++ opened_text lines.now) }
 {
-    add_section(text, b"Opened:\n", b"Nothing is opened.\n", lines)
+    add_section(
+        text,
+        b"Opened:\n",
+        b"Nothing is opened, for clients with every kind of key and without one.\n",
+        lines,
+    )
 }
 
 #[tactic(auto, unfolding(crate::specs::Compared::closed_text))]
 fn add_closed(text: &mut Vec<u8>, lines: &[u8]) -> Result<(), AllocError>
     ensures ok { OnOk result (text.new.items ≡ text.old.items ++ closed_text lines.now) }
 {
-    add_section(text, b"Closed:\n", b"Nothing is closed.\n", lines)
+    add_section(
+        text,
+        b"Closed:\n",
+        b"Nothing is closed, for clients with every kind of key and without one.\n",
+        lines,
+    )
 }
 
 #[tactic(auto, unfolding(crate::specs::Compared::moves_text))]
 fn add_moves(
     alloc: Global,
     text: &mut Vec<u8>,
+    kinds: &[Option<KeyFacts>],
+    columns: &[Column],
     table: &Table,
     other: &Table,
 ) -> Result<(), AllocError>
     ensures ok { OnOk result (text.new.items ≡ text.old.items
-        ++ moves_text table.now.attributes other.now.attributes) }
+        ++ moves_text kinds.now columns.now table.now other.now) }
 {
-    add_moved_section(alloc, text, table, other)?;
-    add_new_section(alloc, text, table, other)?;
-    add_gone_section(alloc, text, table, other)?;
-    add_dropped_section(alloc, text, table, other)
+    let pairs = pairs_of(alloc, table, other)?;
+    let others = pairs_of(alloc, other, table)?;
+    add_changed_section(alloc, text, table, other, &pairs, &others)?;
+    add_places(alloc, text, &pairs, &others)?;
+    add_dropped_section(alloc, text, table, other)?;
+    add_lasting_section(alloc, text, kinds, columns, table, other)
+}
+
+fn add_changed_section(
+    alloc: Global,
+    text: &mut Vec<u8>,
+    table: &Table,
+    other: &Table,
+    pairs: &[Pair],
+    others: &[Pair],
+) -> Result<(), AllocError>
+    ensures ok { OnOk result (text.new.items ≡ text.old.items
+        ++ changed_section table.now other.now pairs.now others.now) }
+{
+    let mut lines = Vec::new(alloc);
+    add_changed(alloc, &mut lines, table, other, pairs, others)?;
+    add_section(text, b"Changed:\n", b"", &lines)
+}
+
+fn add_places(
+    alloc: Global,
+    text: &mut Vec<u8>,
+    pairs: &[Pair],
+    others: &[Pair],
+) -> Result<(), AllocError>
+    ensures ok { OnOk result
+        (text.new.items ≡ text.old.items ++ places_text pairs.now others.now) }
+{
+    add_moved_section(alloc, text, pairs, others)?;
+    add_new_section(alloc, text, pairs, others)?;
+    add_gone_section(alloc, text, pairs, others)
 }
 
 fn add_moved_section(
     alloc: Global,
     text: &mut Vec<u8>,
-    table: &Table,
-    other: &Table,
+    pairs: &[Pair],
+    others: &[Pair],
 ) -> Result<(), AllocError>
-    ensures ok { OnOk result (text.new.items ≡ text.old.items
-        ++ moved_section table.now.attributes other.now.attributes) }
+    ensures ok { OnOk result
+        (text.new.items ≡ text.old.items ++ moved_section pairs.now others.now) }
 {
     let mut lines = Vec::new(alloc);
-    add_moved(&mut lines, table, other, all_attributes(table))?;
+    add_moved(&mut lines, pairs, others)?;
     add_section(text, b"Moved to another handle:\n", b"", &lines)
 }
 
 fn add_new_section(
     alloc: Global,
     text: &mut Vec<u8>,
-    table: &Table,
-    other: &Table,
+    pairs: &[Pair],
+    others: &[Pair],
 ) -> Result<(), AllocError>
-    ensures ok { OnOk result (text.new.items ≡ text.old.items
-        ++ new_section table.now.attributes other.now.attributes) }
+    ensures ok { OnOk result
+        (text.new.items ≡ text.old.items ++ new_section pairs.now others.now) }
 {
     let mut lines = Vec::new(alloc);
-    add_alone(&mut lines, table, other, all_attributes(table))?;
+    add_alone(&mut lines, pairs, others)?;
     add_section(text, b"New:\n", b"", &lines)
 }
 
 fn add_gone_section(
     alloc: Global,
     text: &mut Vec<u8>,
-    table: &Table,
-    other: &Table,
+    pairs: &[Pair],
+    others: &[Pair],
 ) -> Result<(), AllocError>
-    ensures ok { OnOk result (text.new.items ≡ text.old.items
-        ++ gone_section table.now.attributes other.now.attributes) }
+    ensures ok { OnOk result
+        (text.new.items ≡ text.old.items ++ gone_section pairs.now others.now) }
 {
     let mut lines = Vec::new(alloc);
-    add_alone(&mut lines, other, table, all_attributes(other))?;
+    add_alone(&mut lines, others, pairs)?;
     add_section(text, b"Gone:\n", b"", &lines)
 }
 
@@ -196,12 +276,41 @@ fn add_dropped_section(
     table: &Table,
     other: &Table,
 ) -> Result<(), AllocError>
-    ensures ok { OnOk result (text.new.items ≡ text.old.items
-        ++ dropped_section table.now.attributes other.now.attributes) }
+    ensures ok { OnOk result
+        (text.new.items ≡ text.old.items ++ dropped_section table.now other.now) }
 {
     let mut lines = Vec::new(alloc);
     add_dropped(&mut lines, other, table, all_attributes(other))?;
     add_section(text, b"Subscriptions that are dropped:\n", b"", &lines)
+}
+
+fn add_lasting_section(
+    alloc: Global,
+    text: &mut Vec<u8>,
+    kinds: &[Option<KeyFacts>],
+    columns: &[Column],
+    table: &Table,
+    other: &Table,
+) -> Result<(), AllocError>
+    ensures ok { OnOk result (text.new.items ≡ text.old.items
+        ++ lasting_section kinds.now columns.now table.now other.now) }
+{
+    let mut lines = Vec::new(alloc);
+    add_lasting(
+        alloc,
+        &mut lines,
+        other,
+        table,
+        kinds,
+        columns,
+        all_attributes(other),
+    )?;
+    add_section(
+        text,
+        b"Subscriptions that last although they are closed:\n",
+        b"",
+        &lines,
+    )
 }
 
 fn reached_text(table: &Table, other: &Table) -> &'static str
@@ -226,19 +335,44 @@ fn has_changer(one: Option<u16>, other: Option<u16>) -> bool
 
 /// Adds the meaning of letters and columns if there are lines with them.
 fn add_explanation(
+    alloc: Global,
     text: &mut Vec<u8>,
     lines: &[u8],
     keys: &Keys,
     columns: &[Column],
 ) -> Result<(), AllocError>
     ensures ok { OnOk result (text.new.items
-        ≡ text.old.items ++ explained lines.now (legend_text keys.now columns.now)) }
+        ≡ text.old.items ++ explained lines.now (legend_of keys.now columns.now)) }
 {
     match lines {
         [] => Ok(()),
         _ => {
             add_octets(text, b"\n")?;
-            add_legend(text, keys, columns)
+            add_legend_of(alloc, text, keys, columns)
         }
     }
+}
+
+/// Adds the meaning of the letters, and the columns without an empty line if there are none.
+fn add_legend_of(
+    alloc: Global,
+    text: &mut Vec<u8>,
+    keys: &Keys,
+    columns: &[Column],
+) -> Result<(), AllocError>
+    ensures ok { OnOk result
+        (text.new.items ≡ text.old.items ++ legend_of keys.now columns.now) }
+{
+    let mut legend = Vec::new(alloc);
+    add_legend(&mut legend, keys, columns)?;
+    match columns {
+        [] => add_octets(text, without_last(&legend)),
+        _ => add_octets(text, &legend),
+    }
+}
+
+fn without_last(octets: &[u8]) -> &[u8]
+    ensures { result.now ≡ without_last octets.now }
+{
+    &octets[..octets.len().saturating_sub(1)]
 }

@@ -1,17 +1,22 @@
 //! The rights and the keys that are gained, a line each.
 
 ghost use Rattle.std.specs.Prelude.{◌≡◌, ◌++◌, IfOk, OnOk, [], slice_get};
-ghost use Rattle.std.specs.List.{flat_map};
+ghost use Rattle.std.specs.List.{flat_map, list_any};
 ghost use Rattle.std.specs.Option.{option_map_or};
-ghost use Rattle.rights_compare.specs.Lines.{gain_text, gains_line, gains_text, key_line, line_of, name_text};
+ghost use Rattle.gatt_rights.specs.Columns.{same_column};
+ghost use Rattle.rights_compare.specs.Gains.{gains_of};
+ghost use Rattle.rights_compare.specs.Lines.{after_space, gain_line, gain_lines, gain_text, key_line, letter_text, letters_text, name_text, pair_lines, whose_text};
 
-use crate::gaining::{gained_always, gained_once, gains_any, gains_by_key};
-use crate::pairing::{Pair, is_used, paired};
+use crate::before::{Held, renew};
+use crate::gaining::{Gain, gains_by_key, gains_of, has_gain, is_first, kinds_like};
+use crate::pairing::Pair;
+use att_policy::KeyFacts;
 use att_table::{Attr, Table, type_octets};
+use gatt_rights::is_same_column;
 use gatt_show::add_type;
 use le_hci::Peer;
 use le_security::Keys;
-use rights_text::{Column, add_key, add_peer_words, cell_of};
+use rights_text::{Column, add_key, add_kinds, add_peer_words, cell_of};
 use std::alloc::{AllocError, Global};
 use text_words::{add_octets, add_right_number};
 
@@ -25,115 +30,179 @@ pub(crate) fn add_name(text: &mut Vec<u8>, handle: u16, kind: u128) -> Result<()
     add_type(text, type_octets(kind).as_slice())
 }
 
-/// Adds a line for each of these attributes to which a link gains rights.
-pub(crate) fn add_gains(
+/// Adds kinds of keys in words and the names of their columns, and ends the line.
+#[tactic(auto, unfolding(crate::specs::Lines::whose_text))]
+pub(crate) fn add_whose(
     alloc: Global,
     text: &mut Vec<u8>,
-    table: &Table,
-    other: &Table,
     columns: &[Column],
-    attributes: &[Attr],
+    kinds: &[Option<KeyFacts>],
 ) -> Result<(), AllocError>
-    ensures ok { OnOk result (text.new.items ≡ text.old.items
-        ++ flat_map (gains_line table.now.attributes other.now.attributes columns.now)
-        attributes.now) }
+    ensures ok { OnOk result
+        (text.new.items ≡ text.old.items ++ whose_text columns.now kinds.now) }
 {
-    for attr in attributes {
-        add_gains_line(alloc, text, table, other, columns, attr)?;
-    }
-    Ok(())
+    add_octets(text, b"  ")?;
+    add_kinds(text, kinds)?;
+    add_letters(alloc, text, columns, kinds)?;
+    add_octets(text, b"\n")
 }
 
-fn add_gains_line(
+fn add_letters(
     alloc: Global,
     text: &mut Vec<u8>,
-    table: &Table,
-    other: &Table,
     columns: &[Column],
-    attr: &Attr,
+    kinds: &[Option<KeyFacts>],
 ) -> Result<(), AllocError>
-    ensures ok { OnOk result (text.new.items ≡ text.old.items
-        ++ gains_line table.now.attributes other.now.attributes columns.now attr.now) }
+    ensures ok { OnOk result
+        (text.new.items ≡ text.old.items ++ letters_text columns.now kinds.now) }
 {
-    if !is_used(attr.role) {
-        return Ok(());
-    }
-    let gained = gains(alloc, table, other, columns, paired(table, attr, other))?;
-    add_line(text, attr, &gained)
+    let mut letters = Vec::new(alloc);
+    add_each_letter(&mut letters, kinds, columns)?;
+    add_after_space(text, &letters)
 }
 
-#[tactic(auto, unfolding(crate::specs::Lines::line_of))]
-fn add_line(text: &mut Vec<u8>, attr: &Attr, gained: &[u8]) -> Result<(), AllocError>
-    ensures ok { OnOk result (text.new.items ≡ text.old.items ++ line_of attr.now gained.now) }
+fn add_after_space(text: &mut Vec<u8>, octets: &[u8]) -> Result<(), AllocError>
+    ensures ok { OnOk result (text.new.items ≡ text.old.items ++ after_space octets.now) }
 {
-    match gained {
+    match octets {
         [] => Ok(()),
         _ => {
-            add_name(text, attr.handle, attr.kind)?;
-            add_octets(text, gained)?;
-            add_octets(text, b"\n")
+            add_octets(text, b" ")?;
+            add_octets(text, octets)
         }
     }
 }
 
-fn gains(
-    alloc: Global,
-    table: &Table,
-    other: &Table,
+fn add_each_letter(
+    text: &mut Vec<u8>,
+    kinds: &[Option<KeyFacts>],
     columns: &[Column],
-    pair: Pair,
-) -> Result<Vec<u8>, AllocError>
-    ensures { IfOk result (λ gained. gained.items
-        ≡ gains_text table.now.attributes other.now.attributes columns.now pair) }
+) -> Result<(), AllocError>
+    ensures ok { OnOk result (text.new.items
+        ≡ text.old.items ++ flat_map (letter_text kinds.now) columns.now) }
 {
-    let mut gained = Vec::new(alloc);
-    add_gains_of(alloc, &mut gained, table, other, columns, pair)?;
-    Ok(gained)
+    for column in columns {
+        add_letter(text, kinds, column)?;
+    }
+    Ok(())
 }
 
-fn add_gains_of(
+fn add_letter(
+    text: &mut Vec<u8>,
+    kinds: &[Option<KeyFacts>],
+    column: &Column,
+) -> Result<(), AllocError>
+    ensures ok { OnOk result
+        (text.new.items ≡ text.old.items ++ letter_text kinds.now column.now) }
+{
+    if is_among(kinds, column.key) {
+        add_octets(text, &[b' ', column.name])
+    } else {
+        Ok(())
+    }
+}
+
+fn is_among(kinds: &[Option<KeyFacts>], key: Option<KeyFacts>) -> bool
+    ensures { result ≡ list_any (same_column key) kinds.now }
+{
+    kinds.iter().any(|kind| is_same_column(key, *kind))
+}
+
+/// Adds the lines of the rights that links gain to these attributes.
+pub(crate) fn add_pair_lines(
     alloc: Global,
     text: &mut Vec<u8>,
     table: &Table,
-    other: &Table,
+    others: &Table,
+    kinds: &[Option<KeyFacts>],
     columns: &[Column],
-    pair: Pair,
+    pairs: &[Pair],
 ) -> Result<(), AllocError>
-    ensures ok { OnOk result (text.new.items ≡ text.old.items
-        ++ gains_text table.now.attributes other.now.attributes columns.now pair) }
+    ensures ok { OnOk result (text.new.items ≡ text.old.items ++ flat_map (pair_lines
+        table.now.attributes others.now.attributes kinds.now columns.now) pairs.now) }
 {
-    for column in columns {
-        add_gain(alloc, text, table, other, pair, column)?;
+    let mut before = Vec::new(alloc);
+    let mut held_for = None;
+    for pair in pairs {
+        held_for = renew(alloc, &mut before, held_for, others, kinds, pair)?;
+        add_lines_of_pair(alloc, text, table, columns, pair, &before)?;
     }
     Ok(())
+}
+
+fn add_lines_of_pair(
+    alloc: Global,
+    text: &mut Vec<u8>,
+    table: &Table,
+    columns: &[Column],
+    pair: &Pair,
+    before: &[Held],
+) -> Result<(), AllocError>
+    ensures ok { OnOk result (text.new.items ≡ text.old.items ++ gain_lines pair.now.attr
+        columns.now (gains_of table.now.attributes pair.now.attr.handle before.now)) }
+{
+    let gains = gains_of(alloc, table, pair.attr.handle, before)?;
+    add_gain_lines(alloc, text, &pair.attr, columns, &gains)
+}
+
+fn add_gain_lines(
+    alloc: Global,
+    text: &mut Vec<u8>,
+    attr: &Attr,
+    columns: &[Column],
+    gains: &[Gain],
+) -> Result<(), AllocError>
+    ensures ok { OnOk result
+        (text.new.items ≡ text.old.items ++ gain_lines attr.now columns.now gains.now) }
+{
+    for gain in gains {
+        add_gain_line(alloc, text, attr, columns, gains, gain)?;
+    }
+    Ok(())
+}
+
+fn add_gain_line(
+    alloc: Global,
+    text: &mut Vec<u8>,
+    attr: &Attr,
+    columns: &[Column],
+    gains: &[Gain],
+    gain: &Gain,
+) -> Result<(), AllocError>
+    ensures ok { OnOk result
+        (text.new.items ≡ text.old.items ++ gain_line attr.now columns.now gains.now gain.now) }
+{
+    if has_gain(gain) && is_first(gains, gain) {
+        add_gain(alloc, text, attr, columns, gains, gain)
+    } else {
+        Ok(())
+    }
 }
 
 #[tactic(auto, unfolding(crate::specs::Lines::gain_text))]
 fn add_gain(
     alloc: Global,
     text: &mut Vec<u8>,
-    table: &Table,
-    other: &Table,
-    pair: Pair,
-    column: &Column,
+    attr: &Attr,
+    columns: &[Column],
+    gains: &[Gain],
+    gain: &Gain,
 ) -> Result<(), AllocError>
-    ensures ok { OnOk result (text.new.items ≡ text.old.items
-        ++ gain_text table.now.attributes other.now.attributes pair column.now) }
+    ensures ok { OnOk result
+        (text.new.items ≡ text.old.items ++ gain_text attr.now columns.now gains.now gain.now) }
 {
-    if !gains_any(table, other, pair, column.key) {
-        return Ok(());
-    }
-    let always = gained_always(table, other, pair, column.key);
-    let once = gained_once(table, other, pair, column.key);
-    let cell = cell_of(alloc, always, once)?;
+    let kinds = kinds_like(alloc, gain, gains)?;
+    let cell = cell_of(alloc, gain.always, gain.once)?;
+    add_name(text, attr.handle, attr.kind)?;
     add_octets(text, b"  ")?;
-    add_octets(text, &[column.name, b' '])?;
-    add_octets(text, &cell)
+    add_octets(text, &cell)?;
+    add_whose(alloc, text, columns, &kinds)
 }
 
 /// Adds a line for each key by which a peer gains rights that it has not with the keys of the other
 /// file.
 pub(crate) fn add_gaining_keys(
+    alloc: Global,
     text: &mut Vec<u8>,
     others: &Keys,
     table: &Table,
@@ -143,13 +212,14 @@ pub(crate) fn add_gaining_keys(
         ++ flat_map (key_line others.now table.now.attributes) keys.now) }
 {
     for at in 0..keys.count() {
-        add_gaining_key(text, others, table, keys, at)?;
+        add_gaining_key(alloc, text, others, table, keys, at)?;
     }
     Ok(())
 }
 
 #[tactic(auto, unfolding(crate::specs::Lines::key_line))]
 fn add_gaining_key(
+    alloc: Global,
     text: &mut Vec<u8>,
     others: &Keys,
     table: &Table,
@@ -162,7 +232,7 @@ fn add_gaining_key(
     let Some(peer) = keys.peer(at) else {
         return Ok(());
     };
-    if !gains_by_key(others, table, keys, at) {
+    if !gains_by_key(alloc, others, table, keys, at)? {
         return Ok(());
     }
     add_octets(text, b"       ")?;

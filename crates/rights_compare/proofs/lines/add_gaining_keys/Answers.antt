@@ -1,6 +1,6 @@
 use Rattle.std.proofs.Common.{◌<◌, length, arith}
 use Rattle.rights_compare.specs.Lines.{key_line}
-use Rattle.rights_text.proofs.Added.{next_added}
+use Rattle.gatt_rights.proofs.Added.{next_added}
 use Rattle.rights_compare.proofs.lines.add_gaining_keys.Goals as goal
 
 pub loop-at-preserved : goal.loop-at-preserved

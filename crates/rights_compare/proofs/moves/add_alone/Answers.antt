@@ -3,15 +3,15 @@ use Rattle.rights_compare.specs.Lines.{alone_line}
 use Rattle.gatt_rights.proofs.Added.{all_added, one_added}
 use Rattle.rights_compare.proofs.moves.add_alone.Goals as goal
 
-pub loop-attr-preserved : goal.loop-attr-preserved
-loop-attr-preserved c =
-    one_added (alone_line c.args.table.now.attributes c.args.other.now.attributes) c.args.attributes.now c.args.text.now.items
-    c.loop-attr.text.items c.add_alone_line.new.text.items c.loop-attr.attr-index _ _
-    c.loop-attr-test.true refl c.loop-attr.invariant c.in_ok-add_alone_line.ensures.ok
+pub loop-pair-preserved : goal.loop-pair-preserved
+loop-pair-preserved c =
+    one_added (alone_line c.args.pairs.now c.args.others.now) c.args.pairs.now c.args.text.now.items
+    c.loop-pair.text.items c.add_alone_line.new.text.items c.loop-pair.pair-index _ _
+    c.loop-pair-test.true refl c.loop-pair.invariant c.in_ok-add_alone_line.ensures.ok
 
 pub returns : goal.returns
 returns c = record {
   ok =
-      all_added (alone_line c.args.table.now.attributes c.args.other.now.attributes) c.args.attributes.now c.args.text.now.items
-      c.loop-attr.text.items c.loop-attr.attr-index c.loop-attr-test.false c.loop-attr.invariant;
+      all_added (alone_line c.args.pairs.now c.args.others.now) c.args.pairs.now c.args.text.now.items
+      c.loop-pair.text.items c.loop-pair.pair-index c.loop-pair-test.false c.loop-pair.invariant;
 }

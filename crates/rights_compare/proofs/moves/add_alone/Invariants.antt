@@ -3,8 +3,8 @@ use Rattle.std.specs.List.{flat_map}
 use Rattle.rights_compare.specs.Lines.{alone_line}
 use Rattle.rights_compare.proofs.moves.add_alone.Given as goal
 
--- what is there and what is left are all
-abbrev pub invariant-loop-attr : goal.invariant-loop-attr
-invariant-loop-attr l =
-    l.text.items ++ flat_map (alone_line l.fn.table.attributes l.fn.other.attributes) (drop l.attr-index l.attributes)
-    ≡ l.fn.text.items ++ flat_map (alone_line l.fn.table.attributes l.fn.other.attributes) l.attributes
+-- those so far and those that are left are all
+abbrev pub invariant-loop-pair : goal.invariant-loop-pair
+invariant-loop-pair l =
+    l.text.items ++ flat_map (alone_line l.fn.pairs l.fn.others) (drop l.pair-index l.pairs)
+    ≡ l.fn.text.items ++ flat_map (alone_line l.fn.pairs l.fn.others) l.pairs

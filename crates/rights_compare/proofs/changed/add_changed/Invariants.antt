@@ -1,0 +1,10 @@
+use Rattle.std.proofs.Common.{◌≡◌, ◌++◌, drop}
+use Rattle.std.specs.List.{flat_map}
+use Rattle.rights_compare.specs.Changed.{changed_lines}
+use Rattle.rights_compare.proofs.changed.add_changed.Given as goal
+
+-- those so far and those that are left are all
+abbrev pub invariant-loop-pair : goal.invariant-loop-pair
+invariant-loop-pair l =
+    l.text.items ++ flat_map (changed_lines l.fn.table l.fn.other l.fn.pairs l.fn.others) (drop l.pair-index l.pairs)
+    ≡ l.fn.text.items ++ flat_map (changed_lines l.fn.table l.fn.other l.fn.pairs l.fn.others) l.pairs
