@@ -1,13 +1,13 @@
 -- The output of `expect` (this profile's own).
-use Rattle.std.specs.Prelude.{◌≡◌, Bool, true, false, List, [], ◌∷◌, length, Option, Ok, IfSome}
+use Rattle.std.specs.Prelude.{◌≡◌, ◌↔◌, Bool, true, false, List, [], ◌∷◌, length, Option, Some, None, Ok, IfSome}
 use Rattle.std.specs.Io.KnownBytes.{Appends}
 use Rattle.att_table.specs.Table.{Contents}
 use Rattle.expectations.specs.Differences.{differences_of}
 use Rattle.expectations.specs.File.{expectations_in}
+use Rattle.expectations.specs.Holding.{AllHold}
 use Rattle.expectations.specs.Report.{report_text}
 use Rattle.expectations.specs.declared.difference.Difference.{Difference}
 use Rattle.expectations.specs.declared.expectation.Expectation.{Expectation}
-use Rattle.gatt_rights.specs.Columns.{columns_among}
 use Rattle.le_security.specs.declared.entry.Entry.{Entry}
 use Rattle.octet_io.specs.Number.{Octets}
 use Rattle.shell_files.specs.KeyFile.{keys_in}
@@ -17,18 +17,26 @@ abbrev pub is_none_of : List Difference → Bool
 is_none_of [] = true
 is_none_of (difference ∷ differences) = false
 
--- The files, if they are known, are accepted. The differences of the table and the keys from the
--- expectations are printed, and the result is true if there are none.
-pub record IsCompared (holds : Bool) (table_file key_file expectations_file : Option Octets)
+-- The keys are those of the key file, if it is known; without one, of an empty file.
+abbrev pub HasKeys : Option (Option Octets) → List Entry → Type 0
+HasKeys None keys = keys_in [] ≡ Ok keys
+HasKeys (Some key_file) keys = IfSome key_file (λ octets. keys_in octets ≡ Ok keys)
+
+-- The files, if they are known, are accepted. The differences of the table from the expectations
+-- are printed, and the result is true if there are none. It does not depend on the keys, which only
+-- the lines name.
+pub record IsCompared (holds : Bool) (table_file : Option Octets)
+    (key_file : Option (Option Octets)) (expectations_file : Option Octets)
     (held now : Option Octets) : Type 0 where
   pub table : Contents
   pub has_table : IfSome table_file (λ octets. table_in octets ≡ Ok table)
   pub keys : List Entry
-  pub has_keys : IfSome key_file (λ octets. keys_in octets ≡ Ok keys)
+  pub has_keys : HasKeys key_file keys
   pub expectations : List Expectation
   pub has_expectations : IfSome expectations_file
       (λ octets. expectations_in octets ≡ Ok expectations)
-  pub is_same : holds ≡ is_none_of (differences_of table (columns_among keys) expectations)
+  pub is_same : holds ≡ is_none_of (differences_of table expectations)
+  pub all_hold : (holds ≡ true) ↔ AllHold table expectations
   pub printed : Appends held now
-      (report_text (length expectations)
-      (differences_of table (columns_among keys) expectations))
+      (report_text table.attributes keys (length expectations)
+      (differences_of table expectations))

@@ -1,21 +1,22 @@
 //! The files of `expect`, checked one after the other, and the text printed for them.
 
-ghost use Rattle.std.specs.Prelude.{◌≡◌, ◌≢◌, ◌++◌, length, IfErr, IfOk, IfSome, IsOk};
+ghost use Rattle.std.specs.Prelude.{◌≡◌, ◌≢◌, ◌↔◌, ◌++◌, true, length, IfErr, IfOk, IfSome, IsOk, is_some};
 ghost use Rattle.std.specs.Io.KnownBytes.{Keeps};
-ghost use Rattle.gatt_rights.specs.Columns.{columns_among};
+ghost use Rattle.std.specs.Option.{option_map};
 ghost use Rattle.expectations.specs.Differences.{differences_of};
 ghost use Rattle.expectations.specs.File.{expectations_in};
+ghost use Rattle.expectations.specs.Holding.{AllHold};
 ghost use Rattle.expectations.specs.Report.{report_text};
 ghost use Rattle.shell_files.specs.declared.fault.ShellFault.TheVariants.{Memory};
-ghost use Rattle.expect_command.specs.Expect.{IsCompared, is_none_of};
+ghost use Rattle.expect_command.specs.Expect.{HasKeys, IsCompared, is_none_of};
 ghost use Rattle.expect_command.specs.declared.expect.ExpectFault.TheVariants.{Shell};
 
 use att_table::Table;
 use expectations::{Difference, Expectation, Refusal, add_report, differences, read_expectations};
 use le_security::Keys;
 use shell_files::{
-    KeysPath, LazyFile, ShellFault, TOML_OCTETS, TablePath, print, read_all, read_key_file_at,
-    read_table_at,
+    KeysPath, LazyFile, ShellFault, TOML_OCTETS, TablePath, judged_keys, print, read_all,
+    read_key_file_at, read_table_at,
 };
 use std::alloc::{AllocError, Global};
 use std::fs::Files;
@@ -49,34 +50,50 @@ impl From<AllocError> for ExpectFault {
     }
 }
 
-/// Compares a table file and a key file with an expectations file, and prints the differences.
+/// Compares a table file with an expectations file for all clients, and prints the differences.
 ///
-/// Returns true if there are none. Reads each file only if those before it are accepted. Adds the
-/// place and the fault of a refused file to `place`, which is empty if memory is refused for them.
+/// Returns true if there are none. The lines name the keys of the key file, if there is one. Reads
+/// each file only if those before it are accepted. Adds the place and the fault of a refused file
+/// to `place`, which is empty if memory is refused for them.
 pub fn expect_files<T: Read, K: Read, E: Read, W: Write>(
     alloc: Global,
     table: &mut T,
-    keys: &mut K,
+    keys: &mut Option<K>,
     expectations: &mut E,
     writer: &mut W,
     place: &mut Vec<u8>,
 ) -> Result<bool, ExpectFault>
     // The report of these files is printed, and true returned exactly if all expectations hold.
     ensures compared { IfOk result (λ holds. IsCompared holds (T.remaining table.old)
-        (K.remaining keys.old) (E.remaining expectations.old) (W.contents writer.old)
-        (W.contents writer.new)) }
+        (option_map K.remaining keys.old) (E.remaining expectations.old)
+        (W.contents writer.old) (W.contents writer.new)) }
     ensures place { IsOk result → place.new ≡ place.old }
     ensures nothing_printed { IfErr result
         (λ fault. fault ≢ ExpectFault.Shell ShellFault.Unwritten
         → Keeps (W.contents writer.old) (W.contents writer.new)) }
 {
     let table = read_table_at(alloc, table, place)?;
-    let keys = read_key_file_at(alloc, keys, place)?;
+    let keys = read_keys_at(alloc, keys, place)?;
     let expectations = read_expectations_at(alloc, expectations, place)?;
     let mut text = Vec::new(alloc);
     let holds = add_comparison(alloc, &mut text, &table, &keys, &expectations)?;
     print(text.as_slice(), writer)?;
     Ok(holds)
+}
+
+/// Reads the keys of a key file, or those of an empty one.
+fn read_keys_at<K: Read>(
+    alloc: Global,
+    keys: &mut Option<K>,
+    place: &mut Vec<u8>,
+) -> Result<Keys, ShellFault>
+    ensures keys { IfOk result (λ read. HasKeys (option_map K.remaining keys.old) read) }
+    ensures place { IsOk result → place.new ≡ place.old }
+{
+    match keys {
+        Some(reader) => read_key_file_at(alloc, reader, place),
+        None => judged_keys(alloc, b""),
+    }
 }
 
 /// Adds the differences. Returns true if there are none.
@@ -87,14 +104,16 @@ fn add_comparison(
     keys: &Keys,
     expectations: &[Expectation],
 ) -> Result<bool, AllocError>
-    ensures holds { IfOk result (λ holds. holds ≡ is_none_of
-        (differences_of table.now (columns_among keys.now) expectations.now)) }
+    ensures holds { IfOk result (λ holds. holds
+        ≡ is_none_of (differences_of table.now expectations.now)) }
+    ensures all_hold { IfOk result
+        (λ holds. (holds ≡ true) ↔ AllHold table.now expectations.now) }
     ensures text { IfOk result (λ _. text.new.items ≡ text.old.items
-        ++ report_text (length expectations.now)
-        (differences_of table.now (columns_among keys.now) expectations.now)) }
+        ++ report_text table.now.attributes keys.now (length expectations.now)
+        (differences_of table.now expectations.now)) }
 {
-    let found = differences(alloc, table, keys, expectations)?;
-    add_report(alloc, text, expectations.len(), &found)?;
+    let found = differences(alloc, table, expectations)?;
+    add_report(alloc, text, table, keys, expectations.len(), &found)?;
     Ok(is_none_of(&found))
 }
 
@@ -140,7 +159,7 @@ pub struct ExpectationsPath<'a>(pub &'a str);
 #[derive(Clone, Copy)]
 pub struct ExpectPaths<'a> {
     pub table: TablePath<'a>,
-    pub keys: KeysPath<'a>,
+    pub keys: Option<KeysPath<'a>>,
     pub expectations: ExpectationsPath<'a>,
 }
 
@@ -158,7 +177,7 @@ pub fn expect_paths<F: Files, W: Write>(
         → Keeps (W.contents writer.old) (W.contents writer.new)) }
 {
     let mut table = LazyFile::new(files, paths.table.0);
-    let mut keys = LazyFile::new(files, paths.keys.0);
+    let mut keys = key_file(files, paths.keys);
     let mut expectations = LazyFile::new(files, paths.expectations.0);
     expect_files(
         alloc,
@@ -168,4 +187,10 @@ pub fn expect_paths<F: Files, W: Write>(
         writer,
         place,
     )
+}
+
+fn key_file<'a, F: Files>(files: &'a F, path: Option<KeysPath<'a>>) -> Option<LazyFile<'a, F>>
+    ensures { is_some result ≡ is_some path.entry }
+{
+    Some(LazyFile::new(files, path?.0))
 }

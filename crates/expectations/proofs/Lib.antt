@@ -1,0 +1,3 @@
+pub mod Filtered
+pub mod Holding
+pub mod RightNeeds

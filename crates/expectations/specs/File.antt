@@ -1,7 +1,7 @@
 -- The expectations of a TOML document (this profile's own).
 use Rattle.std.specs.Prelude.{ℕ, ◌+◌, ℤ, pos, negsuc, Bool, true, ◌&&◌, nat_le, nat_lt, if◌then◌else◌, List, [], ◌∷◌, ◌++◌, length, codes, Option, Some, None, Result, Ok}
 use Rattle.std.specs.List.{find, list_any}
-use Rattle.std.specs.Option.{option_and_then, option_map}
+use Rattle.std.specs.Option.{option_and_then, option_map, option_or}
 use Rattle.std.specs.Result.{result_ok}
 use Rattle.std.specs.Str.{bytes_eq}
 use Rattle.toml.specs.Data.{Data, Items, no_items, Members, no_members, member, as_array, as_integer, as_str, as_table, get_member}
@@ -19,7 +19,7 @@ use Rattle.expectations.specs.declared.document.Uses.{Uses}
 use Rattle.expectations.specs.declared.expectation.Expectation.{Expectation}
 use Rattle.expectations.specs.declared.fault.Stop.{Stop}
 use Rattle.expectations.specs.declared.file.Refusal.{Refusal}
-use Rattle.expectations.specs.declared.file.Refusal.TheVariants.{File, Memory}
+use Rattle.expectations.specs.declared.file.Refusal.TheVariants.{File}
 
 -- The words for a need: each key of a need alone, and everybody or nobody.
 abbrev pub need_words : List (Octets × Option Need)
@@ -49,6 +49,11 @@ need_written (Some value) = need_among (as_str value) (as_table value)
 abbrev pub need_at : Octets → Members → Option (Option Need)
 need_at key members = need_written (get_member key members)
 
+-- Without a key of its own, a subscription is for those who are meant to be sent the value.
+abbrev pub subscribe_written : Option Need → Option Data → Option (Option Need)
+subscribe_written sent None = Some sent
+subscribe_written sent (Some value) = need_written (Some value)
+
 -- A type, by the texts of a table file.
 abbrev pub type_written : Option Data → Option (Option AttributeType)
 type_written None = Some None
@@ -76,7 +81,8 @@ is_file_key key = bytes_eq key (codes "expect")
 abbrev pub expectation_keys : List Octets
 expectation_keys =
     codes "characteristic" ∷ codes "service" ∷ codes "number" ∷ codes "descriptor" ∷ codes "read"
-    ∷ codes "write" ∷ codes "command" ∷ codes "notify" ∷ codes "indicate" ∷ []
+    ∷ codes "write" ∷ codes "command" ∷ codes "notify" ∷ codes "indicate"
+    ∷ codes "subscribe" ∷ []
 
 abbrev pub is_expectation_key : Octets → Bool
 is_expectation_key key = list_any (λ known. bytes_eq key known) expectation_keys
@@ -111,12 +117,16 @@ uses_in members = do
   command ← require (need_at (codes "command") members) File
   notify ← require (need_at (codes "notify") members) File
   indicate ← require (need_at (codes "indicate") members) File
+  subscribe ← require
+      (subscribe_written (option_or notify indicate) (get_member (codes "subscribe") members))
+      File
   Ok (record {
     read = read;
     write = write;
     command = command;
     notify = notify;
     indicate = indicate;
+    subscribe = subscribe;
   })
 
 -- An expectation at a place of the file.
@@ -133,6 +143,7 @@ expectation_with place named uses =
       command = uses.command;
       notify = uses.notify;
       indicate = uses.indicate;
+      subscribe = uses.subscribe;
     }
 
 abbrev pub expectation_of : ℕ → Members → Result Expectation Refusal

@@ -1,5 +1,9 @@
 pub mod Differences
 pub mod File
+pub mod Holding
+pub mod Lines
 pub mod Meant
 pub mod Named
+pub mod Needed
 pub mod Report
+pub mod Words

@@ -13,6 +13,7 @@ meant_for expected Right.Write = expected.write
 meant_for expected Right.Command = expected.command
 meant_for expected Right.Notify = expected.notify
 meant_for expected Right.Indicate = expected.indicate
+meant_for expected Right.Subscribe = expected.subscribe
 
 -- A connection is meant to have a right exactly if it meets each rule of the need.
 abbrev pub is_meant : Option Need → Standing → Bool

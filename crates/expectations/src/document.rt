@@ -5,11 +5,11 @@ ghost use Rattle.std.specs.Option.{option_and_then};
 ghost use Rattle.std.specs.Result.{result_ok};
 ghost use Rattle.toml.specs.Data.{get_member};
 ghost use Rattle.toml.specs.View.{items_view, table_view, view};
-ghost use Rattle.expectations.specs.File.{IsFault, are_known, expectation_in, expectation_of, expectation_with, expectations_of, is_expectation_key, is_file_key, is_known, items_written, named_in, number_among, number_written, type_at, type_written, uses_in};
+ghost use Rattle.expectations.specs.File.{IsFault, are_known, expectation_in, expectation_of, expectation_with, expectations_of, is_expectation_key, is_file_key, is_known, items_written, named_in, number_among, number_written, subscribe_written, type_at, type_written, uses_in};
 
 use crate::expectation::Expectation;
 use crate::fault::{Fault, Stop, Wrong};
-use crate::need::{need_at, value_at};
+use crate::need::{need_at, read_need, value_at};
 use att_policy::Need;
 use att_table::read_type;
 use std::alloc::Global;
@@ -42,6 +42,7 @@ struct Uses {
     command: Option<Need>,
     notify: Option<Need>,
     indicate: Option<Need>,
+    subscribe: Option<Need>,
 }
 
 /// Returns the expectations of a document, or its first fault.
@@ -129,7 +130,7 @@ fn is_expectation_key(key: &str) -> bool
 {
     match key {
         "characteristic" | "service" | "number" | "descriptor" => true,
-        "read" | "write" | "command" | "notify" | "indicate" => true,
+        "read" | "write" | "command" | "notify" | "indicate" | "subscribe" => true,
         _ => false,
     }
 }
@@ -181,6 +182,7 @@ fn expectation_with(place: u16, named: Named, uses: Uses) -> Expectation
         command: uses.command,
         notify: uses.notify,
         indicate: uses.indicate,
+        subscribe: uses.subscribe,
     }
 }
 
@@ -200,13 +202,31 @@ fn read_named(place: u16, table: &Table) -> Result<Named, Fault<'_>>
 fn read_uses(place: u16, table: &Table) -> Result<Uses, Fault<'_>>
     ensures { result_ok result ≡ result_ok (uses_in (table_view table.now)) }
 {
+    let read = need_at(place, table, "read")?;
+    let write = need_at(place, table, "write")?;
+    let command = need_at(place, table, "command")?;
+    let notify = need_at(place, table, "notify")?;
+    let indicate = need_at(place, table, "indicate")?;
+    let subscribe = subscribe_at(place, table, notify.or(indicate))?;
     Ok(Uses {
-        read: need_at(place, table, "read")?,
-        write: need_at(place, table, "write")?,
-        command: need_at(place, table, "command")?,
-        notify: need_at(place, table, "notify")?,
-        indicate: need_at(place, table, "indicate")?,
+        read,
+        write,
+        command,
+        notify,
+        indicate,
+        subscribe,
     })
+}
+
+/// Returns the need of a subscription; without its key that of being sent the value.
+fn subscribe_at(place: u16, table: &Table, sent: Option<Need>) -> Result<Option<Need>, Fault<'_>>
+    ensures { result_ok result ≡ subscribe_written sent
+        (get_member (codes "subscribe") (table_view table.now)) }
+{
+    match value_at(table, "subscribe") {
+        Some(value) => read_need(place, "subscribe", value),
+        None => Ok(sent),
+    }
 }
 
 fn characteristic_of(place: u16, table: &Table) -> Result<u128, Fault<'_>>

@@ -25,8 +25,12 @@ pub struct Expectation {
     pub read: Option<Need>,
     pub write: Option<Need>,
     pub command: Option<Need>,
+    /// To be sent notifications by the host.
     pub notify: Option<Need>,
+    /// To be sent indications by the host.
     pub indicate: Option<Need>,
+    /// To write the client configuration.
+    pub subscribe: Option<Need>,
 }
 
 /// Returns what a use requires, or `None` if it is for nobody.
@@ -39,6 +43,7 @@ pub(crate) fn meant_for(expected: &Expectation, right: Right) -> Option<Need>
         Right::Command => expected.command,
         Right::Notify => expected.notify,
         Right::Indicate => expected.indicate,
+        Right::Subscribe => expected.subscribe,
     }
 }
 

@@ -36,7 +36,8 @@ pub(crate) fn value_at<'a>(table: &'a Table, key: &str) -> Option<&'a Value>
     table.get(key)
 }
 
-fn read_need<'a>(
+/// Returns the need that a value states.
+pub(crate) fn read_need<'a>(
     place: u16,
     right: &'static str,
     value: &'a Value,

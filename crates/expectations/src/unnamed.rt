@@ -3,7 +3,7 @@
 ghost use Rattle.std.specs.Prelude.{◌≡◌, ◌++◌, OnOk};
 ghost use Rattle.std.specs.List.{flat_map, list_any};
 ghost use Rattle.gatt_rights.specs.Held.{may_use};
-ghost use Rattle.expectations.specs.Differences.{all_named, is_among, is_used, unnamed_differences};
+ghost use Rattle.expectations.specs.Differences.{all_named, is_among, is_unnamed, is_used, unnamed_differences};
 ghost use Rattle.expectations.specs.Named.{named_by};
 
 use crate::difference::{Difference, add};
@@ -11,7 +11,7 @@ use crate::expectation::Expectation;
 use crate::named::add_named;
 use att_policy::KeyFacts;
 use att_table::{Attr, Role, Table};
-use gatt_rights::{Right, all_attributes, may_with};
+use gatt_rights::{all_attributes, may_use};
 use std::alloc::{AllocError, Global};
 
 /// Adds the attributes that somebody may use, but that no expectation names.
@@ -21,16 +21,16 @@ pub(crate) fn add_unnamed(
     alloc: Global,
     differences: &mut Vec<Difference>,
     table: &Table,
-    columns: &[Option<KeyFacts>],
+    kinds: &[Option<KeyFacts>],
     expectations: &[Expectation],
 ) -> Result<(), AllocError>
     ensures ok { OnOk result (differences.new.items ≡ differences.old.items ++ flat_map
-        (unnamed_differences table.now.attributes columns.now
+        (unnamed_differences table.now.attributes kinds.now
         (all_named table.now expectations.now)) table.now.attributes) }
 {
     let mut named = Vec::new(alloc);
     add_all_named(alloc, &mut named, table, expectations)?;
-    add_others(differences, table, columns, &named, all_attributes(table))
+    add_others(differences, table, kinds, &named, all_attributes(table))
 }
 
 fn add_all_named(
@@ -51,15 +51,15 @@ fn add_all_named(
 fn add_others(
     differences: &mut Vec<Difference>,
     table: &Table,
-    columns: &[Option<KeyFacts>],
+    kinds: &[Option<KeyFacts>],
     named: &[Attr],
     attributes: &[Attr],
 ) -> Result<(), AllocError>
     ensures ok { OnOk result (differences.new.items ≡ differences.old.items ++ flat_map
-        (unnamed_differences table.now.attributes columns.now named.now) attributes.now) }
+        (unnamed_differences table.now.attributes kinds.now named.now) attributes.now) }
 {
     for attr in attributes {
-        add_other(differences, table, columns, named, attr)?;
+        add_other(differences, table, kinds, named, attr)?;
     }
     Ok(())
 }
@@ -67,43 +67,39 @@ fn add_others(
 fn add_other(
     differences: &mut Vec<Difference>,
     table: &Table,
-    columns: &[Option<KeyFacts>],
+    kinds: &[Option<KeyFacts>],
     named: &[Attr],
     attr: &Attr,
 ) -> Result<(), AllocError>
     ensures ok { OnOk result (differences.new.items ≡ differences.old.items
-        ++ unnamed_differences table.now.attributes columns.now named.now attr.now) }
+        ++ unnamed_differences table.now.attributes kinds.now named.now attr.now) }
 {
-    if is_used(table, columns, attr) && !is_among(named, attr.handle) {
+    if is_unnamed(table, kinds, named, attr) {
         add(differences, Difference::Unnamed(attr.handle, attr.kind))
     } else {
         Ok(())
     }
 }
 
+/// Returns true if somebody may use an attribute that is not among those that are named.
+fn is_unnamed(table: &Table, kinds: &[Option<KeyFacts>], named: &[Attr], attr: &Attr) -> bool
+    ensures { result ≡ is_unnamed table.now.attributes kinds.now named.now attr.now }
+{
+    is_used(table, kinds, attr) && !is_among(named, attr.handle)
+}
+
 /// Returns true if an attribute is a value or a descriptor that somebody may use.
-fn is_used(table: &Table, columns: &[Option<KeyFacts>], attr: &Attr) -> bool
-    ensures { result ≡ is_used table.now.attributes columns.now attr.now }
+fn is_used(table: &Table, kinds: &[Option<KeyFacts>], attr: &Attr) -> bool
+    ensures { result ≡ is_used table.now.attributes kinds.now attr.now }
 {
     (attr.role == Role::Value || attr.role == Role::Descriptor)
-        && anybody_may_use(table, columns, attr.handle)
+        && anybody_may_use(table, kinds, attr.handle)
 }
 
-fn anybody_may_use(table: &Table, columns: &[Option<KeyFacts>], handle: u16) -> bool
-    ensures { result ≡ list_any (may_use table.now.attributes handle) columns.now }
+fn anybody_may_use(table: &Table, kinds: &[Option<KeyFacts>], handle: u16) -> bool
+    ensures { result ≡ list_any (may_use table.now.attributes handle) kinds.now }
 {
-    columns.iter().any(|key| may_use(table, *key, handle))
-}
-
-/// Returns true if a link may use an attribute at all, once authorized.
-fn may_use(table: &Table, key: Option<KeyFacts>, handle: u16) -> bool
-    ensures { result ≡ may_use table.now.attributes handle key }
-{
-    may_with(table, key, true, handle, Right::Read)
-        || may_with(table, key, true, handle, Right::Write)
-        || may_with(table, key, true, handle, Right::Command)
-        || may_with(table, key, true, handle, Right::Notify)
-        || may_with(table, key, true, handle, Right::Indicate)
+    kinds.iter().any(|key| may_use(table, *key, handle))
 }
 
 fn is_among(named: &[Attr], handle: u16) -> bool

@@ -1,14 +1,24 @@
-//! The words of a difference: the use, the link, and what is meant.
+//! The words of a difference: the attribute, the right, the verdict, and what is meant.
 
-ghost use Rattle.std.specs.Prelude.{◌≡◌, ◌++◌, IfOk, OnOk};
+ghost use Rattle.std.specs.Prelude.{◌≡◌, ◌++◌, OnOk};
 ghost use Rattle.rights_text.specs.Legend.{words_if};
-ghost use Rattle.expectations.specs.Report.{key_name, link_text, meant_text, need_parts, parts_text, right_word, size_part, verdict_words};
+ghost use Rattle.expectations.specs.Words.{attribute_name, meant_text, need_parts, parts_text, right_word, size_part, verdict_words};
 
-use att_policy::{KeyFacts, Need};
+use att_policy::Need;
+use att_table::type_octets;
 use gatt_rights::Right;
-use rights_text::add_key;
+use gatt_show::add_type;
 use std::alloc::{AllocError, Global};
-use text_words::{add_number, add_octets};
+use text_words::{add_number, add_octets, add_right_number};
+
+/// Adds the handle and the type of an attribute.
+pub(crate) fn add_attribute(text: &mut Vec<u8>, handle: u16, kind: u128) -> Result<(), AllocError>
+    ensures ok { OnOk result (text.new.items ≡ text.old.items ++ attribute_name handle kind) }
+{
+    add_right_number(text, u64::from(handle), 5)?;
+    add_octets(text, b"  ")?;
+    add_type(text, type_octets(kind).as_slice())
+}
 
 /// Adds the word of a right.
 pub(crate) fn add_right(text: &mut Vec<u8>, right: Right) -> Result<(), AllocError>
@@ -26,6 +36,7 @@ fn right_word(right: Right) -> &'static str
         Right::Command => " command: ",
         Right::Notify => " notify: ",
         Right::Indicate => " indicate: ",
+        Right::Subscribe => " subscribe: ",
     }
 }
 
@@ -43,27 +54,6 @@ fn verdict_words(is_permitted: bool) -> &'static str
         " may, but should not: "
     } else {
         " should, but may not: "
-    }
-}
-
-/// Adds the key of a link, or that it has none, and that it is authorized, if it is.
-pub(crate) fn add_link(
-    text: &mut Vec<u8>,
-    key: Option<KeyFacts>,
-    is_authorized: bool,
-) -> Result<(), AllocError>
-    ensures ok { OnOk result (text.new.items ≡ text.old.items ++ link_text key is_authorized) }
-{
-    add_key_name(text, key)?;
-    add_if(text, is_authorized, b", once authorized,")
-}
-
-fn add_key_name(text: &mut Vec<u8>, key: Option<KeyFacts>) -> Result<(), AllocError>
-    ensures ok { OnOk result (text.new.items ≡ text.old.items ++ key_name key) }
-{
-    match key {
-        Some(_) => add_key(text, key),
-        None => add_octets(text, b"no key"),
     }
 }
 
@@ -121,7 +111,8 @@ fn add_size(text: &mut Vec<u8>, size: Option<u8>) -> Result<(), AllocError>
     }
 }
 
-fn add_if(text: &mut Vec<u8>, holds: bool, words: &[u8]) -> Result<(), AllocError>
+/// Adds words if a condition holds.
+pub(crate) fn add_if(text: &mut Vec<u8>, holds: bool, words: &[u8]) -> Result<(), AllocError>
     ensures ok { OnOk result (text.new.items ≡ text.old.items ++ words_if holds words.now) }
 {
     if holds {

@@ -5,14 +5,13 @@ use Rattle.expectations.specs.Differences.{differences_of}
 use Rattle.expectations.specs.File.{expectations_in}
 use Rattle.expectations.specs.Report.{report_text}
 use Rattle.expectations.specs.declared.expectation.Expectation.{Expectation}
-use Rattle.gatt_rights.specs.Columns.{columns_among}
 use Rattle.octet_io.specs.Number.{Octets}
 use Rattle.expect_command.proofs.expect.expect_files.Goals as goal
 
 pub returns-clause-compared : goal.returns-clause-compared
 returns-clause-compared g c =
-    let report = report_text (length c.deref.result.now)
-    (differences_of c.in_ok-table.table (columns_among c.in_ok-keys.keys) c.deref.result.now) in
+    let report = report_text c.in_ok-table.table.attributes c.in_ok-keys.keys (length c.deref.result.now)
+    (differences_of c.in_ok-table.table c.deref.result.now) in
     record {
       table = c.in_ok-table.table;
       has_table = c.in_ok-table.ensures.table;
@@ -23,6 +22,7 @@ returns-clause-compared g c =
           subst (λ (items : List Expectation). IfSome (g.E.Read.remaining c.args.expectations.now) (λ octets. expectations_in octets ≡ Ok items))
           (sym c.deref.ensures.value) c.in_ok-expectations.ensures.read;
       is_same = c.in_ok-holds.ensures.holds;
+      all_hold = c.in_ok-holds.ensures.all_hold;
       printed =
           subst (Appends (g.W.Write.contents c.args.writer.now) (g.W.Write.contents c.print.new.writer))
           (c.as_slice.ensures.value ∙ c.in_ok-holds.ensures.text ∙ ap (λ (old : Octets). old ++ report) c.new-text.ensures.items)

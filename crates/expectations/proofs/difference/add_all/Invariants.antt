@@ -6,5 +6,5 @@ use Rattle.expectations.proofs.difference.add_all.Given as goal
 -- those so far and those that are left are all
 abbrev pub invariant-loop-expected : goal.invariant-loop-expected
 invariant-loop-expected l =
-    l.differences.items ++ flat_map (expectation_differences l.fn.table l.fn.columns) (drop l.expected-index l.expectations)
-    ≡ l.fn.differences.items ++ flat_map (expectation_differences l.fn.table l.fn.columns) l.expectations
+    l.differences.items ++ flat_map (expectation_differences l.fn.table l.fn.kinds) (drop l.expected-index l.expectations)
+    ≡ l.fn.differences.items ++ flat_map (expectation_differences l.fn.table l.fn.kinds) l.expectations

@@ -1,5 +1,4 @@
-use Rattle.std.proofs.Common.{◌≡◌, [], ◌∷◌, drop}
-use Rattle.std.specs.Prelude.{codes}
+use Rattle.std.proofs.Common.{◌≡◌, drop}
 use Rattle.toml.specs.View.{items_view, table_view}
 use Rattle.toml_schema.specs.Reading.{each}
 use Rattle.expectations.specs.File.{expectation_step, expectations_of}

@@ -6,5 +6,5 @@ use Rattle.expectations.proofs.unnamed.add_others.Given as goal
 -- those so far and those that are left are all
 abbrev pub invariant-loop-attr : goal.invariant-loop-attr
 invariant-loop-attr l =
-    l.differences.items ++ flat_map (unnamed_differences l.fn.table.attributes l.fn.columns l.fn.named) (drop l.attr-index l.attributes)
-    ≡ l.fn.differences.items ++ flat_map (unnamed_differences l.fn.table.attributes l.fn.columns l.fn.named) l.attributes
+    l.differences.items ++ flat_map (unnamed_differences l.fn.table.attributes l.fn.kinds l.fn.named) (drop l.attr-index l.attributes)
+    ≡ l.fn.differences.items ++ flat_map (unnamed_differences l.fn.table.attributes l.fn.kinds l.fn.named) l.attributes

@@ -1,5 +1,5 @@
 use Rattle.std.proofs.lemmas.Result.{on_ok_weaker}
-use Rattle.expectations.specs.Report.{need_parts}
+use Rattle.expectations.specs.Words.{need_parts}
 use Rattle.rights_text.proofs.Added.{joined}
 use Rattle.expectations.proofs.words.add_parts.Goals as goal
 
