@@ -35,15 +35,11 @@ pub(crate) fn run_compare(rt: &HostRuntime, paths: ComparePaths<'_>) -> u8 {
     match compare_command::compare_paths(rt.alloc(), rt, paths, writer, &mut place) {
         Ok(is_opened) => answer_status(is_opened),
         Err(fault) => {
-            let new_keys = match paths.new_keys {
-                Some(KeysPath(path)) => Some(path),
-                None => None,
-            };
             let paths = [
                 Some(paths.old.0),
                 Some(paths.new.0),
-                Some(paths.keys.0),
-                new_keys,
+                path_of(paths.keys),
+                path_of(paths.new_keys),
             ];
             fault_status(rt, &paths, fault, place.as_slice())
         }
@@ -66,9 +62,16 @@ pub(crate) fn run_expect(rt: &HostRuntime, paths: ExpectPaths<'_>) -> u8 {
         }
         Err(ExpectFault::Shell(fault)) => {
             let expectations = Some(paths.expectations.0);
-            let paths = [Some(paths.table.0), Some(paths.keys.0), expectations];
+            let paths = [Some(paths.table.0), path_of(paths.keys), expectations];
             fault_status(rt, &paths, fault, place.as_slice())
         }
+    }
+}
+
+fn path_of(file: Option<KeysPath<'_>>) -> Option<&str> {
+    match file {
+        Some(KeysPath(path)) => Some(path),
+        None => None,
     }
 }
 

@@ -27,7 +27,7 @@ use may_command::{MayPaths, MayWords};
 use shell_args::{Choice, Refusal};
 use show_command::{ShowPaths, View};
 use std::fs::File;
-use std::io::{BufWriter, Write};
+use std::io::{BufWriter, Read, Write};
 use std::process::ExitCode;
 use std::{io, str};
 
@@ -161,16 +161,22 @@ fn run_show(rt: &HostRuntime, paths: ShowPaths<'_>, view: View) -> u8 {
     exit_status(rt, ran)
 }
 
-/// Returns which of these files cannot be opened, and why.
+/// Returns which of these files cannot be opened or read, and why.
 pub(crate) fn unreadable(rt: &HostRuntime, paths: &[Option<&str>]) -> Option<String> {
     for path in paths {
         if let Some(path) = *path
-            && let Err(error) = File::open(rt, path)
+            && let Err(error) = read_first(rt, path)
         {
             return format!(in rt.alloc(); "{path}: {error}").ok();
         }
     }
     None
+}
+
+/// Opens a file and reads its first byte, which a folder refuses.
+fn read_first(rt: &HostRuntime, path: &str) -> io::Result<usize> {
+    let mut file = File::open(rt, path)?;
+    file.read(&mut [0])
 }
 
 /// Returns the exit status of a command without its lock, after printing why.
@@ -328,7 +334,7 @@ fn carry_out(rt: &HostRuntime, choice: &Choice<'_>) -> u8 {
             let paths = ComparePaths {
                 old: TablePath(old),
                 new: TablePath(new),
-                keys: KeysPath(keys),
+                keys: keys.map(KeysPath),
                 new_keys: new_keys.map(KeysPath),
             };
             asking::run_compare(rt, paths)
@@ -341,7 +347,7 @@ fn carry_out(rt: &HostRuntime, choice: &Choice<'_>) -> u8 {
             rt,
             ExpectPaths {
                 table: TablePath(table),
-                keys: KeysPath(keys),
+                keys: keys.map(KeysPath),
                 expectations: ExpectationsPath(expectations),
             },
         ),

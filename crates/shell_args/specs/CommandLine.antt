@@ -80,13 +80,14 @@ may_shape = shape_with (codes "may") (
 abbrev pub compare_shape : Shape
 compare_shape =
     shape_with (codes "compare")
-    (file_rule (codes "OLD") ∷ file_rule (codes "NEW") ∷ file_rule (codes "KEYS")
+    (file_rule (codes "OLD") ∷ file_rule (codes "NEW") ∷ optional_rule (codes "KEYS")
     ∷ option_rule (codes "new-keys") ∷ [])
 
 abbrev pub expect_shape : Shape
 expect_shape =
     shape_with (codes "expect")
-    (file_rule (codes "TABLE") ∷ file_rule (codes "KEYS") ∷ file_rule (codes "EXPECTATIONS") ∷ [])
+    (file_rule (codes "TABLE") ∷ file_rule (codes "FILE") ∷ optional_rule (codes "EXPECTATIONS")
+    ∷ [])
 
 abbrev pub run_shape : Shape
 run_shape = shape_with (codes "run") (
@@ -200,6 +201,14 @@ IsSetIfGiven name arguments flag =
     × (one_of name arguments ≡ Some (codes "false") → flag ≡ false)
 
 -- The choice has the values that the arguments of its command give.
+-- The last path is that of the expectations; a key file may be before it.
+abbrev pub AreMeant : List Row → Option (List ℕ) → List ℕ → Type 0
+AreMeant arguments None expectations =
+    IsGiven (codes "FILE") arguments expectations
+    × IsGivenIfAny (codes "EXPECTATIONS") arguments None
+AreMeant arguments (Some keys) expectations =
+    IsGiven (codes "FILE") arguments keys × IsGiven (codes "EXPECTATIONS") arguments expectations
+
 abbrev pub HasFilesOf : List Row → Choice → Type 0
 HasFilesOf arguments (Att words) = IsSetIfGiven (codes "words") arguments words
 HasFilesOf arguments (Check table keys) =
@@ -218,11 +227,11 @@ HasFilesOf arguments (May table keys peer right handle authorized unencrypted) =
     × IsSetIfGiven (codes "unencrypted") arguments unencrypted
 HasFilesOf arguments (Compare old new keys new_keys) =
     IsGiven (codes "OLD") arguments old.now × IsGiven (codes "NEW") arguments new.now
-    × IsGiven (codes "KEYS") arguments keys.now
+    × IsGivenIfAny (codes "KEYS") arguments (option_map (λ path. path.now) keys)
     × IsGivenIfAny (codes "new-keys") arguments (option_map (λ path. path.now) new_keys)
 HasFilesOf arguments (Expect table keys expectations) =
-    IsGiven (codes "TABLE") arguments table.now × IsGiven (codes "KEYS") arguments keys.now
-    × IsGiven (codes "EXPECTATIONS") arguments expectations.now
+    IsGiven (codes "TABLE") arguments table.now
+    × AreMeant arguments (option_map (λ path. path.now) keys) expectations.now
 HasFilesOf arguments (Run table next keys rows script notices echo words) =
     IsGiven (codes "TABLE") arguments table.now × IsGiven (codes "KEYS") arguments keys.now
     × IsGiven (codes "SCRIPT") arguments script.now

@@ -30,6 +30,9 @@ pub const SCRIPT: &str = "SCRIPT";
 
 pub const EXPECTATIONS: &str = "EXPECTATIONS";
 
+/// The expectations file, or the key file before it.
+pub const FILE: &str = "FILE";
+
 pub const TABLE_OPTION: &str = "table";
 
 pub const ADDRESS: &str = "ADDRESS";
@@ -111,6 +114,13 @@ const KEY_FILE: Argument = Argument {
     about: "The key file: the long-term keys of known peers",
 };
 
+/// The key file, for the commands that need none.
+const KEY_FILE_IF_ANY: Argument = Argument {
+    name: KEYS,
+    takes: Takes::PathIfAny,
+    about: "The key file: the long-term keys of known peers",
+};
+
 const ROWS_FILE: Argument = Argument {
     name: ROWS,
     takes: Takes::Value("FILE"),
@@ -127,11 +137,7 @@ const CHECK_ARGUMENTS: [Argument; 2] = [TABLE_FILE, KEY_FILE];
 
 const SHOW_ARGUMENTS: [Argument; 5] = [
     TABLE_FILE,
-    Argument {
-        name: KEYS,
-        takes: Takes::PathIfAny,
-        about: "The key file: the long-term keys of known peers",
-    },
+    KEY_FILE_IF_ANY,
     ROWS_FILE,
     Argument {
         name: ATTRIBUTES,
@@ -156,7 +162,7 @@ const MAY_ARGUMENTS: [Argument; 7] = [
     Argument {
         name: RIGHT,
         takes: Takes::Path,
-        about: "The right that it asks for: read, write, command, notify or indicate",
+        about: "The right: read, write, command, notify, indicate or subscribe",
     },
     Argument {
         name: HANDLE,
@@ -186,7 +192,7 @@ const COMPARE_ARGUMENTS: [Argument; 4] = [
         takes: Takes::Path,
         about: "The table file after it",
     },
-    KEY_FILE,
+    KEY_FILE_IF_ANY,
     Argument {
         name: NEW_KEYS,
         takes: Takes::Value("FILE"),
@@ -196,11 +202,15 @@ const COMPARE_ARGUMENTS: [Argument; 4] = [
 
 const EXPECT_ARGUMENTS: [Argument; 3] = [
     TABLE_FILE,
-    KEY_FILE,
+    Argument {
+        name: FILE,
+        takes: Takes::Path,
+        about: "The expectations file, or a key file before it",
+    },
     Argument {
         name: EXPECTATIONS,
-        takes: Takes::Path,
-        about: "The expectations file: what each attribute is meant to permit",
+        takes: Takes::PathIfAny,
+        about: "The expectations file, if FILE is a key file",
     },
 ];
 

@@ -73,10 +73,10 @@ pub const MAY_DETAILS: &str = "\
 Answer whether a peer may use an attribute, and why not.
 
 PEER is `stranger`, or the address of a peer that has a key in KEYS. RIGHT is read, write, command
-(a write without response), notify or indicate. To be notified a peer has to subscribe, and to meet
-what reading needs. A line for each link that the peer may have, not encrypted and encrypted by each
-kind of its keys, has the answer: `yes`, or `no`, the broken rule and the error code. The status is
-0 if a line says yes, and 3 if none does.
+(a write without response), notify, indicate or subscribe. A peer that has subscribed is notified if
+it meets what reading needs, whenever it subscribed. A line for each link that the peer may have,
+not encrypted and encrypted by each kind of its keys, has the answer: `yes`, or `no`, the broken
+rule and the error code. The status is 0 if a line says yes, and 3 if none does.
 
   gatt_shell may examples/door.toml examples/keys.toml stranger read 10";
 
@@ -87,12 +87,14 @@ pub const COMPARE_ABOUT: &str = "Compare two tables: the rights that the new one
 pub const COMPARE_DETAILS: &str = "\
 Compare two tables: the rights that the new one opens and closes, and for which keys.
 
-A right is opened if a link has it with NEW and not with OLD: with a kind of key that is in KEYS, or
-with no key. Values and descriptors correspond by their types, in the order of the table. A new key
-of a peer opens rights, too. Other lines name the attributes that are new, gone or moved, and the
-subscriptions that a device drops if NEW replaces OLD. The status is 3 if a right is opened.
+A right is opened if some client has it with NEW and not with OLD, whatever its key: each size, with
+and without authentication and LE Secure Connections, and no key. KEYS only names the kinds of keys
+that exist today. Values correspond by the type of their service and their own, in the order of the
+table. With --new-keys a new key of a peer opens rights, too. Other lines name the attributes that
+are new, gone, moved or changed, and the subscriptions that a device drops, or that last, if NEW
+replaces OLD. The status is 3 if a right is opened.
 
-  gatt_shell compare examples/porch.toml examples/porch_next.toml examples/keys.toml";
+  gatt_shell compare examples/porch.toml examples/porch_next.toml";
 
 pub const EXPECT: &str = "expect";
 
@@ -102,11 +104,12 @@ pub const EXPECT_DETAILS: &str = "\
 Compare the rights that a table gives with those that are meant.
 
 An expectations file is TOML that states for each value and descriptor who may read, write and
-subscribe (docs/TABLE.md). Each use is compared for no key and for each kind of key in KEYS,
-authorized or not. A line is printed for each difference, and for each attribute that somebody may
-use but no expectation names. The status is 3 then, and 0 if all expectations hold.
+subscribe (docs/TABLE.md). Each use is compared for no key and for each kind of key that there can
+be, authorized or not; no key file is needed. A line is printed for each difference, and for each
+attribute that somebody may use but no expectation names. The status is 3 then, and 0 if all
+expectations hold.
 
-  gatt_shell expect examples/door.toml examples/keys.toml examples/door.expect.toml";
+  gatt_shell expect examples/door.toml examples/door.expect.toml";
 
 pub const RUN: &str = "run";
 

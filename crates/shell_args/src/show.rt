@@ -31,7 +31,7 @@ pub(crate) fn comparing<'a>(matches: &ArgMatches<'a>) -> Option<Choice<'a>>
     Some(Choice::Compare {
         old: matches.get_str(arguments::OLD)?,
         new: matches.get_str(arguments::NEW)?,
-        keys: matches.get_str(arguments::KEYS)?,
+        keys: matches.get_str(arguments::KEYS),
         new_keys: matches.get_str(arguments::NEW_KEYS),
     })
 }

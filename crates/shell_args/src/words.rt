@@ -58,14 +58,14 @@ pub enum Choice<'a> {
     Compare {
         old: &'a str,
         new: &'a str,
-        keys: &'a str,
+        keys: Option<&'a str>,
         /// The key file after the change.
         new_keys: Option<&'a str>,
     },
     /// Compares a table with what is meant.
     Expect {
         table: &'a str,
-        keys: &'a str,
+        keys: Option<&'a str>,
         expectations: &'a str,
     },
     /// Runs a script.
@@ -202,10 +202,16 @@ fn expecting<'a>(matches: &ArgMatches<'a>) -> Option<Choice<'a>>
     ensures name { IfSome result (λ choice. command_name choice ≡ codes "expect") }
     ensures files { IfSome result (HasFilesOf (rows_of (found_of matches.now))) }
 {
+    let table = matches.get_str(arguments::TABLE)?;
+    let file = matches.get_str(arguments::FILE)?;
+    let (keys, expectations) = match matches.get_str(arguments::EXPECTATIONS) {
+        Some(expectations) => (Some(file), expectations),
+        None => (None, file),
+    };
     Some(Choice::Expect {
-        table: matches.get_str(arguments::TABLE)?,
-        keys: matches.get_str(arguments::KEYS)?,
-        expectations: matches.get_str(arguments::EXPECTATIONS)?,
+        table,
+        keys,
+        expectations,
     })
 }
 
