@@ -97,14 +97,14 @@ pub extern "C" fn page_compare(
     count: &mut usize,
 ) -> u32
     // This is what `compare` prints of these texts, if nothing is opened.
-    ensures nothing { result ≡ 0 → AreCompared (Some old.now) (Some new.now) (Some keys.now)
-        None (Some []) (Some (take count.new out.new)) false }
+    ensures nothing { result ≡ 0 → AreCompared (Some old.now) (Some new.now)
+        (Some (Some keys.now)) None (Some []) (Some (take count.new out.new)) false }
     // The same, if something is opened.
-    ensures opened { result ≡ 3 → AreCompared (Some old.now) (Some new.now) (Some keys.now)
-        None (Some []) (Some (take count.new out.new)) true }
+    ensures opened { result ≡ 3 → AreCompared (Some old.now) (Some new.now)
+        (Some (Some keys.now)) None (Some []) (Some (take count.new out.new)) true }
     ensures within { count.new ≤ length out.old }
 {
-    let (mut old, mut new, mut keys, mut new_keys) = (old, new, keys, None::<&[u8]>);
+    let (mut old, mut new, mut keys, mut new_keys) = (old, new, Some(keys), None::<&[u8]>);
     let (mut text, mut place) = (Vec::new(alloc), Vec::new(alloc));
     let names = CompareNames {
         old: "old",

@@ -208,6 +208,7 @@ fn always(table: &Table, handle: u16, key: Option<KeyFacts>) -> Rights
         command: may_with(table, key, false, handle, Right::Command),
         notify: may_with(table, key, false, handle, Right::Notify),
         indicate: may_with(table, key, false, handle, Right::Indicate),
+        subscribe: may_with(table, key, false, handle, Right::Subscribe),
     }
 }
 
@@ -220,6 +221,7 @@ fn once(table: &Table, handle: u16, key: Option<KeyFacts>) -> Rights
         command: is_once(table, handle, key, Right::Command),
         notify: is_once(table, handle, key, Right::Notify),
         indicate: is_once(table, handle, key, Right::Indicate),
+        subscribe: is_once(table, handle, key, Right::Subscribe),
     }
 }
 

@@ -1,6 +1,6 @@
 use Rattle.std.proofs.Common.{◌<◌, length, arith}
 use Rattle.playground.specs.Fields.{peer_data}
-use Rattle.rights_text.proofs.Added.{next_added}
+use Rattle.gatt_rights.proofs.Added.{next_added}
 use Rattle.playground.proofs.fields.add_peers.Goals as goal
 
 pub loop-at-preserved : goal.loop-at-preserved
