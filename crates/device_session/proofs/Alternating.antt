@@ -7,13 +7,13 @@ use Rattle.device_session.specs.declared.turns.Turns.{Turns}
 use Rattle.device_session.specs.Turns.{ReadsInTurn, SparesOthers, TicksIncrease, after_reading, after_tick, after_unreadable}
 
 ticked : (turns : Turns) (now first : ℕ) (test : Bool) → nat_le now turns.time ≡ test → (if test then None else Some now) ≡ Some first
-    → (turns.time < first) × (first ≡ (if test then turns else record turns { time = now; is_told = true }).time)
+    → (turns.time < first) × (first ≡ (if test then record turns { is_current = true } else record turns { time = now; is_told = true; is_current = true }).time)
 ticked turns now first true is some = cc some
 ticked turns now first false is some =
     let same : now ≡ first = same_Some now first some in (omega (arith, leb-false now turns.time is, same), sym same)
 
 no-less : (turns : Turns) (now : ℕ) (test : Bool) → nat_le now turns.time ≡ test
-    → turns.time ≤ (if test then turns else record turns { time = now; is_told = true }).time
+    → turns.time ≤ (if test then record turns { is_current = true } else record turns { time = now; is_told = true; is_current = true }).time
 no-less turns now true is = omega arith
 no-less turns now false is = omega (arith, leb-false now turns.time is)
 

@@ -1,5 +1,5 @@
 -- Each line gets one answer.
-use Rattle.std.proofs.Common.{◌≡◌, ◌+◌, ℕ, Bool, true, false, List, [], ◌∷◌, ◌++◌, not, Option, Some, None, Result, refl, sym, ap, subst, ◌∙◌, arith}
+use Rattle.std.proofs.Common.{◌≡◌, ◌+◌, ◌<◌, ℕ, Bool, true, false, List, [], ◌∷◌, ◌++◌, length, not, Option, Some, None, Result, refl, sym, ap, subst, ◌∙◌, arith}
 use Rattle.std.specs.Prelude.{◌&&◌, ◌||◌, fold, if◌then◌else◌, is_some}
 use Rattle.std.proofs.lemmas.List.Sums.{fold-append}
 use Rattle.octet_io.specs.Number.{Octets}
@@ -10,7 +10,7 @@ use Rattle.device_session.specs.declared.asking.Closing.{Closing}
 use Rattle.device_session.specs.declared.asking.Closing.TheVariants.{No, LineTooLong, FirstLineWrong}
 use Rattle.device_session.specs.declared.asking.Unanswered.{Unanswered}
 use Rattle.device_session.specs.declared.asking.Unanswered.TheVariants.{Nothing, Line, TooLong, Later}
-use Rattle.device_session.specs.Asking.{AnswersEachLine, Asking, EndsWithClosing, Exchange, Step, all_joined, are_few, at_start, called_with, closing_now, count_of, exchange_after, is_unanswered, is_waiting, joined, may_begin, may_continue, stays_open, taken_if, takes_line, with_line_taken, with_step, without_answers, without_closing}
+use Rattle.device_session.specs.Asking.{AnswersEachLine, Asking, ContinuesLines, EndsWithClosing, Exchange, Step, all_joined, are_few, at_start, called_with, closing_now, count_of, exchange_after, is_unanswered, is_waiting, joined, may_begin, may_continue, stays_open, taken_if, takes_line, with_line_taken, with_step, without_answers, without_closing}
 use Rattle.device_session.specs.Asking.Step.{Begins, Continues, Called, Delays, Answers, Replies}
 use Rattle.device_session.specs.Holder.{is_found}
 
@@ -179,3 +179,15 @@ ends_with_closing steps =
       none_taken = λ step takes. closes-by (exchange_after steps) step (sound_after steps) takes;
       by_reply = λ waits answers. closed-by-reply (exchange_after steps) (sound_after steps) waits answers;
     }
+
+-- continuing
+are-some : (texts : List (Option Octets)) → are_few (all_joined texts) ≡ true → 0 < length texts
+are-some [] few = absurd (cc few)
+are-some (text ∷ texts) few = omega arith
+
+pub continues_lines : ContinuesLines
+continues_lines steps next line takes =
+    let exchange : Exchange = exchange_after steps in
+    let may = (both (may_continue exchange.asking) (is_found next.found) takes).0 in
+    let few = (both (not (is_waiting exchange.asking) && stays_open exchange.asking.closing) (are_few exchange.asking.answers) may).1 in
+    are-some exchange.texts (ap are_few (sym (sound_after steps).in_order) ∙ few)

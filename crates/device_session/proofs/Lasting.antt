@@ -81,7 +81,7 @@ same-and true true is = (refl, refl)
 same-and true false is = cc is
 same-and false two is = cc is
 
-is-it : (one other : Subject) → is_same one other ≡ true → one ≡ other
+pub is-it : (one other : Subject) → is_same one other ≡ true → one ≡ other
 is-it (Value handle) (Value other) is = ap Value (eqb-true handle other is)
 is-it (Value handle) (Configuration peer attribute) is = cc is
 is-it (Configuration peer attribute) (Value handle) is = cc is
@@ -93,7 +93,7 @@ is-it (Configuration peer attribute) (Configuration other handle) is =
     let handles = eqb-true attribute handle tests.1 in
     λ i. Configuration (record { kind = kinds i; address = addresses i }) (handles i)
 
-differ : (one other : Subject) → is_same one other ≡ false → is_same other one ≡ false
+pub differ : (one other : Subject) → is_same one other ≡ false → is_same other one ≡ false
 differ one other is = by (is_same other one) refl
   where
     by : (test : Bool) → is_same other one ≡ test → test ≡ false

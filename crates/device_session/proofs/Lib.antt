@@ -19,3 +19,5 @@ pub mod Waking
 pub mod Reached
 pub mod Noting
 pub mod Steps
+pub mod Agreeing
+pub mod Working

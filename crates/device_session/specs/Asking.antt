@@ -1,5 +1,5 @@
 -- The lines of an application or of its visitor, and their answers (this profile's own).
-use Rattle.std.specs.Prelude.{◌≡◌, ◌⊎◌, ℕ, ◌+◌, ◌&&◌, ◌++◌, Bool, true, false, if◌then◌else◌, is_some, List, [], ◌∷◌, fold, length, nat_le, not, Option, Some, None, Result, Ok, Err}
+use Rattle.std.specs.Prelude.{◌≡◌, ◌⊎◌, ℕ, ◌+◌, ◌<◌, ◌&&◌, ◌++◌, Bool, true, false, if◌then◌else◌, is_some, List, [], ◌∷◌, fold, length, nat_le, not, Option, Some, None, Result, Ok, Err}
 use Rattle.octet_io.specs.Number.{Octets}
 use Rattle.gatt_laws.specs.machine.Calls.{Call}
 use Rattle.app_lines.specs.declared.inbox.Found.{Found}
@@ -14,6 +14,7 @@ use Rattle.device_session.specs.declared.asking.TheConstants.{MOST_ANSWERS}
 use Rattle.device_session.specs.declared.asking.Unanswered.{Unanswered}
 use Rattle.device_session.specs.declared.asking.Unanswered.TheVariants.{Nothing, Line, TooLong, Later}
 use Rattle.device_session.specs.declared.seats.NextLine.{NextLine}
+use Rattle.device_session.specs.declared.turns.Turns.{Turns}
 use Rattle.device_session.specs.Application.{after_asking, line_from, next_line_in}
 use Rattle.device_session.specs.ApplicationValue.{Application}
 use Rattle.device_session.specs.Holder.{is_found}
@@ -58,9 +59,9 @@ is_short None = false
 
 abbrev pub are_few : Option (Option Octets) → Bool
 are_few (Some answers) = is_short answers
-are_few None = true
+are_few None = false
 
--- Another line may be executed before the save.
+-- Another line may be executed before the save, after the answer to one.
 abbrev pub may_continue : Asking → Bool
 may_continue asking =
     not (is_waiting asking) && stays_open asking.closing && are_few asking.answers
@@ -73,6 +74,10 @@ abbrev pub unanswered_after : Found → Unanswered → Unanswered
 unanswered_after found.Nothing before = before
 unanswered_after found.TooLong before = TooLong
 unanswered_after found.Line before = Line (Ok tt)
+
+-- It may be executed at the time that the host has.
+abbrev pub goes_on : Turns → Asking → Bool
+goes_on turns asking = turns.is_current && may_continue asking
 
 -- A connection is closed after a line that is too long, and after a first one that is no command.
 abbrev pub closing_after : Found → Bool → Octets → Closing → Closing
@@ -287,3 +292,11 @@ pub record IsClosed (exchange : Exchange) : Type 0 where
 
 abbrev pub EndsWithClosing : Type 0
 EndsWithClosing = (steps : List Step) → IsClosed (exchange_after steps)
+
+-- The reply ends a turn. Another line of the turn is taken only after the answer to one, so a turn
+-- that begins with octets or with the time takes no line.
+abbrev pub ContinuesLines : Type 0
+ContinuesLines =
+    (steps : List Step) (next : NextLine) (line : Octets)
+    → takes_line (exchange_after steps).asking (Continues next line) ≡ true
+    → 0 < length (exchange_after steps).texts

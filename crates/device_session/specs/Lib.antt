@@ -15,6 +15,7 @@ pub mod PeerClock
 pub mod Pending
 pub mod Place
 pub mod Questions
+pub mod Reading
 pub mod Seats
 pub mod Strangers
 pub mod Telling

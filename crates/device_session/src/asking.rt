@@ -5,7 +5,7 @@ ghost use Rattle.std.specs.Option.{option_map};
 ghost use Rattle.std.specs.Result.{result_ok};
 ghost use Rattle.device_session.specs.Application.{after_choosing};
 ghost use Rattle.device_session.specs.Asking as spec;
-ghost use Rattle.device_session.specs.Asking.{AnswersEachLine, EndsWithClosing, IsAnswerKept};
+ghost use Rattle.device_session.specs.Asking.{AnswersEachLine, ContinuesLines, EndsWithClosing, IsAnswerKept};
 ghost use Rattle.device_session.specs.Lines.{kind_of};
 ghost use Rattle.device_session.specs.Questions.{call_in, called, question_in, question_of};
 
@@ -87,6 +87,9 @@ impl Asking {
         // After a line that closes its connection, none is taken before its answer is sent, and
         // its connection is closed then.
         ensures closes { EndsWithClosing }
+        // After octets or the time, no line is taken before the reply: a turn has lines or events
+        // of others, never both.
+        ensures continues { ContinuesLines }
     {
         Asking {
             line: ArrayVec::new(),
@@ -214,7 +217,7 @@ impl Asking {
         !self.is_waiting() && self.answers.is_none()
     }
 
-    /// Returns true if another line may be executed before the save.
+    /// Returns true if another line may be executed before the save, after the answer to one.
     pub(crate) fn may_continue(&self) -> bool
         ensures { result ≡ spec.may_continue self.now }
     {
@@ -331,7 +334,7 @@ fn are_few(answers: &Option<Result<Vec<u8>, AllocError>>) -> bool
         (result_ok answers)) answers.now) }
 {
     match answers {
-        None => true,
+        None => false,
         Some(Ok(answers)) => answers.len() <= MOST_ANSWERS,
         Some(Err(_)) => false,
     }

@@ -1,9 +1,9 @@
 //! The wait of a session for its next turn. All times are in milliseconds.
 
-ghost use Rattle.std.specs.Prelude.{◌≡◌, ◌&&◌, ◌||◌, false, not, true, None};
+ghost use Rattle.std.specs.Prelude.{◌≡◌, ◌&&◌, ◌||◌, false, not, true};
 ghost use Rattle.device_session.specs.Strangers.{first_limit};
 ghost use Rattle.device_session.specs.Timeout.{application_acts, limits_of, reads_controller, session_acts, timeout_of};
-ghost use Rattle.device_session.specs.Turns.{after_reading, reads, IsTick};
+ghost use Rattle.device_session.specs.Turns.{after_reading, reads, IsTurn};
 ghost use Rattle.device_session.specs.Acceptance.{accepts_at};
 ghost use Rattle.device_session.specs.Place.{is_there};
 ghost use Rattle.device_session.specs.Waits.{has_other, readied_if, AreSame, IsAcceptanceIf, IsFlushedIf, IsReadyIf, IsTakenIn, IsWait};
@@ -87,13 +87,10 @@ impl<R: Clock + Eprint> Session<'_, R> {
 impl<R: System> Session<'_, R> {
     /// Waits for something to do, and returns the time in milliseconds if it has advanced.
     ///
-    /// In the turn after a returned time, returns `None` without waiting.
+    /// In the turn after a returned time, returns `None` without waiting, unless the device has
+    /// worked since.
     pub fn next_tick(&mut self, deadline: Option<u64>) -> Option<u64>
-        ensures told { self.old.turns.is_told ≡ true → result ≡ None }
-        ensures time { self.old.turns.is_told ≡ false → IsTick self.old.turns result
-            self.new.turns }
-        ensures turns { self.old.turns.is_told ≡ true → self.new.turns
-            ≡ record self.old.turns { is_told = false } }
+        ensures turn { IsTurn self.old.turns result self.new.turns }
         ensures same { self.old.turns.is_told ≡ true → AreSame (record {
           clock = self.old.clock;
           application = self.old.application;

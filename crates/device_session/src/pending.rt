@@ -2,6 +2,7 @@
 
 ghost use Rattle.std.specs.Prelude.{◌≡◌, [], IfErr, IfOk};
 ghost use Rattle.device_session.specs.Pending.{is_same, with_line, without_subject, KeepsLastLines, KeepsOneEach};
+ghost use Rattle.device_session.specs.Reading.{LeavesHostsValues};
 
 use le_hci::Peer;
 use std::alloc::{AllocError, Global};
@@ -71,6 +72,9 @@ impl Pending {
         ensures last { KeepsLastLines }
         // Each subject has at most one line.
         ensures one_each { KeepsOneEach }
+        // After any turns: an application that reads its lines in order has each value of the host,
+        // unless a line about it still waits.
+        ensures values { LeavesHostsValues }
     {
         Pending {
             alloc,

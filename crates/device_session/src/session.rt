@@ -7,14 +7,14 @@ ghost use Rattle.device_io.specs.Controller.{after_judging, after_loss, at_first
 ghost use Rattle.device_io.specs.Served.{words_of};
 ghost use Rattle.device_session.specs.Acceptance.{accepting};
 ghost use Rattle.device_session.specs.Application.{after_choosing, after_release, has_next_line, is_visitor, nobody};
-ghost use Rattle.device_session.specs.Asking.{after_call, after_delay, answer_in, application_if, asked_if, call_if, call_made, may_begin, may_continue, nothing_asked, with_answer, IsAnswerKept};
+ghost use Rattle.device_session.specs.Asking.{after_call, after_delay, answer_in, application_if, asked_if, call_if, call_made, goes_on, may_begin, nothing_asked, with_answer, IsAnswerKept};
 ghost use Rattle.device_session.specs.Missed.{after_next_if, next_if, nothing_missed};
 ghost use Rattle.device_session.specs.Pending.{without_subject};
 ghost use Rattle.device_session.specs.Place.{has_room_in, is_new};
 ghost use Rattle.device_session.specs.Questions.{called, question_in, question_of};
 ghost use Rattle.device_session.specs.Strangers.{are_limited, first_due, strangers_of};
 ghost use Rattle.device_session.specs.Timeout.{lacks_application};
-ghost use Rattle.device_session.specs.Turns.{at_first};
+ghost use Rattle.device_session.specs.Turns.{after_work, at_first};
 ghost use Rattle.device_session.specs.declared.pending.Subject.TheVariants.{Value};
 
 use crate::acceptance::Acceptance;
@@ -158,6 +158,7 @@ impl<'a, R> Session<'a, R> {
             self.old.clock.counted self.old.controller.strangers.known.items)
             (self.new.application ≡ application_if (may_begin self.old.asking)
             (after_choosing self.old.application) self.old.application) }
+        ensures turns { self.new.turns ≡ self.old.turns }
     {
         if let Some(handle) = self.controller.strangers.next_due(self.clock.time()) {
             return Some(App::Disconnect(handle));
@@ -168,23 +169,37 @@ impl<'a, R> Session<'a, R> {
     }
 
     /// Returns true if the sender of the last line has sent another one that the same save covers.
+    ///
+    /// No line is taken after work of the device before the clock is read again.
     pub fn has_next_line(&self) -> bool
-        ensures { result ≡ (may_continue self.now.asking && has_next_line self.now.application) }
+        ensures { result ≡ (goes_on self.now.turns self.now.asking
+            && has_next_line self.now.application) }
     {
-        self.asking.may_continue() && self.application.has_next_line()
+        self.may_go_on() && self.application.has_next_line()
+    }
+
+    fn may_go_on(&self) -> bool
+        ensures { result ≡ goes_on self.now.turns self.now.asking }
+    {
+        self.turns.is_current() && self.asking.may_continue()
     }
 
     /// Returns the call of the next line of the sender of the last one, if it makes one.
     pub fn next_call_of_asker<'b>(&mut self, buffer: &'b mut [u8]) -> Option<App<'b>>
         ensures call { option_map called result ≡ call_made (call_if
-            (may_continue self.old.asking) self.old.application self.old.asking
+            (goes_on self.old.turns self.old.asking) self.old.application self.old.asking
             self.old.names.named self.old.turns.time (length buffer.old)) }
-        ensures asked { self.new.asking ≡ asked_if (may_continue self.old.asking)
+        ensures asked { self.new.asking ≡ asked_if (goes_on self.old.turns self.old.asking)
             self.old.application self.old.asking
             self.old.names.named self.old.turns.time (length buffer.old) }
         ensures application { self.new.application ≡ application_if
-            (may_continue self.old.asking) self.old.application self.old.application }
+            (goes_on self.old.turns self.old.asking) self.old.application
+            self.old.application }
+        ensures turns { self.new.turns ≡ self.old.turns }
     {
+        if !self.turns.is_current() {
+            return None;
+        }
         let time = self.turns.time();
         self.asking
             .next_call_of_asker(&mut self.application, &self.names, time, buffer)
@@ -204,6 +219,7 @@ impl<'a, R> Session<'a, R> {
             (λ text. IsAnswerKept (Some text.items) self.old.asking self.new.asking) }
         ensures refused { IfErr text (λ _. self.new.asking ≡ with_answer None self.old.asking) }
         ensures application { self.new.application ≡ self.old.application }
+        ensures pending { self.new.pending ≡ self.old.pending }
     {
         self.asking.keep_answer(text);
     }
@@ -214,6 +230,7 @@ impl<'a, R> Session<'a, R> {
             ≡ without_subject (Value handle) self.old.pending.lines.items }
         ensures application { self.new.application ≡ self.old.application }
         ensures asking { self.new.asking ≡ self.old.asking }
+        ensures updated { self.new.updated ≡ self.old.updated }
         ensures names { self.new.names ≡ self.old.names }
     {
         self.pending.forget(Subject::Value(handle));
@@ -224,6 +241,7 @@ impl<'a, R> Session<'a, R> {
         ensures names { self.new.names ≡ heard.now.names }
         ensures application { self.new.application ≡ self.old.application }
         ensures asking { self.new.asking ≡ self.old.asking }
+        ensures pending { self.new.pending ≡ self.old.pending }
     {
         self.names = heard.names.copy();
     }
@@ -263,6 +281,7 @@ impl<'a, R> Session<'a, R> {
         ensures asking { self.new.asking ≡ after_delay self.old.asking }
         ensures application { self.new.application ≡ self.old.application }
         ensures names { self.new.names ≡ self.old.names }
+        ensures pending { self.new.pending ≡ self.old.pending }
     {
         self.asking.put_off();
     }
@@ -273,6 +292,7 @@ impl<'a, R> Session<'a, R> {
             ≡ record self.old.application { is_held = true } }
         ensures asking { self.new.asking ≡ self.old.asking }
         ensures names { self.new.names ≡ self.old.names }
+        ensures pending { self.new.pending ≡ self.old.pending }
     {
         self.application.hold();
     }
@@ -373,6 +393,7 @@ impl<R: Clock + Eprint> Session<'_, R> {
             (λ _. is_over_at self.old.clock.counted self.old.controller.controller ≡ false) }
         ensures failed { IfErr result (λ _. self.new.controller.controller
             ≡ after_judging self.old.clock.counted self.old.controller.controller) }
+        ensures turns { self.new.turns ≡ self.old.turns }
         ensures application { self.new.application ≡ self.old.application }
         ensures asking { self.new.asking ≡ self.old.asking }
     {
@@ -380,8 +401,11 @@ impl<R: Clock + Eprint> Session<'_, R> {
         self.controller.read(&self.poller, &self.log, now, buffer)
     }
 
-    /// Writes octets to the controller. Returns false if there is none.
+    /// Writes octets to the controller, and to the capture. Returns false if there is none.
+    ///
+    /// This is work, as the disk of the capture may be slow.
     pub fn write(&mut self, octets: &[u8]) -> io::Result<bool>
+        ensures turns { self.new.turns ≡ after_work self.old.turns }
         ensures there { IfOk result
             (λ is_there. is_there ≡ is_served self.old.controller.controller) }
         ensures written { IsWrittenTo octets.now self.old.clock.counted
@@ -390,6 +414,7 @@ impl<R: Clock + Eprint> Session<'_, R> {
         ensures asking { self.new.asking ≡ self.old.asking }
     {
         let now = self.clock.time();
+        self.turns.worked();
         self.controller.write(octets, &self.poller, &self.log, now)
     }
 
@@ -402,19 +427,26 @@ impl<R: Clock + Eprint> Session<'_, R> {
     }
 
     /// Begins work of the device itself, such as a save: its time counts for no limit of a peer.
+    ///
+    /// Call `end_work` then. The host gets octets and lines only after the clock was read again.
     pub fn begin_work(&mut self)
+        ensures turns { self.new.turns ≡ self.old.turns }
         ensures application { self.new.application ≡ self.old.application }
         ensures asking { self.new.asking ≡ self.old.asking }
+        ensures pending { self.new.pending ≡ self.old.pending }
     {
         self.clock.count(self.log.now());
     }
 
     /// Ends work of the device itself.
     pub fn end_work(&mut self)
+        ensures turns { self.new.turns ≡ after_work self.old.turns }
         ensures application { self.new.application ≡ self.old.application }
         ensures asking { self.new.asking ≡ self.old.asking }
+        ensures pending { self.new.pending ≡ self.old.pending }
     {
         self.clock.skip(self.log.now());
+        self.turns.worked();
     }
 }
 

@@ -1,6 +1,6 @@
 //! The texts that a session sends to its application, and its log.
 
-ghost use Rattle.std.specs.Prelude.{◌≡◌, ◌⊎◌, [], false, map, true, Some};
+ghost use Rattle.std.specs.Prelude.{◌≡◌, ◌⊎◌, ◌++◌, [], false, map, true, Some};
 ghost use Rattle.std.specs.Option.{option_map};
 ghost use Rattle.std.specs.Result.{result_ok};
 ghost use Rattle.app_lines.specs.Told.{told_line};
@@ -142,7 +142,11 @@ impl<R: Clock + Eprint> Session<'_, R> {
     pub fn tell_later(&mut self, told: &Told<'_>)
         ensures application { (self.new.application ≡ self.old.application)
             ⊎ (self.new.application ≡ after_end self.old.application) }
+        // The line is the last, unless memory was refused for it.
+        ensures updated { (self.new.updated.items ≡ self.old.updated.items ++ told_line told.now)
+            ⊎ (self.new.application ≡ after_end self.old.application) }
         ensures asking { self.new.asking ≡ self.old.asking }
+        ensures pending { self.new.pending ≡ self.old.pending }
         ensures names { self.new.names ≡ self.old.names }
     {
         if add_told(&mut self.updated, told).is_err() {
