@@ -1,14 +1,16 @@
 //! The answers to the lines of an application, and the changes of a turn.
 
-ghost use Rattle.std.specs.Prelude.{◌≡◌, ◌++◌, IfOk, OnOk, Some};
+ghost use Rattle.std.specs.Prelude.{◌≡◌, ◌⊎◌, ◌++◌, IfOk, OnOk, Some};
 ghost use Rattle.std.specs.List.{flat_map};
 ghost use Rattle.gatt_host.specs.Connections.{connections_in};
 ghost use Rattle.app_lines.specs.Answers.{done};
 ghost use Rattle.app_lines.specs.Told.{lines_of_connection};
+ghost use Rattle.device_session.specs.Application.{after_end, is_visitor};
 ghost use Rattle.device_session.specs.Asking.{answer_in, IsAnswerKept};
 ghost use Rattle.device_session.specs.Questions.{question_in, question_of};
 ghost use Rattle.device_host.specs.Answers.{answer_of, answer_to, connection_named, subscriptions_answer, IsLineAnswered};
 ghost use Rattle.device_host.specs.Silence.{IsSameOrEnded, SendsNothing};
+ghost use Rattle.device_host.specs.Updates.{line_if_visited, updated_by, with_text, without_updated};
 
 use crate::device::Device;
 use crate::keeping::Keeping;
@@ -43,6 +45,11 @@ pub(crate) fn note_event<R: Files<File = File> + Clock + Eprint>(
         hearing.old.heard.names.named host.now)
         device.old.session.asking
         device.new.session.asking }
+    // A line about a change that waits for a save is dropped if an update has replaced that.
+    ensures pending { device.new.session.pending.lines.items ≡ without_updated (updated_by
+        (question_in device.old.session.asking.unanswered device.old.session.asking.line)
+        (answer_in device.old.session.asking.unanswered))
+        device.old.session.pending.lines.items }
 {
     let session = &mut device.session;
     session.know(&hearing.heard);
@@ -76,7 +83,11 @@ fn note_changes<R: Clock + Eprint>(
 }
 
 /// Returns the handle of the value that the last line has updated, if any.
-fn updated_handle<R>(session: &Session<'_, R>) -> Option<u16> {
+fn updated_handle<R>(session: &Session<'_, R>) -> Option<u16>
+    ensures { result ≡ updated_by
+        (question_in session.now.asking.unanswered session.now.asking.line)
+        (answer_in session.now.asking.unanswered) }
+{
     match session.asked() {
         Asked::Command(Command::Update { handle, .. }) if session.answer().is_ok() => Some(handle),
         _ => None,
@@ -88,6 +99,15 @@ fn note_update<R: Clock + Eprint>(session: &mut Session<'_, R>, host: &Host)
     ensures application { IsSameOrEnded session.old.application session.new.application }
     ensures asking { session.new.asking ≡ session.old.asking }
     ensures names { session.new.names ≡ session.old.names }
+    ensures pending { session.new.pending.lines.items ≡ without_updated (updated_by
+        (question_in session.old.asking.unanswered session.old.asking.line)
+        (answer_in session.old.asking.unanswered)) session.old.pending.lines.items }
+    // The application is notified of an update of its visitor, unless memory was refused for it.
+    ensures updated { (session.new.updated.items ≡ with_text (line_if_visited
+        (is_visitor session.old.application.askers.asker) (updated_by
+        (question_in session.old.asking.unanswered session.old.asking.line)
+        (answer_in session.old.asking.unanswered)) host.now) session.old.updated.items)
+        ⊎ (session.new.application ≡ after_end session.old.application) }
 {
     let Some(handle) = updated_handle(session) else {
         return;
@@ -107,6 +127,7 @@ fn answer_line<R>(alloc: Global, session: &mut Session<'_, R>, host: &Host)
         (answer_in session.old.asking.unanswered)
         session.old.names.named host.now)) session.old.asking session.new.asking }
     ensures application { session.new.application ≡ session.old.application }
+    ensures pending { session.new.pending ≡ session.old.pending }
 {
     let text = answer_text(
         alloc,

@@ -1,8 +1,9 @@
 //! The events of a host: those of its controller, its application and the clock.
 
 ghost use Rattle.std.specs.Prelude.{◌≡◌, length, true, None, Some};
-ghost use Rattle.device_session.specs.Asking.{application_if, asked_if, may_continue};
+ghost use Rattle.device_session.specs.Asking.{application_if, asked_if, goes_on};
 ghost use Rattle.device_host.specs.Order.{takes_line, takes_nothing};
+ghost use Rattle.device_host.specs.Work.{IsNextByClock};
 
 use crate::course::Course;
 use crate::keeping::Keeping;
@@ -90,11 +91,12 @@ fn next_of<'b, R: System>(
         → device.new.session.asking ≡ device.old.session.asking }
     // Only the sender of the last line is read before the save.
     ensures line { takes_line device.old.takes ≡ true → device.new.session.asking
-        ≡ asked_if (may_continue device.old.session.asking) device.old.session.application
-        device.old.session.asking device.old.session.names.named
+        ≡ asked_if (goes_on device.old.session.turns device.old.session.asking)
+        device.old.session.application device.old.session.asking
+        device.old.session.names.named
         device.old.session.turns.time (length buffer.old) }
     ensures read { takes_line device.old.takes ≡ true → device.new.session.application
-        ≡ application_if (may_continue device.old.session.asking)
+        ≡ application_if (goes_on device.old.session.turns device.old.session.asking)
         device.old.session.application device.old.session.application }
 {
     match device.takes {
@@ -115,7 +117,10 @@ fn next<'b, R: System>(
     session: &mut Session<'_, R>,
     deadline: Option<u64>,
     buffer: &'b mut [u8],
-) -> Next<'b> {
+) -> Next<'b>
+    // The host gets octets or a line only if the clock has no later time for it.
+    ensures clock { IsNextByClock session.old.turns result session.new.turns }
+{
     if let Some(now) = session.next_tick(deadline) {
         return Next::Call(App::Tick(now));
     }
@@ -132,7 +137,9 @@ fn call_or_nothing(call: Option<App<'_>>) -> Next<'_> {
     }
 }
 
-fn octets<'b, R: Clock + Eprint>(session: &mut Session<'_, R>, buffer: &'b mut [u8]) -> Next<'b> {
+fn octets<'b, R: Clock + Eprint>(session: &mut Session<'_, R>, buffer: &'b mut [u8]) -> Next<'b>
+    ensures turns { session.new.turns ≡ session.old.turns }
+{
     match session.read(buffer) {
         Ok(None) => Next::Octets(&[]),
         Ok(Some(octets)) if octets.is_empty() => Next::Ended,

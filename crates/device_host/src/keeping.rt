@@ -1,9 +1,11 @@
 //! The saved data of a host.
 
-ghost use Rattle.std.specs.Prelude.{◌≡◌};
+ghost use Rattle.std.specs.Prelude.{◌≡◌, not};
 ghost use Rattle.std.specs.Option.{option_map};
+ghost use Rattle.device_session.specs.Turns.{after_work};
 ghost use Rattle.device_host.specs.Changes.{is_all_saved, retry_of, with_change};
 ghost use Rattle.device_host.specs.Order.{IsFailureTold, IsSavingTold};
+ghost use Rattle.device_host.specs.Work.{worked_if, IsSaveTurned};
 
 use crate::before::keep_before;
 use crate::changes::Changes;
@@ -179,6 +181,8 @@ impl Keeping {
         ensures saved { result ≡ is_all_saved self.new.changes }
         // The application, its place and its output stay as they are.
         ensures application { session.new.application ≡ session.old.application }
+        // The clock is read after a save, before the host gets anything.
+        ensures turns { IsSaveTurned self.old.changes session.old.turns session.new.turns }
     {
         if self.changes.is_made(session.log().now()) {
             self.save_now(host, session);
@@ -194,6 +198,8 @@ impl Keeping {
         session: &mut Session<'_, R>,
     ) -> Option<&str>
         ensures application { session.new.application ≡ session.old.application }
+        ensures turns { session.new.turns
+            ≡ worked_if (not (is_all_saved self.old.changes)) session.old.turns }
     {
         if !self.changes.are_saved() {
             self.save_now(host, session);
@@ -213,6 +219,7 @@ impl Keeping {
         session: &mut Session<'_, R>,
     )
         ensures application { session.new.application ≡ session.old.application }
+        ensures turns { session.new.turns ≡ after_work session.old.turns }
     {
         session.begin_work();
         let written = self.write(host, session.log().rt);

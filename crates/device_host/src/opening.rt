@@ -2,6 +2,10 @@
 //!
 //! Tables, keys and files are dropped as a whole, which keeps the proofs small.
 
+ghost use Rattle.std.specs.Prelude.{◌≡◌};
+ghost use Rattle.device_session.specs.Turns.{after_work};
+
+use crate::device::Device;
 use crate::files::{KeyFile, TableFile, read_keys, read_table};
 use crate::finding::{find_saved, find_subscriptions, is_of_another_table};
 use crate::keeping::{Contents, Keeping, SavedState};
@@ -314,7 +318,7 @@ fn open_with<R: Eprint + Clock>(
     open_and_log(alloc, log, options, table, keys, rows, saved)
 }
 
-pub(crate) fn open(
+fn open(
     alloc: Global,
     table: Table,
     keys: Keys,
@@ -341,7 +345,30 @@ fn config(options: &HostSettings) -> Config {
 }
 
 /// Opens a host with the data of another one.
-pub(crate) fn reopen(alloc: Global, host: Host, options: &HostSettings) -> Result<Host, Stop> {
+pub(crate) fn reopen<R: Clock + Eprint>(
+    device: &mut Device<'_, R>,
+    host: Host,
+    settings: &HostSettings,
+) -> Result<Host, Stop>
+    ensures turns { device.new.session.turns ≡ after_work device.old.session.turns }
+{
     let (table, keys, rows) = host.into_parts();
-    open(alloc, table, keys, rows, options)
+    open_again(device, table, keys, rows, settings)
+}
+
+/// Opens a host while the device serves, which is work of the device.
+pub(crate) fn open_again<R: Clock + Eprint>(
+    device: &mut Device<'_, R>,
+    table: Table,
+    keys: Keys,
+    rows: Rows,
+    settings: &HostSettings,
+) -> Result<Host, Stop>
+    // The clock is read before the host gets anything.
+    ensures turns { device.new.session.turns ≡ after_work device.old.session.turns }
+{
+    device.session.begin_work();
+    let opened = open(device.alloc, table, keys, rows, settings);
+    device.session.end_work();
+    opened
 }

@@ -2,13 +2,14 @@
 
 ghost use Rattle.std.specs.Prelude.{◌≡◌, false, true};
 ghost use Rattle.device_session.specs.Asking.{after_delay};
+ghost use Rattle.device_session.specs.Turns.{after_work};
 ghost use Rattle.device_host.specs.Answers.{serves, IsAnsweredOrPutOff, IsSomehowAnswered};
 ghost use Rattle.device_host.specs.Silence.{IsSameOrHeld};
 
 use crate::course::Course;
 use crate::device::Device;
 use crate::files::{KeyFile, judged_key_file};
-use crate::opening::{open, reopen};
+use crate::opening::{open_again, reopen};
 use crate::restoring::{Subscriptions, log_dropped, unknown_refusal};
 use crate::stop::Stop;
 use crate::stopping::ENDING_TIME;
@@ -45,8 +46,9 @@ pub(crate) fn begin_reload<R: Files<File = File> + Clock + Eprint>(
         → IsSomehowAnswered device.old.session.asking device.new.session.asking }
     ensures later { serves device.old.course ≡ true → serves device.new.course ≡ false
         → device.new.session.asking ≡ after_delay device.old.session.asking }
+    ensures pending { device.new.session.pending ≡ device.old.session.pending }
 {
-    match read_again(device, host) {
+    match read_in_work(device, host) {
         Ok(None) => {
             device
                 .session
@@ -67,6 +69,24 @@ pub(crate) fn begin_reload<R: Files<File = File> + Clock + Eprint>(
         }
         Err(refusal) => answer_reload(device, &Answer::Refused(refusal)),
     }
+}
+
+/// Reads the key file again, which is work of the device.
+fn read_in_work<R: Files<File = File> + Clock + Eprint>(
+    device: &mut Device<'_, R>,
+    host: &Host,
+) -> Result<Option<KeyFile>, Option<String>>
+    // The clock is read before the host gets anything.
+    ensures turns { device.new.session.turns ≡ after_work device.old.session.turns }
+    ensures application { device.new.session.application ≡ device.old.session.application }
+    ensures asking { device.new.session.asking ≡ device.old.session.asking }
+    ensures pending { device.new.session.pending ≡ device.old.session.pending }
+    ensures course { device.new.course ≡ device.old.course }
+{
+    device.session.begin_work();
+    let read = read_again(device, host);
+    device.session.end_work();
+    read
 }
 
 /// Returns the keys of the file, or `None` if they have not changed.
@@ -143,7 +163,7 @@ pub(crate) fn reopen_with_keys<R: Files<File = File> + Clock + Eprint>(
     let course = std::mem::replace(&mut device.course, Course::Serves);
     device.session.release();
     let Course::Reloads { keys: file, .. } = course else {
-        return reopen(device.alloc, host, settings);
+        return reopen(device, host, settings);
     };
     let refused = unknown_saved(device.alloc, &device.files, host.rows(), &file.keys);
     let (opened, said) = match refused {
@@ -153,10 +173,7 @@ pub(crate) fn reopen_with_keys<R: Files<File = File> + Clock + Eprint>(
         },
         Err(refusal) => {
             drop(file);
-            (
-                reopen(device.alloc, host, settings),
-                Answer::Refused(refusal),
-            )
+            (reopen(device, host, settings), Answer::Refused(refusal))
         }
     };
     answer_reload(device, &said);
@@ -177,7 +194,7 @@ fn exchange_keys<R: Files<File = File> + Clock + Eprint>(
     let saved = Subscriptions::of(alloc, &rows);
     let KeyFile { keys, text } = file;
     device.key_text = text;
-    let host = open(alloc, table, keys, rows, settings)?;
+    let host = open_again(device, table, keys, rows, settings)?;
     match &saved {
         Ok(saved) => log_dropped(alloc, device.session.log(), saved, host.rows()),
         Err(_) => device
@@ -196,6 +213,7 @@ fn exchange_keys<R: Files<File = File> + Clock + Eprint>(
 fn answer_reload<R: Clock + Eprint>(device: &mut Device<'_, R>, answer: &Answer)
     ensures application { device.new.session.application ≡ device.old.session.application }
     ensures asking { IsSomehowAnswered device.old.session.asking device.new.session.asking }
+    ensures pending { device.new.session.pending ≡ device.old.session.pending }
     ensures course { device.new.course ≡ device.old.course }
 {
     let text = match answer {

@@ -4,6 +4,7 @@ ghost use Rattle.std.specs.Prelude.{◌≡◌, true};
 ghost use Rattle.std.specs.Option.{option_map_or};
 ghost use Rattle.device_host.specs.Changes.{is_all_saved};
 ghost use Rattle.device_host.specs.Order.{is_saved};
+ghost use Rattle.device_host.specs.Work.{IsTurnSaved};
 
 use crate::device::Device;
 use crate::turn_notices::Hearing;
@@ -26,6 +27,9 @@ pub(crate) fn save<R: Files<File = File> + Clock + Eprint>(
         device.new.keeping true }
     // The application, its place and its output stay as they are.
     ensures application { device.new.session.application ≡ device.old.session.application }
+    // If a save was made, the clock is read before the host gets anything.
+    ensures turns { IsTurnSaved device.old.keeping device.old.session.turns
+        device.new.session.turns }
 {
     let is_saved = match &mut device.keeping {
         Some(keeping) => keeping.save(host, &mut device.session),

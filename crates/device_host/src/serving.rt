@@ -196,7 +196,7 @@ fn open_next<R: Files<File = File> + Clock + Eprint>(
 ) -> Result<Host, Stop> {
     match over {
         Over::Reloads => reopen_with_keys(device, host, settings),
-        _ => reopen(device.alloc, host, settings),
+        _ => reopen(device, host, settings),
     }
 }
 

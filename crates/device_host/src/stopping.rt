@@ -28,6 +28,7 @@ pub(crate) fn begin_stop<R: Clock + Eprint>(device: &mut Device<'_, R>)
     ensures application { device.new.session.application
         ≡ held device.old.session.application }
     ensures asking { device.new.session.asking ≡ after_delay device.old.session.asking }
+    ensures pending { device.new.session.pending ≡ device.old.session.pending }
 {
     device.session.put_off_answer();
     device.session.hold();
