@@ -64,7 +64,8 @@ impl<'a> Controller<'a> {
     #[tactic(auto, using(crate::proofs::Keeping::serves_one, crate::proofs::Keeping::gives_up_for_a_fault, crate::proofs::Keeping::keeps_the_next, crate::proofs::Progress::spares_progress, crate::proofs::Reaching::tries_again, crate::proofs::Reaching::tries_on, crate::proofs::Reaching::pauses))]
     pub fn new(alloc: Global, connector: Connector<'a>, patience: u64) -> Controller<'a>
         ensures first { result ≡ spec.at_first (is_tried connector.entry) patience }
-        // The same controller is served until it is lost: no second one is while it is there.
+        // The notes on a served controller stay until that one is lost: no second one begins while
+        // it is there. Its socket is not among them.
         ensures serves_one { ServesOne }
         // It is given up only if it is late, if octets for it do not fit, if memory for them is
         // refused, or if it cannot be written.

@@ -31,7 +31,7 @@ pub fn state_text(
 ) -> Result<Vec<u8>, AllocError>
     ensures text { IfOk result (λ text. text.items
         ≡ state_text table_text.now rows.now (saved_values saves table.now initial.now)) }
-    // The text is read back as these parts.
+    // The text is read back as these parts, if the subscriptions are as a file can have them.
     ensures read_back { IfOk result (λ text. ReadsBack table_text.now rows.now
         (saved_values saves table.now initial.now) text.items) }
 {

@@ -32,7 +32,7 @@ pub fn serve_on<V: RowsStore>(
     // Without a connection nothing is served or saved.
     ensures listen { result ≡ Err ShellFault.Listen → host.new ≡ host.old }
     ensures unsaved { result ≡ Err ShellFault.Listen → store.new ≡ store.old }
-    // One connection is served until its end.
+    // Some octets of one connection are served. How many it has is up to its socket.
     ensures served { result ≢ Err ShellFault.Listen → host.old.fault ≡ None
         → ServesStream host.old host.new None None None None }
     // The number of a host fault is reported; without one only saving may fail.

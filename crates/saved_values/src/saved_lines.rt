@@ -25,7 +25,8 @@ pub fn values_text(
     ensures text { IfOk result (λ text. text.items
         ≡ values_text (saved_values saves table.now initial.now)) }
     ensures utf8 { IfOk result (λ text. IsUtf8 text.items) }
-    // The text restores the values that were saved, all of them.
+    // In the table of the file, if both have the same attributes, the text restores all values that
+    // were saved.
     ensures restores { IfOk result (λ text.
         RestoresWhatWasSaved saves table.now initial.now text.items) }
     // It restores the table itself, if that differs from the one of the file only in values that
