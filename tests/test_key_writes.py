@@ -53,6 +53,41 @@ def test_a_full_disk_of_a_command(folder, command):
     assert text_of(path) == (SECURE if command == "remove" else f"{LEGACY}\n{SECURE}\n{SHORT}"), "the next call"
 
 
+def exchange(folder, path, words):
+    """Runs tools/keys in a folder whose other user puts a link in the place of each file once that is written.
+
+    Returns its status, and the permission of the file to which the link leads.
+    """
+    aim, real = own_file(f"{folder}/../aim", "a secret"), os.fsync
+
+    def fsync(file):
+        real(file)
+        name = os.readlink(f"/proc/self/fd/{file}")
+        if "/.keys-" in name:
+            os.rename(name, f"{folder}/moved")
+            os.symlink(aim, name)
+
+    os.fsync, sys.argv = fsync, [TOOL, *words]
+    try:
+        runpy.run_path(TOOL, run_name="__main__")
+    except SystemExit as ended:
+        return ended.code, mode_of(aim)
+    finally:
+        os.fsync = real
+
+
+@pytest.mark.parametrize("command", ["add", "new"])
+def test_a_file_that_is_exchanged(folder, command, capsys):
+    """A file that another user exchanges for a link gives nobody the file to which it leads, and is no success."""
+    inner = f"{folder}/inner"
+    path = put(f"{inner}/keys.toml", LEGACY)
+    os.chmod(path, 0o666)
+    other = own_file(f"{folder}/other.toml", SHORT)
+    words = {"add": ["add", path, other], "new": ["new", DEVICE, "public", "--output", f"{inner}/new.toml"]}[command]
+    assert exchange(inner, path, words) == (1, 0o600)
+    assert "another program has exchanged it" in capsys.readouterr().err
+
+
 def interrupt(number, line, words):
     """Runs tools/keys and sends it a signal at this line of those that write a file. Returns its status."""
     left = None
