@@ -1,6 +1,7 @@
 """Tries the module of python/ with `gatt_shell host`: a phone's day, restarts, and the blocking form."""
 
 import asyncio
+import socket
 import threading
 import time
 
@@ -242,6 +243,51 @@ def test_blocking(folder):
     assert str(error.value) == "the connection to the device is closed", "after its end"
     with pytest.raises(FileNotFoundError):
         gihandop.BlockingDevice(path + "x", retry=None).__enter__()
+
+
+def test_threads_at_the_end(folder):
+    """Threads that ask while another one ends the device get their answer, or that it is gone."""
+    path = f"{folder}/blocking.socket"
+    door(path)
+    others = []
+
+    def ask(device):
+        try:
+            while True:
+                device.value(6)
+        except gihandop.Gone:
+            pass
+        except BaseException as error:
+            others.append(error)
+
+    for _ in range(60):
+        with gihandop.BlockingDevice(path) as device:
+            threads = [threading.Thread(target=ask, args=(device,), daemon=True) for _ in range(6)]
+            for it in threads:
+                it.start()
+            time.sleep(0.01)
+        for it in threads:
+            it.join(PATIENCE)
+        assert [it.is_alive() for it in threads] == [False] * 6, "each thread ends"
+    assert others == [], "no other error"
+
+
+@in_loop
+async def test_a_host_of_two_addresses(folder, monkeypatch, caplog):
+    """A device at `localhost` is tried again, also if localhost is two addresses. After a second it says so, once."""
+    host, port = "localhost", 1
+    both = [(socket.AF_INET6, "::1", (0, 0)), (socket.AF_INET, "127.0.0.1", ())]
+
+    def addresses(name, number, *_others, **_named):
+        return [(family, socket.SOCK_STREAM, 6, "", (address, number, *rest)) for family, address, rest in both]
+
+    monkeypatch.setattr(socket, "getaddrinfo", addresses)
+    device = gihandop.Device((host, port), retry=0.05)
+    with pytest.raises(asyncio.TimeoutError):
+        await asyncio.wait_for(device.open(), 1.5)
+    await device.close()
+    (line,) = [it.getMessage() for it in caplog.records if it.name == "gihandop"]
+    assert line.startswith("waiting for the device at ('localhost', 1): "), "what it waits for"
 
 
 @in_loop

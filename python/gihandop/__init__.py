@@ -11,6 +11,8 @@ One module without dependencies, for Python 3.9 or later. docs/PYTHON.md of Giha
 from __future__ import annotations
 
 import asyncio
+import concurrent.futures
+import logging
 import threading
 from collections import deque
 from dataclasses import dataclass
@@ -33,6 +35,9 @@ _LONGEST_LINE = 1_100
 _LONGEST_NOTICE = 65_536
 # A connection becomes the application by this line.
 _CLAIM = "application"
+# After so many seconds without a device the log says what a program waits for.
+_SILENCE = 1.0
+_LOG = logging.getLogger("gihandop")
 
 
 class DeviceError(Exception):
@@ -567,6 +572,7 @@ class Device:
     async def _connect(self) -> None:
         """Connects, again and again, until this object is closed, replaced or given up."""
         loop, link = asyncio.get_running_loop(), _Link(self)
+        since: Optional[float] = loop.time()
         try:
             while True:
                 link = _Link(self)
@@ -576,11 +582,16 @@ class Device:
                     else:
                         await loop.create_connection(lambda: link, *self.address)
                     await link.is_closed.wait()
+                    since = loop.time()
                 except OSError as error:
-                    # A path that is too long has no number.
-                    if self.retry is None or error.errno is None or isinstance(error, PermissionError):
+                    # A path that is too long has no number, and neither have several addresses of one host.
+                    is_wrong = isinstance(self.address, str) and error.errno is None
+                    if self.retry is None or is_wrong or isinstance(error, PermissionError):
                         self._error = error
                         return
+                    if since is not None and loop.time() - since >= _SILENCE:
+                        _LOG.warning("waiting for the device at %s: %s", self.address, error)
+                        since = None
                 if self._is_replaced or self._is_stopped:
                     return
                 if self.retry is None:
@@ -646,6 +657,9 @@ class BlockingDevice:
         self.device = Device(address, retry=retry, capacity=capacity)
         self._loop = asyncio.new_event_loop()
         self._thread = threading.Thread(target=self._loop.run_forever, daemon=True)
+        # Once it is ending, no question begins that nobody would answer.
+        self._lock = threading.Lock()
+        self._is_ending = False
 
     def __enter__(self) -> BlockingDevice:
         self._thread.start()
@@ -657,7 +671,12 @@ class BlockingDevice:
         return self
 
     def __exit__(self, *error: object) -> None:
-        self.wait(self._end())
+        with self._lock:
+            if self._is_ending:
+                return
+            self._is_ending = True
+            ending = asyncio.run_coroutine_threadsafe(self._end(), self._loop)
+        ending.result()
         self._loop.call_soon_threadsafe(self._loop.stop)
         self._thread.join()
         self._loop.close()
@@ -675,17 +694,23 @@ class BlockingDevice:
         await self.device.close()
         others = asyncio.all_tasks() - {asyncio.current_task()}
         if others:
-            for late in (await asyncio.wait(others, timeout=1))[1]:
-                late.cancel()
+            late = (await asyncio.wait(others, timeout=1))[1]
+            for it in late:
+                it.cancel()
+            if late:
+                await asyncio.wait(late, timeout=1)
 
     def wait(self, question: Coroutine[Any, Any, Result]) -> Result:
         """Waits for a question to `device`, for example `wait(device.connections())`."""
-        if self._loop.is_closed():
-            question.close()
-            raise Gone("the connection to the device is closed")
-        future = asyncio.run_coroutine_threadsafe(question, self._loop)
+        with self._lock:
+            if self._is_ending:
+                question.close()
+                raise Gone("the connection to the device is closed")
+            future = asyncio.run_coroutine_threadsafe(question, self._loop)
         try:
             return future.result()
+        except concurrent.futures.CancelledError:
+            raise Gone("the connection to the device is closed") from None
         except BaseException:
             future.cancel()
             raise
