@@ -92,6 +92,7 @@ install: all verdicts
 	$(INSTALL) -m 755 $(PROGRAM) $(DESTDIR)$(BINDIR)/gatt_shell
 	$(INSTALL) -m 755 $(BUILD)/hci_bridge $(DESTDIR)$(BINDIR)/hci_bridge
 	$(INSTALL) -m 644 $(ARCHIVE) $(DESTDIR)$(LIBDIR)/libgihandop_c.a
+	tools/release --installed $(BUILD)/VERDICTS $(DESTDIR)$(BINDIR)/gatt_shell $(DESTDIR)$(LIBDIR)/libgihandop_c.a
 	$(INSTALL) -m 644 $(BUILD)/libgihandop_heap.a $(DESTDIR)$(LIBDIR)/libgihandop_heap.a
 	$(INSTALL) -m 644 $(BUILD)/libgihandop_serve.a $(DESTDIR)$(LIBDIR)/libgihandop_serve.a
 	$(INSTALL) -m 644 $(BUILD)/gihandop.pc $(DESTDIR)$(LIBDIR)/pkgconfig/gihandop.pc

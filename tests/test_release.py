@@ -230,6 +230,28 @@ def test_empty_archive(own, folder):
     assert f"{ARCHIVE} is not the file that was proved" in ended.stdout, "its text"
 
 
+@pytest.mark.parametrize("path", [PROGRAM, ARCHIVE])
+@pytest.mark.parametrize("command", ["release", "install"])
+def test_replaced_meanwhile(own, folder, command, path):
+    """An output that another proof replaces after it was checked is refused, and its copy removed."""
+    put = f"{folder}/bin/install"
+    os.makedirs(os.path.dirname(put))
+    with open(put, "w", encoding="utf-8") as file:
+        file.write(f'#!/bin/sh\nif mkdir {folder}/once 2>/dev/null; then\n    cp {path} {path}.new\n    echo another >> {path}.new\n')
+        file.write(f'    mv {path}.new {path}\nfi\nexec {shutil.which("install")} "$@"\n')
+    os.chmod(put, 0o755)
+    how = {"cwd": own, "env": {**os.environ, "PATH": f"{folder}/bin:{os.environ['PATH']}"}}
+    words = {
+        "release": ["tools/release", f"{folder}/made"],
+        "install": ["make", "install", f"DESTDIR={folder}/root", f"BUILD={folder}/build"],
+    }[command]
+    ended = run(words, **how)
+    assert ended.returncode != 0, "it is refused"
+    assert "it was replaced meanwhile; install again" in ended.stdout, ended.stdout
+    assert not os.path.exists(f"{folder}/made"), "there is no release"
+    assert glob.glob(f"{folder}/root/**/{os.path.basename(path)}", recursive=True) == [], "the copy is removed"
+
+
 def test_check(checkout):
     """tools/release --check prints VERDICTS, and changes nothing."""
     text = ran(["tools/release", "--check"], cwd=checkout)
