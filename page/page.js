@@ -2,7 +2,7 @@
 const at = (id) => document.getElementById(id);
 const FILES = ["table", "keys", "script"];
 const EXAMPLES = JSON.parse(at("examples").textContent);
-const LETTERS = { r: "read", w: "write", c: "write without response", n: "be notified", i: "be indicated" };
+const LETTERS = { r: "read", w: "write", c: "write without response", n: "be notified", i: "be indicated", s: "subscribe" };
 let compiled, base;
 
 /** Returns the octets of a stream that a text in base64 gives through a decompressor. */
@@ -143,14 +143,60 @@ function fill(files) {
   update();
 }
 
+/** What a line of a key file may be in a link, by its name. */
+const KEY_VALUES = new Map([
+  ["address", /^"[0-9a-f:]{17}"$/i], ["kind", /^"(public|random)"$/], ["rand", /^"[0-9a-f]{16}"$/i], ["ediv", /^\d{1,5}$/],
+  ["size", /^\d{1,2}$/], ["authenticated", /^(true|false)$/], ["secure", /^(true|false)$/],
+]);
+
+/**
+ * Returns the entries of a key file for a link, without comments, and with zeros for each key. Returns undefined if a
+ * line has any other form: nobody knows then where a key is.
+ */
+function withoutKeys(text) {
+  let made = "";
+  for (const line of text.split(/\r?\n/)) {
+    const bare = line.replace(/^\s+|\s*(#.*)?$/g, "");
+    const [, name, value] = /^(\w+)\s*=\s*("[^"]*"|\w+)$/.exec(bare) ?? [];
+    if (/^\[\[\s*key\s*\]\]$/.test(bare)) {
+      made += "[[key]]\n";
+    } else if (name === "ltk" && /^"[0-9a-f]{32}"$/i.test(value)) {
+      made += `ltk = "${"0".repeat(32)}"\n`;
+    } else if (KEY_VALUES.get(name)?.test(value)) {
+      made += `${name} = ${value}\n`;
+    } else if (bare !== "") {
+      return undefined;
+    }
+  }
+  return (made.match(/[0-9a-f]{24,}/gi) ?? []).some((it) => /[^0]/.test(it)) ? undefined : made;
+}
+
+/** Returns octets in base64. A call has space for some of them only. */
+function base64(octets) {
+  let text = "";
+  for (let at = 0; at < octets.length; at += 1 << 15) {
+    text += String.fromCharCode(...octets.subarray(at, at + (1 << 15)));
+  }
+  return btoa(text);
+}
+
 /** Puts the files into the address, without the keys themselves. */
 async function share() {
   const files = Object.fromEntries(FILES.map((it) => [it, at(it).value]));
-  files.keys = files.keys.replace(/\bltk\s*=\s*(["'])[^"']*\1/g, `ltk = "${"0".repeat(32)}"`);
-  const stream = new Blob([JSON.stringify(files)]).stream().pipeThrough(new CompressionStream("deflate-raw"));
-  const octets = new Uint8Array(await new Response(stream).arrayBuffer());
-  history.replaceState(null, "", `#${encodeURIComponent(btoa(String.fromCharCode(...octets)))}`);
-  at("shared").textContent = "The address of this page holds the table, the keys with zeros in place of each ltk, and the script.";
+  const isAccepted = call("page_rights", files.table, files.keys).status === 0;
+  files.keys = isAccepted ? withoutKeys(files.keys) : undefined;
+  try {
+    const stream = new Blob([JSON.stringify(files)]).stream().pipeThrough(new CompressionStream("deflate-raw"));
+    const octets = new Uint8Array(await new Response(stream).arrayBuffer());
+    history.replaceState(null, "", `#${encodeURIComponent(base64(octets))}`);
+  } catch (error) {
+    at("shared").textContent = `The link cannot be made: ${error.message}`;
+    return;
+  }
+  at("shared").textContent = files.keys === undefined
+    ? "The address of this page holds the table and the script. The keys are not in it: a file is refused, or a line of " +
+      "the keys is neither a comment nor one plain value, so that a key could be anywhere."
+    : "The address of this page holds the table, the keys with zeros in place of each ltk, and the script.";
 }
 
 async function filesOfAddress() {

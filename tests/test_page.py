@@ -153,7 +153,7 @@ def test_the_fields(module, told):
     status, data = module("page_rights", TABLES["door"], KEYS)
     rows = [it.split("\t")[1:] for it in data.splitlines() if it.startswith("row\t")]
     assert (status, len(rows)) == (0, 8)
-    assert rows[2] == ["10", "fff1", "1", "00", ".", "rn", "rwn", "rwn"]
+    assert rows[2] == ["10", "fff1", "1", "00", ".", "rns", "rwns", "rwns"]
     assert rows[3] == ["13", "fff2", "0-8", "31323334", ".", ".", "(rw)", "."]
     assert [it for it in data.splitlines() if it.startswith("service\t")][0] == "service\t1800 Generic Access"
     assert "peer\tB\trandom c0:00:00:00:00:01" in data.splitlines()
@@ -181,7 +181,7 @@ def row_of(browser, handle):
 
 
 def test_it_opens(browser):
-    assert row_of(browser, 10) == ["10", "fff1", "1", "00", ".", "rn", "rwn", "rwn"]
+    assert row_of(browser, 10) == ["10", "fff1", "1", "00", ".", "rns", "rwns", "rwns"]
     assert "everybody may write it: `write` has no rule" in browser.text("findings")
     assert "Write Response" in browser.text("transcript")
     assert "connect Q 0 00:11:22:33:44:55" in browser.text("transcript")
@@ -209,10 +209,10 @@ def test_an_edit_is_compared(browser):
     browser.click("begin")
     browser.enter("table", TABLES["door"].replace("write = { authenticated = true }", "write = { encrypted = true }"))
     assert row_of(browser, 10)[4:] == [".", "rwn, was rn", "rwn", "rwn"]
-    assert browser.text("changes").splitlines()[:2] == ["Opened:", "   10  fff1  B w"]
+    assert browser.text("changes").splitlines()[:2] == ["Opened:", "   10  fff1  w  key of 7 to 16; key of 7 to 16, secure connections  B"]
     browser.enter("table", TABLES["door"])
     assert row_of(browser, 10)[4:] == [".", "rn", "rwn", "rwn"]
-    assert "Nothing is opened." in browser.text("changes")
+    assert "Nothing is opened," in browser.text("changes")
 
 
 REFUSED = {
@@ -249,7 +249,11 @@ def test_a_link_holds_the_files(browser, page):
     assert browser.evaluate("document.getElementById('table').value") == TABLES["bell"]
     assert browser.evaluate("document.getElementById('script').value") == "# a\n"
     keys = browser.evaluate("document.getElementById('keys').value")
-    assert keys == re.sub(r'ltk = "\w+"', f'ltk = "{"0" * 32}"', KEYS)
+    zeros = re.sub(r'ltk = "\w+"', f'ltk = "{"0" * 32}"', KEYS)
+    assert keys == "".join(f"{it}\n" for it in zeros.splitlines() if it and not it.startswith("#"))
+    browser.enter("keys", KEYS.replace("ltk =", '"ltk" ='))
+    browser.click("share")
+    browser.wait("document.getElementById('shared').textContent.includes('The keys are not in it')")
     browser.open(f"file://{page}#x")
     browser.wait("document.querySelector('#matrix tr')")
     assert "The address holds no files" in browser.text("shared")
