@@ -1,5 +1,6 @@
 """Tries a device that is held up: by a disk that is slow or full, or by a signal that stops its process."""
 
+import random
 import signal
 import time
 
@@ -7,8 +8,13 @@ import pytest
 
 from parties import DISCONNECT, PATIENCE, STRANGER, controller_at, stream_to
 from parties.disks import Disk
-from parties.homes import AT_OWNER, AT_STRANGER, owner_comes, read
+from parties.doors import CODE_READ, LONG, NAME_READ
+from parties.homes import AT_OWNER, AT_STRANGER, Home, owner_comes, read
+from parties.places import DOOR, text_of
 from parties.tables import VALUE, spelled
+
+# The answer to a request for the code that the application does not allow: Insufficient Authorization.
+NOT_ALLOWED = "010a0d0008"
 
 
 def test_tries_once_a_second(home):
@@ -116,3 +122,37 @@ def test_strangers_while_it_is_stopped(home, word):
     assert controller.command(DISCONNECT) == "400013", "it is disconnected in the end"
     counted = time.monotonic() - began_again + (0 if word == "--idle" else began_again - begun - 5)
     assert 2.2 < counted < 5, "after three seconds"
+
+
+@pytest.mark.long(8)
+def test_an_authorization_that_ends_in_a_save(folder):
+    """A phone is judged by no time before a slow save, in which its authorization has ended."""
+    disk = Disk(folder, takes=500)
+    home = Home(folder, table=text_of(DOOR[0]))
+    device = home.device(through=disk.through)
+    device.said("ready")
+    controller = controller_at(device)
+    controller.is_advertised()
+    owner_comes(controller)
+    application = home.application()
+    disk.fill()
+    application.say(f"update {LONG} 00")
+    assert application.up_to("ok")[-1] == "ok", "an update, which is not saved"
+    for _ in range(5):
+        # A try has just ended. The next one begins in a second, and takes half a second.
+        tried = disk.syncs()
+        application.say("allow 1 1250")
+        assert application.up_to("ok")[-1] == "ok", "the owner may read the code"
+        has_ended = time.monotonic() + 1.25
+        time.sleep(0.9)
+        # Some of these requests come when the next try begins. With too many at once a phone is disconnected.
+        asked, at = 0, len(controller.heard)
+        while disk.syncs() == tried:
+            if asked < len(controller.heard) - at + 4:
+                controller.say(AT_OWNER, NAME_READ)
+                asked += 1
+            controller.until(lambda: False, random.random() * 0.001)
+        time.sleep(max(0.0, has_ended + 0.05 - time.monotonic()))
+        controller.say(AT_OWNER, CODE_READ)
+        controller.until(lambda: len(controller.heard) > at + asked)
+        assert controller.heard[at + asked:] == [(AT_OWNER, NOT_ALLOWED)], "the code is not read"
