@@ -4,6 +4,8 @@ The comparison is proved. Here stand slips of an author of a table, with the lin
 in the file of expectations.
 """
 
+import random
+import re
 import resource
 import subprocess
 
@@ -15,6 +17,15 @@ DOOR = text_of(f"{ROOT}/examples/door.toml")
 KEYS = text_of(f"{ROOT}/examples/keys.toml")
 MEANT = text_of(f"{ROOT}/examples/door.expect.toml")
 
+KEYS_OF_ONE = """[[key]]
+address = "c0:00:00:00:00:01"
+kind = "random"
+rand = "0101010101010101"
+ediv = 257
+ltk = "00112233445566778899aabbccddeeff"
+size = 16
+authenticated = true
+"""
 LAST = 'properties = ["read", "write", "command"]\n'
 FIRST_FFF3 = 'value = "01"\nproperties = ["read"]\n'
 CODE = "write = { authenticated = true, key_size = 16, authorized = true }\n"
@@ -24,6 +35,12 @@ uuid = "fff5"
 value = "00"
 properties = ["read", "notify"]
 """
+BACK_DOOR = """[[service.characteristic]]
+uuid = "fff9"
+value = "00"
+properties = ["write"]
+write = { secure = true }
+"""
 DESCRIBED = """[[service.characteristic.descriptor]]
 uuid = "2901"
 value = "6f6e65"
@@ -31,85 +48,115 @@ properties = ["read", "write"]
 write = { encrypted = true }
 """
 
+# Kinds of keys, as the lines name them.
+PLAIN = "key of 7 to 16; key of 7 to 16, secure connections"
+ALL_AUTHENTICATED = "key of 7 to 16, authenticated; key of 7 to 16, authenticated, secure connections"
+SHORT_AUTHENTICATED = "key of 7 to 15, authenticated; key of 7 to 15, authenticated, secure connections"
+LONG_AUTHENTICATED = "key of 16, authenticated; key of 16, authenticated, secure connections"
+CODE_IS_MEANT = "authenticated, key_size = 16, authorized is meant"
+TODAY_AUTHENTICATED = "(today: key of 7, authenticated; key of 16, authenticated)"
+
 # A slip in the table of the door: a text, another one in its place, and the differences.
 TABLE_SLIPS = {
     "no rule for writing": (
         "write = { authenticated = true }\n", "",
-        [
-            "   10  fff1 write: no key may, but should not: authenticated is meant",
-            "   10  fff1 write: key of 16 may, but should not: authenticated is meant",
-        ],
+        [f"   10  fff1 write: no key; {PLAIN} (today: key of 16) may, but should not: authenticated is meant"],
     ),
     "the rules for reading and writing exchanged": (
         "read = { encrypted = true }\nwrite = { authenticated = true }\n",
         "read = { authenticated = true }\nwrite = { encrypted = true }\n",
         [
-            "   10  fff1 read: key of 16 should, but may not: encrypted is meant",
-            "   10  fff1 write: key of 16 may, but should not: authenticated is meant",
-            "   10  fff1 notify: key of 16 should, but may not: encrypted is meant",
+            f"   10  fff1 read: {PLAIN} (today: key of 16) should, but may not: encrypted is meant",
+            f"   10  fff1 write: {PLAIN} (today: key of 16) may, but should not: authenticated is meant",
+            f"   10  fff1 notify: {PLAIN} (today: key of 16) should, but may not: encrypted is meant",
         ],
     ),
     "a short key where a long one is meant": (
         CODE, CODE.replace("16", "7"),
         [
-            "   13  fff2 write: key of 7, authenticated, once authorized, may, but should not: "
-            "authenticated, key_size = 16, authorized is meant",
+            f"   13  fff2 write: {SHORT_AUTHENTICATED} (today: key of 7, authenticated), once authorized, "
+            f"may, but should not: {CODE_IS_MEANT}",
+        ],
+    ),
+    "no size of the key at all": (
+        READ_CODE + CODE, (READ_CODE + CODE).replace(", key_size = 16", ""),
+        [
+            f"   13  fff2 {use}: {SHORT_AUTHENTICATED} (today: key of 7, authenticated), once authorized, "
+            f"may, but should not: {CODE_IS_MEANT}"
+            for use in ("read", "write")
+        ],
+    ),
+    "no size of the key for reading": (
+        READ_CODE, READ_CODE.replace(", key_size = 16", ""),
+        [
+            f"   13  fff2 read: {SHORT_AUTHENTICATED} (today: key of 7, authenticated), once authorized, "
+            f"may, but should not: {CODE_IS_MEANT}",
         ],
     ),
     "no authorization": (
         READ_CODE, READ_CODE.replace(", authorized = true", ""),
         [
-            "   13  fff2 read: key of 16, authenticated may, but should not: "
-            "authenticated, key_size = 16, authorized is meant",
+            f"   13  fff2 read: {LONG_AUTHENTICATED} (today: key of 16, authenticated) "
+            f"may, but should not: {CODE_IS_MEANT}",
+        ],
+    ),
+    "an authorization and no key": (
+        READ_CODE, "read = { authorized = true }\n",
+        [
+            "   13  fff2 read: no key; key of 7 to 16; key of 7 to 15, authenticated; "
+            "key of 7 to 16, secure connections; key of 7 to 15, authenticated, secure connections "
+            "(today: key of 16; key of 7, authenticated), once authorized, "
+            f"may, but should not: {CODE_IS_MEANT}",
         ],
     ),
     "an authorization that is not meant": (
         FIRST_FFF3, FIRST_FFF3 + "read = { authorized = true }\n",
-        [
-            "   15  fff3 read: no key should, but may not: everybody is meant",
-            "   15  fff3 read: key of 16 should, but may not: everybody is meant",
-            "   15  fff3 read: key of 16, authenticated should, but may not: everybody is meant",
-            "   15  fff3 read: key of 7, authenticated should, but may not: everybody is meant",
-        ],
+        ["   15  fff3 read: everybody should, but may not: everybody is meant"],
     ),
-    "a use that nobody is meant to have": (
+    "a use that only secure keys have": (
         FIRST_FFF3, 'value = "01"\nproperties = ["read", "command"]\nwrite = { secure = true, authorized = true }\n',
-        [],
+        [
+            "   15  fff3 command: key of 16, authenticated, secure connections, once authorized, "
+            "may, but should not: nobody is meant",
+        ],
     ),
     "a use that somebody has once authorized": (
         FIRST_FFF3,
         'value = "01"\nproperties = ["read", "command"]\nwrite = { authenticated = true, authorized = true }\n',
         [
-            "   15  fff3 command: key of 16, authenticated, once authorized, may, but should not: nobody is meant",
-            "   15  fff3 command: key of 7, authenticated, once authorized, may, but should not: nobody is meant",
+            f"   15  fff3 command: {ALL_AUTHENTICATED} {TODAY_AUTHENTICATED}, once authorized, "
+            "may, but should not: nobody is meant",
         ],
     ),
     "a property that is missing": (
         LAST, 'properties = ["read", "write"]\n',
-        [
-            "   21  fff4 command: no key should, but may not: everybody is meant",
-            "   21  fff4 command: key of 16 should, but may not: everybody is meant",
-            "   21  fff4 command: key of 16, authenticated should, but may not: everybody is meant",
-            "   21  fff4 command: key of 7, authenticated should, but may not: everybody is meant",
-        ],
+        ["   21  fff4 command: everybody should, but may not: everybody is meant"],
     ),
-    "a subscription that no key permits": (
+    "a subscription that few keys permit": (
         "config = { encrypted = true }", "config = { secure = true }",
         [
-            "   10  fff1 notify: key of 16 should, but may not: encrypted is meant",
-            "   10  fff1 notify: key of 16, authenticated should, but may not: encrypted is meant",
-            "   10  fff1 notify: key of 7, authenticated should, but may not: encrypted is meant",
+            "   10  fff1 subscribe: key of 7 to 16; key of 7 to 16, authenticated; "
+            "key of 7 to 16, secure connections; key of 7 to 15, authenticated, secure connections "
+            "(today: key of 16; key of 7, authenticated; key of 16, authenticated) "
+            "should, but may not: encrypted is meant",
+        ],
+    ),
+    "a subscription without a rule": (
+        "config = { encrypted = true }\n", "",
+        ["   10  fff1 subscribe: no key may, but should not: encrypted is meant"],
+    ),
+    "notifications that only the subscription protects": (
+        "read = { encrypted = true }\nwrite = { authenticated = true }\n", "write = { authenticated = true }\n",
+        [
+            "   10  fff1 read: no key may, but should not: encrypted is meant",
+            "   10  fff1 notify: no key may, but should not: encrypted is meant",
         ],
     ),
     "indications in place of notifications": (
         'fixed = true\nproperties = ["read", "notify"]', 'fixed = true\nproperties = ["read", "indicate"]',
         [
-            f"    6  2a19 Battery Level {use}: {key} {what}"
-            for use, what in (
-                ("notify", "should, but may not: everybody is meant"),
-                ("indicate", "may, but should not: nobody is meant"),
-            )
-            for key in ("no key", "key of 16", "key of 16, authenticated", "key of 7, authenticated")
+            "    6  2a19 Battery Level notify: everybody should, but may not: everybody is meant",
+            "    6  2a19 Battery Level indicate: everybody may, but should not: nobody is meant",
         ],
     ),
     "a characteristic that is new": (
@@ -119,7 +166,14 @@ TABLE_SLIPS = {
         LAST, LAST + NEW + "read = { authenticated = true, authorized = true }\n",
         ["   23  fff5: it can be used, but no expectation names it"],
     ),
-    "one that nobody may use": (LAST, LAST + NEW + "read = { secure = true }\n", []),
+    "one that only a secure key may write": (
+        LAST, LAST + BACK_DOOR, ["   23  fff9: it can be used, but no expectation names it"],
+    ),
+    "one to which somebody may only subscribe": (
+        LAST, LAST + NEW.replace('"read", ', "") + "read = { secure = true }\n",
+        ["   23  fff5: it can be used, but no expectation names it"],
+    ),
+    "one that nobody may use": (LAST, LAST + NEW.replace('"read", "notify"', ""), []),
     "a descriptor that is new": (
         LAST, LAST + DESCRIBED,
         ["   22  2901 Characteristic User Description: it can be used, but no expectation names it"],
@@ -162,7 +216,6 @@ characteristic = "fff3"
 number = 3
 read = "everybody"
 """
-ALL_KEYS = ("no key", "key of 16", "key of 16, authenticated", "key of 7, authenticated")
 
 # A change of the expectations, and the differences of the door then.
 MEANT_SLIPS = {
@@ -205,33 +258,57 @@ MEANT_SLIPS = {
     ),
     "less than is permitted": (
         FFF1, FFF1.replace('"authenticated"', "{ authenticated = true, key_size = 16 }"),
-        ["   10  fff1 write: key of 7, authenticated may, but should not: authenticated, key_size = 16 is meant"],
+        [
+            f"   10  fff1 write: {SHORT_AUTHENTICATED} (today: key of 7, authenticated) "
+            "may, but should not: authenticated, key_size = 16 is meant",
+        ],
     ),
     "more than is permitted": (
         FFF1, FFF1.replace('write = "authenticated"', 'write = "encrypted"'),
-        ["   10  fff1 write: key of 16 should, but may not: encrypted is meant"],
+        [f"   10  fff1 write: {PLAIN} (today: key of 16) should, but may not: encrypted is meant"],
     ),
     "an authorization": (
         FFF1, FFF1.replace('write = "authenticated"', "write = { authenticated = true, authorized = true }"),
         [
-            f"   10  fff1 write: {key} may, but should not: authenticated, authorized is meant"
-            for key in ("key of 16, authenticated", "key of 7, authenticated")
+            f"   10  fff1 write: {ALL_AUTHENTICATED} {TODAY_AUTHENTICATED} "
+            "may, but should not: authenticated, authorized is meant",
         ],
     ),
     "secure connections": (
         FFF1, FFF1.replace('write = "authenticated"', 'write = "secure"'),
         [
-            f"   10  fff1 write: {key} may, but should not: secure is meant"
-            for key in ("key of 16, authenticated", "key of 7, authenticated")
+            "   10  fff1 write: key of 7 to 16, authenticated; key of 7 to 15, authenticated, secure connections "
+            f"{TODAY_AUTHENTICATED} may, but should not: secure is meant",
         ],
     ),
     "authorization alone": (
         NAME, NAME.replace('"everybody"', '"authorized"'),
-        [f"    3  2a00 Device Name read: {key} may, but should not: authorized is meant" for key in ALL_KEYS],
+        ["    3  2a00 Device Name read: everybody may, but should not: authorized is meant"],
     ),
     "a use that is missing": (
         BATTERY, BATTERY.replace('notify = "everybody"\n', ""),
-        [f"    6  2a19 Battery Level notify: {key} may, but should not: nobody is meant" for key in ALL_KEYS],
+        [
+            f"    6  2a19 Battery Level {use}: everybody may, but should not: nobody is meant"
+            for use in ("notify", "subscribe")
+        ],
+    ),
+    "a subscription of its own": (BATTERY, BATTERY + 'subscribe = "everybody"\n', []),
+    "a subscription for nobody": (
+        BATTERY, BATTERY + 'subscribe = "nobody"\n',
+        ["    6  2a19 Battery Level subscribe: everybody may, but should not: nobody is meant"],
+    ),
+    "a subscription as indications are": (
+        FFF1, FFF1.replace("notify", "indicate"),
+        [
+            "   10  fff1 notify: every key (today: key of 16; key of 7, authenticated; key of 16, authenticated) "
+            "may, but should not: nobody is meant",
+            "   10  fff1 indicate: every key (today: key of 16; key of 7, authenticated; key of 16, authenticated) "
+            "should, but may not: encrypted is meant",
+        ],
+    ),
+    "fewer subscriptions than notifications": (
+        FFF1, FFF1 + "subscribe = { authenticated = true }\n",
+        [f"   10  fff1 subscribe: {PLAIN} (today: key of 16) may, but should not: authenticated is meant"],
     ),
     "all parts of a need": (
         NAME,
@@ -240,9 +317,8 @@ MEANT_SLIPS = {
             "{ encrypted = true, authenticated = true, key_size = 7, secure = true, authorized = true }",
         ),
         [
-            f"    3  2a00 Device Name read: {key} may, but should not: "
-            "encrypted, authenticated, key_size = 7, secure, authorized is meant"
-            for key in ALL_KEYS
+            "    3  2a00 Device Name read: everybody may, but should not: "
+            "encrypted, authenticated, key_size = 7, secure, authorized is meant",
         ],
     ),
     "a descriptor that is not there": (
@@ -436,6 +512,61 @@ authenticated = {str(number % 4 < 2).lower()}
 """
     for number in range(20)
 )
+OTHER_KEYS = {
+    "no key file": None,
+    "no key": "",
+    "one authenticated key of 16": KEYS_OF_ONE,
+}
+
+# A value that is written, with a need in place of NEED.
+ONE = """[[service]]
+uuid = "fff0"
+[[service.characteristic]]
+uuid = "fff1"
+value = "00"
+properties = ["write"]
+write = { NEED }
+"""
+# A value that is notified, what is meant of it, and the differences.
+SENT = """[[service]]
+uuid = "fff0"
+[[service.characteristic]]
+uuid = "fff1"
+value = "00"
+fixed = true
+properties = ["read", "notify"]
+"""
+SENT_MEANT = '[[expect]]\ncharacteristic = "fff1"\n'
+LONG = "{ authenticated = true, key_size = 16 }"
+STAYING = {
+    "an authorization": (
+        "config = { authorized = true }\n", 'read = "everybody"\nnotify = "authorized"\n',
+        ["    3  fff1 notify: everybody may, but should not: authorized is meant"],
+    ),
+    "an authorization of the subscription alone": (
+        "config = { authorized = true }\n", 'read = "everybody"\nnotify = "everybody"\nsubscribe = "authorized"\n', [],
+    ),
+    "an authorization of both": (
+        "read = { authorized = true }\nconfig = { authorized = true }\n",
+        'read = "authorized"\nnotify = "authorized"\n', [],
+    ),
+    "a weaker key": (
+        f"read = {{ encrypted = true }}\nconfig = {LONG}\n", f'read = "encrypted"\nnotify = {LONG}\n',
+        [
+            "    3  fff1 notify: key of 7 to 16; key of 7 to 15, authenticated; key of 7 to 16, secure connections; "
+            "key of 7 to 15, authenticated, secure connections "
+            "may, but should not: authenticated, key_size = 16 is meant",
+        ],
+    ),
+    "a table that closes it": (
+        f"config = {LONG}\n", f'read = "everybody"\nnotify = {LONG}\n',
+        [
+            "    3  fff1 notify: no key; key of 7 to 16; key of 7 to 15, authenticated; "
+            "key of 7 to 16, secure connections; key of 7 to 15, authenticated, secure connections "
+            "may, but should not: authenticated, key_size = 16 is meant",
+        ],
+    ),
+}
 LARGE_MEANT = "".join(
     f"""[[expect]]
 service = "{0xA000 + number:04x}"
@@ -453,6 +584,146 @@ read = "everybody"
 )
 
 
+# A model of needs and of the lines, independent of the program: a need is a dictionary, or None for nobody's.
+SIDES = ((False, True), (False, False), (True, True), (True, False))
+FLAGS = ((False, False), (True, False), (False, True), (True, True))
+KINDS = [None, *((size, *flags) for flags in FLAGS for size in range(7, 17))]
+PARTS = ("encrypted", "authenticated", "key_size", "secure", "authorized")
+RIGHTS = ("read", "write", "command", "notify", "indicate", "subscribe")
+
+
+def is_met(need, key, is_authorized):
+    """Whether a client with this key, or none, meets a need; None is nobody's."""
+    if need is None or need.get("authorized") and not is_authorized:
+        return False
+    size, authenticated, secure = key or (0, False, False)
+    least = 16 if need.get("secure") else need.get("key_size", 0)
+    return (
+        not (key is None and any(need.get(part) for part in PARTS[:4]))
+        and (authenticated or not (need.get("authenticated") or need.get("secure")))
+        and (secure or not need.get("secure"))
+        and size >= least
+    )
+
+
+def need_of(value, right):
+    """What a right of a value in a table requires."""
+    if right == "subscribe":
+        return value["config"] if {"notify", "indicate"} & set(value["properties"]) else None
+    place = "write" if right in ("write", "command") else "read"
+    return value[place] if right in value["properties"] else None
+
+
+def kinds_words(kinds):
+    """Kinds of keys in words, sizes that follow each other as one."""
+    if len(kinds) > 39 and (None in kinds) == (len(kinds) == 41):
+        return "everybody" if None in kinds else "every key"
+    words = ["no key"] if None in kinds else []
+    for flags in FLAGS:
+        runs = []
+        for size in sorted(kind[0] for kind in kinds if kind and kind[1:] == flags):
+            if runs and runs[-1][1] == size - 1:
+                runs[-1][1] = size
+            else:
+                runs.append([size, size])
+        named = ", authenticated" * flags[0] + ", secure connections" * flags[1]
+        words += [f"key of {first}{f' to {last}' * (first < last)}{named}" for first, last in runs]
+    return "; ".join(words)
+
+
+def need_words(need):
+    if need is None:
+        return "nobody"
+    parts = [f"key_size = {need[part]}" if part == "key_size" else part for part in PARTS if need.get(part)]
+    return ", ".join(parts) or "everybody"
+
+
+def lines_of(name, value, meant):
+    """The lines of a value, for what is meant of each right."""
+    lines = []
+    for right in RIGHTS:
+        need, wanted = need_of(value, right), meant[right]
+        for side in SIDES:
+            kinds = [
+                key for key in KINDS
+                if next(((late, is_met(need, key, late)) for late in (False, True)
+                         if is_met(need, key, late) != is_met(wanted, key, late)), None) == side
+            ]
+            if kinds:
+                lines.append(
+                    f"{name} {right}: {kinds_words(kinds)}{', once authorized,' * side[0]} "
+                    f"{'may, but should not' if side[1] else 'should, but may not'}: {need_words(wanted)} is meant"
+                )
+    return lines
+
+
+def random_need(choose):
+    """A need of a table: one in three asks for nothing."""
+    if choose.random() < 1 / 3:
+        return {}
+    need = {part: True for part in PARTS if part != "key_size" and choose.random() < 0.3}
+    return need if need.get("secure") or choose.random() < 0.5 else {**need, "key_size": choose.randint(7, 16)}
+
+
+def toml_of(need):
+    if need is None:
+        return '"nobody"'
+    return "{ " + ", ".join(f"{part} = {str(of).lower()}" for part, of in need.items()) + " }"
+
+
+def random_value(choose):
+    properties = [right for right in RIGHTS[:5] if choose.random() < 0.5]
+    return {"properties": properties, **{place: random_need(choose) for place in ("read", "write", "config")}}
+
+
+def table_of(values):
+    """A table of values; those without a configuration have no rule for one."""
+    text = '[[service]]\nuuid = "fff0"\n'
+    for at, value in enumerate(values):
+        text += f'[[service.characteristic]]\nuuid = "{0xA000 + at:04x}"\nvalue = "00"\nfixed = true\n'
+        text += f"properties = {str(value['properties']).replace(chr(39), chr(34))}\n"
+        text += f"read = {toml_of(value['read'])}\nwrite = {toml_of(value['write'])}\n"
+        if {"notify", "indicate"} & set(value["properties"]):
+            text += f"config = {toml_of(value['config'])}\n"
+    return text
+
+
+def meant_of(values, choose):
+    """What is meant of values, without each right that a missing key means, mostly."""
+    text = ""
+    for at, meant in enumerate(values):
+        text += f'[[expect]]\ncharacteristic = "{0xA000 + at:04x}"\n'
+        sent = meant["indicate"] if meant["notify"] is None else meant["notify"]
+        for right in RIGHTS:
+            if meant[right] != (sent if right == "subscribe" else None) or choose.random() < 0.1:
+                text += f"{right} = {toml_of(meant[right])}\n"
+    return text
+
+
+def lines_of_all(values, meant):
+    """The lines of values, whose handles follow each other with the declarations and configurations."""
+    lines, handle = [], 1
+    for at, (value, wanted) in enumerate(zip(values, meant)):
+        handle += 2
+        lines += lines_of(f"{handle:5}  {0xA000 + at:04x}", value, wanted)
+        handle += bool({"notify", "indicate"} & set(value["properties"]))
+    return lines
+
+
+def changed(values, meant, choose):
+    """Values with one change of a property or of a need, or what is meant with one."""
+    values, meant = [dict(value) for value in values], [dict(wanted) for wanted in meant]
+    value, wanted = choose.choice(values), choose.choice(meant)
+    what = choose.choice((*RIGHTS, "a need", "a need", "a property"))
+    if what == "a property":
+        value["properties"] = sorted({*value["properties"]} ^ {choose.choice(RIGHTS[:5])}, key=RIGHTS.index)
+    elif what == "a need":
+        value[choose.choice(("read", "write", "config"))] = random_need(choose)
+    else:
+        wanted[what] = choose.choice((None, random_need(choose)))
+    return values, meant
+
+
 def written(folder, name, text):
     with open(f"{folder}/{name}", "w", encoding="utf-8", errors="surrogateescape") as file:
         file.write(text)
@@ -461,26 +732,43 @@ def written(folder, name, text):
 
 @pytest.fixture
 def expect(program, folder):
-    """Compares texts of a table, keys and expectations. Returns the status, the lines, and standard error."""
+    """Compares texts of a table, keys (or None) and expectations. Returns the status, the lines, and standard error."""
 
     def compared(table, keys, meant):
         names = zip(("table.toml", "keys.toml", "expect.toml"), (table, keys, meant))
-        paths = [written(folder, name, text) for name, text in names]
+        paths = [written(folder, name, text) for name, text in names if text is not None]
         ran = subprocess.run([program, "expect", *paths], capture_output=True, text=True)
-        return ran.returncode, ran.stdout.splitlines(), ran.stderr.replace(paths[2], "FILE")
+        return ran.returncode, ran.stdout.splitlines(), ran.stderr.replace(paths[-1], "FILE")
 
     return compared
 
 
 def verdict(differences, count):
     """What is printed, and the status."""
-    return (3, differences, "") if differences else (0, [f"All {count} expectations hold."], "")
+    hold = f"{count} expectations hold" if count > 1 else "1 expectation holds"
+    return (3, differences, "") if differences else (
+        0, [f"{hold}, for clients with every kind of key and without one."], "",
+    )
+
+
+def without_today(lines):
+    """The lines as they are without a key file."""
+    return [re.sub(r" \(today: [^)]*\)", "", line) for line in lines]
 
 
 def test_the_example(program):
     paths = [f"{ROOT}/examples/{name}" for name in ("door.toml", "keys.toml", "door.expect.toml")]
     ran = subprocess.run([program, "expect", *paths], capture_output=True, text=True)
-    assert (ran.returncode, ran.stdout, ran.stderr) == (0, "All 8 expectations hold.\n", "")
+    assert (ran.returncode, ran.stdout, ran.stderr) == (
+        0, "8 expectations hold, for clients with every kind of key and without one.\n", "",
+    )
+
+
+def test_the_example_of_the_page(expect):
+    """The expectations in docs/TABLE.md hold for the table there."""
+    examples = re.findall(r"```toml\n(.*?)```", text_of(f"{ROOT}/docs/TABLE.md"), re.DOTALL)
+    table, meant = (next(text for text in examples if text.startswith(head)) for head in ("[[service]]", "[[expect]]"))
+    assert expect(table, None, meant) == verdict([], 2)
 
 
 @pytest.mark.parametrize("slip", TABLE_SLIPS)
@@ -508,11 +796,42 @@ def test_a_refused_file(expect, fault):
         assert error == f"expect: FILE: {text}\n"
 
 
-def test_without_keys(expect):
-    """A link without a key counts even if there is no key at all."""
-    table = DOOR.replace("write = { authenticated = true }\n", "")
-    line = "   10  fff1 write: no key may, but should not: authenticated is meant"
-    assert expect(table, "", MEANT) == verdict([line], 8)
+@pytest.mark.parametrize("keys", OTHER_KEYS)
+@pytest.mark.parametrize("slip", TABLE_SLIPS)
+def test_a_slip_whatever_the_keys_are(expect, slip, keys):
+    """The keys of a file are named in the lines, and change nothing else."""
+    before, after, differences = TABLE_SLIPS[slip]
+    status, lines, error = expect(DOOR.replace(before, after), OTHER_KEYS[keys], MEANT)
+    assert (status, without_today(lines), error) == verdict(without_today(differences), 8)
+    assert OTHER_KEYS[keys] or lines == without_today(lines)
+
+
+@pytest.mark.parametrize("rule", ["secure = true", "encrypted = true, key_size = 16"])
+def test_a_lost_rule(expect, rule):
+    """A rule that no key of the file would miss is missed all the same."""
+    meant = f'[[expect]]\ncharacteristic = "fff1"\nwrite = {{ {rule} }}\n'
+    kinds = {
+        "secure = true": "key of 7 to 16; key of 7 to 16, authenticated; key of 7 to 16, secure connections; "
+        "key of 7 to 15, authenticated, secure connections",
+        "encrypted = true, key_size = 16": "key of 7 to 15; key of 7 to 15, authenticated; "
+        "key of 7 to 15, secure connections; key of 7 to 15, authenticated, secure connections",
+    }[rule]
+    line = f"    3  fff1 write: {kinds} may, but should not: {rule.replace(' = true', '')} is meant"
+    assert expect(ONE.replace("NEED", "encrypted = true"), "", meant) == verdict([line], 1)
+    assert expect(ONE.replace("NEED", rule), "", meant) == verdict([], 1)
+
+
+@pytest.mark.parametrize("table", STAYING)
+def test_a_subscription_that_stays(expect, table):
+    """What guards only the subscription is not what is needed for being sent the value."""
+    rules, meant, lines = STAYING[table]
+    assert expect(SENT + rules, None, SENT_MEANT + meant) == verdict(lines, 1)
+
+
+def test_no_expectations(expect):
+    assert expect('[[service]]\nuuid = "fff0"\n', None, "") == (
+        0, ["There are no expectations, and nobody can use a value or a descriptor."], "",
+    )
 
 
 def test_descriptors(expect):
@@ -523,11 +842,9 @@ def test_descriptors(expect):
     (
         1,
         [
-            "    5  2901 Characteristic User Description write: key of 16 should, but may not: encrypted is meant",
-            "    5  2901 Characteristic User Description write: key of 16, authenticated should, but may not: "
-            "encrypted is meant",
-            "    5  2901 Characteristic User Description write: key of 7, authenticated should, but may not: "
-            "encrypted is meant",
+            "    5  2901 Characteristic User Description write: every key "
+            "(today: key of 16; key of 7, authenticated; key of 16, authenticated) "
+            "should, but may not: encrypted is meant",
             "    9  2901 Characteristic User Description: it can be used, but no expectation names it",
         ],
     ),
@@ -560,11 +877,54 @@ def test_a_file_that_is_not_there(program, folder, place):
     assert ran.stderr.startswith(f"file: unreadable: {folder}/gone: ")
 
 
+@pytest.mark.parametrize("place", range(3))
+def test_a_folder_in_the_place_of_a_file(program, folder, place):
+    paths = [f"{ROOT}/examples/{name}" for name in ("door.toml", "keys.toml", "door.expect.toml")]
+    paths[place] = folder
+    ran = subprocess.run([program, "expect", *paths], capture_output=True, text=True)
+    assert (ran.returncode, ran.stdout) == (1, "")
+    assert ran.stderr == f"file: unreadable: {folder}: Is a directory (os error 21)\n"
+
+
 def test_a_large_table(expect):
     before = resource.getrusage(resource.RUSAGE_CHILDREN).ru_utime
     assert expect(LARGE, MANY_KEYS, LARGE_MEANT) == verdict([], 224)
     # Seconds of a processor; without proofs it took 2, most of them for reading the files.
     assert resource.getrusage(resource.RUSAGE_CHILDREN).ru_utime - before < 10
+
+
+def test_many_expectations(expect):
+    """250 expectations, each of 511 values, take no time for each kind of key."""
+    value = '[[service.characteristic]]\nuuid = "fff1"\nvalue = "00"\nproperties = ["read", "write"]\n'
+    rules = "read = { encrypted = true }\nwrite = { authenticated = true, key_size = 16 }\n"
+    meant = '[[expect]]\ncharacteristic = "fff1"\nread = "encrypted"\nwrite = { authenticated = true, key_size = 16 }\n'
+    before = resource.getrusage(resource.RUSAGE_CHILDREN).ru_utime
+    assert expect('[[service]]\nuuid = "fff0"\n' + (value + rules) * 511, None, meant * 250) == verdict([], 250)
+    # Seconds of a processor; without proofs it took 4, and 200 with a comparison for each kind of key.
+    assert resource.getrusage(resource.RUSAGE_CHILDREN).ru_utime - before < 20
+
+
+def test_few_lines(expect):
+    """A right of an attribute has at most four lines, however many kinds of keys differ."""
+    value = '[[service.characteristic]]\nuuid = "fff1"\nvalue = "00"\nproperties = ["read", "write"]\n'
+    rules = "read = { authorized = true }\nwrite = { authenticated = true, authorized = true }\n"
+    table = '[[service]]\nuuid = "fff0"\n' + (value + rules) * 200
+    meant = '[[expect]]\ncharacteristic = "fff1"\nread = { key_size = 12 }\nwrite = "secure"\n' * 4
+    status, lines, error = expect(table, None, meant)
+    assert (status, len(lines), error) == (3, 4 * 200 * 4, "")
+    one = [
+        "read: key of 12 to 16; key of 12 to 16, authenticated; key of 12 to 16, secure connections; "
+        "key of 12 to 16, authenticated, secure connections should, but may not: key_size = 12 is meant",
+        "read: no key; key of 7 to 11; key of 7 to 11, authenticated; key of 7 to 11, secure connections; "
+        "key of 7 to 11, authenticated, secure connections, once authorized, may, but should not: "
+        "key_size = 12 is meant",
+        "write: key of 16, authenticated, secure connections should, but may not: secure is meant",
+        "write: key of 7 to 16, authenticated; key of 7 to 15, authenticated, secure connections, once authorized, "
+        "may, but should not: secure is meant",
+    ]
+    assert lines == [
+        f"{handle:5}  fff1 {line}" for _ in range(4) for handle in range(3, 403, 2) for line in one
+    ]
 
 
 def test_many_of_one_type(expect):
@@ -580,3 +940,18 @@ def test_many_of_one_type(expect):
     assert expect(table, "", meant) == verdict(
         ["  201  fff1 read: no key should, but may not: everybody is meant"], 100
     )
+
+
+@pytest.mark.parametrize("part", range(10))
+def test_random_tables(expect, part):
+    """True files hold, and a change is reported by the lines of the model."""
+    choose = random.Random(part)
+    for _ in range(33):
+        values = [random_value(choose) for _ in range(choose.randint(1, 6))]
+        meant = [{right: need_of(value, right) for right in RIGHTS} for value in values]
+        assert expect(table_of(values), None, meant_of(meant, choose)) == verdict([], len(values))
+        for _ in range(3):
+            others, wanted = changed(values, meant, choose)
+            keys = choose.choice((None, "", KEYS_OF_ONE))
+            status, lines, error = expect(table_of(others), keys, meant_of(wanted, choose))
+            assert (status, without_today(lines), error) == verdict(lines_of_all(others, wanted), len(values))

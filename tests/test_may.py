@@ -59,11 +59,16 @@ DOOR = [
     ("stranger command 10", [f"{NONE}no: it has no property `command`, Write Not Permitted (03)"]),
     ("stranger command 21", [f"{NONE}yes"]),
     ("stranger notify 6", [f"{NONE}yes"]),
-    ("stranger indicate 6", [f"{NONE}no: it may not subscribe: it has no property `indicate`, Out of Range (ff)"]),
-    ("stranger notify 3", [f"{NONE}no: it may not subscribe: it has no property `notify`"]),
-    ("stranger notify 7", [f"{NONE}no: it may not subscribe: it has no property `notify`"]),
+    ("stranger subscribe 6", [f"{NONE}yes"]),
+    ("stranger subscribe 22", [f"{NONE}no: Invalid Handle (01)"]),
+    ("stranger indicate 6", [f"{NONE}no: nothing is sent: it has no property `indicate`"]),
+    ("stranger notify 3", [f"{NONE}no: nothing is sent: it has no property `notify`"]),
+    ("stranger notify 7", [f"{NONE}no: nothing is sent: it has no property `notify`"]),
+    ("stranger subscribe 3", [f"{NONE}no: it may not subscribe: it has no property `notify` or `indicate`"]),
+    ("stranger subscribe 7", [f"{NONE}no: it may not subscribe: it has no property `notify` or `indicate`"]),
+    ("stranger notify 10", [f"{NONE}no: nothing is sent: `read` needs `encrypted`"]),
     (
-        "stranger notify 10",
+        "stranger subscribe 10",
         [f"{NONE}no: it may not subscribe: `config` needs `encrypted`, Insufficient Authentication (05)"],
     ),
     ("stranger write 11", [f"{NONE}no: `config` needs `encrypted`, Insufficient Authentication (05)"]),
@@ -84,11 +89,15 @@ DOOR = [
         ],
     ),
     (
-        f"{PHONE} notify 10",
+        f"{PHONE} subscribe 10",
         [
             f"{NONE}no: it may not subscribe: `config` needs `encrypted`, Insufficient Encryption (0f)",
             f"{KEY_16}yes",
         ],
+    ),
+    (
+        f"{PHONE} notify 10",
+        [f"{NONE}no: nothing is sent: `read` needs `encrypted`", f"{KEY_16}yes"],
     ),
     (
         f"{TABLET} write 13",
@@ -114,7 +123,8 @@ DOOR = [
 BELL = [
     ("stranger indicate 6", [f"{NONE}yes"]),
     ("stranger read 6", [f"{NONE}no: it has no property `read`, Read Not Permitted (02)"]),
-    ("stranger notify 6", [f"{NONE}no: it may not subscribe: it has no property `notify`, Out of Range (ff)"]),
+    ("stranger notify 6", [f"{NONE}no: nothing is sent: it has no property `notify`"]),
+    ("stranger subscribe 6", [f"{NONE}yes"]),
     (f"{TABLET} notify 3", [f"{NONE}yes", f"{LONG}yes", f"{SHORT}yes"]),
 ]
 PORCH = [
@@ -123,22 +133,32 @@ PORCH = [
 ]
 SILENT_CASES = [
     (
-        "stranger notify 3",
+        "stranger subscribe 3",
         [f"{NONE}no: it may not subscribe: `config` needs `authorized`, Insufficient Authorization (08)"],
+    ),
+    ("stranger subscribe 3 --authorized", [f"{NONE}yes"]),
+    ("stranger notify 3 --authorized", [f"{NONE}no: nothing is sent: `read` needs `encrypted`"]),
+    (
+        f"{TABLET} notify 3",
+        [
+            f"{NONE}no: nothing is sent: `read` needs `encrypted`",
+            f"{LONG}yes",
+            f"{SHORT}no: nothing is sent: `read` needs `key_size = 16`",
+        ],
     ),
     (
         f"{TABLET} notify 3 --authorized",
         [
-            f"{NONE}no: it may subscribe, but nothing is sent: `read` needs `encrypted`",
+            f"{NONE}no: nothing is sent: `read` needs `encrypted`",
             f"{LONG}yes",
-            f"{SHORT}no: it may subscribe, but nothing is sent: `read` needs `key_size = 16`",
+            f"{SHORT}no: nothing is sent: `read` needs `key_size = 16`",
         ],
     ),
     (
         f"{PHONE} indicate 3 --authorized",
         [
-            f"{NONE}no: it may subscribe, but nothing is sent: `read` needs `encrypted`",
-            f"{KEY_16}no: it may subscribe, but nothing is sent: `read` needs `authenticated`",
+            f"{NONE}no: nothing is sent: `read` needs `encrypted`",
+            f"{KEY_16}no: nothing is sent: `read` needs `authenticated`",
         ],
     ),
     (
@@ -150,7 +170,7 @@ SILENT_CASES = [
         ],
     ),
     # A descriptor that everybody may write is behind the value, and no configuration.
-    ("stranger notify 7", [f"{NONE}no: it may not subscribe: it has no property `notify`"]),
+    ("stranger subscribe 7", [f"{NONE}no: it may not subscribe: it has no property `notify` or `indicate`"]),
     ("stranger write 8", [f"{NONE}yes"]),
 ]
 CASES = [
@@ -166,8 +186,8 @@ WRONG = [
     ("c0:00:00:00:00 read 3", "PEER: it is neither `stranger` nor an address as c0:00:00:00:00:01\n"),
     ("c0:00:00:00:00:0g read 3", "PEER: it is neither `stranger` nor an address as c0:00:00:00:00:01\n"),
     ("c0:00:00:00:00:02 read 3", "PEER: KEYS has no key of this peer; ask for `stranger`\n"),
-    ("stranger hear 3", "RIGHT: it is none of read, write, command, notify and indicate\n"),
-    ("stranger Read 3", "RIGHT: it is none of read, write, command, notify and indicate\n"),
+    ("stranger hear 3", "RIGHT: it is none of read, write, command, notify, indicate and subscribe\n"),
+    ("stranger Read 3", "RIGHT: it is none of read, write, command, notify, indicate and subscribe\n"),
     ("stranger read x", "HANDLE: it is no number from 0 to 65535\n"),
     ("stranger read 65536", "HANDLE: it is no number from 0 to 65535\n"),
     ("stranger read +3", "HANDLE: it is no number from 0 to 65535\n"),
@@ -267,7 +287,7 @@ def test_the_names_of_codes(program):
     """They are those that `words` gives an Error Response."""
     lines = "\n".join(line for case in CASES for line in case.values[2])
     names = dict(re.findall(r"(?m)([A-Z][A-Za-z ]+) \((..)\)$", lines))
-    assert sorted(names.values()) == ["01", "02", "03", "05", "08", "0c", "0f", "ff"]
+    assert sorted(names.values()) == ["01", "02", "03", "05", "08", "0c", "0f"]
     for name, code in names.items():
         ran = subprocess.run([program, "words"], input=f"010a0300{code}\n", capture_output=True, text=True)
         assert ran.stdout.endswith(f", {name}\n")
@@ -288,7 +308,7 @@ def test_the_server_answers_so(program, may, folder, table, peer, authorized):
     # One question has the answers for all links.
     answers = {
         (right, handle): may(table, [peer, right, str(handle), *words])[1].splitlines()
-        for right in ("read", "write", "notify")
+        for right in ("read", "write", "subscribe")
         for handle in HANDLES[table]
     }
     path = f"{folder}/silent.toml" if table == "silent" else f"{ROOT}/examples/{table}.toml"
@@ -314,8 +334,45 @@ def compare_with(answers, handles, printed):
         assert code_in(answers["read", handle]) == (read[8:] if read.startswith("01") else None)
         code = written[8:] if written.startswith("01") else written
         assert code_in(answers["write", handle]) == (None if code in PASSED else code)
-        answer = answers["notify", handle]
-        if "it may subscribe" in answer or answer.endswith("  yes"):
+        answer = answers["subscribe", handle]
+        if answer.endswith("  yes"):
             assert subscribed == "13"
-        elif not answer.endswith("`notify`"):
+        elif not answer.endswith("`indicate`"):
             assert code_in(answer) == (subscribed[8:] if subscribed.startswith("01") else None)
+
+
+# A table, a script in which a client subscribes and later may not subscribe any more, and the peer. It is sent the
+# value, since a subscription lasts for as long as it may read it.
+LASTING = {
+    "the authorization ends": (
+        "config = { authorized = true }\n",
+        f"connect P 1 {PHONE}\nallow P\nP < 1204000100\ndeny P\nupdate 3 05\n",
+        f"{PHONE} %s 3 --unencrypted",
+    ),
+    "a shorter key of the same peer": (
+        "read = { encrypted = true }\nconfig = { authenticated = true, key_size = 16 }\n",
+        f"connect P 0 {TABLET}\nencrypt P 0202020202020202 514\nP < 1204000100\ndrop P\n"
+        f"connect P 0 {TABLET}\nencrypt P 0303030303030303 771\nupdate 3 05\n",
+        f"{TABLET} %s 3",
+    ),
+}
+
+
+@pytest.mark.parametrize("case", LASTING)
+def test_a_subscription_lasts(program, folder, case):
+    rules, script, question = LASTING[case]
+    table = f'[[service]]\nuuid = "fff0"\n[[service.characteristic]]\nuuid = "fff1"\nvalue = "00"\nfixed = true\n'
+    for name, text in (("t.toml", f'{table}properties = ["read", "notify"]\n{rules}'), ("t.script", script)):
+        with open(f"{folder}/{name}", "w", encoding="utf-8") as file:
+            file.write(text)
+    words = [program, "run", f"{folder}/t.toml", KEYS, f"{folder}/t.script"]
+    ran = subprocess.run(words, capture_output=True, text=True)
+    assert ran.stdout.splitlines()[-1] == "P > 1b030005"
+
+    def last_answer(right):
+        words = (question % right).split()
+        asked = subprocess.run([program, "may", f"{folder}/t.toml", KEYS, *words], capture_output=True, text=True)
+        return asked.stdout.splitlines()[-1].partition("  ")[2]
+
+    assert last_answer("notify") == "yes"
+    assert last_answer("subscribe").startswith("no: it may not subscribe: `config` needs ")

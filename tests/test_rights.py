@@ -36,9 +36,14 @@ authenticated = false
 """
 
 SHORT_KEY = "   10  a key of 7 may write it: `key_size = 16` in `write` would exclude it"
+LASTING = "   10  who subscribed once is sent it as long as `read` permits: `config` needs more"
+EASY = "   10  to subscribe needs less than to be sent it: compare `config` and `read`"
 OPEN = "   21  everybody may write it: `write` has no rule"
 
-# Slips in the table of the door: a text, another one in its place, and what to look at twice besides OPEN.
+NO_CHANGED = "       no Service Changed (1801, 2a05): after another table clients use old handles"
+
+# Slips in the table of the door: a text, another one in its place, and what to look at twice besides OPEN and
+# NO_CHANGED.
 LAST = """uuid = "fff4"
 value = ""
 max = 512
@@ -76,16 +81,31 @@ SLIPS = {
     ),
     "a subscription that no key permits": (
         "config = { encrypted = true }", "config = { secure = true }",
-        [SHORT_KEY, "   10  nobody may subscribe to it: `config` and `read` exclude all"],
+        [SHORT_KEY, "   10  nobody with a key of the file may subscribe to it and be sent it", LASTING],
     ),
     "a subscription that asks for more than reading": (
         "config = { encrypted = true }", "config = { authenticated = true }",
-        [SHORT_KEY, "   10  some who may read it may not subscribe: compare `config` and `read`"],
+        [SHORT_KEY, LASTING],
+    ),
+    "a subscription without a rule": ("config = { encrypted = true }", "", [SHORT_KEY, EASY]),
+    "a rule for a subscription that asks for nothing": (
+        "config = { encrypted = true }", "config = { encrypted = false }", [SHORT_KEY, EASY],
+    ),
+    "a subscription by an address that can be forged": (
+        "config = { encrypted = true }", "config = { authorized = true }",
+        [
+            SHORT_KEY, LASTING, EASY,
+            "   10  `authorized` without `encrypted`: a stranger can use the address of another",
+        ],
+    ),
+    "no property": (
+        'value = "02"\nproperties = ["read"]\nread = { encrypted = true }\n', 'value = "02"\nproperties = []\n',
+        [SHORT_KEY, "   17  nobody may use it: `properties` is empty"],
     ),
     "the rules for reading and writing exchanged": (
         "read = { encrypted = true }\nwrite = { authenticated = true }\n",
         "read = { authenticated = true }\nwrite = { encrypted = true }\n",
-        ["   10  to write it needs less than to read it: compare `write` and `read`"],
+        ["   10  to write it needs less than to read it: compare `write` and `read`", EASY],
     ),
     "an authorization without encryption": (
         FIRST_FFF3, FIRST_FFF3 + "read = { authorized = true }\n",
@@ -93,13 +113,23 @@ SLIPS = {
     ),
     "a rule that no key meets": (
         FIRST_FFF3, FIRST_FFF3 + "read = { secure = true }\n",
-        [SHORT_KEY, "   15  nobody may use it: no key of the key file meets its rules"],
+        [SHORT_KEY, "   15  nobody with a key of the key file may use it"],
     ),
     "a service that is not finished": (
         LAST, LAST + '\n[[service]]\nuuid = "fffa"\n',
         [SHORT_KEY, "   22  a service without characteristics"],
     ),
 }
+
+# The value Service Changed, the last one of a table.
+CHANGER = """[[service]]
+uuid = "1801"
+[[service.characteristic]]
+uuid = "2a05"
+value = "00000000"
+fixed = true
+properties = ["indicate"]
+"""
 
 # Values, and what is shown of them.
 VALUES = {
@@ -185,22 +215,22 @@ def test_an_example(program, name):
 
 def test_the_rights_of_the_door(show):
     everybody, encrypted, long_key, short_key = zip(*(row.split()[-4:] for row in rows_in(show(DOOR, KEYS))))
-    assert everybody == ("r", "rn", ".", ".", "r", ".", "r", "rwc")
-    assert encrypted == ("r", "rn", "rn", ".", "r", "r", "r", "rwc")
-    assert long_key == ("r", "rn", "rwn", "(rw)", "r", "r", "r", "rwc")
-    assert short_key == ("r", "rn", "rwn", ".", "r", "r", "r", "rwc")
+    assert everybody == ("r", "rns", ".", ".", "r", ".", "r", "rwc")
+    assert encrypted == ("r", "rns", "rns", ".", "r", "r", "r", "rwc")
+    assert long_key == ("r", "rns", "rwns", "(rw)", "r", "r", "r", "rwc")
+    assert short_key == ("r", "rns", "rwns", ".", "r", "r", "r", "rwc")
 
 
 @pytest.mark.parametrize("slip", SLIPS)
 def test_a_slip_is_named(show, slip):
     before, after, findings = SLIPS[slip]
     assert DOOR.count(before) == 1
-    assert sorted(findings_in(show(DOOR.replace(before, after), KEYS))) == sorted([*findings, OPEN])
+    assert sorted(findings_in(show(DOOR.replace(before, after), KEYS))) == sorted([*findings, OPEN, NO_CHANGED])
 
 
 def test_a_table_without_findings(show):
     table = DOOR.replace(LAST, "").replace("[[service.characteristic]]\n\n", "").rstrip()
-    table = table.removesuffix("[[service.characteristic]]")
+    table = table.removesuffix("[[service.characteristic]]") + CHANGER
     assert show(table, KEYS.rpartition("[[key]]")[0])[-1] == "Nothing to look at twice."
 
 
@@ -211,13 +241,58 @@ def test_a_key_that_permits_nothing(show):
 
 def test_no_key_makes_a_difference(show):
     bell = text_of(f"{ROOT}/examples/bell.toml")
-    assert findings_in(show(bell, KEYS)) == ["       no key makes a difference to this table"]
+    assert findings_in(show(bell, KEYS)) == [NO_CHANGED, "       no key makes a difference to this table"]
 
 
 def test_without_a_key_file_there_is_one_column(show):
     lines = show(DOOR, None)
     assert lines[0].split() == ["size", "at", "first", "A"]
     assert "A  no key: everybody, and each peer until its link is encrypted" in lines
+    # Nobody is known who might use the other values, and that is no finding.
+    assert findings_in(lines) == [OPEN, NO_CHANGED]
+
+
+def test_the_shortest_key_is_named(show):
+    keys = KEYS + WEAK.replace("authenticated = false", "authenticated = true").replace("size = 7", "size = 10")
+    keys = keys.replace("a1a2a3a4a5a6a7000000000000000000", "a1a2a3a4a5a6a7a8a9aa000000000000")
+    other_order = "[[key]]".join(["", *reversed(keys.split("[[key]]")[1:])])
+    assert SHORT_KEY in findings_in(show(DOOR, keys))
+    assert SHORT_KEY in findings_in(show(DOOR, other_order))
+
+
+@pytest.mark.parametrize("first, is_private", [("3f", True), ("7f", True), ("bf", True), ("c0", False), ("ff", False)])
+def test_a_key_for_a_private_address(show, first, is_private):
+    found = f"       random {first}:00:00:00:00:02 is a private address, which its client changes"
+    lines = findings_in(show(DOOR, KEYS + SECURE.replace("c0:00", f"{first}:00")))
+    assert (found in lines, len(lines)) == (is_private, 3 + is_private)
+    public = SECURE.replace("c0:00", f"{first}:00").replace('"random"', '"public"')
+    assert len(findings_in(show(DOOR, KEYS + public))) == 3
+
+
+# A right to be sent a value is the need of `read`, and one to subscribe that of `config`.
+FOLLOWED = """[[service]]
+uuid = "fff0"
+[[service.characteristic]]
+uuid = "fff1"
+value = "00"
+fixed = true
+properties = ["read", "notify"]
+"""
+
+
+@pytest.mark.parametrize(
+    "rules, cells",
+    [
+        ("", ["rns"] * 4),
+        ("config = { authorized = true }\n", ["rn(s)"] * 4),
+        ("config = { authenticated = true, key_size = 16 }\n", ["rn", "rn", "rns", "rn"]),
+        ("read = { encrypted = true }\n", ["s", "rns", "rns", "rns"]),
+        ("read = { authorized = true }\nconfig = { encrypted = true }\n", ["(rn)", "s(rn)", "s(rn)", "s(rn)"]),
+    ],
+)
+def test_to_be_sent_a_value_and_to_subscribe(show, rules, cells):
+    (row,) = rows_in(show(FOLLOWED + rules, KEYS))
+    assert row.split()[-4:] == cells
 
 
 def test_keys_of_one_kind_share_a_column(show):
@@ -237,7 +312,7 @@ def test_one_peer_with_two_keys(show):
 def test_a_secure_key_that_is_not_authenticated(show):
     keys = SECURE.replace("authenticated = true", "authenticated = false")
     table = DOOR.replace(FIRST_FFF3, FIRST_FFF3 + "read = { secure = true }\n")
-    assert "   15  nobody may use it: no key of the key file meets its rules" in findings_in(show(table, keys))
+    assert "   15  nobody with a key of the key file may use it" in findings_in(show(table, keys))
 
 
 @pytest.mark.parametrize("width", [1, 40, 60, 80, 132, 65_535])
@@ -275,9 +350,19 @@ uuid = "12345678-9abc-def0-0123-456789abcdef"
     assert [row.split()[3] for row in rows_in(show(table, None))] == list(VALUES.values())
 
 
+def test_a_long_uuid_is_cut_in_its_middle(show):
+    table = ""
+    for end in ("ef", "f0"):
+        table += f'[[service]]\nuuid = "180f"\n[[service.characteristic]]\nvalue = "00"\nproperties = ["read"]\n'
+        table += f'uuid = "12345678-9abc-def0-0123-456789abcd{end}"\n'
+    assert [row.split()[1] for row in rows_in(show(table, None))] == [
+        "12345678-9abc..-456789abcdef", "12345678-9abc..-456789abcdf0",
+    ]
+
+
 def test_a_large_table(show):
     begun = time.monotonic()
-    lines = show(LARGE, MANY_KEYS)
+    lines = show(LARGE, MANY_KEYS, "--width", "120")
     assert time.monotonic() - begun < 10
     assert lines[0].split()[-5:] == ["A", "B", "C", "D", "E"]
     assert len(rows_in(lines)) == 224

@@ -23,8 +23,8 @@ PRINTED = {
     "./gatt_shell show examples/bell.toml examples/keys.toml": "examples/bell.shown",
     "./gatt_shell show examples/porch.toml examples/keys.toml": "examples/porch.shown",
     OPENS: "",
-    "./gatt_shell expect examples/door.toml examples/keys.toml examples/door.expect.toml": (
-        "All 8 expectations hold.\n"
+    "./gatt_shell expect examples/door.toml examples/door.expect.toml": (
+        "8 expectations hold, for clients with every kind of key and without one.\n"
     ),
     DENIES: "not encrypted  no: `write` needs `encrypted`, Insufficient Authentication (05)\n",
     "./gatt_shell may examples/door.toml examples/keys.toml 00:11:22:33:44:55 write 13 --authorized": (
