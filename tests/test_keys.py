@@ -268,8 +268,9 @@ needs_tomllib = pytest.mark.skipif(KEYS.tomllib is None, reason="this Python has
 @needs_tomllib
 @pytest.mark.parametrize("text", [
     text_of(f"{ROOT}/examples/keys.toml"), text_of(f"{ROOT}/examples/secure_key.toml"), LEGACY, SECURE,
-    "# a\n[[key]] # b\nediv = 1 # c\nkind = 'public'\n", "",
-], ids=["keys.toml", "secure_key.toml", "legacy", "secure", "comments", "none"])
+    "# a\n[[key]] # b\nediv = 1 # c\nkind = 'public'\n", "", LEGACY.replace("\n", "\r\n"),
+    LEGACY + f"# \x85{SECURE}".replace("\n", "\x85") + "\n", LEGACY + f"# \u2028{SECURE}".replace("\n", "\u2028") + "\n",
+], ids=["keys.toml", "secure_key.toml", "legacy", "secure", "comments", "none", "carriage returns", "U+0085", "U+2028"])
 def test_without_tomllib(text):
     """A Python without tomllib reads key files as one with it does."""
     assert KEYS.plain_toml(text) == KEYS.tomllib.loads(text), "without tomllib"
@@ -278,8 +279,8 @@ def test_without_tomllib(text):
 @needs_tomllib
 @pytest.mark.parametrize("text", [
     "key = [{ ediv = 1 }]\n", "ediv = 1\n", "[[key]]\nediv = 1\nediv = 2\n", '[[key]]\nltk = "\\u0030"\n',
-    "[[key]]\nediv = 0x1\n",
-], ids=["inline", "root", "twice", "escape", "hexadecimal"])
+    "[[key]]\nediv = 0x1\n", "[[key]]\nediv = 01\n", "[[key]]\nediv\xa0= 1\n", "# a\x0c[[key]]\n", "# a\r[[key]]\n",
+], ids=["inline", "root", "twice", "escape", "hexadecimal", "zero", "space", "form feed", "carriage return"])
 def test_refused_without_tomllib(text):
     """A Python without tomllib refuses what it does not understand."""
     with pytest.raises(ValueError):
