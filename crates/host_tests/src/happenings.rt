@@ -4,6 +4,7 @@ ghost use Rattle.std.specs.Prelude.{None};
 
 use crate::listening::Expects;
 use crate::player::{Setting, ready};
+use crate::sides::{TwoSides, serve_both};
 use crate::tables::File::Bell;
 use crate::wire::spelled;
 use device_loop::{End, Happenings, Next, serve_happenings};
@@ -182,4 +183,62 @@ fn where_the_writer_fails(rt: HostRuntime) {
     assert!(rt; serves(&rt, rt.alloc(), case, &mut written));
     let wanted = spelled(&rt, "0240000500010004001302400008", 0);
     assert!(rt; written.octets() == wanted.as_slice());
+}
+
+/// A client connects and exchanges the MTU.
+const OCTETS: &[u8] = b"\x04\x3E\x13\x01\x00\x40\x00\x01\x01\x0A\x00\x00\x00\x00\xC0\x18\
+    \x00\x00\x00\x48\x00\x00\x02\x40\x20\x07\x00\x03\x00\x04\x00\x02\x17\x00";
+
+/// The second is refused.
+const CALLS: &[App<'static>] = &[App::Tick(5), App::Tick(4), App::Update(3, &[0x01])];
+
+/// Octets of an event, turns, result, octets and calls that are left, refused calls, and output.
+type Sides = (
+    usize,
+    u64,
+    Result<End, HostFault>,
+    usize,
+    usize,
+    usize,
+    &'static str,
+);
+
+const MTU: &str = "02400007000300040003f700";
+
+const SIDES: &[Sides] = &[
+    (1, 100, Ok(End::Ended), 0, 0, 1, MTU),
+    (34, 100, Ok(End::Ended), 0, 0, 1, MTU),
+    (35, 100, Ok(End::Ended), 0, 0, 1, MTU),
+    (1, 5, Ok(End::Turns), 31, 1, 1, ""),
+    (0, 8, Ok(End::Turns), 34, 0, 1, ""),
+];
+
+fn serves_both<W: Sink>(rt: &impl Abort, alloc: Global, case: Sides, out: &mut W) -> bool {
+    let (most, turns, end, octets, calls, refused, _) = case;
+    let mut host = ready(rt, alloc, SETTING);
+    let mut sides = TwoSides {
+        octets: OCTETS,
+        calls: CALLS,
+        most,
+        calls_next: false,
+        refused: 0,
+    };
+    let mut listener = Expects::new(TOLD.get(..1).unwrap_or(&[]));
+    let over = serve_both(&mut host, &mut sides, out, &mut listener, turns);
+    drop(host);
+    over == end
+        && sides.octets.len() == octets
+        && sides.calls.len() == calls
+        && sides.refused == refused
+        && listener.is_met() == (octets == 0)
+}
+
+#[test]
+fn two_sides(rt: HostRuntime) {
+    for (place, &case) in SIDES.iter().enumerate() {
+        let mut written = ArraySink::<64>::new();
+        assert!(rt; serves_both(&rt, rt.alloc(), case, &mut written), "{place}");
+        let wanted = spelled(&rt, case.6, 0);
+        assert!(rt; written.octets() == wanted.as_slice(), "written {place}");
+    }
 }

@@ -3,8 +3,10 @@
 #![tactic(auto)]
 
 mod recorded;
+mod sides;
 
 pub use crate::recorded::{Recording, serve_each};
+pub use crate::sides::{TwoSides, serve_both};
 
 #[cfg(test)]
 mod a_day;
