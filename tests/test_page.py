@@ -208,10 +208,10 @@ def test_the_picture(page, tmp_path):
 def test_an_edit_is_compared(browser):
     browser.click("begin")
     browser.enter("table", TABLES["door"].replace("write = { authenticated = true }", "write = { encrypted = true }"))
-    assert row_of(browser, 10)[4:] == [".", "rwn, was rn", "rwn", "rwn"]
+    assert row_of(browser, 10)[4:] == [".", "rwns, was rns", "rwns", "rwns"]
     assert browser.text("changes").splitlines()[:2] == ["Opened:", "   10  fff1  w  key of 7 to 16; key of 7 to 16, secure connections  B"]
     browser.enter("table", TABLES["door"])
-    assert row_of(browser, 10)[4:] == [".", "rn", "rwn", "rwn"]
+    assert row_of(browser, 10)[4:] == [".", "rns", "rwns", "rwns"]
     assert "Nothing is opened," in browser.text("changes")
 
 
