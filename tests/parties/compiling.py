@@ -1,8 +1,8 @@
 """The programs in C, compiled with the archive of crates/gihandop_c, and the forms in which tests run them.
 
-The environment variable GIHANDOP_ARCHIVE is the path of the archive, if it is not
-crates/gihandop_c/out/libgihandop_c.a. One that is compiled with AddressSanitizer can only be linked with it:
-such an archive has no plain programs, and none for valgrind.
+The environment variable GIHANDOP_ARCHIVE is the path of the archive. If it is not set, the archive of
+`tools/prove gihandop_c` is taken, or else that of `tools/unproved gihandop_c`. One that is compiled with
+AddressSanitizer can only be linked with it: such an archive has no plain programs, and none for valgrind.
 """
 
 import functools
@@ -16,13 +16,11 @@ from parties.emulated import TARGET, TARGETS, lay_wrapper, missing_for, output
 from parties.places import ROOT, text_of, write_text
 
 MADE = f"{ROOT}/crates/gihandop_c/out/libgihandop_c.a"
-ARCHIVE = os.path.realpath(os.environ.get("GIHANDOP_ARCHIVE", MADE))
+UNPROVED = f"{ROOT}/crates/gihandop_c/out/unproved/libgihandop_c.a"
+ARCHIVE = os.path.realpath(os.environ.get("GIHANDOP_ARCHIVE") or next(filter(os.path.isfile, (MADE, UNPROVED)), MADE))
 HAS_ARCHIVE = os.path.isfile(ARCHIVE)
 IS_INSTRUMENTED = HAS_ARCHIVE and is_instrumented(ARCHIVE)
-MISSING = (
-    f"there is no {ARCHIVE}: `tools/prove gihandop_c` makes it, or, without proofs and for GIHANDOP_ARCHIVE,"
-    " `tools/unproved gihandop_c`"
-)
+MISSING = f"there is no {ARCHIVE}: `tools/prove gihandop_c` makes it, `tools/unproved gihandop_c` one without proofs"
 # What a program needs that is linked with the archive.
 LINKED = ["-fsanitize=address"] if IS_INSTRUMENTED else []
 FLAGS = ["-std=c11", "-O2", "-g", "-Wall", "-Wextra", "-Wpedantic", "-Werror", "-Iinclude", "-Itests/c"]
