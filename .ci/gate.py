@@ -136,6 +136,9 @@ def play():
 
 
 def main():
+    if shutil.which("rt") is None:
+        print(".ci/run: Rattle's command rt is not on PATH", file=sys.stderr)
+        return 69
     with open(f"{ROOT}/README.md", encoding="utf-8") as file:
         readme, kit = file.read(), subprocess.run(["rt", "version"], capture_output=True, text=True).stdout.split()
     if not {kit[0], kit[-1]} <= set(re.findall(r"[\w-]+", readme)):

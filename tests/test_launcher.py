@@ -73,6 +73,13 @@ def test_missing(it, name, words):
     assert f"{name} is not on PATH" in errors, "its text"
 
 
+@pytest.mark.parametrize("words", [["tools/prove", "gatt_shell"], [".ci/run"]], ids=["prove", "gate"])
+def test_tool_without_rt(it, words):
+    """The tools that prove say what is missing."""
+    ran = subprocess.run(words, cwd=ROOT, env=it.env(without=("rt",)), capture_output=True, text=True)
+    assert (ran.returncode, ran.stdout, ran.stderr) == (69, "", f"{words[0]}: Rattle's command rt is not on PATH\n")
+
+
 def test_proved(it):
     """A program is proved once, and run with its words, its status and its signals."""
     errors = it.expect("a failed build", ["att"], (70, "", 1), BUILD="fails")
