@@ -73,6 +73,10 @@ struct line {
     int master;
     /* What has the events of the other end, which hosts open and close. */
     int events;
+    /* How many have the other end open, by the events that were read. */
+    int openers;
+    /* Whether the last one of them has closed it, also if another one has opened it since. */
+    bool was_left;
     /* The path of the other end. */
     char terminal[64];
 };
@@ -245,6 +249,8 @@ static bool open_line(struct line *line)
     int other;
 
     line->events = -1;
+    line->openers = 0;
+    line->was_left = false;
     line->master = posix_openpt(O_RDWR | O_NOCTTY | O_CLOEXEC | O_NONBLOCK);
     if (line->master < 0 || grantpt(line->master) < 0 ||
         ptsname_r(line->master, line->terminal, sizeof line->terminal) != 0 ||
@@ -291,18 +297,25 @@ static bool has_host(const struct bridge *bridge)
     return !(line.revents & POLLHUP);
 }
 
-/* Returns whether a host has closed the line. It may have left octets and settings. */
-static bool was_closed(const struct bridge *bridge)
+/* Reads the events of the line. Returns whether a host has closed it. It may have left octets and settings. */
+static bool was_closed(struct bridge *bridge)
 {
     _Alignas(struct inotify_event) char events[4096];
     const struct inotify_event *event;
+    struct line *line = &bridge->line;
     uint32_t all = 0;
     ssize_t got;
 
-    while ((got = read(bridge->line.events, events, sizeof events)) > 0)
+    while ((got = read(line->events, events, sizeof events)) > 0)
         for (const char *at = events; at < events + got; at += sizeof *event + event->len) {
             event = (const void *)at;
             all |= event->mask;
+            if (event->mask & IN_OPEN)
+                line->openers++;
+            else if (!(event->mask & IN_CLOSE) || line->openers <= 1)
+                line->was_left = true;
+            else
+                line->openers--;
         }
     return all & (IN_CLOSE | IN_Q_OVERFLOW);
 }
@@ -425,7 +438,8 @@ static bool tell_host(struct bridge *bridge)
 /* Why the packets of a host go by no longer. */
 enum end { HOST_GONE, CONTROLLER_GONE, SIGNALLED };
 
-/* Has packets go by until one side is gone. Neither side is read while the other takes nothing. */
+/* Has packets go by until one side is gone. Neither side is read while the other takes nothing. A host is gone
+   too if the next one has opened its line before that was seen: it has to open the next line. */
 static enum end serve_host(struct bridge *bridge)
 {
     enum outcome sent = GONE;
@@ -438,11 +452,12 @@ static enum end serve_host(struct bridge *bridge)
             {0},
             {bridge->line.master, (short)((tells ? POLLOUT : 0) | (sent == GONE ? POLLIN : 0)), 0},
             {bridge->channel, (short)((tells ? 0 : POLLIN) | (sent == GONE ? 0 : POLLOUT)), 0},
+            {bridge->line.events, POLLIN, 0},
         };
 
-        if (waited(bridge, ready, 3, -1))
+        if (waited(bridge, ready, 4, -1))
             return SIGNALLED;
-        if (ready[1].revents & POLLHUP)
+        if (ready[1].revents & POLLHUP || (ready[3].revents != 0 && was_closed(bridge) && bridge->line.was_left))
             return HOST_GONE;
         if (ready[1].revents & POLLOUT && !tell_host(bridge))
             return HOST_GONE;

@@ -109,6 +109,50 @@ def test_a_new_line_for_each_host(plugged):
     plugged.end()
 
 
+def is_reset_by(host, controller):
+    """Whether a host resets a controller, and reads that it has done so."""
+    os.write(host, bytes.fromhex(RESET))
+    is_answered = controller.until(lambda: select.select([host], [], [], 0.01)[0])
+    return is_answered and os.read(host, 7)[:2] == b"\x04\x0e"
+
+
+@pytest.mark.parametrize("left", ["", RESET[:4]], ids=["nothing", "a_part"])
+def test_a_host_that_comes_at_once(plugged, left):
+    """A host that opens the line of the one before, which has just left, gets no packet of it, and a line of its own."""
+    old, host = os.readlink(plugged.line), plugged.host()
+    controller = plugged.controller()
+    assert is_reset_by(host, controller), "a host"
+    plugged.process.send_signal(signal.SIGSTOP)
+    os.write(host, bytes.fromhex(left))
+    os.close(host)
+    following = plugged.host()
+    plugged.process.send_signal(signal.SIGCONT)
+    assert last_packet(controller) == RESET, "the controller is reset, and free"
+    assert plugged.moved(old), "there is a new line"
+    assert soon(lambda: is_hung_up(following)), "the old one has ended"
+    os.close(following)
+    host = plugged.host()
+    stream = plugged.controller().stream
+    os.write(host, bytes.fromhex(RESET))
+    assert stream.recv().hex() == RESET, "only the next one's packet goes"
+    os.close(host)
+    plugged.end()
+
+
+def test_another_opener(plugged):
+    """A program that opens and closes the line of a host, as one that looks at its settings, ends nothing."""
+    host = plugged.host()
+    controller = plugged.controller()
+    assert is_reset_by(host, controller), "the bridge has seen its host"
+    for _ in range(3):
+        os.close(plugged.host())
+    assert not soon(lambda: is_hung_up(host), 1), "it goes on"
+    assert is_reset_by(host, controller), "another packet"
+    os.close(host)
+    assert last_packet(controller) == RESET
+    plugged.end()
+
+
 def test_a_host_that_leaves_early(bridge):
     """What a host has sent before there is a controller is not for the next host."""
     bridge.begin()

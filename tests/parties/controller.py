@@ -72,8 +72,11 @@ class Controller:
                 self.take(packet)
                 continue
             left = end - time.monotonic()
-            if left <= 0 or not select.select([self.stream], [], [], left)[0]:
+            if left <= 0:
                 return False
+            # What is asked may become so without a packet.
+            if not select.select([self.stream], [], [], min(left, 0.05))[0]:
+                continue
             try:
                 octets = self.stream.recv(4096)
             except ConnectionResetError:
