@@ -52,6 +52,8 @@ impl Level {
 pub struct Front<'a> {
     pub root: &'static str,
     pub elements: usize,
+    /// The front has only the last one of these elements.
+    pub is_alone: bool,
     pub includes: usize,
     pub characteristics: usize,
     pub descriptors: usize,
@@ -70,6 +72,7 @@ impl<'a> Front<'a> {
         Front {
             root,
             elements: 0,
+            is_alone: false,
             includes: 0,
             characteristics: 0,
             descriptors: 0,
@@ -91,6 +94,15 @@ impl<'a> Front<'a> {
             Level::Properties => front.properties = count,
         }
         front
+    }
+
+    /// Returns the front with only one element of the root array, counted from 1.
+    pub fn with_only(self, number: usize) -> Front<'a> {
+        Front {
+            elements: number,
+            is_alone: true,
+            ..self
+        }
     }
 
     /// Returns the front with all elements of a level and everything in the last one.
@@ -132,7 +144,7 @@ impl<'a> Front<'a> {
 
     /// Returns a copy of a document that is cut to this front.
     pub fn of(&self, alloc: Global, document: &Table) -> Result<Table, AllocError> {
-        let mut kept = document.clone()?;
+        let mut kept = self.root_of(alloc, document)?;
         self.cut(&mut kept);
         if let Some(element) = self.last_element(&mut kept) {
             cut_array(element, "properties", self.properties);
@@ -144,6 +156,36 @@ impl<'a> Front<'a> {
             }
         }
         Ok(kept)
+    }
+
+    /// Returns a copy of a document without the elements that this front leaves out at its root.
+    ///
+    /// No format has another key there than that of its array, so the content of another value
+    /// does not matter.
+    fn root_of(&self, alloc: Global, document: &Table) -> Result<Table, AllocError> {
+        let mut copy = Table::new(alloc);
+        for (name, value) in document.iter() {
+            let key = name.as_str();
+            let kept = match value.as_array() {
+                Some(elements) if key == self.root => Value::Array(self.array_of(alloc, elements)?),
+                _ => without_content(alloc, value)?,
+            };
+            insert(&mut copy, String::from_str(alloc, key)?, kept)?;
+        }
+        Ok(copy)
+    }
+
+    fn array_of(&self, alloc: Global, elements: &[Value]) -> Result<Vec<Value>, AllocError> {
+        let left_out = if self.is_alone {
+            self.elements.saturating_sub(1)
+        } else {
+            0
+        };
+        let mut copy = Vec::new(alloc);
+        for element in elements.iter().take(self.elements).skip(left_out) {
+            copy.push(element.clone()?)?;
+        }
+        Ok(copy)
     }
 
     /// Returns the number of elements at a level, in the last element that has any.
@@ -195,6 +237,15 @@ impl<'a> Front<'a> {
     }
 }
 
+/// Returns a copy of a value, but an empty array or table if it is one.
+fn without_content(alloc: Global, value: &Value) -> Result<Value, AllocError> {
+    match value {
+        Value::Array(_) => Ok(Value::Array(Vec::new(alloc))),
+        Value::Table(_) => Ok(Value::Table(Table::new(alloc))),
+        _ => value.clone(),
+    }
+}
+
 fn cut_array(table: &mut Table, key: &str, count: usize) {
     if let Some(array) = array_at(table, key) {
         array.truncate(count);
@@ -228,14 +279,13 @@ fn keep_keys(alloc: Global, table: &mut Table, keys: &Kept<'_>) -> Result<(), Al
     }
 }
 
-/// Removes all other keys, if the table has this one.
+/// Removes all other keys.
 fn keep_alone(alloc: Global, table: &mut Table, key: &str) -> Result<(), AllocError> {
     let name = String::from_str(alloc, key)?;
-    match table.remove(key) {
-        Some(value) => {
-            table.clear();
-            insert(table, name, value)
-        }
+    let value = table.remove(key);
+    table.clear();
+    match value {
+        Some(value) => insert(table, name, value),
         None => Ok(()),
     }
 }

@@ -19,9 +19,18 @@ const WANTED: [&str; 7] = [
 
 /// Adds the place of a document's first fault, and the fault.
 pub fn add_key_place(report: &mut Report<'_>, fault: KeyFault) {
-    let front = report.shortest("key", &[Level::Elements]);
+    let front = front_of(report, fault);
     report.add_counted(b"key ", front.elements);
     add_fault(report, &front, fault);
+}
+
+/// Returns the front whose last entry is at fault.
+fn front_of(report: &mut Report<'_>, fault: KeyFault) -> Front<'static> {
+    let is_between_entries = matches!(fault, KeyFault::Twice | KeyFault::TooMany);
+    if !is_between_entries && let Some(front) = report.first_alone("key") {
+        return front;
+    }
+    report.shortest("key", &[Level::Elements])
 }
 
 fn add_fault(report: &mut Report<'_>, front: &Front<'_>, fault: KeyFault) {

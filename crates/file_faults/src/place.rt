@@ -2,12 +2,11 @@
 
 use crate::key_place::add_key_place;
 use crate::position::{add_no_text, add_no_toml};
-use crate::refused::{Fault, Format, Refused, fault_of};
+use crate::refused::{Fault, Format, Refused, file_fault};
 use crate::report::Report;
 use crate::table_place::add_table_place;
 use std::alloc::{AllocError, Global};
 use std::str;
-use toml::Table;
 
 /// Adds the place and the first fault of a table file, or nothing if it has none.
 ///
@@ -33,28 +32,24 @@ fn add_file_fault(
         Ok(file) => file,
         Err(error) => return add_no_text(text, octets, error.valid_up_to()),
     };
-    match toml::table_from_str(alloc, file) {
-        Ok(document) => add_fault(alloc, text, &document, format),
-        Err(error) => add_no_toml(text, octets, &error),
-    }
-}
-
-fn add_fault(
-    alloc: Global,
-    text: &mut Vec<u8>,
-    document: &Table,
-    format: Format,
-) -> Result<(), AllocError> {
-    let Some(fault) = fault_of(alloc, document, format)? else {
+    let Some(fault) = file_fault(alloc, file, format)? else {
         return Ok(());
     };
-    let refused = Refused {
-        alloc,
-        document,
-        format,
-        fault,
-    };
-    add_place(text, &refused)
+    match toml::table_from_str(alloc, file) {
+        Ok(document) => {
+            let document = &document;
+            add_place(
+                text,
+                &Refused {
+                    alloc,
+                    document,
+                    format,
+                    fault,
+                },
+            )
+        }
+        Err(error) => add_no_toml(text, octets, &error),
+    }
 }
 
 fn add_place(text: &mut Vec<u8>, refused: &Refused<'_>) -> Result<(), AllocError> {

@@ -51,7 +51,8 @@ pub fn fault_of(
     file_fault(alloc, file.as_str(), format)
 }
 
-fn file_fault(alloc: Global, file: &str, format: Format) -> Result<Option<Fault>, AllocError> {
+/// Returns the first fault of a file, if any.
+pub fn file_fault(alloc: Global, file: &str, format: Format) -> Result<Option<Fault>, AllocError> {
     match format {
         Format::Table => table_fault(alloc, file),
         Format::Keys => key_fault(alloc, file),

@@ -1,12 +1,13 @@
 //! Reports on refused documents: the place and the fault.
 //!
 //! A reader returns the first fault without its place. The report therefore reads prefixes of the
-//! file: the shortest with the same fault ends with the faulty element. It then tries the keys of
-//! that element, and values of a key, until the fault is gone. No rule of a format is repeated
+//! file: the shortest with the same fault ends with the faulty element. The entries of a key file
+//! do not depend on each other, so it reads each of them alone. It then tries the keys of the
+//! faulty element, and values of a key, until the fault is gone. No rule of a format is repeated
 //! here.
 
 use crate::front::{Front, Kept, Level};
-use crate::refused::{Refused, fault_of};
+use crate::refused::{Format, Refused, fault_of};
 use itoa::Buffer;
 use std::alloc::AllocError;
 use toml::Table;
@@ -27,6 +28,11 @@ impl<'a> Report<'a> {
             text: Vec::new(refused.alloc),
             is_out_of_memory: false,
         }
+    }
+
+    /// Returns the format of the document.
+    pub fn format(&self) -> Format {
+        self.refused.format
     }
 
     /// Returns the text, or an error if memory was refused.
@@ -104,6 +110,24 @@ impl<'a> Report<'a> {
     /// Returns true if a front has the fault without these keys of its last table.
     pub fn has_fault_without(&mut self, front: &Front<'_>, keys: &[&str]) -> bool {
         self.has_fault_with(front, &Kept::Without(keys))
+    }
+
+    /// Returns the front with only the first element of the root array that is refused alone, if
+    /// any. Returns the empty front if the fault is at the root.
+    ///
+    /// Each element is checked once. The search does not find a fault between two elements.
+    pub fn first_alone(&mut self, root: &'static str) -> Option<Front<'static>> {
+        let empty = Front::of_root(root);
+        if self.has_fault(&empty) {
+            return Some(empty);
+        }
+        for index in 0..toml_schema::items(self.refused.document, root).len() {
+            let alone = empty.with_only(index + 1);
+            if self.has_fault(&alone) {
+                return Some(alone);
+            }
+        }
+        None
     }
 
     /// Returns the shortest front with the first fault, searched level by level.

@@ -23,6 +23,45 @@ const PROPERTIES: [(&str, &str); 5] = [
     ("indicate", "[\"indicate\"]"),
 ];
 
+/// A type of attributes that the server adds by itself.
+#[derive(Clone, Copy)]
+enum AddedType {
+    Configuration,
+    Declaration,
+}
+
+impl AddedType {
+    /// Returns the kind of a type that is written with 16 or with 128 bits.
+    fn of(uuid: &str) -> Option<AddedType> {
+        let short = match uuid.strip_prefix("0000") {
+            Some(rest) if is_of_base(rest) => rest.get(..4)?,
+            _ => uuid,
+        };
+        match short {
+            "2902" => Some(AddedType::Configuration),
+            "2800" | "2801" | "2802" | "2803" => Some(AddedType::Declaration),
+            _ => None,
+        }
+    }
+}
+
+/// Returns true if a UUID without its first four digits is of the Bluetooth Base UUID.
+fn is_of_base(rest: &str) -> bool {
+    match rest.get(4..) {
+        Some(base) => base.eq_ignore_ascii_case(BASE),
+        None => false,
+    }
+}
+
+/// The Bluetooth Base UUID after its first eight digits.
+const BASE: &str = "-0000-1000-8000-00805f9b34fb";
+
+/// The words about types that the server adds.
+const CONFIGURATION: &[u8] =
+    b": the server adds 2902 for notify and indicate; write its rules as config = { .. }";
+
+const DECLARATION: &[u8] = b": the server adds the declarations by itself";
+
 /// Adds the place of a document's first fault, and the fault.
 pub fn add_table_place(report: &mut Report<'_>, fault: TableFault) {
     let front = report.shortest("service", &LEVELS);
@@ -37,7 +76,7 @@ fn add_fault(report: &mut Report<'_>, front: &Front<'_>, fault: TableFault) {
         TableFault::TooLong => add_too_long(report, front),
         TableFault::BadSecurity => add_need(report, front),
         TableFault::BadProperty => add_property(report, front),
-        TableFault::BadUuid => add_bad_text(report, front, "uuid"),
+        TableFault::BadUuid => add_bad_uuid(report, front),
         TableFault::BadHex => add_bad_text(report, front, "value"),
         TableFault::NotToml
         | TableFault::TooMany
@@ -65,6 +104,25 @@ fn add_missing(report: &mut Report<'_>, front: &Front<'_>, key: TableKey) {
 fn add_bad_text(report: &mut Report<'_>, front: &Front<'_>, key: &str) {
     add_name(report, front, key);
     report.add_words();
+}
+
+/// Adds the fault of a UUID. The server adds some types by itself, and a table may not have them.
+fn add_bad_uuid(report: &mut Report<'_>, front: &Front<'_>) {
+    match added_type(report, front) {
+        Some(AddedType::Configuration) => add_said(report, front, "uuid", CONFIGURATION),
+        Some(AddedType::Declaration) => add_said(report, front, "uuid", DECLARATION),
+        None => add_bad_text(report, front, "uuid"),
+    }
+}
+
+fn added_type(report: &mut Report<'_>, front: &Front<'_>) -> Option<AddedType> {
+    let mut kept = report.document(front);
+    let added = match front.last_element(&mut kept) {
+        Some(element) => AddedType::of(toml_schema::text(element, "uuid").unwrap_or("")),
+        None => None,
+    };
+    drop(kept);
+    added
 }
 
 fn key_name(key: TableKey) -> &'static str {

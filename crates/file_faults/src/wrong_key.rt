@@ -2,6 +2,7 @@
 
 use crate::front::{Front, Kept};
 use crate::quoted::add_quoted;
+use crate::refused::Format;
 use crate::report::Report;
 use itoa::Buffer;
 use toml::Table;
@@ -14,10 +15,22 @@ const TYPES: [(&str, &[u8]); 7] = [
     ("{}", b"a table"),
     ("[\"\"]", b"an array of strings"),
     ("[0]", b"an array of integers"),
-    ("[{}]", b"an array of tables"),
+    ("[{}]", TABLES),
 ];
 
 const INTEGER: &[u8] = b"an integer";
+
+const TABLES: &[u8] = b"an array of tables";
+
+/// The keys of arrays of tables in a table file, with the headers of their elements.
+const TABLE_HEADERS: [(&str, &[u8]); 3] = [
+    ("service", b"[[service]]"),
+    ("characteristic", b"[[service.characteristic]]"),
+    ("descriptor", b"[[service.characteristic.descriptor]]"),
+];
+
+/// The key of the array of tables in a key file, with the header of its elements.
+const KEY_HEADERS: [(&str, &[u8]); 1] = [("key", b"[[key]]")];
 
 /// A number above any that a key may have.
 const TOO_MUCH: usize = 0x10_0000;
@@ -88,6 +101,21 @@ fn add_wrong(report: &mut Report<'_>, front: &Front<'_>, key: &str, is_integer: 
         }
     }
     report.add(b": there is no such key");
+    add_header(report, key);
+}
+
+/// Adds the header of a table that is an element of an array at a key, if the format has one.
+fn add_header(report: &mut Report<'_>, key: &str) {
+    let headers = match report.format() {
+        Format::Table => TABLE_HEADERS.as_slice(),
+        Format::Keys => KEY_HEADERS.as_slice(),
+    };
+    for (name, header) in headers {
+        if key == *name {
+            report.add(b"; write ");
+            report.add(header);
+        }
+    }
 }
 
 /// Adds the type that a key must have, or its range if it is a number already.
@@ -97,6 +125,9 @@ fn add_right(report: &mut Report<'_>, front: &Front<'_>, key: &str, name: &[u8],
     } else {
         report.add(b": it has to be ");
         report.add(name);
+        if name == TABLES {
+            add_header(report, key);
+        }
     }
 }
 
