@@ -9,7 +9,7 @@ use Rattle.att_policy.specs.declared.standing.KeyFacts.{KeyFacts}
 use Rattle.le_hci.specs.declared.peer.Peer.{Peer}
 use Rattle.le_security.specs.declared.entry.Entry.{Entry}
 use Rattle.le_security.specs.Keys.{facts_at}
-use Rattle.gatt_rights.specs.Columns.{with_column, with_columns}
+use Rattle.gatt_rights.specs.Columns.{with_column, with_columns, with_peer_of, with_peers_of}
 
 -- the column of the next one is added
 pub next_column : (columns : List (Option KeyFacts)) (keys : List Entry) (at : ℕ) → at < length keys
@@ -19,6 +19,16 @@ next_column columns (key ∷ keys) at within =
     at_drop_more (λ (left : List Entry). with_columns columns left) (key ∷ keys) at key within
     ∙ ap (λ (found : Option Entry).
     with_columns (with_column columns (option_map (λ (entry : Entry). entry.key.facts) found)) (drop (at + 1) (key ∷ keys)))
+    (sym (slice_get-get_or (key ∷ keys) at key within))
+
+-- the peer of the next one is added
+pub next_peer : (column : Option KeyFacts) (peers : List Peer) (keys : List Entry) (at : ℕ) → at < length keys
+    → with_peers_of column peers (drop at keys)
+    ≡ with_peers_of column (option_map_or (with_peer_of column peers) (slice_get keys at) peers) (drop (at + 1) keys)
+next_peer column peers [] at within = absurd (omega arith)
+next_peer column peers (key ∷ keys) at within =
+    at_drop_more (λ (left : List Entry). with_peers_of column peers left) (key ∷ keys) at key within
+    ∙ ap (λ (found : Option Entry). with_peers_of column (option_map_or (with_peer_of column peers) found peers) (drop (at + 1) (key ∷ keys)))
     (sym (slice_get-get_or (key ∷ keys) at key within))
 
 -- the next one is tested

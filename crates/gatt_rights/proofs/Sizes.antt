@@ -6,18 +6,18 @@ use Rattle.std.proofs.lemmas.Bool.Decides.{nat_tests}
 use Rattle.std.proofs.lemmas.List.Folds.{list_any-append}
 use Rattle.att_policy.specs.declared.standing.KeyFacts.{KeyFacts}
 use Rattle.gatt_rights.specs.Columns.{same_column}
-use Rattle.gatt_rights.specs.Kinds.{every_kind, kind_of, kinds_from, sizes_of}
+use Rattle.gatt_rights.specs.Kinds.{every_kind, key_kind, kinds_from, kinds_of_every_size}
 use Rattle.gatt_rights.specs.Laws.{HasEveryKind}
 
 by_count : (left count size : ℕ) (authenticated secure : Bool) → left ≡ suc count
-    → kinds_from left size authenticated secure ≡ kind_of size authenticated secure ∷ kinds_from count (size + 1) authenticated secure
+    → kinds_from left size authenticated secure ≡ key_kind size authenticated secure ∷ kinds_from count (size + 1) authenticated secure
 unfolding kinds_from
 by_count left count size authenticated secure is = ap (λ (it : ℕ). kinds_from it size authenticated secure) is
 
 -- the kinds that are left begin with the next size
 pub next_size : (size : ℕ) (authenticated secure : Bool) → size < 17
     → kinds_from (17 - size) size authenticated secure
-    ≡ kind_of size authenticated secure ∷ kinds_from (17 - (size + 1)) (size + 1) authenticated secure
+    ≡ key_kind size authenticated secure ∷ kinds_from (17 - (size + 1)) (size + 1) authenticated secure
 next_size size authenticated secure below =
     by_count (17 - size) (17 - (size + 1)) size authenticated secure (omega (arith, below))
 
@@ -27,7 +27,7 @@ same_flag false = refl
 
 one_of : (key : KeyFacts) (first : ℕ) (test : Bool) → (key.size == first) ≡ test → (rest : List (Option KeyFacts))
     → (test ≡ false → list_any (same_column (Some key)) rest ≡ true)
-    → list_any (same_column (Some key)) (kind_of first key.authenticated key.secure ∷ rest) ≡ true
+    → list_any (same_column (Some key)) (key_kind first key.authenticated key.secure ∷ rest) ≡ true
 one_of key first true is rest later =
     ap (λ (it : Bool). (it && (beq key.authenticated key.authenticated && beq key.secure key.secure)) || list_any (same_column (Some key)) rest) is
     ∙ ap (λ (it : Bool). (it && beq key.secure key.secure) || list_any (same_column (Some key)) rest) (same_flag key.authenticated)
@@ -57,22 +57,22 @@ in_second test one other is =
     list_any-append test one other ∙ ap (λ (it : Bool). list_any test one || it) is ∙ or_true (list_any test one)
 
 by_flags : (key : KeyFacts) (authenticated secure : Bool) → key.authenticated ≡ authenticated → key.secure ≡ secure
-    → list_any (same_column (Some key)) (sizes_of authenticated secure) ≡ true
+    → list_any (same_column (Some key)) (kinds_of_every_size authenticated secure) ≡ true
     → list_any (same_column (Some key)) every_kind ≡ true
 unfolding every_kind kinds_from
 by_flags key false false _ _ is =
-    in_first (same_column (Some key)) (sizes_of false false) (sizes_of true false ++ sizes_of false true ++ sizes_of true true) is
+    in_first (same_column (Some key)) (kinds_of_every_size false false) (kinds_of_every_size true false ++ kinds_of_every_size false true ++ kinds_of_every_size true true) is
 by_flags key true false _ _ is =
-    in_second (same_column (Some key)) (sizes_of false false) (sizes_of true false ++ sizes_of false true ++ sizes_of true true)
-    (in_first (same_column (Some key)) (sizes_of true false) (sizes_of false true ++ sizes_of true true) is)
+    in_second (same_column (Some key)) (kinds_of_every_size false false) (kinds_of_every_size true false ++ kinds_of_every_size false true ++ kinds_of_every_size true true)
+    (in_first (same_column (Some key)) (kinds_of_every_size true false) (kinds_of_every_size false true ++ kinds_of_every_size true true) is)
 by_flags key false true _ _ is =
-    in_second (same_column (Some key)) (sizes_of false false) (sizes_of true false ++ sizes_of false true ++ sizes_of true true)
-    (in_second (same_column (Some key)) (sizes_of true false) (sizes_of false true ++ sizes_of true true)
-    (in_first (same_column (Some key)) (sizes_of false true) (sizes_of true true) is))
+    in_second (same_column (Some key)) (kinds_of_every_size false false) (kinds_of_every_size true false ++ kinds_of_every_size false true ++ kinds_of_every_size true true)
+    (in_second (same_column (Some key)) (kinds_of_every_size true false) (kinds_of_every_size false true ++ kinds_of_every_size true true)
+    (in_first (same_column (Some key)) (kinds_of_every_size false true) (kinds_of_every_size true true) is))
 by_flags key true true _ _ is =
-    in_second (same_column (Some key)) (sizes_of false false) (sizes_of true false ++ sizes_of false true ++ sizes_of true true)
-    (in_second (same_column (Some key)) (sizes_of true false) (sizes_of false true ++ sizes_of true true)
-    (in_second (same_column (Some key)) (sizes_of false true) (sizes_of true true) is))
+    in_second (same_column (Some key)) (kinds_of_every_size false false) (kinds_of_every_size true false ++ kinds_of_every_size false true ++ kinds_of_every_size true true)
+    (in_second (same_column (Some key)) (kinds_of_every_size true false) (kinds_of_every_size false true ++ kinds_of_every_size true true)
+    (in_second (same_column (Some key)) (kinds_of_every_size false true) (kinds_of_every_size true true) is))
 
 pub has_every_kind : HasEveryKind
 has_every_kind key least most =

@@ -18,7 +18,7 @@ use Rattle.att_writes.specs.Applied.{after_entries, unless_entry_refused}
 use Rattle.att_writes.specs.Entry.{Entry, whole_value}
 use Rattle.att_writes.specs.Fault.{unless_broken, value_fault}
 use Rattle.gatt_subs.specs.Hearing.{bits_for}
-use Rattle.gatt_rights.specs.Needs.{is_announced}
+use Rattle.gatt_rights.specs.Needs.{is_notified_or_indicated}
 use Rattle.gatt_rights.specs.Rights.{is_sent, is_sent_of, is_subscribed_by, row_for, subscribes_at, subscribes_of}
 
 pub same_bits : (handle bits : ℕ) → bits_for (row_for handle bits) handle ≡ bits
@@ -99,7 +99,7 @@ no_more false other = refl
 
 by_attribute : (one other : Bool) (attributes : List Attr) (standing : Standing) (handle : ℕ) (found : Option Attr)
     → one && (other && not (option_map_or (λ (attr : Attr). configuration_bits_of attr.guard.properties) found 0 == 0))
-    ≡ option_map_or (λ (attr : Attr). one && (other && is_announced attr.guard.properties)) found false
+    ≡ option_map_or (λ (attr : Attr). one && (other && is_notified_or_indicated attr.guard.properties)) found false
 by_attribute one other attributes standing handle None = no_more one other
 by_attribute one other attributes standing handle (Some attr) =
     ap (λ (it : Bool). one && (other && it))

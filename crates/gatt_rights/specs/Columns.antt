@@ -39,3 +39,19 @@ is_key_of peer column entry =
 
 abbrev pub has_key : List Entry → Peer → Option KeyFacts → Bool
 has_key keys peer column = list_any (is_key_of peer column) keys
+
+-- The peers with a key of the kind of a column, each once, in the order of their first keys.
+abbrev pub with_new_peer : List Peer → Peer → List Peer
+with_new_peer peers peer = if list_any (same_peer peer) peers then peers else peers ++ peer ∷ []
+
+abbrev pub with_peer_of : Option KeyFacts → List Peer → Entry → List Peer
+with_peer_of column peers entry =
+    if same_column (Some entry.key.facts) column then with_new_peer peers entry.peer else peers
+
+abbrev pub with_peers_of : Option KeyFacts → List Peer → List Entry → List Peer
+with_peers_of column peers [] = peers
+with_peers_of column peers (entry ∷ rest) =
+    with_peers_of column (with_peer_of column peers entry) rest
+
+abbrev pub peers_of_kind : List Entry → Option KeyFacts → List Peer
+peers_of_kind keys column = with_peers_of column [] keys

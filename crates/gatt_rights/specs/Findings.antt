@@ -16,9 +16,10 @@ use Rattle.le_hci.specs.declared.peer.Peer.{Peer}
 use Rattle.le_hci.specs.declared.peer.TheConstants.{RANDOM_ADDRESS}
 use Rattle.le_security.specs.declared.entry.Entry.{Entry}
 use Rattle.gatt_rights.specs.declared.finding.Finding.{Finding}
-use Rattle.gatt_rights.specs.declared.finding.Finding.TheVariants.{OpenWrite, ShortKey, EasyWrite, IdleReadRule, IdleWriteRule, ForgedAddress, NoSubscriber, LastingSubscription, EasySubscription, NoProperty, Unused, EmptyService, NoServiceChanged, IdleKey, NoKeyMatters, PrivateAddress}
+use Rattle.gatt_rights.specs.declared.finding.Finding.TheVariants.{OpenWrite, ShortKey, EasyWrite, IdleReadRule, IdleWriteRule, ForgedAddress, NoSubscriber, LastingSubscription, EasySubscription, NoProperty, Unused, EmptyService, NoServiceChanged, IdleKey, NoKeyMatters, ShortestKey, PrivateAddress}
+use Rattle.gatt_rights.specs.Columns.{same_facts}
 use Rattle.gatt_rights.specs.Held.{adds_nothing, least_short_size, may_follow, may_use, may_write}
-use Rattle.gatt_rights.specs.Needs.{asks_less, asks_more, has_idle_read_rule, has_idle_write_rule, has_no_property, is_announced, is_subscription_forgeable, subscription_need, trusts_an_address}
+use Rattle.gatt_rights.specs.Needs.{asks_less, asks_more, has_idle_read_rule, has_idle_write_rule, has_no_property, is_notified_or_indicated, is_subscription_forgeable, subscription_need, trusts_an_address}
 
 abbrev pub note : Bool → Finding → List Finding
 note true finding = finding ∷ []
@@ -59,7 +60,7 @@ is_for_no_key test columns = nat_lt 1 (length columns) && not (list_any test col
 -- A value that is sent to nobody, or to others than may subscribe.
 unfoldable pub announced_findings : List Attr → List (Option KeyFacts) → Attr → List Finding
 announced_findings attributes columns attr =
-    if is_announced attr.guard.properties
+    if is_notified_or_indicated attr.guard.properties
     then note (is_for_no_key (may_follow attributes attr.handle) columns) (NoSubscriber attr.handle)
     ++ subscription_findings attr (subscription_need attributes attr.handle)
     else []
@@ -107,14 +108,27 @@ key_findings attributes columns =
     then note (nat_lt 1 (length columns)) NoKeyMatters
     else flat_map (idle_key attributes) columns
 
-abbrev pub is_announced_value : Attr → Bool
-is_announced_value attr = is_value attr.role && is_announced attr.guard.properties
+-- Each other kind of key has more octets.
+abbrev pub is_shorter : KeyFacts → Option KeyFacts → Bool
+is_shorter key None = true
+is_shorter key (Some other) = same_facts key other || nat_lt key.size other.size
+
+-- There is no key, this kind, and at least one other kind.
+abbrev pub is_shortest_kind : List (Option KeyFacts) → KeyFacts → Bool
+is_shortest_kind columns key = nat_lt 2 (length columns) && list_all (is_shorter key) columns
+
+abbrev pub shortest_key : List (Option KeyFacts) → Option KeyFacts → List Finding
+shortest_key columns None = []
+shortest_key columns (Some key) = note (is_shortest_kind columns key) (ShortestKey key)
+
+abbrev pub has_subscribers : Attr → Bool
+has_subscribers attr = is_value attr.role && is_notified_or_indicated attr.guard.properties
 
 -- Clients that subscribe remember handles, and only Service Changed has them forget these (Core
 -- 5.0, Vol 3 Part G, 2.5.2).
 abbrev pub table_findings : Contents → List Finding
 table_findings table =
-    note (is_none (changer_of table) && list_any is_announced_value table.attributes)
+    note (is_none (changer_of table) && list_any has_subscribers table.attributes)
     NoServiceChanged
 
 -- The two most significant bits of a static random address are ones; a private one changes (Core
@@ -133,4 +147,4 @@ abbrev pub findings_of : Contents → List Entry → List (Option KeyFacts) → 
 findings_of table keys columns =
     flat_map (attribute_findings table.attributes columns) table.attributes
     ++ table_findings table ++ key_findings table.attributes columns
-    ++ flat_map address_findings keys
+    ++ flat_map (shortest_key columns) columns ++ flat_map address_findings keys

@@ -11,12 +11,13 @@ use Rattle.att_policy.specs.Policy.{has_property}
 use Rattle.att_attributes.specs.declared.attr.Attr.{Attr}
 use Rattle.att_attributes.specs.Attributes.{attribute_at, is_configuration}
 
-abbrev pub is_announced : Properties → Bool
-is_announced properties = has_property properties NOTIFY || has_property properties INDICATE
+abbrev pub is_notified_or_indicated : Properties → Bool
+is_notified_or_indicated properties =
+    has_property properties NOTIFY || has_property properties INDICATE
 
 -- A notified or indicated value needs what reading needs.
 abbrev pub is_heard : Properties → Bool
-is_heard properties = has_property properties READ || is_announced properties
+is_heard properties = has_property properties READ || is_notified_or_indicated properties
 
 -- These need what writing needs.
 abbrev pub is_written : Properties → Bool

@@ -12,7 +12,7 @@ use Rattle.att_attributes.specs.Attributes.{configuration_bits_at, guard_at, is_
 use Rattle.att_writes.specs.Applied.{Stored, after_entries}
 use Rattle.att_writes.specs.Entry.{whole_value}
 use Rattle.gatt_subs.specs.Hearing.{bits_for, may_hear_at}
-use Rattle.gatt_rights.specs.Needs.{is_announced}
+use Rattle.gatt_rights.specs.Needs.{is_notified_or_indicated}
 use Rattle.gatt_rights.specs.declared.rights.Right.{Right}
 use Rattle.gatt_rights.specs.declared.rights.TheConstants.{NOTIFICATION, INDICATION}
 
@@ -56,7 +56,7 @@ abbrev pub subscribes_at : List Attr → Standing → Guard → Handle → Bool
 subscribes_at attributes standing guard handle =
     is_configuration_at attributes handle
     && (is_none (first_broken_of Write (guard_at attributes handle) standing)
-    && is_announced guard.properties)
+    && is_notified_or_indicated guard.properties)
 
 -- An access is a right exactly if it breaks no rule. To be sent a value is one exactly if the
 -- server sends it to a client that has asked for it, and a subscription if the server accepts it.

@@ -3,7 +3,8 @@
 ghost use Rattle.std.specs.Prelude.{◌≡◌, IfOk, OnOk, false, slice_get};
 ghost use Rattle.std.specs.List.{list_any};
 ghost use Rattle.std.specs.Option.{option_map_or};
-ghost use Rattle.gatt_rights.specs.Columns.{columns_among, has_key, is_key_of, same_column, same_facts, with_column, with_columns};
+ghost use Rattle.le_security.specs.Entry.{same_peer};
+ghost use Rattle.gatt_rights.specs.Columns.{columns_among, has_key, is_key_of, peers_of_kind, same_column, same_facts, with_column, with_columns, with_new_peer, with_peer_of};
 
 use att_policy::KeyFacts;
 use le_hci::Peer;
@@ -43,7 +44,8 @@ fn add_column(columns: &mut Vec<Option<KeyFacts>>, key: Option<KeyFacts>) -> Res
     Ok(())
 }
 
-fn has_column(columns: &[Option<KeyFacts>], key: Option<KeyFacts>) -> bool
+/// Returns true if a kind of key, or no key, is among others.
+pub fn has_column(columns: &[Option<KeyFacts>], key: Option<KeyFacts>) -> bool
     ensures { result ≡ list_any (same_column key) columns.now }
 {
     columns.iter().any(|column| is_same_column(key, *column))
@@ -60,7 +62,8 @@ pub fn is_same_column(one: Option<KeyFacts>, other: Option<KeyFacts>) -> bool
     }
 }
 
-fn is_same(one: KeyFacts, other: KeyFacts) -> bool
+/// Returns true if two keys have the same facts.
+pub(crate) fn is_same(one: KeyFacts, other: KeyFacts) -> bool
     ensures { result ≡ same_facts one other }
 {
     one.size == other.size && one.authenticated == other.authenticated && one.secure == other.secure
@@ -86,4 +89,56 @@ fn is_key_of(keys: &Keys, at: usize, peer: &Peer, column: Option<KeyFacts>) -> b
         Some(owner) => *owner == *peer && is_same_column(keys.facts(at), column),
         None => false,
     }
+}
+
+/// Returns the peers with a key of the kind of a column, each once.
+///
+/// On `Err` memory was refused.
+pub fn peers_of_kind(
+    alloc: Global,
+    keys: &Keys,
+    column: Option<KeyFacts>,
+) -> Result<Vec<Peer>, AllocError>
+    ensures { IfOk result (λ peers. peers.items ≡ peers_of_kind keys.now column) }
+{
+    let mut peers = Vec::new(alloc);
+    for at in 0..keys.count() {
+        add_peer_of(&mut peers, keys, at, column)?;
+    }
+    Ok(peers)
+}
+
+fn add_peer_of(
+    peers: &mut Vec<Peer>,
+    keys: &Keys,
+    at: usize,
+    column: Option<KeyFacts>,
+) -> Result<(), AllocError>
+    ensures ok { OnOk result (peers.new.items
+        ≡ option_map_or (with_peer_of column peers.old.items) (slice_get keys.now at)
+        peers.old.items) }
+{
+    let Some(peer) = keys.peer(at) else {
+        return Ok(());
+    };
+    if !is_same_column(keys.facts(at), column) {
+        return Ok(());
+    }
+    add_peer(peers, peer)
+}
+
+fn add_peer(peers: &mut Vec<Peer>, peer: &Peer) -> Result<(), AllocError>
+    ensures ok { OnOk result (peers.new.items ≡ with_new_peer peers.old.items peer.now) }
+{
+    if has_peer(peers, peer) {
+        return Ok(());
+    }
+    peers.push(*peer)?;
+    Ok(())
+}
+
+fn has_peer(peers: &[Peer], peer: &Peer) -> bool
+    ensures { result ≡ list_any (same_peer peer.now) peers.now }
+{
+    peers.iter().any(|other| *peer == *other)
 }

@@ -1,17 +1,18 @@
 //! The findings in a table, for its author.
 
 ghost use Rattle.std.specs.Prelude.{◌≡◌, ◌++◌, ◌∷◌, [], IfOk, OnOk};
-ghost use Rattle.std.specs.List.{flat_map, list_any};
+ghost use Rattle.std.specs.List.{flat_map, list_all, list_any};
 ghost use Rattle.std.specs.Option.{option_copied, option_map_or};
-ghost use Rattle.gatt_rights.specs.Findings.{address_findings, announced_findings, attribute_findings, ends_at_once, findings_of, idle_key, is_private, key_findings, note, private_finding, rule_findings, service_findings, short_key_findings, subscription_findings, is_announced_value, table_findings, unused_findings, used_findings};
+ghost use Rattle.gatt_rights.specs.Findings.{address_findings, announced_findings, attribute_findings, ends_at_once, findings_of, idle_key, is_private, is_shorter, is_shortest_kind, key_findings, note, private_finding, rule_findings, service_findings, short_key_findings, shortest_key, subscription_findings, has_subscribers, table_findings, unused_findings, used_findings};
 ghost use Rattle.gatt_rights.specs.Needs.{configuration_need, is_subscription_forgeable, subscription_need};
 
+use crate::columns::is_same;
 use crate::held::{
     adds_nothing, all_add_nothing, anybody_may_follow, anybody_may_use, least_short_size, may_write,
 };
 use crate::needs::{
-    asks_less, asks_more, has_idle_read_rule, has_idle_write_rule, has_no_property, is_announced,
-    trusts_address, trusts_an_address,
+    asks_less, asks_more, has_idle_read_rule, has_idle_write_rule, has_no_property,
+    is_notified_or_indicated, trusts_address, trusts_an_address,
 };
 use crate::rights::all_attributes;
 use att_policy::{KeyFacts, Need};
@@ -55,6 +56,8 @@ pub enum Finding {
     IdleKey(KeyFacts),
     /// No key permits more than no key.
     NoKeyMatters,
+    /// Keys of fewer octets than every other kind of key.
+    ShortestKey(KeyFacts),
     /// A key for a private address, which its peer changes.
     PrivateAddress(Peer),
 }
@@ -77,6 +80,7 @@ pub fn findings(
     add_all(&mut findings, table, columns, all_attributes(table))?;
     add_of_table(&mut findings, table)?;
     add_of_keys(&mut findings, table, columns)?;
+    add_shortest_keys(&mut findings, columns)?;
     add_of_addresses(&mut findings, keys)?;
     Ok(findings)
 }
@@ -234,7 +238,7 @@ fn add_of_announced(
     ensures ok { OnOk result (findings.new.items ≡ findings.old.items
         ++ announced_findings table.now.attributes columns.now attr.now) }
 {
-    if !is_announced(attr.guard.properties) {
+    if !is_notified_or_indicated(attr.guard.properties) {
         return Ok(());
     }
     let has_no_subscriber = columns.len() > 1 && !anybody_may_follow(table, columns, attr.handle);
@@ -280,15 +284,15 @@ fn add_of_table(findings: &mut Vec<Finding>, table: &Table) -> Result<(), AllocE
 
 /// Returns true if a value may be subscribed to.
 fn has_announced(table: &Table) -> bool
-    ensures { result ≡ list_any is_announced_value table.now.attributes }
+    ensures { result ≡ list_any has_subscribers table.now.attributes }
 {
-    all_attributes(table).iter().any(is_announced_value)
+    all_attributes(table).iter().any(has_subscribers)
 }
 
-fn is_announced_value(attr: &Attr) -> bool
-    ensures { result ≡ is_announced_value attr.now }
+fn has_subscribers(attr: &Attr) -> bool
+    ensures { result ≡ has_subscribers attr.now }
 {
-    attr.role == Role::Value && is_announced(attr.guard.properties)
+    attr.role == Role::Value && is_notified_or_indicated(attr.guard.properties)
 }
 
 fn add_of_keys(
@@ -336,6 +340,58 @@ fn add_idle_key(
     }
 }
 
+fn add_shortest_keys(
+    findings: &mut Vec<Finding>,
+    columns: &[Option<KeyFacts>],
+) -> Result<(), AllocError>
+    ensures ok { OnOk result (findings.new.items ≡ findings.old.items
+        ++ flat_map (shortest_key columns.now) columns.now) }
+{
+    for key in columns {
+        add_shortest_key(findings, columns, *key)?;
+    }
+    Ok(())
+}
+
+fn add_shortest_key(
+    findings: &mut Vec<Finding>,
+    columns: &[Option<KeyFacts>],
+    key: Option<KeyFacts>,
+) -> Result<(), AllocError>
+    ensures ok { OnOk result (findings.new.items ≡ findings.old.items
+        ++ shortest_key columns.now key) }
+{
+    match key {
+        Some(key) => {
+            let is_shortest_kind = is_shortest_kind(columns, key);
+            add_if(findings, is_shortest_kind, Finding::ShortestKey(key))
+        }
+        None => Ok(()),
+    }
+}
+
+/// Returns true if there are other kinds of keys, and each has more octets.
+fn is_shortest_kind(columns: &[Option<KeyFacts>], key: KeyFacts) -> bool
+    ensures { result ≡ is_shortest_kind columns.now key }
+{
+    columns.len() > 2 && has_only_longer(columns, key)
+}
+
+fn has_only_longer(columns: &[Option<KeyFacts>], key: KeyFacts) -> bool
+    ensures { result ≡ list_all (is_shorter key) columns.now }
+{
+    columns.iter().all(|other| is_shorter(key, *other))
+}
+
+fn is_shorter(key: KeyFacts, other: Option<KeyFacts>) -> bool
+    ensures { result ≡ is_shorter key other }
+{
+    match other {
+        Some(other) => is_same(key, other) || key.size < other.size,
+        None => true,
+    }
+}
+
 fn add_of_addresses(findings: &mut Vec<Finding>, keys: &Keys) -> Result<(), AllocError>
     ensures ok { OnOk result (findings.new.items
         ≡ findings.old.items ++ flat_map address_findings keys.now) }
@@ -357,7 +413,7 @@ fn add_of_address(findings: &mut Vec<Finding>, peer: Option<&Peer>) -> Result<()
 }
 
 /// Returns true if an address is random and not static (Core 5.0, Vol 6 Part B, 1.3.2).
-fn is_private(peer: &Peer) -> bool
+pub fn is_private(peer: &Peer) -> bool
     ensures { result ≡ is_private peer.now }
 {
     peer.kind == RANDOM_ADDRESS && peer.address[5] < 0xC0

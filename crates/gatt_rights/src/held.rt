@@ -1,14 +1,15 @@
 //! The rights that no key, and each kind of key, gives.
 
-ghost use Rattle.std.specs.Prelude.{◌≡◌, ◌||◌, ◌&&◌};
+ghost use Rattle.std.specs.Prelude.{◌≡◌, ◌||◌, ◌&&◌, IfOk, OnOk};
 ghost use Rattle.std.specs.Bool.{beq};
 ghost use Rattle.std.specs.List.{list_all, list_any};
-ghost use Rattle.gatt_rights.specs.Held.{adds_nothing, adds_nothing_at, has_same_rights, is_same_right, least_short_size, lesser, may_be_sent, may_follow, may_subscribe, may_use, may_with, may_write, short_size};
+ghost use Rattle.gatt_rights.specs.Held.{adds_nothing, has_equal_rights, has_same_rights, is_equal_at, is_same_right, is_used, kinds_that_differ, least_short_size, lesser, may_be_sent, may_follow, may_subscribe, may_use, may_with, may_write, short_writer_size, with_kind};
 ghost use Rattle.gatt_rights.specs.Laws.{DependsOnKeyAndTime};
 
 use crate::rights::{Right, all_attributes, may, standing_of};
 use att_policy::KeyFacts;
-use att_table::Table;
+use att_table::{Attr, Role, Table};
+use std::alloc::{AllocError, Global};
 
 /// Returns true if a link with this key or none, authorized or not, has a right.
 #[tactic(auto, using(crate::proofs::Standings::depends_on_key_and_time))]
@@ -93,7 +94,7 @@ pub(crate) fn least_short_size(
 {
     let mut least = None;
     for key in columns {
-        least = lesser(least, short_size(table, *key, handle));
+        least = lesser(least, short_writer_size(table, *key, handle));
     }
     least
 }
@@ -109,8 +110,8 @@ fn lesser(one: Option<u8>, other: Option<u8>) -> Option<u8>
 }
 
 /// Returns the size of a key of less than 16 octets that may write, once authorized.
-fn short_size(table: &Table, key: Option<KeyFacts>, handle: u16) -> Option<u8>
-    ensures { result ≡ short_size table.now.attributes handle key }
+fn short_writer_size(table: &Table, key: Option<KeyFacts>, handle: u16) -> Option<u8>
+    ensures { result ≡ short_writer_size table.now.attributes handle key }
 {
     let key = key?;
     if key.size < 16 && may_write(table, Some(key), true, handle) {
@@ -120,43 +121,70 @@ fn short_size(table: &Table, key: Option<KeyFacts>, handle: u16) -> Option<u8>
     }
 }
 
+/// Returns true if clients use an attribute: a value or a descriptor.
+pub fn is_used(role: Role) -> bool
+    ensures { result ≡ is_used role }
+{
+    match role {
+        Role::Value | Role::Descriptor => true,
+        Role::Declaration | Role::Configuration => false,
+    }
+}
+
 fn is_same_right(
     table: &Table,
-    key: Option<KeyFacts>,
+    one: Option<KeyFacts>,
+    other: Option<KeyFacts>,
     is_authorized: bool,
     handle: u16,
     right: Right,
 ) -> bool
-    ensures { result ≡ is_same_right table.now.attributes key is_authorized handle right }
+    ensures { result ≡ is_same_right table.now.attributes one other is_authorized handle right }
 {
-    may_with(table, key, is_authorized, handle, right)
-        == may_with(table, None, is_authorized, handle, right)
+    may_with(table, one, is_authorized, handle, right)
+        == may_with(table, other, is_authorized, handle, right)
 }
 
-fn has_same_rights(table: &Table, key: Option<KeyFacts>, is_authorized: bool, handle: u16) -> bool
-    ensures { result ≡ has_same_rights table.now.attributes key is_authorized handle }
+fn has_same_rights(
+    table: &Table,
+    one: Option<KeyFacts>,
+    other: Option<KeyFacts>,
+    is_authorized: bool,
+    handle: u16,
+) -> bool
+    ensures { result ≡ has_same_rights table.now.attributes one other is_authorized handle }
 {
-    is_same_right(table, key, is_authorized, handle, Right::Read)
-        && is_same_right(table, key, is_authorized, handle, Right::Write)
-        && is_same_right(table, key, is_authorized, handle, Right::Command)
-        && is_same_right(table, key, is_authorized, handle, Right::Notify)
-        && is_same_right(table, key, is_authorized, handle, Right::Indicate)
-        && is_same_right(table, key, is_authorized, handle, Right::Subscribe)
+    is_same_right(table, one, other, is_authorized, handle, Right::Read)
+        && is_same_right(table, one, other, is_authorized, handle, Right::Write)
+        && is_same_right(table, one, other, is_authorized, handle, Right::Command)
+        && is_same_right(table, one, other, is_authorized, handle, Right::Notify)
+        && is_same_right(table, one, other, is_authorized, handle, Right::Indicate)
+        && is_same_right(table, one, other, is_authorized, handle, Right::Subscribe)
 }
 
-fn adds_nothing_at(table: &Table, key: Option<KeyFacts>, handle: u16) -> bool
-    ensures { result ≡ adds_nothing_at table.now.attributes key handle }
+fn is_equal_at(table: &Table, one: Option<KeyFacts>, other: Option<KeyFacts>, attr: &Attr) -> bool
+    ensures { result ≡ is_equal_at table.now.attributes one other attr.now }
 {
-    has_same_rights(table, key, false, handle) && has_same_rights(table, key, true, handle)
+    !is_used(attr.role)
+        || (has_same_rights(table, one, other, false, attr.handle)
+            && has_same_rights(table, one, other, true, attr.handle))
 }
 
-/// Returns true if a key permits no more than none.
-pub fn adds_nothing(table: &Table, key: Option<KeyFacts>) -> bool
-    ensures { result ≡ adds_nothing table.now.attributes key }
+/// Returns true if two kinds of keys, or no key, give the same rights to all values and
+/// descriptors.
+pub fn has_equal_rights(table: &Table, one: Option<KeyFacts>, other: Option<KeyFacts>) -> bool
+    ensures { result ≡ has_equal_rights table.now.attributes one other }
 {
     all_attributes(table)
         .iter()
-        .all(|attr| adds_nothing_at(table, key, attr.handle))
+        .all(|attr| is_equal_at(table, one, other, attr))
+}
+
+/// Returns true if a key permits no more than none.
+pub(crate) fn adds_nothing(table: &Table, key: Option<KeyFacts>) -> bool
+    ensures { result ≡ adds_nothing table.now.attributes key }
+{
+    has_equal_rights(table, key, None)
 }
 
 /// Returns true if no key permits more than none.
@@ -164,4 +192,45 @@ pub(crate) fn all_add_nothing(table: &Table, columns: &[Option<KeyFacts>]) -> bo
     ensures { result ≡ list_all (adds_nothing table.now.attributes) columns.now }
 {
     columns.iter().all(|key| adds_nothing(table, *key))
+}
+
+/// Returns the first of all kinds of keys with equal rights, in the order of the kinds.
+///
+/// On `Err` memory was refused.
+pub fn kinds_that_differ(
+    alloc: Global,
+    table: &Table,
+    kinds: &[Option<KeyFacts>],
+) -> Result<Vec<Option<KeyFacts>>, AllocError>
+    ensures { IfOk result
+        (λ firsts. firsts.items ≡ kinds_that_differ table.now.attributes kinds.now) }
+{
+    let mut firsts = Vec::new(alloc);
+    for kind in kinds {
+        add_if_first(&mut firsts, table, *kind)?;
+    }
+    Ok(firsts)
+}
+
+fn add_if_first(
+    firsts: &mut Vec<Option<KeyFacts>>,
+    table: &Table,
+    kind: Option<KeyFacts>,
+) -> Result<(), AllocError>
+    ensures ok { OnOk result
+        (firsts.new.items ≡ with_kind table.now.attributes firsts.old.items kind) }
+{
+    if has_equal(table, firsts, kind) {
+        return Ok(());
+    }
+    firsts.push(kind)?;
+    Ok(())
+}
+
+fn has_equal(table: &Table, firsts: &[Option<KeyFacts>], kind: Option<KeyFacts>) -> bool
+    ensures { result ≡ list_any (has_equal_rights table.now.attributes kind) firsts.now }
+{
+    firsts
+        .iter()
+        .any(|first| has_equal_rights(table, kind, *first))
 }

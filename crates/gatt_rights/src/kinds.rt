@@ -1,7 +1,7 @@
 //! All kinds of keys that a link can have.
 
 ghost use Rattle.std.specs.Prelude.{◌≡◌, ◌++◌, IfOk, OnOk};
-ghost use Rattle.gatt_rights.specs.Kinds.{every_kind, sizes_of};
+ghost use Rattle.gatt_rights.specs.Kinds.{every_kind, kinds_of_every_size};
 ghost use Rattle.gatt_rights.specs.Laws.{HasEveryKind};
 
 use att_policy::KeyFacts;
@@ -33,7 +33,7 @@ fn add_sizes(
     secure: bool,
 ) -> Result<(), AllocError>
     ensures ok { OnOk result (kinds.new.items
-        ≡ kinds.old.items ++ sizes_of authenticated secure) }
+        ≡ kinds.old.items ++ kinds_of_every_size authenticated secure) }
 {
     for size in 7..17 {
         kinds.push(Some(KeyFacts {

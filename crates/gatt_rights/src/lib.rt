@@ -8,9 +8,9 @@ mod kinds;
 mod needs;
 mod rights;
 
-pub use columns::{add_columns, columns_of, has_key, is_same_column};
-pub use finding::{Finding, findings};
-pub use held::{adds_nothing, may_use, may_with};
+pub use columns::{add_columns, columns_of, has_column, has_key, is_same_column, peers_of_kind};
+pub use finding::{Finding, findings, is_private};
+pub use held::{has_equal_rights, is_used, kinds_that_differ, may_use, may_with};
 pub use kinds::every_kind;
-pub use needs::{is_announced, is_heard, is_written};
+pub use needs::{is_heard, is_notified_or_indicated, is_written};
 pub use rights::{Right, all_attributes, may, standing_of};

@@ -1,7 +1,7 @@
 //! The requirements of an attribute, and whether they fit each other.
 
 ghost use Rattle.std.specs.Prelude.{◌≡◌};
-ghost use Rattle.gatt_rights.specs.Needs.{asks_less, asks_more, asks_nothing, has_idle_read_rule, has_idle_write_rule, has_no_property, is_announced, is_heard, is_written, trusts_an_address, trusts_address};
+ghost use Rattle.gatt_rights.specs.Needs.{asks_less, asks_more, asks_nothing, has_idle_read_rule, has_idle_write_rule, has_no_property, is_notified_or_indicated, is_heard, is_written, trusts_an_address, trusts_address};
 
 use att_policy::{Guard, Need, Properties};
 use bitflags::Flags;
@@ -10,12 +10,12 @@ use bitflags::Flags;
 pub fn is_heard(properties: Properties) -> bool
     ensures { result ≡ is_heard properties }
 {
-    properties.contains(Properties::READ) || is_announced(properties)
+    properties.contains(Properties::READ) || is_notified_or_indicated(properties)
 }
 
 /// Returns true if a property permits notifications or indications.
-pub fn is_announced(properties: Properties) -> bool
-    ensures { result ≡ is_announced properties }
+pub fn is_notified_or_indicated(properties: Properties) -> bool
+    ensures { result ≡ is_notified_or_indicated properties }
 {
     properties.contains(Properties::NOTIFY) || properties.contains(Properties::INDICATE)
 }

@@ -7,7 +7,7 @@ ghost use Rattle.att_attributes.specs.Attributes.{guard_at, is_configuration_at}
 ghost use Rattle.gatt_rights.specs.Laws.{SendsByRights};
 ghost use Rattle.gatt_rights.specs.Rights.{is_sent, is_sent_of, may_of, standing_with_key, subscribes_at, subscribes_of};
 
-use crate::needs::is_announced;
+use crate::needs::is_notified_or_indicated;
 use att_policy::{Access, Guard, KeyFacts, Standing, first_broken, may_hear};
 use att_table::{Attr, Role, Table};
 
@@ -116,7 +116,7 @@ fn accepts(table: &Table, standing: &Standing, guard: &Guard, handle: u16) -> bo
 {
     is_configuration(table, handle)
         && is_permitted(Access::Write, table, standing, handle)
-        && is_announced(guard.properties)
+        && is_notified_or_indicated(guard.properties)
 }
 
 fn is_configuration(table: &Table, handle: u16) -> bool

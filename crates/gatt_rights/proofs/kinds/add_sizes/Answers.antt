@@ -1,7 +1,7 @@
 use Rattle.std.proofs.Common.{ℕ, ◌+◌, ◌-◌, List, [], ◌∷◌, ◌++◌, Option, ap, sym, ◌∙◌, append_assoc, arith}
 use Rattle.std.proofs.lemmas.List.{append-nil}
 use Rattle.att_policy.specs.declared.standing.KeyFacts.{KeyFacts}
-use Rattle.gatt_rights.specs.Kinds.{kind_of, kinds_from}
+use Rattle.gatt_rights.specs.Kinds.{key_kind, kinds_from}
 use Rattle.gatt_rights.proofs.Sizes.{next_size, none_left}
 use Rattle.gatt_rights.proofs.kinds.add_sizes.Goals as goal
 
@@ -11,7 +11,7 @@ loop-size-preserved c =
     let items : List (Option KeyFacts) = c.loop-size.kinds.items in
     let rest : List (Option KeyFacts) = kinds_from (17 - (size + 1)) (size + 1) c.args.authenticated c.args.secure in
     ap (λ (front : List (Option KeyFacts)). front ++ rest) c.in_ok-push.ensures.items
-    ∙ append_assoc items (kind_of size c.args.authenticated c.args.secure ∷ []) rest
+    ∙ append_assoc items (key_kind size c.args.authenticated c.args.secure ∷ []) rest
     ∙ ap (λ (left : List (Option KeyFacts)). items ++ left)
     (sym (next_size size c.args.authenticated c.args.secure (omega (arith, c.loop-size-test.true))))
     ∙ c.loop-size.invariant
