@@ -5,7 +5,7 @@ use Rattle.std.specs.List.{find}
 use Rattle.std.specs.Option.{option_map}
 use Rattle.octet_io.specs.Number.{Octets}
 use Rattle.gatt_show.specs.declared.names.Assigned.{Assigned}
-use Rattle.gatt_show.specs.Names.{name_in, names_view}
+use Rattle.gatt_show.specs.Names.{name_among, names_view}
 
 abbrev pub name_here : Option Assigned → Option Octets
 name_here found = option_map (λ (named : Assigned). named.name.now) found
@@ -19,6 +19,6 @@ either true named there here same = refl
 either false named there here same = same
 
 pub viewed : (names : List Assigned) (number : ℕ)
-    → name_in (names_view names) number ≡ option_map (λ (named : Assigned). named.name.now) (find (λ (named : Assigned). named.number == number) names)
+    → name_among (names_view names) number ≡ option_map (λ (named : Assigned). named.name.now) (find (λ (named : Assigned). named.number == number) names)
 viewed [] number = refl
 viewed (named ∷ names) number = either (named.number == number) named _ _ (viewed names number)

@@ -6,18 +6,18 @@ use Rattle.octet_io.specs.Number.{Octets}
 use Rattle.gatt_show.specs.declared.names.Assigned.{Assigned}
 
 -- Numbers with their names, as a specification and in the code.
-abbrev pub Names : Type 0
-Names = List (ℕ × Octets)
+abbrev pub NumberNames : Type 0
+NumberNames = List (ℕ × Octets)
 
-abbrev pub names_view : List Assigned → Names
+abbrev pub names_view : List Assigned → NumberNames
 names_view names = map (λ (named : Assigned). (named.number, named.name.now)) names
 
-abbrev pub name_in : Names → ℕ → Option Octets
-name_in names number =
+abbrev pub name_among : NumberNames → ℕ → Option Octets
+name_among names number =
     option_map (λ (named : ℕ × Octets). named.1)
     (find (λ (named : ℕ × Octets). named.0 == number) names)
 
-unfoldable pub service_names : Names
+unfoldable pub service_names : NumberNames
 service_names =
     (0x1800, codes "Generic Access")
     ∷ (0x1801, codes "Generic Attribute")
@@ -49,7 +49,7 @@ service_names =
     ∷ (0x1826, codes "Fitness Machine")
     ∷ []
 
-unfoldable pub characteristic_names : Names
+unfoldable pub characteristic_names : NumberNames
 characteristic_names =
     (0x2A00, codes "Device Name")
     ∷ (0x2A01, codes "Appearance")
@@ -89,7 +89,7 @@ characteristic_names =
     ∷ (0x2B3A, codes "Server Supported Features")
     ∷ []
 
-unfoldable pub descriptor_names : Names
+unfoldable pub descriptor_names : NumberNames
 descriptor_names =
     (0x2900, codes "Characteristic Extended Properties")
     ∷ (0x2901, codes "Characteristic User Description")
@@ -104,4 +104,4 @@ descriptor_names =
 
 -- The name of a common 16-bit type.
 unfoldable pub type_name : ℕ → Option Octets
-type_name number = name_in (service_names ++ descriptor_names ++ characteristic_names) number
+type_name number = name_among (service_names ++ descriptor_names ++ characteristic_names) number

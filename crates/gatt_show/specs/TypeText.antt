@@ -5,9 +5,9 @@ use Rattle.octet_io.specs.Number.{Octets, from_two}
 use Rattle.gatt_show.specs.Names.{type_name}
 
 -- The name follows a space.
-abbrev pub named : Option Octets → Octets
-named None = []
-named (Some name) = 32 ∷ name
+abbrev pub space_and_name : Option Octets → Octets
+space_and_name None = []
+space_and_name (Some name) = 32 ∷ name
 
 -- The octets of a UUID, highest first; a value has the lowest first.
 abbrev pub highest_first : Octets → Octets
@@ -31,5 +31,5 @@ long_text octets = if length octets == 16 then uuid_text octets else []
 
 unfoldable pub type_text : Octets → Octets
 type_text (low ∷ high ∷ []) =
-    encode_lower (high ∷ low ∷ []) ++ named (type_name (from_two low high))
+    encode_lower (high ∷ low ∷ []) ++ space_and_name (type_name (from_two low high))
 type_text octets = long_text octets

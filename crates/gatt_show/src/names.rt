@@ -3,7 +3,7 @@
 ghost use Rattle.std.specs.Prelude.{◌≡◌, ◌==◌};
 ghost use Rattle.std.specs.List.{find};
 ghost use Rattle.std.specs.Option.{option_copied, option_map};
-ghost use Rattle.gatt_show.specs.Names.{name_in, type_name, names_view};
+ghost use Rattle.gatt_show.specs.Names.{name_among, type_name, names_view};
 
 /// An assigned number of the Bluetooth SIG, and its name.
 #[derive(Clone, Copy)]
@@ -19,12 +19,12 @@ pub struct Assigned {
 pub fn name_of(number: u16) -> Option<&'static str>
     ensures { option_map (λ name. name.now) result ≡ type_name number }
 {
-    name_in(&NAMES, number)
+    name_among(&NAMES, number)
 }
 
 #[tactic(auto, using(crate::proofs::Naming::viewed))]
-fn name_in(names: &[Assigned], number: u16) -> Option<&'static str>
-    ensures { option_map (λ name. name.now) result ≡ name_in (names_view names.now) number }
+fn name_among(names: &[Assigned], number: u16) -> Option<&'static str>
+    ensures { option_map (λ name. name.now) result ≡ name_among (names_view names.now) number }
 {
     match first(names, number) {
         Some(named) => Some(named.name),

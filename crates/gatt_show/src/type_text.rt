@@ -2,7 +2,7 @@
 
 ghost use Rattle.std.specs.Prelude.{◌≡◌, ◌++◌, OnOk};
 ghost use Rattle.std.specs.Option.{option_map};
-ghost use Rattle.gatt_show.specs.TypeText.{long_text, named, type_text, uuid_text};
+ghost use Rattle.gatt_show.specs.TypeText.{long_text, space_and_name, type_text, uuid_text};
 
 use crate::names::name_of;
 use std::alloc::AllocError;
@@ -37,7 +37,7 @@ fn add_long(text: &mut Vec<u8>, octets: &[u8]) -> Result<(), AllocError>
 
 fn add_name(text: &mut Vec<u8>, name: Option<&str>) -> Result<(), AllocError>
     ensures ok { OnOk result (text.new.items
-        ≡ text.old.items ++ named (option_map (λ given. given.now) name.entry)) }
+        ≡ text.old.items ++ space_and_name (option_map (λ given. given.now) name.entry)) }
 {
     match name {
         Some(name) => {
