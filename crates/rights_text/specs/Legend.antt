@@ -1,13 +1,13 @@
 -- The keys behind the columns (this profile's own).
 use Rattle.std.specs.Prelude.{ℕ, ◌==◌, ◌&&◌, Bool, true, false, not, if◌then◌else◌, List, [], ◌∷◌, ◌++◌, codes, Option, Some, None}
 use Rattle.std.specs.Fmt.{decimal}
-use Rattle.std.specs.List.{flat_map}
+use Rattle.std.specs.List.{flat_map, list_any}
 use Rattle.octet_io.specs.Number.{Octets}
 use Rattle.att_policy.specs.declared.standing.KeyFacts.{KeyFacts}
 use Rattle.gatt_subs.specs.RowsText.{address_text}
 use Rattle.le_hci.specs.declared.peer.Peer.{Peer}
 use Rattle.le_security.specs.declared.entry.Entry.{Entry}
-use Rattle.gatt_rights.specs.Columns.{has_key, same_column}
+use Rattle.gatt_rights.specs.Columns.{has_key, peers_of_kind}
 use Rattle.rights_text.specs.declared.columns.Column.{Column}
 
 abbrev pub words_if : Bool → Octets → Octets
@@ -32,30 +32,29 @@ address_type_word kind = if kind == 0 then codes "public " else codes "random "
 abbrev pub peer_words : Peer → Octets
 peer_words peer = address_type_word peer.kind ++ address_text peer.address
 
--- The key of an entry is of the kind of a column.
-abbrev pub is_of_column : Column → Entry → Bool
-is_of_column column entry = same_column (Some entry.key.facts) column.key
+-- The peer has a key of a kind of the column with this name.
+abbrev pub is_kind_of_peer : List Entry → Peer → ℕ → Column → Bool
+is_kind_of_peer keys peer name kind = (kind.name == name) && has_key keys peer kind.key
 
--- The peer has a key of the kind of another column, too.
-abbrev pub has_other_key : List Entry → Peer → Column → Column → Bool
-has_other_key keys peer column other =
-    not (other.name == column.name) && has_key keys peer other.key
+abbrev pub has_key_in : List Entry → List Column → Peer → ℕ → Bool
+has_key_in keys kinds peer name = list_any (is_kind_of_peer keys peer name) kinds
 
-abbrev pub also_text : List Entry → Peer → Column → Column → Octets
-also_text keys peer column other =
-    if has_other_key keys peer column other then codes " (also " ++ other.name ∷ 41 ∷ [] else []
+-- The other columns with a key of the peer.
+abbrev pub also_text : List Entry → List Column → Peer → ℕ → Column → Octets
+also_text keys kinds peer name other =
+    if not (other.name == name) && has_key_in keys kinds peer other.name
+    then codes " (also " ++ other.name ∷ 41 ∷ [] else []
 
-unfoldable pub peer_text : List Entry → List Column → Column → Entry → Octets
-peer_text keys columns column entry =
-    if is_of_column column entry
-    then codes "     " ++ peer_words entry.peer
-    ++ flat_map (also_text keys entry.peer column) columns ++ 10 ∷ []
-    else []
+unfoldable pub peer_line : List Entry → List Column → List Column → ℕ → Peer → Octets
+peer_line keys columns kinds name peer =
+    codes "     " ++ peer_words peer ++ flat_map (also_text keys kinds peer name) columns
+    ++ 10 ∷ []
 
-unfoldable pub column_text : List Entry → List Column → Column → Octets
-column_text keys columns column =
-    column.name ∷ codes "  " ++ key_text column.key ++ 10 ∷ []
-    ++ flat_map (peer_text keys columns column) keys
+-- A kind of key with the name of its column, and each peer with such a key once.
+unfoldable pub kind_lines : List Entry → List Column → List Column → Column → Octets
+kind_lines keys columns kinds kind =
+    kind.name ∷ codes "  " ++ key_text kind.key ++ 10 ∷ []
+    ++ flat_map (peer_line keys columns kinds kind.name) (peers_of_kind keys kind.key)
 
 abbrev pub signs_text : Octets
 signs_text =
@@ -63,5 +62,6 @@ signs_text =
     ∷ codes "n be notified  i be indicated (if it has subscribed, whenever that was)" ++ 10
     ∷ codes "( ) only while the application authorizes the connection  . nothing" ++ 10 ∷ 10 ∷ []
 
-unfoldable pub legend_text : List Entry → List Column → Octets
-legend_text keys columns = signs_text ++ flat_map (column_text keys columns) columns
+-- The columns, and all kinds of keys with the names of their columns.
+unfoldable pub legend_text : List Entry → List Column → List Column → Octets
+legend_text keys columns kinds = signs_text ++ flat_map (kind_lines keys columns kinds) kinds

@@ -6,7 +6,7 @@ use Rattle.octet_io.specs.Number.{Octets}
 use Rattle.att_numbers.specs.Types.{Handle}
 use Rattle.att_policy.specs.declared.standing.KeyFacts.{KeyFacts}
 use Rattle.gatt_rights.specs.declared.finding.Finding.{Finding}
-use Rattle.gatt_rights.specs.declared.finding.Finding.TheVariants.{OpenWrite, ShortKey, EasyWrite, IdleReadRule, IdleWriteRule, ForgedAddress, NoSubscriber, LastingSubscription, EasySubscription, NoProperty, Unused, EmptyService, NoServiceChanged, IdleKey, NoKeyMatters, PrivateAddress}
+use Rattle.gatt_rights.specs.declared.finding.Finding.TheVariants.{OpenWrite, ShortKey, EasyWrite, IdleReadRule, IdleWriteRule, ForgedAddress, NoSubscriber, LastingSubscription, EasySubscription, NoProperty, Unused, EmptyService, NoServiceChanged, IdleKey, NoKeyMatters, ShortestKey, PrivateAddress}
 use Rattle.le_hci.specs.declared.peer.Peer.{Peer}
 use Rattle.text_words.specs.Cells.{right}
 use Rattle.rights_text.specs.Legend.{peer_words, strength_text}
@@ -14,16 +14,20 @@ use Rattle.rights_text.specs.Legend.{peer_words, strength_text}
 abbrev pub at_handle : Handle → Octets → Octets
 at_handle handle words = right 5 (decimal handle) ++ codes "  " ++ words
 
-abbrev pub size_words : ℕ → Octets
-size_words size =
+abbrev pub short_writer_words : ℕ → Octets
+short_writer_words size =
     decimal size ++ codes " may write it: `key_size = 16` in `write` would exclude it"
 
 unfoldable pub short_key_words : Handle → ℕ → Octets
-short_key_words handle size = at_handle handle (codes "a key of ") ++ size_words size
+short_key_words handle size = at_handle handle (codes "a key of ") ++ short_writer_words size
 
 abbrev pub idle_key_words : KeyFacts → Octets
 idle_key_words key =
     codes "       a " ++ strength_text key ++ codes " permits no more than no key"
+
+abbrev pub shortest_key_words : KeyFacts → Octets
+shortest_key_words key =
+    codes "       a " ++ strength_text key ++ codes " is shorter than all others"
 
 abbrev pub private_address_words : Peer → Octets
 private_address_words peer =
@@ -60,6 +64,7 @@ finding_words NoServiceChanged =
     codes "       no Service Changed (1801, 2a05): after another table clients use old handles"
 finding_words (IdleKey key) = idle_key_words key
 finding_words NoKeyMatters = codes "       no key makes a difference to this table"
+finding_words (ShortestKey key) = shortest_key_words key
 finding_words (PrivateAddress peer) = private_address_words peer
 
 abbrev pub finding_text : Finding → Octets

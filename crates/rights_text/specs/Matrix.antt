@@ -32,17 +32,19 @@ middle_cut_text name =
 abbrev pub short_name : Bool → Octets → Octets
 short_name is_long name = if is_long then middle_cut_text name else cut_text name
 
-abbrev pub name_text : AttributeType → Octets
-name_text kind =
-    short_name (length (type_octets kind) == 16) (type_text (type_octets kind))
+-- A name is not cut if there is space for it.
+abbrev pub cut_type_text : Bool → AttributeType → Octets
+cut_type_text is_whole kind =
+    if is_whole then type_text (type_octets kind)
+    else short_name (length (type_octets kind) == 16) (type_text (type_octets kind))
 
 -- A letter, a digit or a sign, but no quotation mark and no backslash.
 abbrev pub is_plain : ℕ → Bool
 is_plain octet =
     nat_le 32 octet && (nat_lt octet 127 && (not (octet == 34) && not (octet == 92)))
 
-abbrev pub is_text : Octets → Bool
-is_text value = nat_lt 2 (length value) && list_all is_plain value
+abbrev pub is_plain_text : Octets → Bool
+is_plain_text value = nat_lt 2 (length value) && list_all is_plain value
 
 -- A value as a text or in hexadecimal, in at most 12 octets.
 abbrev pub quoted_text : Octets → Octets
@@ -54,10 +56,11 @@ hex_text value =
     if nat_lt 6 (length value) then encode_lower (take 5 value) ++ codes ".."
     else encode_lower value
 
-abbrev pub value_text : Octets → Octets
-value_text [] = codes "empty"
-value_text (octet ∷ octets) =
-    if is_text (octet ∷ octets) then quoted_text (octet ∷ octets) else hex_text (octet ∷ octets)
+abbrev pub short_value_text : Octets → Octets
+short_value_text [] = codes "empty"
+short_value_text (octet ∷ octets) =
+    if is_plain_text (octet ∷ octets) then quoted_text (octet ∷ octets)
+    else hex_text (octet ∷ octets)
 
 -- The cells of an attribute, one a column.
 abbrev pub cells_text : Layout → List Attr → List Column → Handle → Octets
@@ -68,13 +71,14 @@ cells_text layout attributes columns handle =
 -- The handle and the name of an attribute, and its sizes and its value.
 unfoldable pub name_cells : Layout → Attr → Octets
 name_cells layout attr =
-    right 5 (decimal attr.handle) ++ codes "  " ++ left layout.name (name_text attr.kind)
+    right 5 (decimal attr.handle) ++ codes "  "
+    ++ left layout.name (cut_type_text layout.is_whole attr.kind)
     ++ codes "  "
 
 unfoldable pub value_cells : Layout → Contents → Attr → Octets
 value_cells layout table attr =
     left 5 (length_text attr.role attr) ++ codes "  "
-    ++ left layout.value (value_text (told_value table attr.handle))
+    ++ left layout.value (short_value_text (told_value table attr.handle))
 
 unfoldable pub row_text : Layout → Contents → List Column → Attr → Octets
 row_text layout table columns attr =
@@ -82,13 +86,13 @@ row_text layout table columns attr =
     ++ cells_text layout table.attributes columns attr.handle ++ 10 ∷ []
 
 -- A service is a heading.
-abbrev pub kind_text : AttributeType → Octets
-kind_text kind = if kind == SECONDARY_SERVICE then codes " (secondary)" else []
+abbrev pub secondary_text : AttributeType → Octets
+secondary_text kind = if kind == SECONDARY_SERVICE then codes " (secondary)" else []
 
 abbrev pub heading_text : Contents → Attr → Octets
 heading_text table attr =
     if is_service_type attr.kind
-    then type_text (told_value table attr.handle) ++ kind_text attr.kind ++ 10 ∷ []
+    then type_text (told_value table attr.handle) ++ secondary_text attr.kind ++ 10 ∷ []
     else []
 
 -- Values and descriptors are rows.
@@ -98,8 +102,8 @@ line_by Value layout table columns attr = row_text layout table columns attr
 line_by Configuration layout table columns attr = []
 line_by Descriptor layout table columns attr = row_text layout table columns attr
 
-abbrev pub line_text : Layout → Contents → List Column → Attr → Octets
-line_text layout table columns attr = line_by attr.role layout table columns attr
+abbrev pub matrix_line : Layout → Contents → List Column → Attr → Octets
+matrix_line layout table columns attr = line_by attr.role layout table columns attr
 
 -- The names of the columns are above them.
 abbrev pub names_text : Layout → List Column → Octets
@@ -114,7 +118,7 @@ header_text layout columns =
 
 abbrev pub block_text : Layout → Contents → List Column → Octets
 block_text layout table columns =
-    header_text layout columns ++ flat_map (line_text layout table columns) table.attributes
+    header_text layout columns ++ flat_map (matrix_line layout table columns) table.attributes
     ++ 10 ∷ []
 
 -- The columns are in one block or in several, each with all rows.

@@ -1,29 +1,36 @@
 -- The rights of a table, as `show` prints them (this profile's own).
-use Rattle.std.specs.Prelude.{◌≡◌, List, ◌∷◌, ◌++◌}
+use Rattle.std.specs.Prelude.{◌≡◌, ℕ, List, ◌∷◌, ◌++◌}
 use Rattle.octet_io.specs.Number.{Octets}
 use Rattle.att_table.specs.Table.{Contents}
 use Rattle.le_security.specs.declared.entry.Entry.{Entry}
 use Rattle.gatt_rights.specs.Columns.{columns_among}
 use Rattle.gatt_rights.specs.Findings.{findings_of}
-use Rattle.rights_text.specs.Columns.{named_from}
+use Rattle.rights_text.specs.Columns.{matrix_columns, named_kinds}
+use Rattle.rights_text.specs.Layout.{HasLeastWidths}
 use Rattle.rights_text.specs.Legend.{legend_text}
 use Rattle.rights_text.specs.Look.{look_text}
 use Rattle.rights_text.specs.Matrix.{AddsBlocks}
 use Rattle.rights_text.specs.declared.columns.Column.{Column}
 use Rattle.rights_text.specs.declared.layout.Layout.{Layout}
 
-abbrev pub columns_for : List Entry → List Column
-columns_for keys = named_from 65 (columns_among keys)
+abbrev pub columns_of_table : Contents → List Entry → List Column
+columns_of_table table keys = matrix_columns table.attributes (columns_among keys)
+
+abbrev pub kinds_of_table : Contents → List Entry → List Column
+kinds_of_table table keys =
+    named_kinds table.attributes (columns_among keys) (columns_of_table table keys)
 
 -- The meaning of the matrix, and the findings, with an empty line between them.
-abbrev pub explained : Contents → List Entry → Octets
-explained table keys =
-    legend_text keys (columns_for keys)
+abbrev pub explanation_text : Contents → List Entry → Octets
+explanation_text table keys =
+    legend_text keys (columns_of_table table keys) (kinds_of_table table keys)
     ++ 10 ∷ look_text (findings_of table keys (columns_among keys))
 
--- The matrix is followed by its meaning; only the widths are not given.
-pub record ShowsRights (table : Contents) (keys : List Entry) (old new : Octets) : Type 0 where
+-- The matrix for lines of a width is followed by its meaning.
+pub record ShowsRights (table : Contents) (keys : List Entry) (width : ℕ) (old new : Octets)
+    : Type 0 where
   pub layout : Layout
+  pub widths : HasLeastWidths layout table (columns_of_table table keys) width
   pub matrix : Octets
-  pub blocks : AddsBlocks layout table (columns_for keys) old matrix
-  pub told : new ≡ matrix ++ explained table keys
+  pub blocks : AddsBlocks layout table (columns_of_table table keys) old matrix
+  pub told : new ≡ matrix ++ explanation_text table keys

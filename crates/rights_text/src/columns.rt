@@ -1,9 +1,12 @@
 //! The columns of the matrix and their names.
 
 ghost use Rattle.std.specs.Prelude.{◌≡◌, ◌++◌, IfOk, OnOk};
-ghost use Rattle.rights_text.specs.Columns.{named_from, next_name};
+ghost use Rattle.std.specs.List.{flat_map};
+ghost use Rattle.rights_text.specs.Columns.{kind_if_equal, kinds_of_column, matrix_columns, named_from, named_kinds, next_name};
 
 use att_policy::KeyFacts;
+use att_table::Table;
+use gatt_rights::{has_equal_rights, kinds_that_differ};
 use std::alloc::{AllocError, Global};
 
 /// A column: a name of one letter, and the key that encrypts a link, if one does.
@@ -41,4 +44,79 @@ fn next_name(name: u8) -> u8
         255 => b'A',
         _ => name + 1,
     }
+}
+
+/// Returns the columns of a matrix: one for all kinds of keys with equal rights.
+pub(crate) fn matrix_columns(
+    alloc: Global,
+    table: &Table,
+    kinds: &[Option<KeyFacts>],
+) -> Result<Vec<Column>, AllocError>
+    ensures { IfOk result
+        (λ columns. columns.items ≡ matrix_columns table.now.attributes kinds.now) }
+{
+    named_columns(alloc, &kinds_that_differ(alloc, table, kinds)?)
+}
+
+/// Returns all kinds of keys with the names of their columns, column by column.
+pub(crate) fn named_kinds(
+    alloc: Global,
+    table: &Table,
+    kinds: &[Option<KeyFacts>],
+    columns: &[Column],
+) -> Result<Vec<Column>, AllocError>
+    ensures { IfOk result
+        (λ named. named.items ≡ named_kinds table.now.attributes kinds.now columns.now) }
+{
+    let mut named = Vec::new(alloc);
+    add_kinds_of_columns(&mut named, table, kinds, columns)?;
+    Ok(named)
+}
+
+fn add_kinds_of_columns(
+    named: &mut Vec<Column>,
+    table: &Table,
+    kinds: &[Option<KeyFacts>],
+    columns: &[Column],
+) -> Result<(), AllocError>
+    ensures ok { OnOk result (named.new.items ≡ named.old.items
+        ++ flat_map (kinds_of_column table.now.attributes kinds.now) columns.now) }
+{
+    for column in columns {
+        add_kinds_of_column(named, table, column, kinds)?;
+    }
+    Ok(())
+}
+
+fn add_kinds_of_column(
+    named: &mut Vec<Column>,
+    table: &Table,
+    column: &Column,
+    kinds: &[Option<KeyFacts>],
+) -> Result<(), AllocError>
+    ensures ok { OnOk result (named.new.items ≡ named.old.items
+        ++ kinds_of_column table.now.attributes kinds.now column.now) }
+{
+    for kind in kinds {
+        add_kind_if_equal(named, table, column, *kind)?;
+    }
+    Ok(())
+}
+
+fn add_kind_if_equal(
+    named: &mut Vec<Column>,
+    table: &Table,
+    column: &Column,
+    kind: Option<KeyFacts>,
+) -> Result<(), AllocError>
+    ensures ok { OnOk result (named.new.items ≡ named.old.items
+        ++ kind_if_equal table.now.attributes column.now kind) }
+{
+    if has_equal_rights(table, kind, column.key) {
+        named.push(Column {
+            name: column.name,
+            key: kind,
+        })?;
+    }
+    Ok(())
 }

@@ -1,17 +1,16 @@
 //! The keys behind the columns of the matrix.
 
-ghost use Rattle.std.specs.Prelude.{◌≡◌, ◌++◌, OnOk, [], slice_get};
+ghost use Rattle.std.specs.Prelude.{◌≡◌, ◌++◌, OnOk};
 ghost use Rattle.std.specs.List.{flat_map};
-ghost use Rattle.std.specs.Option.{option_map_or};
-ghost use Rattle.rights_text.specs.Legend.{address_type_word, also_text, column_text, flags_text, key_text, legend_text, peer_text, peer_words, signs_text, strength_text, words_if};
+ghost use Rattle.rights_text.specs.Legend.{address_type_word, also_text, flags_text, has_key_in, is_kind_of_peer, key_text, kind_lines, legend_text, peer_line, peer_words, signs_text, strength_text, words_if};
 
 use crate::columns::Column;
 use att_policy::KeyFacts;
-use gatt_rights::{has_key, is_same_column};
+use gatt_rights::{has_key, peers_of_kind};
 use gatt_subs::address_text;
 use le_hci::{PUBLIC_ADDRESS, Peer};
 use le_security::Keys;
-use std::alloc::AllocError;
+use std::alloc::{AllocError, Global};
 use text_words::{add_number, add_octets};
 
 const SIGNS: &[u8] = b"r read  w write  c write without response  s subscribe
@@ -22,40 +21,57 @@ n be notified  i be indicated (if it has subscribed, whenever that was)
 
 /// Adds the meaning of the letters, and the keys of each column.
 ///
-/// On `Err` memory was refused and the text is invalid.
+/// `kinds` are all kinds of keys, each with the name of its column. On `Err` memory was refused and
+/// the text is invalid.
 #[tactic(auto, unfolding(crate::specs::Legend::legend_text))]
-pub fn add_legend(text: &mut Vec<u8>, keys: &Keys, columns: &[Column]) -> Result<(), AllocError>
-    ensures ok { OnOk result (text.new.items ≡ text.old.items ++ legend_text keys.now columns.now) }
+pub fn add_legend(
+    alloc: Global,
+    text: &mut Vec<u8>,
+    keys: &Keys,
+    columns: &[Column],
+    kinds: &[Column],
+) -> Result<(), AllocError>
+    ensures ok { OnOk result (text.new.items
+        ≡ text.old.items ++ legend_text keys.now columns.now kinds.now) }
 {
     add_octets(text, SIGNS)?;
-    add_columns(text, keys, columns)
+    add_all_kinds(alloc, text, keys, columns, kinds)
 }
 
-fn add_columns(text: &mut Vec<u8>, keys: &Keys, columns: &[Column]) -> Result<(), AllocError>
+fn add_all_kinds(
+    alloc: Global,
+    text: &mut Vec<u8>,
+    keys: &Keys,
+    columns: &[Column],
+    kinds: &[Column],
+) -> Result<(), AllocError>
     ensures ok { OnOk result (text.new.items
-        ≡ text.old.items ++ flat_map (column_text keys.now columns.now) columns.now) }
+        ≡ text.old.items ++ flat_map (kind_lines keys.now columns.now kinds.now) kinds.now) }
 {
-    for column in columns {
-        add_column(text, keys, columns, column)?;
+    for kind in kinds {
+        add_kind_lines(alloc, text, keys, columns, kinds, kind)?;
     }
     Ok(())
 }
 
-#[tactic(auto, unfolding(crate::specs::Legend::column_text))]
-fn add_column(
+#[tactic(auto, unfolding(crate::specs::Legend::kind_lines))]
+fn add_kind_lines(
+    alloc: Global,
     text: &mut Vec<u8>,
     keys: &Keys,
     columns: &[Column],
-    column: &Column,
+    kinds: &[Column],
+    kind: &Column,
 ) -> Result<(), AllocError>
     ensures ok { OnOk result (text.new.items
-        ≡ text.old.items ++ column_text keys.now columns.now column.now) }
+        ≡ text.old.items ++ kind_lines keys.now columns.now kinds.now kind.now) }
 {
-    add_octets(text, &[column.name])?;
+    add_octets(text, &[kind.name])?;
     add_octets(text, b"  ")?;
-    add_key(text, column.key)?;
+    add_key(text, kind.key)?;
     add_octets(text, b"\n")?;
-    add_peers(text, keys, columns, column)
+    let peers = peers_of_kind(alloc, keys, kind.key)?;
+    add_peers(text, keys, columns, kinds, kind.name, &peers)
 }
 
 /// Adds what protects a link: the facts of its key, or none. Errors: as `add_legend`.
@@ -103,37 +119,34 @@ fn add_peers(
     text: &mut Vec<u8>,
     keys: &Keys,
     columns: &[Column],
-    column: &Column,
+    kinds: &[Column],
+    name: u8,
+    peers: &[Peer],
 ) -> Result<(), AllocError>
-    ensures ok { OnOk result (text.new.items
-        ≡ text.old.items ++ flat_map (peer_text keys.now columns.now column.now) keys.now) }
+    ensures ok { OnOk result (text.new.items ≡ text.old.items
+        ++ flat_map (peer_line keys.now columns.now kinds.now name) peers.now) }
 {
-    for at in 0..keys.count() {
-        add_peer(text, keys, columns, column, at)?;
+    for peer in peers {
+        add_peer(text, keys, columns, kinds, name, peer)?;
     }
     Ok(())
 }
 
-#[tactic(auto, unfolding(crate::specs::Legend::peer_text))]
+#[tactic(auto, unfolding(crate::specs::Legend::peer_line))]
 fn add_peer(
     text: &mut Vec<u8>,
     keys: &Keys,
     columns: &[Column],
-    column: &Column,
-    at: usize,
+    kinds: &[Column],
+    name: u8,
+    peer: &Peer,
 ) -> Result<(), AllocError>
-    ensures ok { OnOk result (text.new.items ≡ text.old.items
-        ++ option_map_or (peer_text keys.now columns.now column.now) (slice_get keys.now at) []) }
+    ensures ok { OnOk result (text.new.items
+        ≡ text.old.items ++ peer_line keys.now columns.now kinds.now name peer.now) }
 {
-    let Some(peer) = keys.peer(at) else {
-        return Ok(());
-    };
-    if !is_same_column(keys.facts(at), column.key) {
-        return Ok(());
-    }
     add_octets(text, b"     ")?;
     add_peer_words(text, peer)?;
-    add_others(text, keys, columns, column, peer)?;
+    add_others(text, keys, columns, kinds, name, peer)?;
     add_octets(text, b"\n")
 }
 
@@ -159,14 +172,15 @@ fn add_others(
     text: &mut Vec<u8>,
     keys: &Keys,
     columns: &[Column],
-    column: &Column,
+    kinds: &[Column],
+    name: u8,
     peer: &Peer,
 ) -> Result<(), AllocError>
     ensures ok { OnOk result (text.new.items
-        ≡ text.old.items ++ flat_map (also_text keys.now peer.now column.now) columns.now) }
+        ≡ text.old.items ++ flat_map (also_text keys.now kinds.now peer.now name) columns.now) }
 {
     for other in columns {
-        add_other(text, keys, column, other, peer)?;
+        add_other(text, keys, kinds, peer, name, other)?;
     }
     Ok(())
 }
@@ -174,17 +188,33 @@ fn add_others(
 fn add_other(
     text: &mut Vec<u8>,
     keys: &Keys,
-    column: &Column,
-    other: &Column,
+    kinds: &[Column],
     peer: &Peer,
+    name: u8,
+    other: &Column,
 ) -> Result<(), AllocError>
     ensures ok { OnOk result (text.new.items
-        ≡ text.old.items ++ also_text keys.now peer.now column.now other.now) }
+        ≡ text.old.items ++ also_text keys.now kinds.now peer.now name other.now) }
 {
-    if other.name == column.name || !has_key(keys, peer, other.key) {
+    if other.name == name || !has_key_in(keys, kinds, peer, other.name) {
         return Ok(());
     }
     add_octets(text, b" (also ")?;
     add_octets(text, &[other.name])?;
     add_octets(text, b")")
+}
+
+/// Returns true if a peer has a key of a kind of the column with a name.
+fn has_key_in(keys: &Keys, kinds: &[Column], peer: &Peer, name: u8) -> bool
+    ensures { result ≡ has_key_in keys.now kinds.now peer.now name }
+{
+    kinds
+        .iter()
+        .any(|kind| is_kind_of_peer(keys, peer, name, kind))
+}
+
+fn is_kind_of_peer(keys: &Keys, peer: &Peer, name: u8, kind: &Column) -> bool
+    ensures { result ≡ is_kind_of_peer keys.now peer.now name kind.now }
+{
+    kind.name == name && has_key(keys, peer, kind.key)
 }

@@ -10,6 +10,7 @@ mod look;
 mod matrix;
 mod show;
 mod value;
+mod widths;
 
 pub use cell::{Rights, cell_of};
 pub use columns::{Column, named_columns};

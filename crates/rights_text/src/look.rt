@@ -1,8 +1,9 @@
 //! The findings of a table in words.
 
-ghost use Rattle.std.specs.Prelude.{◌≡◌, ◌++◌, OnOk};
+ghost use Rattle.std.specs.Prelude.{◌≡◌, ◌++◌, codes, OnOk};
 ghost use Rattle.std.specs.List.{flat_map};
-ghost use Rattle.rights_text.specs.Look.{at_handle, finding_text, finding_words, idle_key_words, look_text, private_address_words, short_key_words, size_words};
+ghost use Rattle.rights_text.specs.Look.{at_handle, finding_text, finding_words, look_text, private_address_words, short_key_words, short_writer_words};
+ghost use Rattle.rights_text.specs.Legend.{strength_text};
 
 use crate::legend::{add_peer_words, add_strength};
 use att_policy::KeyFacts;
@@ -99,10 +100,11 @@ fn add_words(text: &mut Vec<u8>, finding: Finding) -> Result<(), AllocError>
             text,
             b"       no Service Changed (1801, 2a05): after another table clients use old handles",
         ),
-        Finding::IdleKey(key) => add_idle_key(text, key),
+        Finding::IdleKey(key) => { add_key_words(text, key, b" permits no more than no key") }
         Finding::NoKeyMatters => {
             add_octets(text, b"       no key makes a difference to this table")
         }
+        Finding::ShortestKey(key) => add_key_words(text, key, b" is shorter than all others"),
         Finding::PrivateAddress(peer) => add_private_address(text, &peer),
     }
 }
@@ -125,7 +127,7 @@ fn add_short_key(text: &mut Vec<u8>, handle: u16, size: u8) -> Result<(), AllocE
 }
 
 fn add_size(text: &mut Vec<u8>, size: u8) -> Result<(), AllocError>
-    ensures ok { OnOk result (text.new.items ≡ text.old.items ++ size_words size) }
+    ensures ok { OnOk result (text.new.items ≡ text.old.items ++ short_writer_words size) }
 {
     add_number(text, u64::from(size))?;
     add_octets(
@@ -142,11 +144,12 @@ fn add_private_address(text: &mut Vec<u8>, peer: &Peer) -> Result<(), AllocError
     add_octets(text, b" is a private address, which its client changes")
 }
 
-fn add_idle_key(text: &mut Vec<u8>, key: KeyFacts) -> Result<(), AllocError>
-    ensures ok { OnOk result (text.new.items
-        ≡ text.old.items ++ idle_key_words key) }
+/// Adds words about a kind of key after its facts.
+fn add_key_words(text: &mut Vec<u8>, key: KeyFacts, words: &[u8]) -> Result<(), AllocError>
+    ensures ok { OnOk result (text.new.items ≡ text.old.items
+        ++ (codes "       a " ++ strength_text key ++ words.now)) }
 {
     add_octets(text, b"       a ")?;
     add_strength(text, key)?;
-    add_octets(text, b" permits no more than no key")
+    add_octets(text, words)
 }

@@ -5,7 +5,7 @@ ghost use Rattle.std.specs.List.{flat_map};
 ghost use Rattle.text_words.specs.Cells.{left, right};
 ghost use Rattle.gatt_show.specs.Line.{length_text};
 ghost use Rattle.rights_text.specs.Cell.{cell_text};
-ghost use Rattle.rights_text.specs.Matrix.{AddsBlocks, block_text, cells_text, header_text, heading_text, kind_text, line_text, name_cells, name_text, names_text, row_text, value_cells, value_text};
+ghost use Rattle.rights_text.specs.Matrix.{AddsBlocks, block_text, cells_text, header_text, heading_text, secondary_text, matrix_line, name_cells, cut_type_text, names_text, row_text, value_cells, short_value_text};
 
 use crate::cell::{Asked, cell};
 use crate::columns::Column;
@@ -85,7 +85,7 @@ fn add_lines(
     attributes: &[Attr],
 ) -> Result<(), AllocError>
     ensures ok { OnOk result (text.new.items
-        ≡ text.old.items ++ flat_map (line_text layout table.now columns.now) attributes.now) }
+        ≡ text.old.items ++ flat_map (matrix_line layout table.now columns.now) attributes.now) }
 {
     for attr in attributes {
         add_line(alloc, text, table, layout, columns, attr)?;
@@ -102,7 +102,7 @@ fn add_line(
     attr: &Attr,
 ) -> Result<(), AllocError>
     ensures ok { OnOk result (text.new.items
-        ≡ text.old.items ++ line_text layout table.now columns.now attr.now) }
+        ≡ text.old.items ++ matrix_line layout table.now columns.now attr.now) }
 {
     match attr.role {
         Role::Declaration => add_heading(text, table, attr),
@@ -124,7 +124,7 @@ fn add_heading(text: &mut Vec<u8>, table: &Table, attr: &Attr) -> Result<(), All
 }
 
 fn add_kind(text: &mut Vec<u8>, kind: u128) -> Result<(), AllocError>
-    ensures ok { OnOk result (text.new.items ≡ text.old.items ++ kind_text kind) }
+    ensures ok { OnOk result (text.new.items ≡ text.old.items ++ secondary_text kind) }
 {
     if kind == SECONDARY_SERVICE {
         add_octets(text, b" (secondary)")
@@ -189,9 +189,9 @@ fn add_name_cell(
     kind: u128,
 ) -> Result<(), AllocError>
     ensures ok { OnOk result (text.new.items
-        ≡ text.old.items ++ left layout.name (name_text kind)) }
+        ≡ text.old.items ++ left layout.name (cut_type_text layout.is_whole kind)) }
 {
-    let name = name_of(alloc, kind)?;
+    let name = name_of(alloc, kind, layout.is_whole)?;
     add_left(text, &name, layout.name)
 }
 
@@ -211,7 +211,7 @@ fn add_value_cell(
     value: &[u8],
 ) -> Result<(), AllocError>
     ensures ok { OnOk result (text.new.items
-        ≡ text.old.items ++ left layout.value (value_text value.now)) }
+        ≡ text.old.items ++ left layout.value (short_value_text value.now)) }
 {
     let shown = value_of(alloc, value)?;
     add_left(text, &shown, layout.value)

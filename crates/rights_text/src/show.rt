@@ -2,13 +2,14 @@
 
 ghost use Rattle.std.specs.Prelude.{◌≡◌, ◌++◌, OnOk};
 ghost use Rattle.gatt_rights.specs.Columns.{columns_among};
-ghost use Rattle.rights_text.specs.Shown.{ShowsRights, columns_for, explained};
+ghost use Rattle.rights_text.specs.Shared.{NamesEachKind, SharesCells};
+ghost use Rattle.rights_text.specs.Shown.{ShowsRights, columns_of_table, explanation_text};
 
-use crate::columns::{Column, named_columns};
-use crate::layout::Layout;
+use crate::columns::{Column, matrix_columns, named_kinds};
 use crate::legend::add_legend;
 use crate::look::add_look;
 use crate::matrix::add_blocks;
+use crate::widths::{layout_of, most_columns};
 use att_policy::KeyFacts;
 use att_table::Table;
 use gatt_rights::{columns_of, findings};
@@ -19,8 +20,9 @@ use text_words::add_octets;
 /// Adds the matrix of a table, its legend and what to look at twice, in lines of a width if they
 /// fit into it.
 ///
-/// A row is a value or a descriptor, a column a kind of key. On `Err` memory was refused and the
-/// text is invalid.
+/// A row is a value or a descriptor, a column all kinds of keys with equal rights. On `Err` memory
+/// was refused and the text is invalid.
+#[tactic(auto, using(crate::proofs::Shared::names_each_kind, crate::proofs::Shared::shares_cells))]
 pub fn add_rights(
     alloc: Global,
     text: &mut Vec<u8>,
@@ -28,20 +30,26 @@ pub fn add_rights(
     keys: &Keys,
     width: usize,
 ) -> Result<(), AllocError>
-    // A matrix of the rights, what each column is, and the findings. Widths, and which columns
-    // share a block, are not fixed.
-    ensures ok { OnOk result (ShowsRights table.now keys.now text.old.items text.new.items) }
+    // A matrix of the rights with one column for all kinds of keys with equal rights, each kind
+    // with its column, and the findings. Types are whole if a line has space for them and all
+    // columns. The contract does not fix which columns share a block.
+    ensures ok { OnOk result
+        (ShowsRights table.now keys.now width text.old.items text.new.items) }
+    // No kind of key is missing.
+    ensures kinds { NamesEachKind }
+    // The cells of a column are those of each of its kinds.
+    ensures cells { SharesCells }
 {
     let kinds = columns_of(alloc, keys)?;
-    let columns = named_columns(alloc, &kinds)?;
-    let layout = Layout::of(alloc, table, &columns)?;
+    let columns = matrix_columns(alloc, table, &kinds)?;
+    let layout = layout_of(alloc, table, &columns, width)?;
     add_blocks(
         alloc,
         text,
         table,
         layout,
         &columns,
-        layout.most_columns(width),
+        most_columns(layout, width),
     )?;
     add_explanation(alloc, text, table, keys, &kinds, &columns)
 }
@@ -55,10 +63,12 @@ fn add_explanation(
     columns: &[Column],
 ) -> Result<(), AllocError>
     requires kinds { kinds.now ≡ columns_among keys.now }
-    requires columns { columns.now ≡ columns_for keys.now }
-    ensures ok { OnOk result (text.new.items ≡ text.old.items ++ explained table.now keys.now) }
+    requires columns { columns.now ≡ columns_of_table table.now keys.now }
+    ensures ok { OnOk result (text.new.items
+        ≡ text.old.items ++ explanation_text table.now keys.now) }
 {
-    add_legend(text, keys, columns)?;
+    let named = named_kinds(alloc, table, kinds, columns)?;
+    add_legend(alloc, text, keys, columns, &named)?;
     add_octets(text, b"\n")?;
     let found = findings(alloc, table, keys, kinds)?;
     add_look(text, &found)

@@ -2,20 +2,23 @@
 
 ghost use Rattle.std.specs.Prelude.{◌≡◌, ◌++◌, ◌∷◌, [], if◌then◌else◌, IfOk, OnOk};
 ghost use Rattle.std.specs.List.{list_all};
-ghost use Rattle.rights_text.specs.Matrix.{cut_text, hex_text, is_plain, is_text, middle_cut_text, name_text, quoted_text, short_name, value_text};
+ghost use Rattle.rights_text.specs.Matrix.{cut_text, hex_text, is_plain, is_plain_text, middle_cut_text, cut_type_text, quoted_text, short_name, short_value_text};
 
 use att_table::type_octets;
 use gatt_show::add_type;
 use std::alloc::{AllocError, Global};
 use text_words::{add_hex, add_octets};
 
-/// Returns the text of a type, cut to 28 octets: a UUID of 128 bits in its middle.
-pub(crate) fn name_of(alloc: Global, kind: u128) -> Result<Vec<u8>, AllocError>
-    ensures { IfOk result (λ name. name.items ≡ name_text kind) }
+/// Returns the text of a type, whole or cut to 28 octets: a UUID of 128 bits in its middle.
+pub(crate) fn name_of(alloc: Global, kind: u128, is_whole: bool) -> Result<Vec<u8>, AllocError>
+    ensures { IfOk result (λ name. name.items ≡ cut_type_text is_whole kind) }
 {
     let octets = type_octets(kind);
     let mut name = Vec::new(alloc);
     add_type(&mut name, octets.as_slice())?;
+    if is_whole {
+        return Ok(name);
+    }
     let mut cut = Vec::new(alloc);
     add_name(&mut cut, &name, octets.len() == 16)?;
     Ok(cut)
@@ -56,7 +59,7 @@ fn add_cut(text: &mut Vec<u8>, name: &[u8]) -> Result<(), AllocError>
 
 /// Returns a value as a text or in hexadecimal, cut after 12 octets.
 pub(crate) fn value_of(alloc: Global, value: &[u8]) -> Result<Vec<u8>, AllocError>
-    ensures { IfOk result (λ text. text.items ≡ value_text value.now) }
+    ensures { IfOk result (λ text. text.items ≡ short_value_text value.now) }
 {
     let mut text = Vec::new(alloc);
     add_value(&mut text, value)?;
@@ -64,7 +67,7 @@ pub(crate) fn value_of(alloc: Global, value: &[u8]) -> Result<Vec<u8>, AllocErro
 }
 
 fn add_value(text: &mut Vec<u8>, value: &[u8]) -> Result<(), AllocError>
-    ensures ok { OnOk result (text.new.items ≡ text.old.items ++ value_text value.now) }
+    ensures ok { OnOk result (text.new.items ≡ text.old.items ++ short_value_text value.now) }
 {
     match value {
         [] => add_octets(text, b"empty"),
@@ -74,9 +77,9 @@ fn add_value(text: &mut Vec<u8>, value: &[u8]) -> Result<(), AllocError>
 
 fn add_shown(text: &mut Vec<u8>, value: &[u8]) -> Result<(), AllocError>
     ensures ok { OnOk result (text.new.items ≡ text.old.items
-        ++ (if is_text value.now then quoted_text value.now else hex_text value.now)) }
+        ++ (if is_plain_text value.now then quoted_text value.now else hex_text value.now)) }
 {
-    if is_text(value) {
+    if is_plain_text(value) {
         add_quoted(text, value)
     } else {
         add_short_hex(text, value)
@@ -84,8 +87,8 @@ fn add_shown(text: &mut Vec<u8>, value: &[u8]) -> Result<(), AllocError>
 }
 
 /// Returns true if a value is a text: three octets or more, each plain ASCII.
-fn is_text(value: &[u8]) -> bool
-    ensures { result ≡ is_text value.now }
+fn is_plain_text(value: &[u8]) -> bool
+    ensures { result ≡ is_plain_text value.now }
 {
     value.len() > 2 && are_plain(value)
 }

@@ -14,13 +14,13 @@ use Rattle.show_command.specs.declared.show.View.{View}
 use Rattle.show_command.specs.declared.show.View.TheVariants.{Rights, Attributes}
 
 -- The keys are those of the key file, if it is known; without one, of an empty file.
-abbrev pub HasKeys : Option (Option Octets) → List Entry → Type 0
-HasKeys None keys = keys_in [] ≡ Ok keys
-HasKeys (Some key_file) keys = IfSome key_file (λ octets. keys_in octets ≡ Ok keys)
+abbrev pub HasShownKeys : Option (Option Octets) → List Entry → Type 0
+HasShownKeys None keys = keys_in [] ≡ Ok keys
+HasShownKeys (Some key_file) keys = IfSome key_file (λ octets. keys_in octets ≡ Ok keys)
 
 -- A view of a table is added to a text.
 abbrev pub IsShown : View → Contents → List Entry → Octets → Octets → Type 0
-IsShown (Rights width) table keys old new = ShowsRights table keys old new
+IsShown (Rights width) table keys old new = ShowsRights table keys width old new
 IsShown Attributes table keys old new = new ≡ old ++ shown_table table
 
 -- The table file and the key file, if known, are accepted; the view of them is printed.
@@ -29,7 +29,7 @@ pub record AreShown (view : View) (table_file : Option Octets)
   pub table : Contents
   pub has_table : IfSome table_file (λ octets. table_in octets ≡ Ok table)
   pub keys : List Entry
-  pub has_keys : HasKeys key_file keys
+  pub has_keys : HasShownKeys key_file keys
   pub text : Octets
   pub shown : IsShown view table keys [] text
   pub printed : Appends held holds text

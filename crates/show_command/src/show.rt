@@ -5,7 +5,7 @@ ghost use Rattle.std.specs.Io.KnownBytes.{Keeps};
 ghost use Rattle.std.specs.Option.{option_map};
 ghost use Rattle.shell_files.specs.KeyFile.{keys_out_of_memory, keys_in, KeysAreRefusedAs, IsKeyFileFault};
 ghost use Rattle.shell_files.specs.RowsFile.{rows_out_of_memory, rows_in, RowsAreRefusedAs};
-ghost use Rattle.show_command.specs.Show.{AreShown, HasKeys, IsShowFault, IsShown};
+ghost use Rattle.show_command.specs.Show.{AreShown, HasShownKeys, IsShowFault, IsShown};
 ghost use Rattle.shell_files.specs.TableFile.{table_out_of_memory, table_in, TableIsRefusedAs};
 ghost use Rattle.shell_files.specs.Turns.{IsPast, OfKeys, OfRows, OfTable};
 
@@ -89,7 +89,7 @@ fn read_keys_at<K: Read>(
     keys: &mut Option<K>,
     place: &mut Vec<u8>,
 ) -> Result<Keys, ShellFault>
-    ensures keys { IfOk result (λ read. HasKeys (option_map K.remaining keys.old) read) }
+    ensures keys { IfOk result (λ read. HasShownKeys (option_map K.remaining keys.old) read) }
     ensures refused { (number : ℕ) → result ≡ Err (ShellFault.Keys number)
         → number ≢ keys_out_of_memory
         → IfSome keys.old (λ file. IfSome (K.remaining file)

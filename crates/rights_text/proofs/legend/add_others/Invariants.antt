@@ -6,5 +6,5 @@ use Rattle.rights_text.proofs.legend.add_others.Given as goal
 -- what stands and what is left are all
 abbrev pub invariant-loop-other : goal.invariant-loop-other
 invariant-loop-other l =
-    l.text.items ++ flat_map (also_text l.fn.keys l.fn.peer l.fn.column) (drop l.other-index l.columns)
-    ≡ l.fn.text.items ++ flat_map (also_text l.fn.keys l.fn.peer l.fn.column) l.columns
+    l.text.items ++ flat_map (also_text l.keys l.kinds l.peer l.name) (drop l.other-index l.columns)
+    ≡ l.fn.text.items ++ flat_map (also_text l.keys l.kinds l.peer l.name) l.columns

@@ -1,10 +1,10 @@
 use Rattle.std.proofs.Common.{◌≡◌, ◌++◌, drop}
 use Rattle.std.specs.List.{flat_map}
-use Rattle.rights_text.specs.Legend.{peer_text}
+use Rattle.rights_text.specs.Legend.{peer_line}
 use Rattle.rights_text.proofs.legend.add_peers.Given as goal
 
 -- what stands and what is left are all
-abbrev pub invariant-loop-at : goal.invariant-loop-at
-invariant-loop-at l =
-    l.text.items ++ flat_map (peer_text l.fn.keys l.fn.columns l.fn.column) (drop l.at l.fn.keys)
-    ≡ l.fn.text.items ++ flat_map (peer_text l.fn.keys l.fn.columns l.fn.column) l.fn.keys
+abbrev pub invariant-loop-peer : goal.invariant-loop-peer
+invariant-loop-peer l =
+    l.text.items ++ flat_map (peer_line l.keys l.columns l.kinds l.name) (drop l.peer-index l.peers)
+    ≡ l.fn.text.items ++ flat_map (peer_line l.keys l.columns l.kinds l.name) l.peers

@@ -1,10 +1,10 @@
 use Rattle.std.proofs.Common.{◌≡◌, ◌++◌, drop}
 use Rattle.std.specs.List.{flat_map}
-use Rattle.rights_text.specs.Matrix.{line_text}
+use Rattle.rights_text.specs.Matrix.{matrix_line}
 use Rattle.rights_text.proofs.matrix.add_lines.Given as goal
 
 -- what stands and what is left are all
 abbrev pub invariant-loop-attr : goal.invariant-loop-attr
 invariant-loop-attr l =
-    l.text.items ++ flat_map (line_text l.fn.layout l.fn.table l.fn.columns) (drop l.attr-index l.attributes)
-    ≡ l.fn.text.items ++ flat_map (line_text l.fn.layout l.fn.table l.fn.columns) l.attributes
+    l.text.items ++ flat_map (matrix_line l.fn.layout l.fn.table l.fn.columns) (drop l.attr-index l.attributes)
+    ≡ l.fn.text.items ++ flat_map (matrix_line l.fn.layout l.fn.table l.fn.columns) l.attributes

@@ -2,29 +2,31 @@ use Rattle.std.proofs.Common.{◌≡◌, List, Option, ap, subst, ◌∙◌}
 use Rattle.std.proofs.lemmas.Result.{on_ok_weaker}
 use Rattle.att_policy.specs.declared.standing.KeyFacts.{KeyFacts}
 use Rattle.gatt_rights.specs.Columns.{columns_among}
-use Rattle.rights_text.specs.Columns.{named_from}
+use Rattle.rights_text.specs.Columns.{matrix_columns}
+use Rattle.rights_text.specs.Layout.{HasLeastWidths}
 use Rattle.rights_text.specs.Matrix.{AddsBlocks}
-use Rattle.rights_text.specs.Shown.{columns_for}
+use Rattle.rights_text.specs.Shown.{columns_of_table}
 use Rattle.rights_text.specs.declared.columns.Column.{Column}
 use Rattle.rights_text.proofs.show.add_rights.Goals as goal
 
-pub returns : goal.returns
-returns c =
+pub returns-clause-ok : goal.returns-clause-ok
+returns-clause-ok c =
     let layout = c.in_ok-layout.layout in
+    let table = c.args.table.now in
     let kinds : c.deref.result.now ≡ columns_among c.args.keys.now = c.deref.ensures.value ∙ c.in_ok-kinds.ensures in
-    let named : c.deref-3.result.now ≡ columns_for c.args.keys.now =
-    c.deref-3.ensures.value ∙ c.in_ok-columns.ensures ∙ ap (λ (keys : List (Option KeyFacts)). named_from 65 keys) kinds in
-    record {
-      ok =
-          on_ok_weaker c.add_explanation.result
-          (λ added. record {
-            layout = layout;
-            matrix = c.add_blocks.new.text.items;
-            blocks =
-                subst (λ (columns : List Column).
-                AddsBlocks layout c.args.table.now columns c.args.text.now.items c.add_blocks.new.text.items) named
-                c.in_ok-add_blocks.ensures.ok;
-            told = added;
-          })
-          c.add_explanation.ensures.ok;
-    }
+    let named : c.in_ok-columns.columns.items ≡ columns_of_table table c.args.keys.now =
+    c.in_ok-columns.ensures ∙ ap (λ (keys : List (Option KeyFacts)). matrix_columns table.attributes keys) kinds in
+    let laid : c.deref-2.result.now ≡ columns_of_table table c.args.keys.now = c.deref-2.ensures.value ∙ named in
+    let added : c.deref-3.result.now ≡ columns_of_table table c.args.keys.now = c.deref-3.ensures.value ∙ named in
+    on_ok_weaker c.add_explanation.result
+    (λ explained. record {
+      layout = layout;
+      widths = subst (λ (columns : List Column). HasLeastWidths layout table columns c.args.width) laid c.in_ok-layout.ensures;
+      matrix = c.add_blocks.new.text.items;
+      blocks =
+          subst (λ (columns : List Column).
+          AddsBlocks layout table columns c.args.text.now.items c.add_blocks.new.text.items) added
+          c.in_ok-add_blocks.ensures.ok;
+      told = explained;
+    })
+    c.add_explanation.ensures.ok

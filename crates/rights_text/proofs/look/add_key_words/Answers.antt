@@ -3,12 +3,12 @@ use Rattle.std.proofs.lemmas.Result.{on_ok_weaker}
 use Rattle.std.specs.Prelude.{codes}
 use Rattle.rights_text.specs.Legend.{strength_text}
 use Rattle.rights_text.proofs.Added.{joined}
-use Rattle.rights_text.proofs.look.add_idle_key.Goals as goal
+use Rattle.rights_text.proofs.look.add_key_words.Goals as goal
 
 pub returns : goal.returns
 returns c =
     let strength = strength_text c.args.key in
-    let rest = codes " permits no more than no key" in
+    let rest = c.args.words.now in
     record {
       ok = on_ok_weaker c.add_octets-2.result
           (λ added.
