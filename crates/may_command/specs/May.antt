@@ -20,12 +20,12 @@ use Rattle.may_command.specs.declared.may.MayWords.{MayWords}
 use Rattle.may_command.specs.declared.words.Wrong.{Wrong}
 
 -- The first wrong word is refused: the right, the handle or the peer.
-abbrev pub question_by : MayWords → Option Right → Option ℕ → Result (Option Peer) Wrong
+abbrev pub question_if_right : MayWords → Option Right → Option ℕ → Result (Option Peer) Wrong
     → Result Question Wrong
-question_by words None handle peer = Err Wrong.Right
-question_by words (Some right) None peer = Err Wrong.Handle
-question_by words (Some right) (Some handle) (Err wrong) = Err wrong
-question_by words (Some right) (Some handle) (Ok peer) = Ok (record {
+question_if_right words None handle peer = Err Wrong.Right
+question_if_right words (Some right) None peer = Err Wrong.Handle
+question_if_right words (Some right) (Some handle) (Err wrong) = Err wrong
+question_if_right words (Some right) (Some handle) (Ok peer) = Ok (record {
   peer = peer;
   right = right;
   handle = handle;
@@ -34,25 +34,25 @@ question_by words (Some right) (Some handle) (Ok peer) = Ok (record {
 })
 
 -- The question that the words ask, if these keys are known.
-abbrev pub question_of : MayWords → List Entry → Result Question Wrong
-question_of words keys =
-    question_by words (right_of words.right.now) (numeral_of (2 ^ 16) words.handle.now)
+abbrev pub question_of_words : MayWords → List Entry → Result Question Wrong
+question_of_words words keys =
+    question_if_right words (right_of words.right.now) (numeral_of (2 ^ 16) words.handle.now)
     (peer_named keys words.peer.now)
 
 -- With the keys of the file, if it is accepted, this word is wrong.
 abbrev pub WordIsRefusedAs : MayWords → Wrong → Result (List Entry) KeyFault → Type 0
-WordIsRefusedAs words wrong (Ok keys) = question_of words keys ≡ Err wrong
+WordIsRefusedAs words wrong (Ok keys) = question_of_words words keys ≡ Err wrong
 WordIsRefusedAs words wrong (Err fault) = ⊥
 
 -- Both files, if known, are accepted; the answer is printed, and is yes if a link has the right.
-pub record IsAnswered (words : MayWords) (table_file key_file held holds : Option Octets)
+pub record IsMayAnswer (words : MayWords) (table_file key_file held holds : Option Octets)
     (granted : Bool) : Type 0 where
   pub table : Contents
   pub has_table : IfSome table_file (λ octets. table_in octets ≡ Ok table)
   pub keys : List Entry
   pub has_keys : IfSome key_file (λ octets. keys_in octets ≡ Ok keys)
   pub question : Question
-  pub asked : question_of words keys ≡ Ok question
+  pub asked : question_of_words words keys ≡ Ok question
   pub printed : Appends held holds (answer_text table.attributes keys question)
   pub status : granted ≡ is_granted table.attributes keys question
 

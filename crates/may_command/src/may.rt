@@ -2,7 +2,7 @@
 
 ghost use Rattle.std.specs.Prelude.{◌≡◌, ◌≢◌, ℕ, IfErr, IfOk, IfSome, IsOk};
 ghost use Rattle.std.specs.Io.KnownBytes.{Keeps};
-ghost use Rattle.may_command.specs.May.{IsAnswered, IsMayFault, WordIsRefusedAs, question_of};
+ghost use Rattle.may_command.specs.May.{IsMayAnswer, IsMayFault, WordIsRefusedAs, question_of_words};
 ghost use Rattle.may_command.specs.declared.may.MayFault.TheVariants.{File, Word};
 ghost use Rattle.shell_files.specs.KeyFile.{keys_out_of_memory, keys_in, KeysAreRefusedAs};
 ghost use Rattle.shell_files.specs.TableFile.{table_out_of_memory, table_in, TableIsRefusedAs};
@@ -79,7 +79,7 @@ pub fn ask_files<T: Read, K: Read, W: Write>(
 ) -> Result<bool, MayFault>
     // The answer for these files is printed, and true returned exactly if one link of the peer has
     // the right.
-    ensures answer { IfOk result (λ granted. IsAnswered words.now (T.remaining table.old)
+    ensures answer { IfOk result (λ granted. IsMayAnswer words.now (T.remaining table.old)
         (K.remaining keys.old) (W.contents writer.old) (W.contents writer.new) granted) }
     // A file is refused by the number of its first fault, or by that of refused memory. A word is
     // refused only if both files are accepted.
@@ -108,7 +108,7 @@ pub fn ask_files<T: Read, K: Read, W: Write>(
 
 /// Reads the question of some words.
 fn question_in(keys: &Keys, words: &MayWords<'_>) -> Result<Question, Wrong>
-    ensures { result ≡ question_of words.now keys.now }
+    ensures { result ≡ question_of_words words.now keys.now }
 {
     let Some(right) = read_right(words.right) else {
         return Err(Wrong::Right);

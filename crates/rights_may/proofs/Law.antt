@@ -11,12 +11,12 @@ use Rattle.att_policy.specs.Policy.{first_unmet_rule_of}
 use Rattle.att_attributes.specs.declared.attr.Attr.{Attr}
 use Rattle.att_attributes.specs.Attributes.{attribute_at, is_configuration_at, is_value}
 use Rattle.gatt_rights.specs.declared.rights.Right.{Right}
-use Rattle.gatt_rights.specs.Needs.{is_announced}
+use Rattle.gatt_rights.specs.Needs.{is_notified_or_indicated}
 use Rattle.gatt_rights.specs.Rights.{is_sent, is_sent_of, may_of, subscribes_at, subscribes_of}
 use Rattle.gatt_rights.proofs.Subscribing.{sent, subscribes}
 use Rattle.rights_may.specs.declared.verdict.TheConstants.{NOTIFICATION}
 use Rattle.rights_may.specs.declared.verdict.Verdict.TheVariants.{NoConfiguration, Silent}
-use Rattle.rights_may.specs.Verdict.{access_verdict, broken_at, has_bit, is_yes, missing, sending_answer, sending_verdict, sent_verdict, subscription_answer, subscription_verdict, verdict_of, write_verdict}
+use Rattle.rights_may.specs.Verdict.{access_verdict, broken_by_write, has_bit, is_yes, missing, sending_answer, sending_verdict, sent_verdict, subscription_answer, subscription_verdict, verdict_of, write_verdict}
 use Rattle.rights_may.proofs.Subscribing.{subscription}
 
 of_access : (broken : Option (Rule × Code)) → is_yes (access_verdict broken) ≡ is_none broken
@@ -58,8 +58,8 @@ subscribed_at : (attributes : List Attr) (standing : Standing) (handle : Handle)
     ≡ option_map_or (λ (attr : Attr). subscribes_at attributes standing attr.guard (handle + 1)) found false
 subscribed_at attributes standing handle None = refl
 subscribed_at attributes standing handle (Some attr) =
-    by_write (handle + 1) (is_announced attr.guard.properties) (is_configuration_at attributes (handle + 1))
-    (broken_at attributes standing (handle + 1))
+    by_write (handle + 1) (is_notified_or_indicated attr.guard.properties) (is_configuration_at attributes (handle + 1))
+    (broken_by_write attributes standing (handle + 1))
 
 of_subscribing : (attributes : List Attr) (standing : Standing) (handle : Handle)
     → is_yes (subscription_verdict attributes standing handle) ≡ subscribes_of attributes standing handle

@@ -15,11 +15,11 @@ use Rattle.att_table.specs.Table.{value_at}
 use Rattle.att_writes.specs.Applied.{Stored, after_entries, unless_entry_refused}
 use Rattle.att_writes.specs.Entry.{Entry, whole_value}
 use Rattle.att_writes.specs.Fault.{unless_broken, value_fault}
-use Rattle.gatt_rights.specs.Needs.{is_announced}
+use Rattle.gatt_rights.specs.Needs.{is_notified_or_indicated}
 use Rattle.gatt_rights.proofs.Subscribing.{allowed_of, before, some_allowed}
 use Rattle.rights_may.specs.declared.verdict.Verdict.{Verdict}
 use Rattle.rights_may.specs.declared.verdict.Verdict.TheVariants.{NoConfiguration}
-use Rattle.rights_may.specs.Verdict.{broken_at, missing, subscription_answer, subscription_verdict, verdict_after, without_configuration, write_verdict}
+use Rattle.rights_may.specs.Verdict.{broken_by_write, missing, subscription_answer, subscription_verdict, verdict_after, without_configuration, write_verdict}
 
 -- the answer to the write, by the test of the configuration, the first broken rule and the test of the bits
 by_tests : (entry : Entry) (with_bits without : Stored) (is_configuration some allowed : Bool) → allowed ≡ true
@@ -39,14 +39,14 @@ by_tests entry with_bits without true true false is None fault otherwise = cc is
 
 tested : (attributes : List Attr) (standing : Standing) (handle : ℕ) → subscription_verdict attributes standing handle
     ≡ (if is_configuration_at attributes (handle + 1) && not (configuration_bits_at attributes (handle + 1) == 0)
-    then write_verdict (handle + 1) (broken_at attributes standing (handle + 1))
+    then write_verdict (handle + 1) (broken_by_write attributes standing (handle + 1))
     else without_configuration (attribute_at attributes handle))
 unfolding after_entries
 tested attributes standing handle =
     let bits : ℕ = configuration_bits_at attributes (handle + 1) in
     by_tests (whole_value (handle + 1) (bits ∷ 0 ∷ [])) _ _ (is_configuration_at attributes (handle + 1)) (not (bits == 0))
     (bit_and bits bits == bits) (allowed_of (attribute_at attributes ((handle + 1) - 1)))
-    (broken_at attributes standing (handle + 1))
+    (broken_by_write attributes standing (handle + 1))
     (value_fault attributes (length (value_at [] (handle + 1))) (whole_value (handle + 1) (bits ∷ 0 ∷ [])))
     (without_configuration (attribute_at attributes handle))
 
@@ -64,17 +64,17 @@ either_way false false verdict = refl
 by_attribute : (attributes : List Attr) (standing : Standing) (handle : ℕ) (found : Option Attr)
     → (if is_configuration_at attributes (handle + 1)
     && not (option_map_or (λ (attr : Attr). configuration_bits_of attr.guard.properties) found 0 == 0)
-    then write_verdict (handle + 1) (broken_at attributes standing (handle + 1))
+    then write_verdict (handle + 1) (broken_by_write attributes standing (handle + 1))
     else without_configuration found)
     ≡ option_map_or (λ (attr : Attr). subscription_answer attributes standing attr (handle + 1)) found missing
 by_attribute attributes standing handle None =
-    none_there (is_configuration_at attributes (handle + 1)) (write_verdict (handle + 1) (broken_at attributes standing (handle + 1)))
+    none_there (is_configuration_at attributes (handle + 1)) (write_verdict (handle + 1) (broken_by_write attributes standing (handle + 1)))
 by_attribute attributes standing handle (Some attr) =
     ap (λ (some : Bool). if is_configuration_at attributes (handle + 1) && some
-    then write_verdict (handle + 1) (broken_at attributes standing (handle + 1)) else NoConfiguration)
+    then write_verdict (handle + 1) (broken_by_write attributes standing (handle + 1)) else NoConfiguration)
     (some_allowed (has_property attr.guard.properties NOTIFY) (has_property attr.guard.properties INDICATE))
-    ∙ either_way (is_configuration_at attributes (handle + 1)) (is_announced attr.guard.properties)
-    (write_verdict (handle + 1) (broken_at attributes standing (handle + 1)))
+    ∙ either_way (is_configuration_at attributes (handle + 1)) (is_notified_or_indicated attr.guard.properties)
+    (write_verdict (handle + 1) (broken_by_write attributes standing (handle + 1)))
 
 -- the configuration is after an attribute
 pub subscription : (attributes : List Attr) (standing : Standing) (handle : ℕ) → subscription_verdict attributes standing handle
@@ -84,6 +84,6 @@ subscription attributes standing handle =
     ∙ ap (λ (at : ℕ).
     if is_configuration_at attributes (handle + 1)
     && not (option_map_or (λ (attr : Attr). configuration_bits_of attr.guard.properties) (attribute_at attributes at) 0 == 0)
-    then write_verdict (handle + 1) (broken_at attributes standing (handle + 1))
+    then write_verdict (handle + 1) (broken_by_write attributes standing (handle + 1))
     else without_configuration (attribute_at attributes handle)) (before handle)
     ∙ by_attribute attributes standing handle (attribute_at attributes handle)

@@ -21,8 +21,8 @@ abbrev pub link_text : Option KeyFacts → Octets
 link_text None = codes "not encrypted"
 link_text (Some key) = strength_text key
 
-unfoldable pub line_text : List Attr → Question → Bool → Option KeyFacts → Octets
-line_text attributes question is_known link =
+unfoldable pub link_line : List Attr → Question → Bool → Option KeyFacts → Octets
+link_line attributes question is_known link =
     link_text link ++ codes "  "
     ++ verdict_text attributes question.handle question.right
     (verdict_on attributes question is_known link)
@@ -34,7 +34,7 @@ asked_links keys question = links_of keys question.peer question.is_unencrypted
 -- A line for each link.
 abbrev pub answer_text : List Attr → List Entry → Question → Octets
 answer_text attributes keys question =
-    flat_map (line_text attributes question (has_any_key keys question.peer))
+    flat_map (link_line attributes question (has_any_key keys question.peer))
     (asked_links keys question)
 
 -- One of the links has the right.

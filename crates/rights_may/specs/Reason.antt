@@ -45,31 +45,31 @@ size_at attributes handle access =
     option_map_or (λ (attr : Attr). key_size_of (need_of access attr.guard))
     (attribute_at attributes handle) 0
 
-abbrev pub quoted : Octets → Octets → Octets
-quoted front word = front ++ word ++ 96 ∷ []
+abbrev pub ending_in_quote : Octets → Octets → Octets
+ending_in_quote front word = front ++ word ++ 96 ∷ []
 
 abbrev pub property_text : Right → Octets
-property_text right = quoted (codes "it has no property `") (property_word right)
+property_text right = ending_in_quote (codes "it has no property `") (property_word right)
 
 unfoldable pub size_text : ℕ → Octets
 size_text size = codes "key_size = " ++ decimal size
 
-unfoldable pub need_text : Octets → Octets → Octets
-need_text place need = 96 ∷ place ++ codes "` needs `" ++ need ++ 96 ∷ []
+unfoldable pub needed_text : Octets → Octets → Octets
+needed_text place need = 96 ∷ place ++ codes "` needs `" ++ need ++ 96 ∷ []
 
 abbrev pub rule_text : List Attr → Handle → Access → Right → Rule → Octets
 rule_text attributes handle access right HandleExists = []
 rule_text attributes handle access right Property = property_text right
 rule_text attributes handle access right Encryption =
-    need_text (place_word attributes handle access) (codes "encrypted")
+    needed_text (place_word attributes handle access) (codes "encrypted")
 rule_text attributes handle access right Authentication =
-    need_text (place_word attributes handle access) (codes "authenticated")
+    needed_text (place_word attributes handle access) (codes "authenticated")
 rule_text attributes handle access right KeySize =
-    need_text (place_word attributes handle access) (size_text (size_at attributes handle access))
+    needed_text (place_word attributes handle access) (size_text (size_at attributes handle access))
 rule_text attributes handle access right SecureConnections =
-    need_text (place_word attributes handle access) (codes "secure")
+    needed_text (place_word attributes handle access) (codes "secure")
 rule_text attributes handle access right Authorization =
-    need_text (place_word attributes handle access) (codes "authorized")
+    needed_text (place_word attributes handle access) (codes "authorized")
 
 abbrev pub error_name : Code → Octets
 error_name code =

@@ -16,7 +16,7 @@ use Rattle.att_writes.specs.Applied.{Stored}
 use Rattle.gatt_rights.specs.declared.rights.Right.{Right}
 use Rattle.att_policy.specs.declared.guard.TheConstants.{INDICATION}
 use Rattle.rights_may.specs.declared.verdict.TheConstants.{NOTIFICATION}
-use Rattle.gatt_rights.specs.Needs.{is_announced}
+use Rattle.gatt_rights.specs.Needs.{is_notified_or_indicated}
 use Rattle.gatt_rights.specs.Rights.{subscribed}
 use Rattle.rights_may.specs.declared.verdict.Verdict.{Verdict}
 use Rattle.rights_may.specs.declared.verdict.Verdict.TheVariants.{Yes, Refused, NoConfiguration, NoSubscription, Silent}
@@ -53,8 +53,8 @@ sending_verdict attributes standing handle bit =
     option_map_or (sending_answer standing bit) (attribute_at attributes handle) missing
 
 -- The first rule that a write breaks.
-abbrev pub broken_at : List Attr → Standing → Handle → Option (Rule × Code)
-broken_at attributes standing handle =
+abbrev pub broken_by_write : List Attr → Standing → Handle → Option (Rule × Code)
+broken_by_write attributes standing handle =
     first_broken_of Write (guard_at attributes handle) standing
 
 -- The server refuses a configuration by the first rule that the write breaks.
@@ -76,7 +76,7 @@ abbrev pub subscription_verdict : List Attr → Standing → Handle → Verdict
 subscription_verdict attributes standing handle =
     if is_configuration_at attributes (handle + 1)
     && not (configuration_bits_at attributes (handle + 1) == 0)
-    then verdict_after (broken_at attributes standing (handle + 1))
+    then verdict_after (broken_by_write attributes standing (handle + 1))
     (subscribed attributes standing handle (configuration_bits_at attributes (handle + 1)))
     else without_configuration (attribute_at attributes handle)
 
@@ -87,8 +87,8 @@ write_verdict handle None = Yes
 
 abbrev pub subscription_answer : List Attr → Standing → Attr → Handle → Verdict
 subscription_answer attributes standing attr handle =
-    if is_announced attr.guard.properties && is_configuration_at attributes handle
-    then write_verdict handle (broken_at attributes standing handle)
+    if is_notified_or_indicated attr.guard.properties && is_configuration_at attributes handle
+    then write_verdict handle (broken_by_write attributes standing handle)
     else NoConfiguration
 
 abbrev pub verdict_of : List Attr → Standing → Handle → Right → Verdict

@@ -2,7 +2,7 @@
 
 ghost use Rattle.std.specs.Prelude.{◌≡◌, ◌++◌, IfOk, OnOk};
 ghost use Rattle.std.specs.List.{flat_map, list_any};
-ghost use Rattle.rights_may.specs.Answer.{answer_text, is_granted, line_text, link_text, verdict_on};
+ghost use Rattle.rights_may.specs.Answer.{answer_text, is_granted, link_line, link_text, verdict_on};
 ghost use Rattle.rights_may.specs.Verdict.{is_yes};
 
 use crate::links::{has_any_key, links_of, standing_on};
@@ -60,7 +60,7 @@ fn add_lines(
     links: &[Option<KeyFacts>],
 ) -> Result<(), AllocError>
     ensures ok { OnOk result (text.new.items ≡ text.old.items
-        ++ flat_map (line_text table.now.attributes question.now is_known) links.now) }
+        ++ flat_map (link_line table.now.attributes question.now is_known) links.now) }
 {
     for link in links {
         add_line(text, table, question, is_known, *link)?;
@@ -68,7 +68,7 @@ fn add_lines(
     Ok(())
 }
 
-#[tactic(auto, unfolding(crate::specs::Answer::line_text))]
+#[tactic(auto, unfolding(crate::specs::Answer::link_line))]
 fn add_line(
     text: &mut Vec<u8>,
     table: &Table,
@@ -77,7 +77,7 @@ fn add_line(
     link: Option<KeyFacts>,
 ) -> Result<(), AllocError>
     ensures ok { OnOk result (text.new.items
-        ≡ text.old.items ++ line_text table.now.attributes question.now is_known link) }
+        ≡ text.old.items ++ link_line table.now.attributes question.now is_known link) }
 {
     add_link(text, link)?;
     add_octets(text, b"  ")?;

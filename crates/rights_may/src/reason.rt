@@ -5,7 +5,7 @@ ghost use Rattle.hex.specs.Hex.{encode_lower};
 ghost use Rattle.att_policy.specs.Need.{key_size_of};
 ghost use Rattle.att_policy.specs.Policy.{need_of};
 ghost use Rattle.att_attributes.specs.Attributes.{is_configuration_at};
-ghost use Rattle.rights_may.specs.Reason.{access_of, error_name, error_text, need_text, place_word, property_text, property_word, quoted, rule_text, separator, size_at, size_text, verdict_code, verdict_front, verdict_rule, verdict_text};
+ghost use Rattle.rights_may.specs.Reason.{access_of, error_name, error_text, needed_text, place_word, property_text, property_word, ending_in_quote, rule_text, separator, size_at, size_text, verdict_code, verdict_front, verdict_rule, verdict_text};
 
 use crate::verdict::{Verdict, is_configuration};
 use att_numbers::error_code;
@@ -118,7 +118,8 @@ fn add_property(text: &mut Vec<u8>, right: Right) -> Result<(), AllocError>
 
 /// Adds a word and the sign that ends it, after other words.
 fn add_quoted(text: &mut Vec<u8>, front: &[u8], word: &[u8]) -> Result<(), AllocError>
-    ensures ok { OnOk result (text.new.items ≡ text.old.items ++ quoted front.now word.now) }
+    ensures ok { OnOk result (text.new.items
+        ≡ text.old.items ++ ending_in_quote front.now word.now) }
 {
     add_octets(text, front)?;
     add_octets(text, word)?;
@@ -189,9 +190,9 @@ fn size_of(access: Access, guard: &Guard) -> u8
     }
 }
 
-#[tactic(auto, unfolding(crate::specs::Reason::need_text))]
+#[tactic(auto, unfolding(crate::specs::Reason::needed_text))]
 fn add_need(text: &mut Vec<u8>, place: &str, need: &[u8]) -> Result<(), AllocError>
-    ensures ok { OnOk result (text.new.items ≡ text.old.items ++ need_text place.now need.now) }
+    ensures ok { OnOk result (text.new.items ≡ text.old.items ++ needed_text place.now need.now) }
 {
     add_octets(text, b"`")?;
     add_octets(text, place.as_bytes())?;
@@ -200,10 +201,10 @@ fn add_need(text: &mut Vec<u8>, place: &str, need: &[u8]) -> Result<(), AllocErr
     add_octets(text, b"`")
 }
 
-#[tactic(auto, unfolding(crate::specs::Reason::need_text))]
+#[tactic(auto, unfolding(crate::specs::Reason::needed_text))]
 fn add_size(text: &mut Vec<u8>, place: &str, size: u8) -> Result<(), AllocError>
     ensures ok { OnOk result (text.new.items
-        ≡ text.old.items ++ need_text place.now (size_text size)) }
+        ≡ text.old.items ++ needed_text place.now (size_text size)) }
 {
     add_octets(text, b"`")?;
     add_octets(text, place.as_bytes())?;

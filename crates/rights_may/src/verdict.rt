@@ -4,13 +4,13 @@ ghost use Rattle.std.specs.Prelude.{◌≡◌};
 ghost use Rattle.att_policy.specs.Policy.{first_broken_of, first_unmet_rule_of};
 ghost use Rattle.att_attributes.specs.Attributes.{guard_at, is_configuration_at};
 ghost use Rattle.gatt_rights.specs.Rights.{may_of};
-ghost use Rattle.rights_may.specs.Verdict.{access_verdict, broken_at, has_bit, is_yes, sending_verdict, sent_verdict, subscription_answer, subscription_verdict, verdict_of, write_verdict};
+ghost use Rattle.rights_may.specs.Verdict.{access_verdict, broken_by_write, has_bit, is_yes, sending_verdict, sent_verdict, subscription_answer, subscription_verdict, verdict_of, write_verdict};
 ghost use Rattle.std.specs.Option.{option_copied};
 
 use att_numbers::error_code;
 use att_policy::{Access, Guard, INDICATION, Properties, Rule, Standing, first_broken};
 use att_table::{Attr, Role, Table};
-use gatt_rights::{Right, is_announced};
+use gatt_rights::{Right, is_notified_or_indicated};
 
 /// The CCCD bit for notifications (Core 5.0, Vol 3 Part G, 3.3.3.3).
 const NOTIFICATION: u8 = 0x01;
@@ -113,7 +113,7 @@ fn of_subscription(table: &Table, standing: &Standing, handle: u16) -> Verdict
 fn of_announced(table: &Table, standing: &Standing, attr: &Attr, handle: u16) -> Verdict
     ensures { result ≡ subscription_answer table.now.attributes standing.entry.now attr.now handle }
 {
-    if is_announced(attr.guard.properties) && is_configuration(table, handle) {
+    if is_notified_or_indicated(attr.guard.properties) && is_configuration(table, handle) {
         return of_configuration(table, standing, handle);
     }
     Verdict::NoConfiguration
@@ -130,7 +130,7 @@ pub(crate) fn is_configuration(table: &Table, handle: u16) -> bool
 
 fn of_configuration(table: &Table, standing: &Standing, handle: u16) -> Verdict
     ensures { result
-        ≡ write_verdict handle (broken_at table.now.attributes standing.entry.now handle) }
+        ≡ write_verdict handle (broken_by_write table.now.attributes standing.entry.now handle) }
 {
     match first_broken(Access::Write, guard_of(table, handle), standing) {
         Some((rule, code)) => Verdict::NoSubscription(handle, rule, code),

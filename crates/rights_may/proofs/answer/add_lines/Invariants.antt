@@ -1,10 +1,10 @@
 use Rattle.std.proofs.Common.{◌≡◌, ◌++◌, drop}
 use Rattle.std.specs.List.{flat_map}
-use Rattle.rights_may.specs.Answer.{line_text}
+use Rattle.rights_may.specs.Answer.{link_line}
 use Rattle.rights_may.proofs.answer.add_lines.Given as goal
 
 -- what stands and what is left are all
 abbrev pub invariant-loop-link : goal.invariant-loop-link
 invariant-loop-link l =
-    l.text.items ++ flat_map (line_text l.fn.table.attributes l.fn.question l.fn.is_known) (drop l.link-index l.links)
-    ≡ l.fn.text.items ++ flat_map (line_text l.fn.table.attributes l.fn.question l.fn.is_known) l.links
+    l.text.items ++ flat_map (link_line l.fn.table.attributes l.fn.question l.fn.is_known) (drop l.link-index l.links)
+    ≡ l.fn.text.items ++ flat_map (link_line l.fn.table.attributes l.fn.question l.fn.is_known) l.links
