@@ -7,7 +7,7 @@ ghost use Rattle.rights_compare.specs.Compared.{comparison_text};
 ghost use Rattle.rights_compare.specs.Gains.{opens};
 ghost use Rattle.shell_files.specs.KeyFile.{keys_in, IsKeyFileFault};
 ghost use Rattle.shell_files.specs.TableFile.{table_in, IsTableFileFault};
-ghost use Rattle.compare_command.specs.Compare.{AreCompared, HasKeys, HasNewKeys};
+ghost use Rattle.compare_command.specs.Compare.{AreCompared, HasComparedKeys, HasNewKeys};
 ghost use Rattle.shell_files.specs.Fault.{IsTableOrKeysFault};
 
 use att_table::Table;
@@ -105,7 +105,7 @@ fn keys_before<K: Read>(
     keys: &mut Option<K>,
     place: &mut Vec<u8>,
 ) -> Result<Keys, ShellFault>
-    ensures keys { IfOk result (λ read. HasKeys (option_map K.remaining keys.old) read) }
+    ensures keys { IfOk result (λ read. HasComparedKeys (option_map K.remaining keys.old) read) }
     ensures faults { IfErr result IsKeyFileFault }
 {
     match keys {

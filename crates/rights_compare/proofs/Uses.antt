@@ -21,7 +21,7 @@ use Rattle.gatt_rights.proofs.Sizes.{has_every_kind}
 use Rattle.gatt_rights.proofs.Standings.{depends_on_key_and_time}
 use Rattle.rights_text.specs.Cell.{rights_where}
 use Rattle.rights_compare.specs.Before.{gave, had, has, held_of, partners_of, rights_of}
-use Rattle.rights_compare.specs.Gains.{gain_of, has_any, has_gain, is_gained, is_gained_once, opens, opens_at}
+use Rattle.rights_compare.specs.Gains.{gain_of, has_any_right, has_gain, is_gained, is_gained_once, opens, opens_at}
 use Rattle.rights_compare.specs.Laws.{IsKey, PermitsNoMore}
 use Rattle.rights_compare.specs.Pairing.{pairs_of}
 use Rattle.rights_compare.specs.declared.before.Held.{Held}
@@ -55,7 +55,7 @@ neither true true none is = is
 neither true false none is = none
 neither false other none is = refl
 
-by_right : (test : Right → Bool) → has_any (rights_where test) ≡ false → (right : Right) → test right ≡ false
+by_right : (test : Right → Bool) → has_any_right (rights_where test) ≡ false → (right : Right) → test right ≡ false
 by_right test is Right.Read = or_left (test Right.Read) _ is
 by_right test is Right.Write = or_left (test Right.Write) _ (or_right (test Right.Read) _ is)
 by_right test is Right.Command = or_left (test Right.Command) _ (or_right (test Right.Write) _ (or_right (test Right.Read) _ is))
@@ -128,7 +128,7 @@ not_gained attributes handle held false right none =
 not_gained attributes handle held true right none =
     neither (is_gained attributes handle held true right) (is_gained attributes handle held false right)
     (by_right (λ (it : Right). is_gained_once attributes handle held it)
-    (or_right (has_any (rights_where (λ (it : Right). is_gained attributes handle held false it))) _ none) right)
+    (or_right (has_any_right (rights_where (λ (it : Right). is_gained attributes handle held false it))) _ none) right)
     (by_right (λ (it : Right). is_gained attributes handle held false it) (or_left _ _ none) right)
 
 had_before : (others : List Attr) (partners : List Handle) (key : Option KeyFacts) (is_authorized : Bool) (right : Right)

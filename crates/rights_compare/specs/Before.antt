@@ -5,10 +5,9 @@ use Rattle.att_numbers.specs.Types.{AttributeType, Handle}
 use Rattle.att_policy.specs.declared.standing.KeyFacts.{KeyFacts}
 use Rattle.att_attributes.specs.declared.attr.Attr.{Attr}
 use Rattle.gatt_rights.specs.declared.rights.Right.{Right}
-use Rattle.gatt_rights.specs.Held.{may_with}
+use Rattle.gatt_rights.specs.Held.{is_used, may_with}
 use Rattle.rights_text.specs.Cell.{rights_where}
 use Rattle.rights_text.specs.declared.cell.Rights.{Rights}
-use Rattle.rights_compare.specs.Pairing.{is_used}
 use Rattle.rights_compare.specs.declared.before.Held.{Held}
 use Rattle.rights_compare.specs.declared.pairing.Pair.{Pair}
 

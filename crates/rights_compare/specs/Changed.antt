@@ -14,8 +14,8 @@ use Rattle.att_attributes.specs.Attributes.{attribute_at, is_configuration}
 use Rattle.att_table.specs.Table.{Contents}
 use Rattle.gatt_show.specs.Line.{length_text, told_value}
 use Rattle.gatt_show.specs.Rights.{heard_words, need_words, written_words}
-use Rattle.rights_compare.specs.Lines.{name_text}
-use Rattle.rights_compare.specs.Pairing.{place_of, service_before}
+use Rattle.rights_compare.specs.Lines.{handle_and_type}
+use Rattle.rights_compare.specs.Pairing.{other_handle, service_before}
 use Rattle.rights_compare.specs.declared.pairing.Pair.{Pair}
 
 -- A text, or another one in place of none.
@@ -23,8 +23,8 @@ abbrev pub or_words : Octets → Octets → Octets
 or_words [] words = words
 or_words (octet ∷ octets) words = octet ∷ octets
 
-abbrev pub need_text : Need → Octets
-need_text need = or_words (need_words need) (codes " for everybody")
+abbrev pub need_or_everybody : Need → Octets
+need_or_everybody need = or_words (need_words need) (codes " for everybody")
 
 abbrev pub properties_text : Properties → Octets
 properties_text properties =
@@ -43,30 +43,32 @@ first_text (octet ∷ octets) = codes " " ++ encode_lower (octet ∷ octets)
 abbrev pub configuration_text : Option Attr → Octets
 configuration_text None = codes " none"
 configuration_text (Some attr) =
-    if is_configuration attr.role then need_text attr.guard.write else codes " none"
+    if is_configuration attr.role then need_or_everybody attr.guard.write else codes " none"
 
 abbrev pub after_value : List Attr → Handle → Option Attr
 after_value attributes handle =
     if is_some (attribute_at attributes handle) then attribute_at attributes (handle + 1) else None
 
 -- The kind of the service that contains an attribute (Core 5.0, Vol 3 Part G, 3.1).
-abbrev pub kind_text : Option Attr → Octets
-kind_text None = codes " none"
-kind_text (Some service) =
+abbrev pub service_kind_text : Option Attr → Octets
+service_kind_text None = codes " none"
+service_kind_text (Some service) =
     if service.kind == SECONDARY_SERVICE then codes " secondary" else codes " primary"
 
 -- A line for what is not the same.
 unfoldable pub change_text : Attr → Octets → Octets → Octets → Octets
 change_text attr label now before =
     if bytes_eq now before then []
-    else name_text attr.handle attr.kind ++ codes "  " ++ label ++ now ++ codes ", was" ++ before
-    ++ 10 ∷ []
+    else handle_and_type attr.handle attr.kind ++ codes "  " ++ label ++ now ++ codes ", was"
+    ++ before ++ 10 ∷ []
 
 -- The needs of an attribute, and those before.
 unfoldable pub needs_changes : List Attr → List Attr → Attr → Attr → Octets
 needs_changes attributes others attr before =
-    change_text attr (codes "read") (need_text attr.guard.read) (need_text before.guard.read)
-    ++ change_text attr (codes "write") (need_text attr.guard.write) (need_text before.guard.write)
+    change_text attr (codes "read") (need_or_everybody attr.guard.read)
+    (need_or_everybody before.guard.read)
+    ++ change_text attr (codes "write") (need_or_everybody attr.guard.write)
+    (need_or_everybody before.guard.write)
     ++ change_text attr (codes "config")
     (configuration_text (after_value attributes attr.handle))
     (configuration_text (after_value others before.handle))
@@ -80,8 +82,8 @@ facts_changes table other attr before =
     ++ change_text attr (codes "value") (first_text (told_value table attr.handle))
     (first_text (told_value other before.handle))
     ++ change_text attr (codes "service")
-    (kind_text (service_before table.attributes attr.handle))
-    (kind_text (service_before other.attributes before.handle))
+    (service_kind_text (service_before table.attributes attr.handle))
+    (service_kind_text (service_before other.attributes before.handle))
 
 abbrev pub changes_from : Contents → Contents → Attr → Option Attr → Octets
 changes_from table other attr None = []
@@ -93,4 +95,4 @@ changes_from table other attr (Some before) =
 abbrev pub changed_lines : Contents → Contents → List Pair → List Pair → Pair → Octets
 changed_lines table other pairs others pair =
     changes_from table other pair.attr
-    (option_and_then (attribute_at other.attributes) (place_of pairs others pair))
+    (option_and_then (attribute_at other.attributes) (other_handle pairs others pair))

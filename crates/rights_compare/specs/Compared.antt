@@ -1,6 +1,6 @@
 -- The rights that a new table and key file open and close, as `compare` prints them (this
 -- profile's own).
-use Rattle.std.specs.Prelude.{◌-◌, ◌==◌, Bool, true, false, List, [], ◌∷◌, ◌++◌, length, take, Option, Some, codes}
+use Rattle.std.specs.Prelude.{◌-◌, ◌==◌, if◌then◌else◌, List, [], ◌∷◌, ◌++◌, length, take, Option, None, Some, codes}
 use Rattle.std.specs.List.{flat_map}
 use Rattle.octet_io.specs.Number.{Octets}
 use Rattle.att_numbers.specs.Types.{Handle}
@@ -14,7 +14,7 @@ use Rattle.rights_text.specs.Columns.{named_from}
 use Rattle.rights_text.specs.Legend.{legend_text}
 use Rattle.rights_text.specs.declared.columns.Column.{Column}
 use Rattle.rights_compare.specs.Changed.{changed_lines}
-use Rattle.rights_compare.specs.Lines.{alone_line, dropped_line, key_line, lasting_line, moved_line, pair_lines}
+use Rattle.rights_compare.specs.Lines.{alone_line, dropped_line, gaining_key_line, lasting_line, moved_line, pair_lines}
 use Rattle.rights_compare.specs.Pairing.{pairs_of}
 use Rattle.rights_compare.specs.declared.pairing.Pair.{Pair}
 
@@ -23,8 +23,8 @@ abbrev pub kinds_of_both : List Entry → List Entry → List (Option KeyFacts)
 kinds_of_both [] [] = []
 kinds_of_both keys others = with_columns (columns_among keys) others
 
-abbrev pub columns_for : List Entry → List Entry → List Column
-columns_for keys other_keys = named_from 65 (kinds_of_both other_keys keys)
+abbrev pub columns_of_both : List Entry → List Entry → List Column
+columns_of_both keys other_keys = named_from 65 (kinds_of_both other_keys keys)
 
 -- The rights that a table and a key file give and the others do not, for some kinds of keys.
 unfoldable pub gains_lines :
@@ -32,7 +32,7 @@ unfoldable pub gains_lines :
 gains_lines kinds columns table keys other other_keys =
     flat_map (pair_lines table.attributes other.attributes kinds columns)
     (pairs_of table other)
-    ++ flat_map (key_line other_keys table.attributes) keys
+    ++ flat_map (gaining_key_line other_keys table.attributes) keys
 
 -- A section without lines has these words in place of its heading.
 abbrev pub section : Octets → Octets → Octets → Octets
@@ -51,84 +51,87 @@ closed_text lines =
     (codes "Nothing is closed, for clients with every kind of key and without one." ++ 10 ∷ [])
     lines
 
-abbrev pub changed_section : Contents → Contents → List Pair → List Pair → Octets
-changed_section table other pairs others =
-    section (codes "Changed:" ++ 10 ∷ []) []
-    (flat_map (changed_lines table other pairs others) pairs)
+-- Lines after a heading; without lines there is none.
+abbrev pub lines_under : Octets → Octets → Octets
+lines_under heading lines = section (heading ++ 10 ∷ []) [] lines
 
-abbrev pub moved_section : List Pair → List Pair → Octets
-moved_section pairs others =
-    section (codes "Moved to another handle:" ++ 10 ∷ []) []
-    (flat_map (moved_line pairs others) pairs)
+abbrev pub moved_lines : List Pair → List Pair → Octets
+moved_lines pairs others = flat_map (moved_line pairs others) pairs
 
-abbrev pub new_section : List Pair → List Pair → Octets
-new_section pairs others =
-    section (codes "New:" ++ 10 ∷ []) [] (flat_map (alone_line pairs others) pairs)
-
-abbrev pub gone_section : List Pair → List Pair → Octets
-gone_section pairs others =
-    section (codes "Gone:" ++ 10 ∷ []) [] (flat_map (alone_line others pairs) others)
-
-abbrev pub dropped_section : Contents → Contents → Octets
-dropped_section table other =
-    section (codes "Subscriptions that are dropped:" ++ 10 ∷ []) []
-    (flat_map (dropped_line other.attributes table.attributes) other.attributes)
-
-abbrev pub lasting_section :
-    List (Option KeyFacts) → List Column → Contents → Contents → Octets
-lasting_section kinds columns table other =
-    section (codes "Subscriptions that last although they are closed:" ++ 10 ∷ []) []
-    (flat_map (lasting_line other.attributes table.attributes kinds columns)
-    other.attributes)
+abbrev pub alone_lines : List Pair → List Pair → Octets
+alone_lines pairs others = flat_map (alone_line pairs others) pairs
 
 -- The changes that a client meets which remembers the old table.
-abbrev pub places_text : List Pair → List Pair → Octets
+unfoldable pub places_text : List Pair → List Pair → Octets
 places_text pairs others =
-    moved_section pairs others ++ new_section pairs others ++ gone_section pairs others
+    lines_under (codes "Moved to another handle:") (moved_lines pairs others)
+    ++ lines_under (codes "New:") (alone_lines pairs others)
+    ++ lines_under (codes "Gone:") (alone_lines others pairs)
+
+abbrev pub lines_of_changes : Contents → Contents → List Pair → List Pair → Octets
+lines_of_changes table other pairs others = flat_map (changed_lines table other pairs others) pairs
+
+abbrev pub dropped_lines : Contents → Contents → Octets
+dropped_lines table other =
+    flat_map (dropped_line other.attributes table.attributes) other.attributes
+
+abbrev pub still_sent_lines :
+    List (Option KeyFacts) → List Column → Contents → Contents → Octets
+still_sent_lines kinds columns table other =
+    flat_map (lasting_line other.attributes table.attributes kinds columns) other.attributes
 
 unfoldable pub moves_text :
     List (Option KeyFacts) → List Column → Contents → Contents → Octets
 moves_text kinds columns table other =
-    changed_section table other (pairs_of table other) (pairs_of other table)
+    lines_under (codes "Changed:")
+    (lines_of_changes table other (pairs_of table other) (pairs_of other table))
     ++ places_text (pairs_of table other) (pairs_of other table)
-    ++ dropped_section table other ++ lasting_section kinds columns table other
+    ++ lines_under (codes "Subscriptions that are dropped:") (dropped_lines table other)
+    ++ lines_under (codes "Subscriptions that last although they are closed:")
+    (still_sent_lines kinds columns table other)
 
--- Both tables have a Service Changed value, at the same handle.
-abbrev pub has_changer : Option Handle → Option Handle → Bool
-has_changer (Some one) (Some other) = one == other
-has_changer _ _ = false
+abbrev pub all_reached_text : Octets
+all_reached_text = codes "Service Changed reaches the peers that subscribed to it." ++ 10 ∷ []
 
-abbrev pub reached_text : Bool → Octets
-reached_text true = codes "Service Changed reaches the peers that subscribed to it." ++ 10 ∷ []
-reached_text false =
+abbrev pub unreached_text : Octets
+unreached_text =
     codes "Service Changed reaches no peer: it is not at the same handle in both tables." ++ 10 ∷ []
+
+-- Service Changed reaches a peer only if both tables have it at the same handle (Core 5.0, Vol 3
+-- Part G, 2.5.2).
+abbrev pub reached_text : Option Handle → Option Handle → Octets
+reached_text None None =
+    codes "No peer is reached: neither table has a Service Changed characteristic." ++ 10 ∷ []
+reached_text None (Some other) = unreached_text
+reached_text (Some one) None = unreached_text
+reached_text (Some one) (Some other) = if one == other then all_reached_text else unreached_text
 
 -- The letters and the columns, if there are any. Without columns no empty line ends the text.
 abbrev pub without_last : Octets → Octets
 without_last octets = take (length octets - 1) octets
 
 abbrev pub legend_of : List Entry → List Column → Octets
-legend_of keys [] = without_last (legend_text keys [])
-legend_of keys (column ∷ columns) = legend_text keys (column ∷ columns)
+legend_of keys [] = without_last (legend_text keys [] [])
+legend_of keys (column ∷ columns) = legend_text keys (column ∷ columns) (column ∷ columns)
 
-abbrev pub explained : Octets → Octets → Octets
-explained [] legend = []
-explained (octet ∷ octets) legend = 10 ∷ legend
+abbrev pub legend_if_any : Octets → Octets → Octets
+legend_if_any [] legend = []
+legend_if_any (octet ∷ octets) legend = 10 ∷ legend
 
 abbrev pub opened_lines : Contents → List Entry → Contents → List Entry → Octets
 opened_lines table keys other other_keys =
-    gains_lines every_kind (columns_for keys other_keys) table keys other other_keys
+    gains_lines every_kind (columns_of_both keys other_keys) table keys other other_keys
 
 abbrev pub closed_lines : Contents → List Entry → Contents → List Entry → Octets
 closed_lines table keys other other_keys =
-    gains_lines every_kind (columns_for keys other_keys) other other_keys table keys
+    gains_lines every_kind (columns_of_both keys other_keys) other other_keys table keys
 
 unfoldable pub comparison_text : Contents → List Entry → Contents → List Entry → Octets
 comparison_text table keys other other_keys =
     opened_text (opened_lines table keys other other_keys)
     ++ closed_text (closed_lines table keys other other_keys)
-    ++ moves_text every_kind (columns_for keys other_keys) table other
-    ++ reached_text (has_changer (changer_of table) (changer_of other))
-    ++ explained
+    ++ moves_text every_kind (columns_of_both keys other_keys) table other
+    ++ reached_text (changer_of table) (changer_of other)
+    ++ legend_if_any
     (opened_lines table keys other other_keys ++ closed_lines table keys other other_keys)
-    (legend_of keys (columns_for keys other_keys))
+    (legend_of keys (columns_of_both keys other_keys))

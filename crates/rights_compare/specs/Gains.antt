@@ -12,12 +12,12 @@ use Rattle.le_security.specs.Entry.{same_peer}
 use Rattle.le_security.specs.declared.entry.Entry.{Entry}
 use Rattle.gatt_rights.specs.declared.rights.Right.{Right}
 use Rattle.gatt_rights.specs.Columns.{same_column}
-use Rattle.gatt_rights.specs.Held.{may_with}
+use Rattle.gatt_rights.specs.Held.{is_used, may_with}
 use Rattle.gatt_rights.specs.Kinds.{every_kind}
 use Rattle.rights_text.specs.Cell.{rights_where}
 use Rattle.rights_text.specs.declared.cell.Rights.{Rights}
 use Rattle.rights_compare.specs.Before.{before_of, has, rights_of}
-use Rattle.rights_compare.specs.Pairing.{is_used, pairs_of}
+use Rattle.rights_compare.specs.Pairing.{pairs_of}
 use Rattle.rights_compare.specs.declared.before.Held.{Held}
 use Rattle.rights_compare.specs.declared.gaining.Gain.{Gain}
 use Rattle.rights_compare.specs.declared.pairing.Pair.{Pair}
@@ -59,14 +59,14 @@ abbrev pub pair_gains : List Attr → List Attr → List (Option KeyFacts) → P
 pair_gains attributes others kinds pair =
     gains_of attributes pair.attr.handle (before_of others kinds pair.there pair.attr.kind)
 
-abbrev pub has_any : Rights → Bool
-has_any rights =
+abbrev pub has_any_right : Rights → Bool
+has_any_right rights =
     rights.read
     || (rights.write
     || (rights.command || (rights.notify || (rights.indicate || rights.subscribe))))
 
 abbrev pub has_gain : Gain → Bool
-has_gain gain = has_any gain.always || has_any gain.once
+has_gain gain = has_any_right gain.always || has_any_right gain.once
 
 abbrev pub opens_at : List Attr → List Attr → List (Option KeyFacts) → Pair → Bool
 opens_at attributes others kinds pair = list_any has_gain (pair_gains attributes others kinds pair)

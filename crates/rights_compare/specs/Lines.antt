@@ -20,13 +20,13 @@ use Rattle.rights_text.specs.Kinds.{kinds_text}
 use Rattle.rights_text.specs.Legend.{key_text, peer_words}
 use Rattle.rights_text.specs.declared.columns.Column.{Column}
 use Rattle.rights_compare.specs.Gains.{gains_by_key, has_gain, is_first, kinds_like, pair_gains}
-use Rattle.rights_compare.specs.Pairing.{place_of}
+use Rattle.rights_compare.specs.Pairing.{other_handle}
 use Rattle.rights_compare.specs.declared.gaining.Gain.{Gain}
 use Rattle.rights_compare.specs.declared.moves.TheConstants.{NOTIFICATION, INDICATION}
 use Rattle.rights_compare.specs.declared.pairing.Pair.{Pair}
 
-unfoldable pub name_text : Handle → AttributeType → Octets
-name_text handle kind = right 5 (decimal handle) ++ codes "  " ++ type_text (type_octets kind)
+unfoldable pub handle_and_type : Handle → AttributeType → Octets
+handle_and_type handle kind = right 5 (decimal handle) ++ codes "  " ++ type_text (type_octets kind)
 
 -- The names of the columns that are among some kinds of keys.
 abbrev pub letter_text : List (Option KeyFacts) → Column → Octets
@@ -48,7 +48,7 @@ whose_text columns kinds =
 -- One line has all kinds of keys with the same gains: the handle, the type and the letters.
 unfoldable pub gain_text : Attr → List Column → List Gain → Gain → Octets
 gain_text attr columns gains gain =
-    name_text attr.handle attr.kind ++ codes "  " ++ cell_with gain.always gain.once
+    handle_and_type attr.handle attr.kind ++ codes "  " ++ cell_with gain.always gain.once
     ++ whose_text columns (kinds_like gain gains)
 
 abbrev pub gain_line : Attr → List Column → List Gain → Gain → Octets
@@ -64,8 +64,8 @@ pair_lines attributes others kinds columns pair =
     gain_lines pair.attr columns (pair_gains attributes others kinds pair)
 
 -- The keys by which peers gain rights.
-unfoldable pub key_line : List Entry → List Attr → Entry → Octets
-key_line keys attributes entry =
+unfoldable pub gaining_key_line : List Entry → List Attr → Entry → Octets
+gaining_key_line keys attributes entry =
     if gains_by_key keys attributes entry
     then codes "       " ++ peer_words entry.peer ++ codes ": " ++ key_text (Some entry.key.facts)
     ++ 10 ∷ []
@@ -76,18 +76,18 @@ unfoldable pub moved_text : Attr → Option Handle → Octets
 moved_text attr None = []
 moved_text attr (Some handle) =
     if handle == attr.handle then []
-    else name_text attr.handle attr.kind ++ codes " was " ++ decimal handle ++ 10 ∷ []
+    else handle_and_type attr.handle attr.kind ++ codes " was " ++ decimal handle ++ 10 ∷ []
 
 abbrev pub moved_line : List Pair → List Pair → Pair → Octets
-moved_line pairs others pair = moved_text pair.attr (place_of pairs others pair)
+moved_line pairs others pair = moved_text pair.attr (other_handle pairs others pair)
 
 -- An attribute that the other table does not have.
 unfoldable pub alone_text : Attr → Option Handle → Octets
 alone_text attr (Some handle) = []
-alone_text attr None = name_text attr.handle attr.kind ++ 10 ∷ []
+alone_text attr None = handle_and_type attr.handle attr.kind ++ 10 ∷ []
 
 abbrev pub alone_line : List Pair → List Pair → Pair → Octets
-alone_line pairs others pair = alone_text pair.attr (place_of pairs others pair)
+alone_line pairs others pair = alone_text pair.attr (other_handle pairs others pair)
 
 -- A subscription to all that its value permits is kept if a table is replaced by another.
 abbrev pub is_kept : List Attr → List Attr → Handle → Bool
@@ -99,7 +99,7 @@ is_kept attributes others handle =
 unfoldable pub dropped_line : List Attr → List Attr → Attr → Octets
 dropped_line attributes others attr =
     if is_configuration attr.role && not (is_kept attributes others attr.handle)
-    then name_text (attr.handle - 1) (type_at attributes (attr.handle - 1)) ++ 10 ∷ [] else []
+    then handle_and_type (attr.handle - 1) (type_at attributes (attr.handle - 1)) ++ 10 ∷ [] else []
 
 -- A subscription by this bit is kept if a table is replaced by another.
 abbrev pub keeps_bit : List Attr → List Attr → Handle → ℕ → Bool
@@ -144,7 +144,7 @@ unfoldable pub lasting_text :
     Handle → AttributeType → List Column → List (Option KeyFacts) → Octets
 lasting_text value kind columns [] = []
 lasting_text value kind columns (key ∷ keys) =
-    name_text value kind ++ whose_text columns (key ∷ keys)
+    handle_and_type value kind ++ whose_text columns (key ∷ keys)
 
 -- The value of a configuration whose subscriptions last although the other table closes them.
 abbrev pub lasting_line :

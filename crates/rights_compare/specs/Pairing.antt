@@ -12,18 +12,12 @@ use Rattle.att_attributes.specs.Attributes.{attribute_at, attributes_in, is_valu
 use Rattle.att_attributes.specs.Group.{group_end_at, is_service_type}
 use Rattle.att_table.specs.Changer.{last_service}
 use Rattle.att_table.specs.Table.{Contents}
+use Rattle.gatt_rights.specs.Held.{is_used}
 use Rattle.gatt_show.specs.Line.{told_value}
 use Rattle.rights_compare.specs.declared.pairing.Pair.{Pair}
 
--- Values and descriptors are used; declarations and configurations belong to them.
-abbrev pub is_used : Role → Bool
-is_used Declaration = false
-is_used Value = true
-is_used Configuration = false
-is_used Descriptor = true
-
-abbrev pub is_before : (Attr → Bool) → Handle → Attr → Bool
-is_before test handle attr = test attr && nat_lt attr.handle handle
+abbrev pub is_passing_before : (Attr → Bool) → Handle → Attr → Bool
+is_passing_before test handle attr = test attr && nat_lt attr.handle handle
 
 -- The nth attribute that passes a test corresponds to the nth that passes the test of the other
 -- table, if the same number pass.
@@ -31,7 +25,7 @@ abbrev pub corresponding :
     (Attr → Bool) → List Attr → Handle → (Attr → Bool) → List Attr → Option Attr
 corresponding test attributes handle other_test others =
     if count_by test attributes == count_by other_test others
-    then slice_get (filter other_test others) (count_by (is_before test handle) attributes)
+    then slice_get (filter other_test others) (count_by (is_passing_before test handle) attributes)
     else None
 
 -- The attributes of the service or the characteristic that is declared at a handle.
@@ -79,14 +73,14 @@ other_alike attr attributes others =
 abbrev pub service_before : List Attr → Handle → Option Attr
 service_before attributes handle = last_service (attributes_in attributes 1 (handle - 1))
 
-abbrev pub value_in : Contents → Contents → Attr → Attr → Attr → Option Attr
-value_in table other value service there =
+abbrev pub value_in_service : Contents → Contents → Attr → Attr → Attr → Option Attr
+value_in_service table other value service there =
     other_alike value (group_at table.attributes service.handle)
     (group_at other.attributes there.handle)
 
 abbrev pub value_of_service : Contents → Contents → Attr → Attr → Option Attr
 value_of_service table other value service =
-    option_and_then (value_in table other value service) (other_service table other service)
+    option_and_then (value_in_service table other value service) (other_service table other service)
 
 abbrev pub other_value : Contents → Contents → Attr → Option Attr
 other_value table other value =
@@ -125,14 +119,14 @@ abbrev pub sure_handle : Contents → Contents → Attr → Option Handle
 sure_handle table other attr =
     option_map (λ (there : Attr). there.handle) (other_by attr.role table other attr)
 
-abbrev pub pair_of : Contents → Contents → Attr → List Pair
-pair_of table other attr =
+abbrev pub pair_if_used : Contents → Contents → Attr → List Pair
+pair_if_used table other attr =
     if is_used attr.role then record { attr = attr; there = sure_handle table other attr } ∷ []
     else []
 
 -- The values and descriptors of a table, in order of handles.
 abbrev pub pairs_of : Contents → Contents → List Pair
-pairs_of table other = flat_map (pair_of table other) table.attributes
+pairs_of table other = flat_map (pair_if_used table other) table.attributes
 
 -- The nth uncertain one of a type is taken for the nth uncertain one of this type.
 abbrev pub is_loose : Pair → Pair → Bool
@@ -151,5 +145,5 @@ place_by (Some handle) pairs pair others = Some handle
 place_by None pairs pair others = loose_handle pairs pair others
 
 -- The handle that an attribute has in the other table.
-abbrev pub place_of : List Pair → List Pair → Pair → Option Handle
-place_of pairs others pair = place_by pair.there pairs pair others
+abbrev pub other_handle : List Pair → List Pair → Pair → Option Handle
+other_handle pairs others pair = place_by pair.there pairs pair others

@@ -5,10 +5,10 @@ ghost use Rattle.std.specs.List.{flat_map, list_all};
 ghost use Rattle.rights_text.specs.Cell.{rights_where};
 ghost use Rattle.rights_compare.specs.Before.{IsHeldFor, before_of, gave, had, handle_of_type, has, held_of, is_held_for, loose_type, one_held, partners_by, rights_of};
 
-use crate::pairing::{Pair, is_used};
+use crate::pairing::Pair;
 use att_policy::KeyFacts;
 use att_table::{Attr, Table};
-use gatt_rights::{Right, all_attributes, may_with};
+use gatt_rights::{Right, all_attributes, is_used, may_with};
 use rights_text::Rights;
 use std::alloc::{AllocError, Global};
 

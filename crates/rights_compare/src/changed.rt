@@ -4,11 +4,11 @@ ghost use Rattle.std.specs.Prelude.{◌≡◌, ◌++◌, codes, IfOk, OnOk};
 ghost use Rattle.std.specs.List.{flat_map};
 ghost use Rattle.std.specs.Option.{option_and_then, option_copied};
 ghost use Rattle.att_attributes.specs.Attributes.{attribute_at};
-ghost use Rattle.rights_compare.specs.Changed.{after_value, change_text, changed_lines, changes_from, configuration_text, facts_changes, first_text, kind_text, need_text, needs_changes, or_words, properties_text, sizes_text};
-ghost use Rattle.rights_compare.specs.Pairing.{place_of};
+ghost use Rattle.rights_compare.specs.Changed.{after_value, change_text, changed_lines, changes_from, configuration_text, facts_changes, first_text, service_kind_text, need_or_everybody, needs_changes, or_words, properties_text, sizes_text};
+ghost use Rattle.rights_compare.specs.Pairing.{other_handle};
 
 use crate::lines::add_name;
-use crate::pairing::{Pair, place_of, service_before};
+use crate::pairing::{Pair, other_handle, service_before};
 use att_numbers::attribute_type::SECONDARY_SERVICE;
 use att_policy::{Need, Properties};
 use att_table::{Attr, Role, Table};
@@ -16,22 +16,22 @@ use gatt_show::{add_heard_words, add_length, add_need, add_written_words, told_v
 use std::alloc::{AllocError, Global};
 use text_words::{add_hex, add_octets};
 
-/// Adds the lines of the attributes that correspond to one of the other table.
-pub(crate) fn add_changed(
+/// Returns the lines of the attributes that correspond to one of the other table.
+pub(crate) fn lines_of_changes(
     alloc: Global,
-    text: &mut Vec<u8>,
     table: &Table,
     other: &Table,
     pairs: &[Pair],
     others: &[Pair],
-) -> Result<(), AllocError>
-    ensures ok { OnOk result (text.new.items ≡ text.old.items ++ flat_map
-        (changed_lines table.now other.now pairs.now others.now) pairs.now) }
+) -> Result<Vec<u8>, AllocError>
+    ensures { IfOk result (λ lines. lines.items
+        ≡ flat_map (changed_lines table.now other.now pairs.now others.now) pairs.now) }
 {
+    let mut lines = Vec::new(alloc);
     for pair in pairs {
-        add_changed_lines(alloc, text, table, other, pairs, others, pair)?;
+        add_changed_lines(alloc, &mut lines, table, other, pairs, others, pair)?;
     }
-    Ok(())
+    Ok(lines)
 }
 
 fn add_changed_lines(
@@ -55,9 +55,9 @@ fn add_changed_lines(
 /// Returns the attribute of the other table at the place of one.
 fn placed<'a>(pairs: &[Pair], others: &[Pair], pair: &Pair, other: &'a Table) -> Option<&'a Attr>
     ensures { option_copied result ≡ option_and_then (attribute_at other.now.attributes)
-        (place_of pairs.now others.now pair.now) }
+        (other_handle pairs.now others.now pair.now) }
 {
-    let handle = place_of(pairs, others, pair)?;
+    let handle = other_handle(pairs, others, pair)?;
     other.get(handle)
 }
 
@@ -89,11 +89,11 @@ fn add_needs_changes(
     ensures ok { OnOk result (text.new.items ≡ text.old.items
         ++ needs_changes table.now.attributes other.now.attributes attr.now before.now) }
 {
-    let read = need_text(alloc, &attr.guard.read)?;
-    let read_before = need_text(alloc, &before.guard.read)?;
+    let read = need_or_everybody(alloc, &attr.guard.read)?;
+    let read_before = need_or_everybody(alloc, &before.guard.read)?;
     add_change(text, attr, b"read", &read, &read_before)?;
-    let write = need_text(alloc, &attr.guard.write)?;
-    let write_before = need_text(alloc, &before.guard.write)?;
+    let write = need_or_everybody(alloc, &attr.guard.write)?;
+    let write_before = need_or_everybody(alloc, &before.guard.write)?;
     add_change(text, attr, b"write", &write, &write_before)?;
     let config = config_text(alloc, table, attr.handle)?;
     let config_before = config_text(alloc, other, before.handle)?;
@@ -121,8 +121,8 @@ fn add_facts_changes(
     let value = first_text(alloc, told_value(table, attr.handle))?;
     let value_before = first_text(alloc, told_value(other, before.handle))?;
     add_change(text, attr, b"value", &value, &value_before)?;
-    let kind = kind_text(service_before(table, attr.handle));
-    let kind_before = kind_text(service_before(other, before.handle));
+    let kind = service_kind_text(service_before(table, attr.handle));
+    let kind_before = service_kind_text(service_before(other, before.handle));
     add_change(
         text,
         attr,
@@ -166,8 +166,8 @@ fn add_if_empty(words: &mut Vec<u8>, other: &[u8]) -> Result<(), AllocError>
     }
 }
 
-fn need_text(alloc: Global, need: &Need) -> Result<Vec<u8>, AllocError>
-    ensures { IfOk result (λ words. words.items ≡ need_text need.now) }
+fn need_or_everybody(alloc: Global, need: &Need) -> Result<Vec<u8>, AllocError>
+    ensures { IfOk result (λ words. words.items ≡ need_or_everybody need.now) }
 {
     let mut words = Vec::new(alloc);
     add_need(&mut words, need)?;
@@ -236,7 +236,10 @@ fn configuration_text(alloc: Global, attr: Option<&Attr>) -> Result<Vec<u8>, All
         (λ words. words.items ≡ configuration_text (option_copied attr.entry)) }
 {
     match attr {
-        Some(attr) if attr.role == Role::Configuration => need_text(alloc, &attr.guard.write),
+        Some(attr) if attr.role == Role::Configuration => need_or_everybody(
+            alloc,
+            &attr.guard.write,
+        ),
         _ => none_text(alloc),
     }
 }
@@ -249,8 +252,8 @@ fn none_text(alloc: Global) -> Result<Vec<u8>, AllocError>
     Ok(words)
 }
 
-fn kind_text(service: Option<&Attr>) -> &'static str
-    ensures { result.now ≡ kind_text (option_copied service.entry) }
+fn service_kind_text(service: Option<&Attr>) -> &'static str
+    ensures { result.now ≡ service_kind_text (option_copied service.entry) }
 {
     match service {
         Some(service) if service.kind == SECONDARY_SERVICE => " secondary",

@@ -1,16 +1,16 @@
 //! The rights that a new table and key file open and close, as `compare` prints them.
 
-ghost use Rattle.std.specs.Prelude.{◌≡◌, ◌++◌, All, false, IfOk, OnOk};
+ghost use Rattle.std.specs.Prelude.{◌≡◌, ◌++◌, [], All, codes, false, IfOk, OnOk};
 ghost use Rattle.att_table.specs.Changer.{changer_of};
-ghost use Rattle.rights_compare.specs.Compared.{changed_section, closed_lines, closed_text, columns_for, comparison_text, dropped_section, explained, gains_lines, gone_section, has_changer, kinds_of_both, lasting_section, legend_of, moved_section, moves_text, new_section, opened_lines, opened_text, places_text, reached_text, section, without_last};
+ghost use Rattle.rights_compare.specs.Compared.{alone_lines, closed_lines, closed_text, columns_of_both, comparison_text, dropped_lines, gains_lines, kinds_of_both, legend_if_any, legend_of, lines_of_changes, lines_under, moved_lines, moves_text, opened_lines, opened_text, places_text, reached_text, section, still_sent_lines, without_last};
 ghost use Rattle.rights_compare.specs.Gains.{opens};
 ghost use Rattle.rights_compare.specs.Laws.{PermitsNoMore};
 ghost use Rattle.rights_compare.specs.Pairing.{pairs_of};
 
-use crate::changed::add_changed;
+use crate::changed::lines_of_changes;
 use crate::gaining::{gains_keys, gains_rights};
 use crate::lines::{add_gaining_keys, add_pair_lines};
-use crate::moves::{add_alone, add_dropped, add_lasting, add_moved};
+use crate::moves::{alone_lines, dropped_lines, moved_lines, still_sent_lines};
 use crate::pairing::{Pair, pairs_of};
 use att_policy::KeyFacts;
 use att_table::Table;
@@ -82,7 +82,7 @@ pub fn add_comparison(
         ++ comparison_text table.now keys.now other.now other_keys.now) }
 {
     let kinds = every_kind(alloc)?;
-    let columns = columns_for(alloc, keys, other_keys)?;
+    let columns = columns_of_both(alloc, keys, other_keys)?;
     let mut opened = gains_lines(alloc, &kinds, &columns, table, keys, other, other_keys)?;
     let closed = gains_lines(alloc, &kinds, &columns, other, other_keys, table, keys)?;
     add_opened(text, &opened)?;
@@ -94,8 +94,8 @@ pub fn add_comparison(
 }
 
 /// Returns the columns of the kinds of keys in two key files.
-fn columns_for(alloc: Global, keys: &Keys, other_keys: &Keys) -> Result<Vec<Column>, AllocError>
-    ensures { IfOk result (λ columns. columns.items ≡ columns_for keys.now other_keys.now) }
+fn columns_of_both(alloc: Global, keys: &Keys, other_keys: &Keys) -> Result<Vec<Column>, AllocError>
+    ensures { IfOk result (λ columns. columns.items ≡ columns_of_both keys.now other_keys.now) }
 {
     named_columns(alloc, &kinds_of_both(alloc, other_keys, keys)?)
 }
@@ -206,14 +206,14 @@ fn add_changed_section(
     pairs: &[Pair],
     others: &[Pair],
 ) -> Result<(), AllocError>
-    ensures ok { OnOk result (text.new.items ≡ text.old.items
-        ++ changed_section table.now other.now pairs.now others.now) }
+    ensures ok { OnOk result (text.new.items ≡ text.old.items ++ lines_under (codes "Changed:")
+        (lines_of_changes table.now other.now pairs.now others.now)) }
 {
-    let mut lines = Vec::new(alloc);
-    add_changed(alloc, &mut lines, table, other, pairs, others)?;
+    let lines = lines_of_changes(alloc, table, other, pairs, others)?;
     add_section(text, b"Changed:\n", b"", &lines)
 }
 
+#[tactic(auto, unfolding(crate::specs::Compared::places_text))]
 fn add_places(
     alloc: Global,
     text: &mut Vec<u8>,
@@ -224,8 +224,8 @@ fn add_places(
         (text.new.items ≡ text.old.items ++ places_text pairs.now others.now) }
 {
     add_moved_section(alloc, text, pairs, others)?;
-    add_new_section(alloc, text, pairs, others)?;
-    add_gone_section(alloc, text, pairs, others)
+    add_alone_section(alloc, text, b"New:\n", pairs, others)?;
+    add_alone_section(alloc, text, b"Gone:\n", others, pairs)
 }
 
 fn add_moved_section(
@@ -234,40 +234,26 @@ fn add_moved_section(
     pairs: &[Pair],
     others: &[Pair],
 ) -> Result<(), AllocError>
-    ensures ok { OnOk result
-        (text.new.items ≡ text.old.items ++ moved_section pairs.now others.now) }
+    ensures ok { OnOk result (text.new.items ≡ text.old.items
+        ++ lines_under (codes "Moved to another handle:") (moved_lines pairs.now others.now)) }
 {
-    let mut lines = Vec::new(alloc);
-    add_moved(&mut lines, pairs, others)?;
+    let lines = moved_lines(alloc, pairs, others)?;
     add_section(text, b"Moved to another handle:\n", b"", &lines)
 }
 
-fn add_new_section(
+/// Adds the attributes that the other table does not have, below a heading.
+fn add_alone_section(
     alloc: Global,
     text: &mut Vec<u8>,
+    heading: &[u8],
     pairs: &[Pair],
     others: &[Pair],
 ) -> Result<(), AllocError>
-    ensures ok { OnOk result
-        (text.new.items ≡ text.old.items ++ new_section pairs.now others.now) }
+    ensures ok { OnOk result (text.new.items ≡ text.old.items
+        ++ section heading.now [] (alone_lines pairs.now others.now)) }
 {
-    let mut lines = Vec::new(alloc);
-    add_alone(&mut lines, pairs, others)?;
-    add_section(text, b"New:\n", b"", &lines)
-}
-
-fn add_gone_section(
-    alloc: Global,
-    text: &mut Vec<u8>,
-    pairs: &[Pair],
-    others: &[Pair],
-) -> Result<(), AllocError>
-    ensures ok { OnOk result
-        (text.new.items ≡ text.old.items ++ gone_section pairs.now others.now) }
-{
-    let mut lines = Vec::new(alloc);
-    add_alone(&mut lines, others, pairs)?;
-    add_section(text, b"Gone:\n", b"", &lines)
+    let lines = alone_lines(alloc, pairs, others)?;
+    add_section(text, heading, b"", &lines)
 }
 
 fn add_dropped_section(
@@ -276,11 +262,11 @@ fn add_dropped_section(
     table: &Table,
     other: &Table,
 ) -> Result<(), AllocError>
-    ensures ok { OnOk result
-        (text.new.items ≡ text.old.items ++ dropped_section table.now other.now) }
+    ensures ok { OnOk result (text.new.items ≡ text.old.items
+        ++ lines_under (codes "Subscriptions that are dropped:")
+        (dropped_lines table.now other.now)) }
 {
-    let mut lines = Vec::new(alloc);
-    add_dropped(&mut lines, other, table, all_attributes(other))?;
+    let lines = dropped_lines(alloc, other, table, all_attributes(other))?;
     add_section(text, b"Subscriptions that are dropped:\n", b"", &lines)
 }
 
@@ -293,18 +279,10 @@ fn add_lasting_section(
     other: &Table,
 ) -> Result<(), AllocError>
     ensures ok { OnOk result (text.new.items ≡ text.old.items
-        ++ lasting_section kinds.now columns.now table.now other.now) }
+        ++ lines_under (codes "Subscriptions that last although they are closed:")
+        (still_sent_lines kinds.now columns.now table.now other.now)) }
 {
-    let mut lines = Vec::new(alloc);
-    add_lasting(
-        alloc,
-        &mut lines,
-        other,
-        table,
-        kinds,
-        columns,
-        all_attributes(other),
-    )?;
+    let lines = still_sent_lines(alloc, other, table, kinds, columns, all_attributes(other))?;
     add_section(
         text,
         b"Subscriptions that last although they are closed:\n",
@@ -314,22 +292,16 @@ fn add_lasting_section(
 }
 
 fn reached_text(table: &Table, other: &Table) -> &'static str
-    ensures { result.now ≡ reached_text (has_changer (changer_of table.now)
-        (changer_of other.now)) }
+    ensures { result.now ≡ reached_text (changer_of table.now) (changer_of other.now) }
 {
-    if has_changer(table.changer(), other.changer()) {
-        "Service Changed reaches the peers that subscribed to it.\n"
-    } else {
-        "Service Changed reaches no peer: it is not at the same handle in both tables.\n"
-    }
-}
-
-fn has_changer(one: Option<u16>, other: Option<u16>) -> bool
-    ensures { result ≡ has_changer one other }
-{
-    match (one, other) {
-        (Some(one), Some(other)) => one == other,
-        _ => false,
+    match (table.changer(), other.changer()) {
+        (None, None) => {
+            "No peer is reached: neither table has a Service Changed characteristic.\n"
+        }
+        (Some(one), Some(other)) if one == other => {
+            "Service Changed reaches the peers that subscribed to it.\n"
+        }
+        _ => "Service Changed reaches no peer: it is not at the same handle in both tables.\n",
     }
 }
 
@@ -342,7 +314,7 @@ fn add_explanation(
     columns: &[Column],
 ) -> Result<(), AllocError>
     ensures ok { OnOk result (text.new.items
-        ≡ text.old.items ++ explained lines.now (legend_of keys.now columns.now)) }
+        ≡ text.old.items ++ legend_if_any lines.now (legend_of keys.now columns.now)) }
 {
     match lines {
         [] => Ok(()),
@@ -364,7 +336,7 @@ fn add_legend_of(
         (text.new.items ≡ text.old.items ++ legend_of keys.now columns.now) }
 {
     let mut legend = Vec::new(alloc);
-    add_legend(&mut legend, keys, columns)?;
+    add_legend(alloc, &mut legend, keys, columns, columns)?;
     match columns {
         [] => add_octets(text, without_last(&legend)),
         _ => add_octets(text, &legend),

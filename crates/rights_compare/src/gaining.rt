@@ -3,13 +3,13 @@
 ghost use Rattle.std.specs.Prelude.{◌≡◌, ◌++◌, IfOk, OnOk, [], false, slice_get};
 ghost use Rattle.std.specs.List.{find, flat_map, list_all, list_any};
 ghost use Rattle.std.specs.Option.{option_copied, option_map_or};
-ghost use Rattle.rights_compare.specs.Gains.{exceeds, exceeds_all, exceeds_at, exceeds_by, gain_of, gained_always, gained_once, gains_by_key, gains_of, has_any, has_gain, is_first, is_gained, is_gained_once, kind_if_same, kind_of_peer, kinds_like, kinds_of_peer, one_gain, opens_at, permits, same_gain, same_rights};
+ghost use Rattle.rights_compare.specs.Gains.{exceeds, exceeds_all, exceeds_at, exceeds_by, gain_of, gained_always, gained_once, gains_by_key, gains_of, has_any_right, has_gain, is_first, is_gained, is_gained_once, kind_if_same, kind_of_peer, kinds_like, kinds_of_peer, one_gain, opens_at, permits, same_gain, same_rights};
 
 use crate::before::{Held, has, renew, rights_of};
-use crate::pairing::{Pair, is_used};
+use crate::pairing::Pair;
 use att_policy::KeyFacts;
 use att_table::{Attr, Table};
-use gatt_rights::{Right, all_attributes, is_same_column, may_with};
+use gatt_rights::{Right, all_attributes, is_same_column, is_used, may_with};
 use le_hci::Peer;
 use le_security::Keys;
 use rights_text::Rights;
@@ -118,8 +118,8 @@ fn add_one_gain(
     Ok(())
 }
 
-fn has_any(rights: Rights) -> bool
-    ensures { result ≡ has_any rights }
+fn has_any_right(rights: Rights) -> bool
+    ensures { result ≡ has_any_right rights }
 {
     rights.read
         || rights.write
@@ -132,7 +132,7 @@ fn has_any(rights: Rights) -> bool
 pub(crate) fn has_gain(gain: &Gain) -> bool
     ensures { result ≡ has_gain gain.now }
 {
-    has_any(gain.always) || has_any(gain.once)
+    has_any_right(gain.always) || has_any_right(gain.once)
 }
 
 fn same_rights(one: Rights, other: Rights) -> bool

@@ -1,18 +1,17 @@
 //! The rights and the keys that are gained, a line each.
 
 ghost use Rattle.std.specs.Prelude.{◌≡◌, ◌++◌, IfOk, OnOk, [], slice_get};
-ghost use Rattle.std.specs.List.{flat_map, list_any};
+ghost use Rattle.std.specs.List.{flat_map};
 ghost use Rattle.std.specs.Option.{option_map_or};
-ghost use Rattle.gatt_rights.specs.Columns.{same_column};
 ghost use Rattle.rights_compare.specs.Gains.{gains_of};
-ghost use Rattle.rights_compare.specs.Lines.{after_space, gain_line, gain_lines, gain_text, key_line, letter_text, letters_text, name_text, pair_lines, whose_text};
+ghost use Rattle.rights_compare.specs.Lines.{after_space, gain_line, gain_lines, gain_text, gaining_key_line, letter_text, letters_text, handle_and_type, pair_lines, whose_text};
 
 use crate::before::{Held, renew};
 use crate::gaining::{Gain, gains_by_key, gains_of, has_gain, is_first, kinds_like};
 use crate::pairing::Pair;
 use att_policy::KeyFacts;
 use att_table::{Attr, Table, type_octets};
-use gatt_rights::is_same_column;
+use gatt_rights::has_column;
 use gatt_show::add_type;
 use le_hci::Peer;
 use le_security::Keys;
@@ -21,9 +20,9 @@ use std::alloc::{AllocError, Global};
 use text_words::{add_octets, add_right_number};
 
 /// Adds the handle and the type of an attribute.
-#[tactic(auto, unfolding(crate::specs::Lines::name_text))]
+#[tactic(auto, unfolding(crate::specs::Lines::handle_and_type))]
 pub(crate) fn add_name(text: &mut Vec<u8>, handle: u16, kind: u128) -> Result<(), AllocError>
-    ensures ok { OnOk result (text.new.items ≡ text.old.items ++ name_text handle kind) }
+    ensures ok { OnOk result (text.new.items ≡ text.old.items ++ handle_and_type handle kind) }
 {
     add_right_number(text, u64::from(handle), 5)?;
     add_octets(text, b"  ")?;
@@ -95,17 +94,11 @@ fn add_letter(
     ensures ok { OnOk result
         (text.new.items ≡ text.old.items ++ letter_text kinds.now column.now) }
 {
-    if is_among(kinds, column.key) {
+    if has_column(kinds, column.key) {
         add_octets(text, &[b' ', column.name])
     } else {
         Ok(())
     }
-}
-
-fn is_among(kinds: &[Option<KeyFacts>], key: Option<KeyFacts>) -> bool
-    ensures { result ≡ list_any (same_column key) kinds.now }
-{
-    kinds.iter().any(|kind| is_same_column(key, *kind))
 }
 
 /// Adds the lines of the rights that links gain to these attributes.
@@ -209,7 +202,7 @@ pub(crate) fn add_gaining_keys(
     keys: &Keys,
 ) -> Result<(), AllocError>
     ensures ok { OnOk result (text.new.items ≡ text.old.items
-        ++ flat_map (key_line others.now table.now.attributes) keys.now) }
+        ++ flat_map (gaining_key_line others.now table.now.attributes) keys.now) }
 {
     for at in 0..keys.count() {
         add_gaining_key(alloc, text, others, table, keys, at)?;
@@ -217,7 +210,7 @@ pub(crate) fn add_gaining_keys(
     Ok(())
 }
 
-#[tactic(auto, unfolding(crate::specs::Lines::key_line))]
+#[tactic(auto, unfolding(crate::specs::Lines::gaining_key_line))]
 fn add_gaining_key(
     alloc: Global,
     text: &mut Vec<u8>,
@@ -227,7 +220,8 @@ fn add_gaining_key(
     at: usize,
 ) -> Result<(), AllocError>
     ensures ok { OnOk result (text.new.items ≡ text.old.items
-        ++ option_map_or (key_line others.now table.now.attributes) (slice_get keys.now at) []) }
+        ++ option_map_or (gaining_key_line others.now table.now.attributes)
+        (slice_get keys.now at) []) }
 {
     let Some(peer) = keys.peer(at) else {
         return Ok(());

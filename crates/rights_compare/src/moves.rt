@@ -7,7 +7,7 @@ ghost use Rattle.att_table.specs.ConfigRow.{has_its_meaning};
 ghost use Rattle.rights_compare.specs.Lines.{alone_line, alone_text, dropped_line, is_closed_to, is_kept, is_still_sent, keeps_bit, kind_if_lasting, lasting_kinds, lasting_line, lasting_text, lasts, lasts_with, moved_line, moved_text};
 
 use crate::lines::{add_name, add_whose};
-use crate::pairing::{Pair, place_of};
+use crate::pairing::{Pair, other_handle};
 use att_policy::KeyFacts;
 use att_table::{Attr, Role, Table};
 use gatt_rights::{Right, may_with};
@@ -21,19 +21,20 @@ const NOTIFICATION: u8 = 0x01;
 /// The CCCD bit for indications.
 const INDICATION: u8 = 0x02;
 
-/// Adds a line for each of these attributes that has another handle in the other table.
-pub(crate) fn add_moved(
-    text: &mut Vec<u8>,
+/// Returns a line for each of these attributes that has another handle in the other table.
+pub(crate) fn moved_lines(
+    alloc: Global,
     pairs: &[Pair],
     others: &[Pair],
-) -> Result<(), AllocError>
-    ensures ok { OnOk result
-        (text.new.items ≡ text.old.items ++ flat_map (moved_line pairs.now others.now) pairs.now) }
+) -> Result<Vec<u8>, AllocError>
+    ensures { IfOk result (λ lines. lines.items
+        ≡ flat_map (moved_line pairs.now others.now) pairs.now) }
 {
+    let mut lines = Vec::new(alloc);
     for pair in pairs {
-        add_moved_line(text, pairs, others, pair)?;
+        add_moved_line(&mut lines, pairs, others, pair)?;
     }
-    Ok(())
+    Ok(lines)
 }
 
 fn add_moved_line(
@@ -45,7 +46,7 @@ fn add_moved_line(
     ensures ok { OnOk result
         (text.new.items ≡ text.old.items ++ moved_line pairs.now others.now pair.now) }
 {
-    add_move(text, &pair.attr, place_of(pairs, others, pair))
+    add_move(text, &pair.attr, other_handle(pairs, others, pair))
 }
 
 #[tactic(auto, unfolding(crate::specs::Lines::moved_text))]
@@ -64,19 +65,20 @@ fn add_move(text: &mut Vec<u8>, attr: &Attr, there: Option<u16>) -> Result<(), A
     add_octets(text, b"\n")
 }
 
-/// Adds a line for each of these attributes that the other table does not have.
-pub(crate) fn add_alone(
-    text: &mut Vec<u8>,
+/// Returns a line for each of these attributes that the other table does not have.
+pub(crate) fn alone_lines(
+    alloc: Global,
     pairs: &[Pair],
     others: &[Pair],
-) -> Result<(), AllocError>
-    ensures ok { OnOk result
-        (text.new.items ≡ text.old.items ++ flat_map (alone_line pairs.now others.now) pairs.now) }
+) -> Result<Vec<u8>, AllocError>
+    ensures { IfOk result (λ lines. lines.items
+        ≡ flat_map (alone_line pairs.now others.now) pairs.now) }
 {
+    let mut lines = Vec::new(alloc);
     for pair in pairs {
-        add_alone_line(text, pairs, others, pair)?;
+        add_alone_line(&mut lines, pairs, others, pair)?;
     }
-    Ok(())
+    Ok(lines)
 }
 
 fn add_alone_line(
@@ -88,7 +90,7 @@ fn add_alone_line(
     ensures ok { OnOk result
         (text.new.items ≡ text.old.items ++ alone_line pairs.now others.now pair.now) }
 {
-    add_if_alone(text, &pair.attr, place_of(pairs, others, pair))
+    add_if_alone(text, &pair.attr, other_handle(pairs, others, pair))
 }
 
 #[tactic(auto, unfolding(crate::specs::Lines::alone_text))]
@@ -104,21 +106,22 @@ fn add_if_alone(text: &mut Vec<u8>, attr: &Attr, there: Option<u16>) -> Result<(
     }
 }
 
-/// Adds a line for each of these configurations whose subscriptions are dropped if the other table
-/// replaces this.
-pub(crate) fn add_dropped(
-    text: &mut Vec<u8>,
+/// Returns a line for each of these configurations whose subscriptions are dropped if the other
+/// table replaces this.
+pub(crate) fn dropped_lines(
+    alloc: Global,
     table: &Table,
     other: &Table,
     attributes: &[Attr],
-) -> Result<(), AllocError>
-    ensures ok { OnOk result (text.new.items ≡ text.old.items
-        ++ flat_map (dropped_line table.now.attributes other.now.attributes) attributes.now) }
+) -> Result<Vec<u8>, AllocError>
+    ensures { IfOk result (λ lines. lines.items
+        ≡ flat_map (dropped_line table.now.attributes other.now.attributes) attributes.now) }
 {
+    let mut lines = Vec::new(alloc);
     for attr in attributes {
-        add_dropped_line(text, table, other, attr)?;
+        add_dropped_line(&mut lines, table, other, attr)?;
     }
-    Ok(())
+    Ok(lines)
 }
 
 #[tactic(auto, unfolding(crate::specs::Lines::dropped_line))]
@@ -172,24 +175,25 @@ fn type_at(table: &Table, handle: u16) -> u128
     }
 }
 
-/// Adds a line for each of these configurations whose subscriptions last in the other table,
+/// Returns a line for each of these configurations whose subscriptions last in the other table,
 /// although it closes them.
-pub(crate) fn add_lasting(
+pub(crate) fn still_sent_lines(
     alloc: Global,
-    text: &mut Vec<u8>,
     table: &Table,
     other: &Table,
     kinds: &[Option<KeyFacts>],
     columns: &[Column],
     attributes: &[Attr],
-) -> Result<(), AllocError>
-    ensures ok { OnOk result (text.new.items ≡ text.old.items ++ flat_map (lasting_line
-        table.now.attributes other.now.attributes kinds.now columns.now) attributes.now) }
+) -> Result<Vec<u8>, AllocError>
+    ensures { IfOk result (λ lines. lines.items ≡ flat_map
+        (lasting_line table.now.attributes other.now.attributes kinds.now columns.now)
+        attributes.now) }
 {
+    let mut lines = Vec::new(alloc);
     for attr in attributes {
-        add_lasting_line(alloc, text, table, other, kinds, columns, attr)?;
+        add_lasting_line(alloc, &mut lines, table, other, kinds, columns, attr)?;
     }
-    Ok(())
+    Ok(lines)
 }
 
 fn add_lasting_line(

@@ -4,10 +4,10 @@ ghost use Rattle.std.specs.Prelude.{◌≡◌, ◌++◌, IfOk, OnOk, count_by, f
 ghost use Rattle.std.specs.List.{find, flat_map};
 ghost use Rattle.std.specs.Option.{option_copied};
 ghost use Rattle.att_table.specs.Changer.{last_service};
-ghost use Rattle.rights_compare.specs.Pairing.{end_of_group, group_at, has_role, is_alike, is_before, is_loose, is_loose_before, is_service_of, is_used, loose_handle, other_alike, other_descriptor, other_service, other_value, pair_of, pairs_of, place_of, service_before, service_with, sure_handle, value_before};
+ghost use Rattle.rights_compare.specs.Pairing.{end_of_group, group_at, has_role, is_alike, is_passing_before, is_loose, is_loose_before, is_service_of, loose_handle, other_alike, other_descriptor, other_service, other_value, pair_if_used, pairs_of, other_handle, service_before, service_with, sure_handle, value_before};
 
 use att_table::{Attr, Role, Table, is_service};
-use gatt_rights::all_attributes;
+use gatt_rights::{all_attributes, is_used};
 use gatt_show::told_value;
 use std::alloc::{AllocError, Global};
 
@@ -36,7 +36,7 @@ fn add_pairs(
     attributes: &[Attr],
 ) -> Result<(), AllocError>
     ensures ok { OnOk result (pairs.new.items
-        ≡ pairs.old.items ++ flat_map (pair_of table.now other.now) attributes.now) }
+        ≡ pairs.old.items ++ flat_map (pair_if_used table.now other.now) attributes.now) }
 {
     for attr in attributes {
         add_pair(pairs, table, other, attr)?;
@@ -51,23 +51,13 @@ fn add_pair(
     attr: &Attr,
 ) -> Result<(), AllocError>
     ensures ok { OnOk result (pairs.new.items
-        ≡ pairs.old.items ++ pair_of table.now other.now attr.now) }
+        ≡ pairs.old.items ++ pair_if_used table.now other.now attr.now) }
 {
     if is_used(attr.role) {
         let there = sure_handle(table, other, attr);
         pairs.push(Pair { attr: *attr, there })?;
     }
     Ok(())
-}
-
-/// Returns true for values and descriptors.
-pub(crate) fn is_used(role: Role) -> bool
-    ensures { result ≡ is_used role }
-{
-    match role {
-        Role::Value | Role::Descriptor => true,
-        Role::Declaration | Role::Configuration => false,
-    }
 }
 
 /// Returns the handle of the attribute to which one surely corresponds.
@@ -175,7 +165,7 @@ fn services(table: &Table, uuid: &[u8]) -> usize
 }
 
 fn services_before(table: &Table, uuid: &[u8], handle: u16) -> usize
-    ensures { result ≡ count_by (is_before (is_service_of table.now uuid.now) handle)
+    ensures { result ≡ count_by (is_passing_before (is_service_of table.now uuid.now) handle)
         table.now.attributes }
 {
     all_attributes(table)
@@ -232,7 +222,7 @@ fn alike(attr: &Attr, attributes: &[Attr]) -> usize
 
 fn alike_before(attr: &Attr, attributes: &[Attr]) -> usize
     ensures { result
-        ≡ count_by (is_before (is_alike attr.now) attr.now.handle) attributes.now }
+        ≡ count_by (is_passing_before (is_alike attr.now) attr.now.handle) attributes.now }
 {
     attributes
         .iter()
@@ -274,8 +264,8 @@ fn numbered<'a>(attr: &Attr, others: &'a [Attr], number: usize) -> Option<&'a At
 /// Returns the handle that an attribute has in the other table.
 ///
 /// The nth uncertain attribute of a type is taken for the nth uncertain one of this type.
-pub(crate) fn place_of(pairs: &[Pair], others: &[Pair], pair: &Pair) -> Option<u16>
-    ensures { result ≡ place_of pairs.now others.now pair.now }
+pub(crate) fn other_handle(pairs: &[Pair], others: &[Pair], pair: &Pair) -> Option<u16>
+    ensures { result ≡ other_handle pairs.now others.now pair.now }
 {
     match pair.there {
         Some(handle) => Some(handle),

@@ -1,10 +1,10 @@
 use Rattle.std.proofs.Common.{◌≡◌, ◌++◌, drop}
 use Rattle.std.specs.List.{flat_map}
-use Rattle.rights_compare.specs.Lines.{key_line}
+use Rattle.rights_compare.specs.Lines.{gaining_key_line}
 use Rattle.rights_compare.proofs.lines.add_gaining_keys.Given as goal
 
 -- what is there and what is left are all
 abbrev pub invariant-loop-at : goal.invariant-loop-at
 invariant-loop-at l =
-    l.text.items ++ flat_map (key_line l.fn.others l.fn.table.attributes) (drop l.at l.fn.keys)
-    ≡ l.fn.text.items ++ flat_map (key_line l.fn.others l.fn.table.attributes) l.fn.keys
+    l.text.items ++ flat_map (gaining_key_line l.fn.others l.fn.table.attributes) (drop l.at l.fn.keys)
+    ≡ l.fn.text.items ++ flat_map (gaining_key_line l.fn.others l.fn.table.attributes) l.fn.keys

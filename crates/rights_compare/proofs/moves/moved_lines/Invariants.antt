@@ -1,10 +1,10 @@
 use Rattle.std.proofs.Common.{◌≡◌, ◌++◌, drop}
 use Rattle.std.specs.List.{flat_map}
 use Rattle.rights_compare.specs.Lines.{moved_line}
-use Rattle.rights_compare.proofs.moves.add_moved.Given as goal
+use Rattle.rights_compare.proofs.moves.moved_lines.Given as goal
 
 -- those so far and those that are left are all
 abbrev pub invariant-loop-pair : goal.invariant-loop-pair
 invariant-loop-pair l =
-    l.text.items ++ flat_map (moved_line l.fn.pairs l.fn.others) (drop l.pair-index l.pairs)
-    ≡ l.fn.text.items ++ flat_map (moved_line l.fn.pairs l.fn.others) l.pairs
+    l.lines.items ++ flat_map (moved_line l.pairs l.others) (drop l.pair-index l.pairs)
+    ≡ flat_map (moved_line l.pairs l.others) l.pairs
