@@ -8,7 +8,7 @@ ghost use Rattle.expectations.specs.File.{expectations_in};
 ghost use Rattle.expectations.specs.Holding.{AllHold};
 ghost use Rattle.expectations.specs.Report.{report_text};
 ghost use Rattle.shell_files.specs.declared.fault.ShellFault.TheVariants.{Memory};
-ghost use Rattle.expect_command.specs.Expect.{HasKeys, IsCompared, is_none_of};
+ghost use Rattle.expect_command.specs.Expect.{HasExpectedKeys, IsCompared, is_none_of};
 ghost use Rattle.expect_command.specs.declared.expect.ExpectFault.TheVariants.{Shell};
 
 use att_table::Table;
@@ -87,7 +87,7 @@ fn read_keys_at<K: Read>(
     keys: &mut Option<K>,
     place: &mut Vec<u8>,
 ) -> Result<Keys, ShellFault>
-    ensures keys { IfOk result (λ read. HasKeys (option_map K.remaining keys.old) read) }
+    ensures keys { IfOk result (λ read. HasExpectedKeys (option_map K.remaining keys.old) read) }
     ensures place { IsOk result → place.new ≡ place.old }
 {
     match keys {

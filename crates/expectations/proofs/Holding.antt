@@ -31,10 +31,10 @@ use Rattle.gatt_rights.proofs.Sizes.{has_every_kind}
 use Rattle.gatt_rights.proofs.Standings.{depends_on_key_and_time}
 use Rattle.expectations.specs.declared.difference.Difference.{Difference}
 use Rattle.expectations.specs.declared.expectation.Expectation.{Expectation}
-use Rattle.expectations.specs.Differences.{all_named, attribute_differences, differences_of, differs, expectation_differences, expected_differences, is_among, is_unnamed, is_used, kind_differs, named_differences, right_differs, unnamed_differences}
+use Rattle.expectations.specs.Differences.{all_named, attribute_differences, differences_of, differs, expectation_differences, expected_differences, is_among_named, is_unnamed, is_used_by_some_kind, kind_differs, named_differences, right_differs, unnamed_differences}
 use Rattle.expectations.specs.Holding.{AllHold, HasKeySize, Holds, IsAsMeant, IsNamedIfUsed, IsUsedAsMeant}
 use Rattle.expectations.specs.Meant.{is_meant, meant_for}
-use Rattle.expectations.specs.Named.{is_descriptor, named_by}
+use Rattle.expectations.specs.Named.{is_descriptor, attributes_named_by}
 
 -- lists that are empty
 front_empty : {X : Type 0} (front back : List X) → front ++ back ≡ [] → front ≡ []
@@ -284,7 +284,7 @@ no_difference attributes expected attr used =
 all_more : {X : Type 0} (P Q : X → Type 0) (xs : List X) → All P xs → ((x : X) → P x → Q x) → All Q xs
 all_more P Q xs all more = λ k d below. more _ (all k d below)
 
-holds_by : (table : Contents) (expected : Expectation) (named : List Attr) → named_by table expected ≡ named
+holds_by : (table : Contents) (expected : Expectation) (named : List Attr) → attributes_named_by table expected ≡ named
     → named_differences table.attributes every_kind expected named ≡ [] → Holds table expected
 holds_by table expected [] is empty = absurd (cc empty)
 holds_by table expected (attr ∷ rest) is empty =
@@ -297,7 +297,7 @@ holds_by table expected (attr ∷ rest) is empty =
           (λ one. used_as_meant table.attributes expected one));
     }
 
-empty_by : (table : Contents) (expected : Expectation) (named : List Attr) → named_by table expected ≡ named
+empty_by : (table : Contents) (expected : Expectation) (named : List Attr) → attributes_named_by table expected ≡ named
     → Holds table expected → named_differences table.attributes every_kind expected named ≡ []
 empty_by table expected [] is holds = absurd (holds.names is)
 empty_by table expected (attr ∷ rest) is holds =
@@ -473,7 +473,7 @@ named_if_used attributes named attr is = λ can_use standing right possible may.
     may_once_authorized attributes key attr.handle right (is_authorized_now standing) (sym (depends_on_key_and_time attributes standing attr.handle right) ∙ may) in
     let somebody : list_any (may_use attributes attr.handle) every_kind ≡ true =
     found (may_use attributes attr.handle) key every_kind (has_kind key possible) (used_by attributes key attr.handle right with) in
-    named_then (is_used attributes every_kind attr) (is_among named attr.handle)
+    named_then (is_used_by_some_kind attributes every_kind attr) (is_among_named named attr.handle)
     (both_true (is_value attr.role || is_descriptor attr.role) (list_any (may_use attributes attr.handle) every_kind) can_use somebody) is
   where
     named_then : (used among : Bool) → used ≡ true → used && not among ≡ false → among ≡ true
@@ -481,14 +481,14 @@ named_if_used attributes named attr is = λ can_use standing right possible may.
     named_then true false is both = sym both
     named_then false among is both = absurd (cc is)
 
-not_may : (attributes named : List Attr) (attr : Attr) → is_among named attr.handle ≡ false → is_value attr.role || is_descriptor attr.role ≡ true
+not_may : (attributes named : List Attr) (attr : Attr) → is_among_named named attr.handle ≡ false → is_value attr.role || is_descriptor attr.role ≡ true
     → IsNamedIfUsed attributes named attr → (key : Option KeyFacts) → IfSome key HasKeySize → (right : Right)
     → (may : Bool) → may_with attributes key true attr.handle right ≡ may → may ≡ false
 not_may attributes named attr absent can_use rule key possible right true is =
     sym (rule can_use (standing_with_key key true) right possible is) ∙ absent
 not_may attributes named attr absent can_use rule key possible right false is = refl
 
-nobody_uses : (attributes named : List Attr) (attr : Attr) → is_among named attr.handle ≡ false → is_value attr.role || is_descriptor attr.role ≡ true
+nobody_uses : (attributes named : List Attr) (attr : Attr) → is_among_named named attr.handle ≡ false → is_value attr.role || is_descriptor attr.role ≡ true
     → IsNamedIfUsed attributes named attr → list_any (may_use attributes attr.handle) every_kind ≡ false
 nobody_uses attributes named attr absent can_use rule =
     none_of (may_use attributes attr.handle) every_kind have_sizes
@@ -496,7 +496,7 @@ nobody_uses attributes named attr absent can_use rule =
     (λ right. not_may attributes named attr absent can_use rule key possible right (may_with attributes key true attr.handle right) refl))
 
 not_unnamed : (attributes named : List Attr) (attr : Attr) → IsNamedIfUsed attributes named attr
-    → (can_use among : Bool) → is_value attr.role || is_descriptor attr.role ≡ can_use → is_among named attr.handle ≡ among
+    → (can_use among : Bool) → is_value attr.role || is_descriptor attr.role ≡ can_use → is_among_named named attr.handle ≡ among
     → (can_use && list_any (may_use attributes attr.handle) every_kind) && not among ≡ false
 not_unnamed attributes named attr rule can_use true is there = and_false (can_use && list_any (may_use attributes attr.handle) every_kind)
 not_unnamed attributes named attr rule false false is there = refl
@@ -512,7 +512,7 @@ empty_of_named : (attributes named : List Attr) (attr : Attr) → IsNamedIfUsed 
     → unnamed_differences attributes every_kind named attr ≡ []
 empty_of_named attributes named attr rule =
     not_listed (is_unnamed attributes every_kind named attr) _
-    (not_unnamed attributes named attr rule (is_value attr.role || is_descriptor attr.role) (is_among named attr.handle) refl refl)
+    (not_unnamed attributes named attr rule (is_value attr.role || is_descriptor attr.role) (is_among_named named attr.handle) refl refl)
 
 -- all of them
 all_hold_of : (table : Contents) (expectations : List Expectation) → differences_of table expectations ≡ [] → AllHold table expectations
@@ -523,7 +523,7 @@ all_hold_of table expectations empty =
           all_more (λ (one : Expectation). expectation_differences table every_kind one ≡ []) (Holds table) expectations
           (all_empty (expectation_differences table every_kind) expectations
           (front_empty _ (flat_map (unnamed_differences table.attributes every_kind named) table.attributes) empty))
-          (λ one none. holds_by table one (named_by table one) refl none);
+          (λ one none. holds_by table one (attributes_named_by table one) refl none);
       named =
           all_more (λ (one : Attr). unnamed_differences table.attributes every_kind named one ≡ []) (IsNamedIfUsed table.attributes named) table.attributes
           (all_empty (unnamed_differences table.attributes every_kind named) table.attributes
@@ -537,7 +537,7 @@ none_differ table expectations hold =
     both_empty (flat_map (expectation_differences table every_kind) expectations) (flat_map (unnamed_differences table.attributes every_kind named) table.attributes)
     (empty_of_all (expectation_differences table every_kind) expectations
     (all_more (Holds table) (λ (one : Expectation). expectation_differences table every_kind one ≡ []) expectations hold.each
-    (λ one holds. empty_by table one (named_by table one) refl holds)))
+    (λ one holds. empty_by table one (attributes_named_by table one) refl holds)))
     (empty_of_all (unnamed_differences table.attributes every_kind named) table.attributes
     (all_more (IsNamedIfUsed table.attributes named) (λ (one : Attr). unnamed_differences table.attributes every_kind named one ≡ []) table.attributes hold.named
     (λ one. empty_of_named table.attributes named one)))

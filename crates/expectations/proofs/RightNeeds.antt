@@ -22,12 +22,12 @@ use Rattle.att_attributes.specs.declared.attr.Attr.{Attr}
 use Rattle.att_attributes.specs.Attributes.{attribute_at, guard_at, is_configuration_at, is_value}
 use Rattle.gatt_rights.specs.declared.rights.Right.{Right}
 use Rattle.gatt_rights.specs.Held.{may_with}
-use Rattle.gatt_rights.specs.Needs.{is_announced}
+use Rattle.gatt_rights.specs.Needs.{is_notified_or_indicated}
 use Rattle.gatt_rights.specs.Rights.{is_sent, standing_with_key, subscribes_at}
 use Rattle.gatt_rights.proofs.Subscribing.{sent, subscribes}
 use Rattle.expectations.specs.Differences.{differs, kind_differs, right_differs}
 use Rattle.expectations.specs.Meant.{is_meant}
-use Rattle.expectations.specs.Needed.{IsNeedFor, configuration_need, is_same_need, need_for, need_in, needed_if, same_need, written_need}
+use Rattle.expectations.specs.Needed.{IsNeedFor, need_of_configuration, is_same_need, need_for, need_of_right, needed_if, same_need, written_need}
 use Rattle.expectations.proofs.Holding.{first_true, neither_true, of_same, same_of, second_true}
 
 none_mapped : {X Y : Type 0} (f : X → Y) (found : Option X) → is_none (option_map f found) ≡ is_none found
@@ -48,17 +48,17 @@ guarded access guard standing =
     ∙ by_property (need_of access guard) standing (has_property guard.properties (property_of access))
 
 read : (attributes : List Attr) (next : ℕ) (standing : Standing) (found : Option Attr)
-    → is_none (first_broken_of Read (option_map (λ (attr : Attr). attr.guard) found) standing) ≡ is_meant (need_in attributes next Right.Read found) standing
+    → is_none (first_broken_of Read (option_map (λ (attr : Attr). attr.guard) found) standing) ≡ is_meant (need_of_right attributes next Right.Read found) standing
 read attributes next standing None = refl
 read attributes next standing (Some attr) = guarded Read attr.guard standing
 
 write : (attributes : List Attr) (next : ℕ) (standing : Standing) (found : Option Attr)
-    → is_none (first_broken_of Write (option_map (λ (attr : Attr). attr.guard) found) standing) ≡ is_meant (need_in attributes next Right.Write found) standing
+    → is_none (first_broken_of Write (option_map (λ (attr : Attr). attr.guard) found) standing) ≡ is_meant (need_of_right attributes next Right.Write found) standing
 write attributes next standing None = refl
 write attributes next standing (Some attr) = guarded Write attr.guard standing
 
 command : (attributes : List Attr) (next : ℕ) (standing : Standing) (found : Option Attr)
-    → is_none (first_broken_of Command (option_map (λ (attr : Attr). attr.guard) found) standing) ≡ is_meant (need_in attributes next Right.Command found) standing
+    → is_none (first_broken_of Command (option_map (λ (attr : Attr). attr.guard) found) standing) ≡ is_meant (need_of_right attributes next Right.Command found) standing
 command attributes next standing None = refl
 command attributes next standing (Some attr) = guarded Command attr.guard standing
 
@@ -82,7 +82,7 @@ is_sent_if need standing true false = refl
 is_sent_if need standing false allowed = refl
 
 notified : (attributes : List Attr) (next : ℕ) (standing : Standing) (found : Option Attr)
-    → option_map_or (λ (attr : Attr). is_sent attr standing 1) found false ≡ is_meant (need_in attributes next Right.Notify found) standing
+    → option_map_or (λ (attr : Attr). is_sent attr standing 1) found false ≡ is_meant (need_of_right attributes next Right.Notify found) standing
 notified attributes next standing None = refl
 notified attributes next standing (Some attr) =
     ap (λ (it : Bool). is_value attr.role && (it && is_none (first_unmet_rule_of attr.guard.read standing)))
@@ -90,7 +90,7 @@ notified attributes next standing (Some attr) =
     ∙ is_sent_if attr.guard.read standing (is_value attr.role) (has_property attr.guard.properties NOTIFY)
 
 indicated : (attributes : List Attr) (next : ℕ) (standing : Standing) (found : Option Attr)
-    → option_map_or (λ (attr : Attr). is_sent attr standing 2) found false ≡ is_meant (need_in attributes next Right.Indicate found) standing
+    → option_map_or (λ (attr : Attr). is_sent attr standing 2) found false ≡ is_meant (need_of_right attributes next Right.Indicate found) standing
 indicated attributes next standing None = refl
 indicated attributes next standing (Some attr) =
     ap (λ (it : Bool). is_value attr.role && (it && is_none (first_unmet_rule_of attr.guard.read standing)))
@@ -102,7 +102,7 @@ written standing None = refl
 written standing (Some guard) = guarded Write guard standing
 
 configured : (standing : Standing) (guard : Option Guard) (there announced : Bool)
-    → there && (is_none (first_broken_of Write guard standing) && announced) ≡ is_meant (configuration_need (there && announced) guard) standing
+    → there && (is_none (first_broken_of Write guard standing) && announced) ≡ is_meant (need_of_configuration (there && announced) guard) standing
 configured standing guard true true = and_true (is_none (first_broken_of Write guard standing)) ∙ written standing guard
   where
     and_true : (one : Bool) → one && true ≡ one
@@ -117,10 +117,10 @@ configured standing guard false announced = refl
 
 subscribed_to : (attributes : List Attr) (next : ℕ) (standing : Standing) (found : Option Attr)
     → option_map_or (λ (attr : Attr). subscribes_at attributes standing attr.guard next) found false
-    ≡ is_meant (need_in attributes next Right.Subscribe found) standing
+    ≡ is_meant (need_of_right attributes next Right.Subscribe found) standing
 subscribed_to attributes next standing None = refl
 subscribed_to attributes next standing (Some attr) =
-    configured standing (guard_at attributes next) (is_configuration_at attributes next) (is_announced attr.guard.properties)
+    configured standing (guard_at attributes next) (is_configuration_at attributes next) (is_notified_or_indicated attr.guard.properties)
 
 pub is_need_for : IsNeedFor
 is_need_for attributes standing handle Right.Read = read attributes (handle + 1) standing (attribute_at attributes handle)

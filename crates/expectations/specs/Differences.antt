@@ -16,7 +16,7 @@ use Rattle.expectations.specs.declared.difference.Difference.{Difference}
 use Rattle.expectations.specs.declared.difference.Difference.TheVariants.{Use, Unnamed, NamesNothing}
 use Rattle.expectations.specs.declared.expectation.Expectation.{Expectation}
 use Rattle.expectations.specs.Meant.{is_meant, meant_for}
-use Rattle.expectations.specs.Named.{is_descriptor, named_by}
+use Rattle.expectations.specs.Named.{is_descriptor, attributes_named_by}
 
 -- A link with this key or none, authorized or not, has a right that it is not meant to have, or has
 -- not one that it is meant to have.
@@ -72,20 +72,20 @@ named_differences attributes kinds expected (attr ∷ rest) =
 abbrev pub expectation_differences : Contents → List (Option KeyFacts) → Expectation
     → List Difference
 expectation_differences table kinds expected =
-    named_differences table.attributes kinds expected (named_by table expected)
+    named_differences table.attributes kinds expected (attributes_named_by table expected)
 
 -- A value or a descriptor that somebody may use, but that no expectation names.
-abbrev pub is_used : List Attr → List (Option KeyFacts) → Attr → Bool
-is_used attributes kinds attr =
+abbrev pub is_used_by_some_kind : List Attr → List (Option KeyFacts) → Attr → Bool
+is_used_by_some_kind attributes kinds attr =
     (is_value attr.role || is_descriptor attr.role)
     && list_any (may_use attributes attr.handle) kinds
 
-abbrev pub is_among : List Attr → Handle → Bool
-is_among named handle = list_any (λ (attr : Attr). attr.handle == handle) named
+abbrev pub is_among_named : List Attr → Handle → Bool
+is_among_named named handle = list_any (λ (attr : Attr). attr.handle == handle) named
 
 abbrev pub is_unnamed : List Attr → List (Option KeyFacts) → List Attr → Attr → Bool
 is_unnamed attributes kinds named attr =
-    is_used attributes kinds attr && not (is_among named attr.handle)
+    is_used_by_some_kind attributes kinds attr && not (is_among_named named attr.handle)
 
 abbrev pub unnamed_differences : List Attr → List (Option KeyFacts) → List Attr → Attr
     → List Difference
@@ -93,7 +93,7 @@ unnamed_differences attributes kinds named attr =
     if is_unnamed attributes kinds named attr then Unnamed attr.handle attr.kind ∷ [] else []
 
 abbrev pub all_named : Contents → List Expectation → List Attr
-all_named table expectations = flat_map (named_by table) expectations
+all_named table expectations = flat_map (attributes_named_by table) expectations
 
 -- In the order of the expectations, and then in that of handles.
 abbrev pub differences_for : Contents → List (Option KeyFacts) → List Expectation

@@ -22,8 +22,8 @@ use Rattle.expectations.specs.declared.file.Refusal.{Refusal}
 use Rattle.expectations.specs.declared.file.Refusal.TheVariants.{File}
 
 -- The words for a need: each key of a need alone, and everybody or nobody.
-abbrev pub need_words : List (Octets × Option Need)
-need_words =
+abbrev pub needs_by_word : List (Octets × Option Need)
+needs_by_word =
     (codes "nobody", None) ∷ (codes "everybody", Some no_need)
     ∷ (codes "encrypted", Some (record no_need { encrypted = true }))
     ∷ (codes "authenticated", Some (record no_need { authenticated = true }))
@@ -33,7 +33,7 @@ need_words =
 abbrev pub need_named : Octets → Option (Option Need)
 need_named word =
     option_map (λ (row : Octets × Option Need). row.1)
-    (find (λ (row : Octets × Option Need). bytes_eq word row.0) need_words)
+    (find (λ (row : Octets × Option Need). bytes_eq word row.0) needs_by_word)
 
 -- A word, or the requirements table of a table file.
 abbrev pub need_among : Option Octets → Option Members → Option (Option Need)
@@ -46,8 +46,8 @@ abbrev pub need_written : Option Data → Option (Option Need)
 need_written None = Some None
 need_written (Some value) = need_among (as_str value) (as_table value)
 
-abbrev pub need_at : Octets → Members → Option (Option Need)
-need_at key members = need_written (get_member key members)
+abbrev pub need_of_member : Octets → Members → Option (Option Need)
+need_of_member key members = need_written (get_member key members)
 
 -- Without a key of its own, a subscription is for those who are meant to be sent the value.
 abbrev pub subscribe_written : Option Need → Option Data → Option (Option Need)
@@ -60,8 +60,8 @@ type_written None = Some None
 type_written (Some value) =
     option_map (λ kind. Some kind) (option_and_then type_named (as_str value))
 
-abbrev pub type_at : Octets → Members → Option (Option AttributeType)
-type_at key members = type_written (get_member key members)
+abbrev pub type_of_member : Octets → Members → Option (Option AttributeType)
+type_of_member key members = type_written (get_member key members)
 
 -- A number from 1 to 1,024.
 abbrev pub number_among : Option ℤ → Option (Option ℕ)
@@ -87,22 +87,22 @@ expectation_keys =
 abbrev pub is_expectation_key : Octets → Bool
 is_expectation_key key = list_any (λ known. bytes_eq key known) expectation_keys
 
-abbrev pub is_known : Level → Octets → Bool
-is_known Level.File key = is_file_key key
-is_known Level.Expectation key = is_expectation_key key
+abbrev pub is_known_key : Level → Octets → Bool
+is_known_key Level.File key = is_file_key key
+is_known_key Level.Expectation key = is_expectation_key key
 
 abbrev pub are_known : Level → Members → Bool
 are_known level no_members = true
-are_known level (member key value rest) = is_known level key && are_known level rest
+are_known level (member key value rest) = is_known_key level key && are_known level rest
 
 -- The attributes that an expectation names; each fault is `File`.
 unfoldable pub named_in : Members → Result Named Refusal
 named_in members = do
-  kind ← require (type_at (codes "characteristic") members) File
+  kind ← require (type_of_member (codes "characteristic") members) File
   characteristic ← require kind File
-  service ← require (type_at (codes "service") members) File
+  service ← require (type_of_member (codes "service") members) File
   number ← require (number_written (get_member (codes "number") members)) File
-  descriptor ← require (type_at (codes "descriptor") members) File
+  descriptor ← require (type_of_member (codes "descriptor") members) File
   Ok (record {
     characteristic = characteristic;
     service = service;
@@ -112,11 +112,11 @@ named_in members = do
 
 unfoldable pub uses_in : Members → Result Uses Refusal
 uses_in members = do
-  read ← require (need_at (codes "read") members) File
-  write ← require (need_at (codes "write") members) File
-  command ← require (need_at (codes "command") members) File
-  notify ← require (need_at (codes "notify") members) File
-  indicate ← require (need_at (codes "indicate") members) File
+  read ← require (need_of_member (codes "read") members) File
+  write ← require (need_of_member (codes "write") members) File
+  command ← require (need_of_member (codes "command") members) File
+  notify ← require (need_of_member (codes "notify") members) File
+  indicate ← require (need_of_member (codes "indicate") members) File
   subscribe ← require
       (subscribe_written (option_or notify indicate) (get_member (codes "subscribe") members))
       File

@@ -11,22 +11,22 @@ use Rattle.att_table.specs.Table.{Contents}
 use Rattle.gatt_rights.specs.declared.rights.Right.{Right}
 use Rattle.gatt_rights.specs.Rights.{may_of}
 use Rattle.expectations.specs.declared.expectation.Expectation.{Expectation}
-use Rattle.expectations.specs.Differences.{all_named, is_among}
+use Rattle.expectations.specs.Differences.{all_named, is_among_named}
 use Rattle.expectations.specs.Meant.{is_meant, meant_for}
-use Rattle.expectations.specs.Named.{is_descriptor, named_by}
+use Rattle.expectations.specs.Named.{is_descriptor, attributes_named_by}
 
 -- A key has 7 to 16 octets (Core 5.0, Vol 3 Part H, 2.3.4).
 pub record HasKeySize (key : KeyFacts) : Type 0 where
   pub least : 7 ≤ key.size
   pub most : key.size ≤ 16
 
-abbrev pub IsPossible : Standing → Type 0
-IsPossible standing = IfSome standing.key HasKeySize
+abbrev pub HasPossibleKey : Standing → Type 0
+HasPossibleKey standing = IfSome standing.key HasKeySize
 
 -- Each connection has the right exactly if it meets the need.
 abbrev pub IsAsMeant : List Attr → Option Need → Handle → Right → Type 0
 IsAsMeant attributes meant handle right =
-    (standing : Standing) → IsPossible standing
+    (standing : Standing) → HasPossibleKey standing
     → may_of attributes standing handle right ≡ is_meant meant standing
 
 abbrev pub IsUsedAsMeant : List Attr → Expectation → Attr → Type 0
@@ -35,16 +35,16 @@ IsUsedAsMeant attributes expected attr =
 
 -- An expectation names an attribute, and each one that it names is used exactly as it states.
 pub record Holds (table : Contents) (expected : Expectation) : Type 0 where
-  pub names : named_by table expected ≢ []
-  pub as_meant : All (IsUsedAsMeant table.attributes expected) (named_by table expected)
+  pub names : attributes_named_by table expected ≢ []
+  pub as_meant : All (IsUsedAsMeant table.attributes expected) (attributes_named_by table expected)
 
 -- A value or a descriptor that a connection may use is named.
 abbrev pub IsNamedIfUsed : List Attr → List Attr → Attr → Type 0
 IsNamedIfUsed attributes named attr =
     is_value attr.role || is_descriptor attr.role ≡ true
-    → (standing : Standing) (right : Right) → IsPossible standing
+    → (standing : Standing) (right : Right) → HasPossibleKey standing
     → may_of attributes standing attr.handle right ≡ true
-    → is_among named attr.handle ≡ true
+    → is_among_named named attr.handle ≡ true
 
 -- Each expectation holds, and each attribute that can be used is named by one.
 pub record AllHold (table : Contents) (expectations : List Expectation) : Type 0 where

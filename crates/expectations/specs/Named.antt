@@ -21,21 +21,21 @@ attribute_if false attr = []
 
 -- The last service before an attribute contains it (Core 5.0, Vol 3 Part G, 2.5.3). Its type is the
 -- value of its declaration (3.1).
-abbrev pub is_in_service : Contents → AttributeType → Handle → Bool
-is_in_service table service handle =
+abbrev pub is_in_service_of_type : Contents → AttributeType → Handle → Bool
+is_in_service_of_type table service handle =
     option_map_or
     (λ (attr : Attr). bytes_eq (told_value table attr.handle) (type_octets service))
     (last_service (attributes_in table.attributes 1 (handle - 1))) false
 
-abbrev pub is_in : Contents → Option AttributeType → Handle → Bool
-is_in table None handle = true
-is_in table (Some service) handle = is_in_service table service handle
+abbrev pub is_in_named_service : Contents → Option AttributeType → Handle → Bool
+is_in_named_service table None handle = true
+is_in_named_service table (Some service) handle = is_in_service_of_type table service handle
 
 -- A value has the type of its characteristic (Core 5.0, Vol 3 Part G, 3.3.2).
 abbrev pub is_fitting : Contents → Expectation → Attr → Bool
 is_fitting table expected attr =
     is_value attr.role && ((attr.kind == expected.characteristic)
-    && is_in table expected.service attr.handle)
+    && is_in_named_service table expected.service attr.handle)
 
 abbrev pub fitting_value : Contents → Expectation → Attr → List Attr
 fitting_value table expected attr = attribute_if (is_fitting table expected attr) attr
@@ -76,7 +76,7 @@ abbrev pub named_among : Contents → Option AttributeType → List Attr → Lis
 named_among table None values = values
 named_among table (Some kind) values = flat_map (descriptors_of table kind) values
 
-abbrev pub named_by : Contents → Expectation → List Attr
-named_by table expected =
+abbrev pub attributes_named_by : Contents → Expectation → List Attr
+attributes_named_by table expected =
     named_among table expected.descriptor
     (numbered expected.number (fitting_values table expected))

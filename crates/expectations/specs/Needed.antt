@@ -10,7 +10,7 @@ use Rattle.att_policy.specs.declared.guard.TheConstants.Properties.{READ, WRITE,
 use Rattle.att_policy.specs.declared.standing.Standing.{Standing}
 use Rattle.att_attributes.specs.declared.attr.Attr.{Attr}
 use Rattle.att_attributes.specs.Attributes.{attribute_at, guard_at, is_configuration_at, is_value}
-use Rattle.gatt_rights.specs.Needs.{is_announced}
+use Rattle.gatt_rights.specs.Needs.{is_notified_or_indicated}
 use Rattle.gatt_rights.specs.Rights.{may_of}
 use Rattle.gatt_rights.specs.declared.rights.Right.{Right}
 use Rattle.expectations.specs.Meant.{is_meant}
@@ -24,31 +24,31 @@ written_need None = None
 written_need (Some guard) = needed_if (has_property guard.properties WRITE) guard.write
 
 -- The need for writing the configuration after a value, if there is one.
-abbrev pub configuration_need : Bool → Option Guard → Option Need
-configuration_need true guard = written_need guard
-configuration_need false guard = None
+abbrev pub need_of_configuration : Bool → Option Guard → Option Need
+need_of_configuration true guard = written_need guard
+need_of_configuration false guard = None
 
-abbrev pub need_in : List Attr → Handle → Right → Option Attr → Option Need
-need_in attributes next right None = None
-need_in attributes next Right.Read (Some attr) =
+abbrev pub need_of_right : List Attr → Handle → Right → Option Attr → Option Need
+need_of_right attributes next right None = None
+need_of_right attributes next Right.Read (Some attr) =
     needed_if (has_property attr.guard.properties READ) attr.guard.read
-need_in attributes next Right.Write (Some attr) =
+need_of_right attributes next Right.Write (Some attr) =
     needed_if (has_property attr.guard.properties WRITE) attr.guard.write
-need_in attributes next Right.Command (Some attr) =
+need_of_right attributes next Right.Command (Some attr) =
     needed_if (has_property attr.guard.properties WRITE_WITHOUT_RESPONSE) attr.guard.write
-need_in attributes next Right.Notify (Some attr) =
+need_of_right attributes next Right.Notify (Some attr) =
     needed_if (is_value attr.role && has_property attr.guard.properties NOTIFY) attr.guard.read
-need_in attributes next Right.Indicate (Some attr) =
+need_of_right attributes next Right.Indicate (Some attr) =
     needed_if (is_value attr.role && has_property attr.guard.properties INDICATE) attr.guard.read
-need_in attributes next Right.Subscribe (Some attr) =
-    configuration_need
-    (is_configuration_at attributes next && is_announced attr.guard.properties)
+need_of_right attributes next Right.Subscribe (Some attr) =
+    need_of_configuration
+    (is_configuration_at attributes next && is_notified_or_indicated attr.guard.properties)
     (guard_at attributes next)
 
 -- The need that a connection has to meet for a right; without one nobody has the right.
 abbrev pub need_for : List Attr → Handle → Right → Option Need
 need_for attributes handle right =
-    need_in attributes (handle + 1) right (attribute_at attributes handle)
+    need_of_right attributes (handle + 1) right (attribute_at attributes handle)
 
 -- Each connection has a right exactly if it meets the need.
 abbrev pub IsNeedFor : Type 0

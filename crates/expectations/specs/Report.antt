@@ -25,16 +25,17 @@ names_nothing_text place kind =
     codes "       expectation " ++ decimal place ++ codes ", " ++ type_text (type_octets kind)
     ++ codes ": it names no attribute"
 
-abbrev pub line_of : Octets → Octets
-line_of words = words ++ 10 ∷ []
+abbrev pub with_line_feed : Octets → Octets
+with_line_feed words = words ++ 10 ∷ []
 
 abbrev pub difference_text : List Attr → List (Option KeyFacts) → List (Option KeyFacts)
     → Difference → Octets
 difference_text attributes kinds columns (Use found) =
     differing_text attributes kinds columns found
-difference_text attributes kinds columns (Unnamed handle kind) = line_of (unnamed_text handle kind)
+difference_text attributes kinds columns (Unnamed handle kind) =
+    with_line_feed (unnamed_text handle kind)
 difference_text attributes kinds columns (NamesNothing place kind) =
-    line_of (names_nothing_text place kind)
+    with_line_feed (names_nothing_text place kind)
 
 -- The clients of which it holds.
 abbrev pub reach_words : Octets

@@ -5,11 +5,11 @@ ghost use Rattle.std.specs.Option.{option_and_then};
 ghost use Rattle.std.specs.Result.{result_ok};
 ghost use Rattle.toml.specs.Data.{get_member};
 ghost use Rattle.toml.specs.View.{items_view, table_view, view};
-ghost use Rattle.expectations.specs.File.{IsFault, are_known, expectation_in, expectation_of, expectation_with, expectations_of, is_expectation_key, is_file_key, is_known, items_written, named_in, number_among, number_written, subscribe_written, type_at, type_written, uses_in};
+ghost use Rattle.expectations.specs.File.{IsFault, are_known, expectation_in, expectation_of, expectation_with, expectations_of, is_expectation_key, is_file_key, is_known_key, items_written, named_in, number_among, number_written, subscribe_written, type_of_member, type_written, uses_in};
 
 use crate::expectation::Expectation;
 use crate::fault::{Fault, Stop, Wrong};
-use crate::need::{need_at, read_need, value_at};
+use crate::need::{need_of_member, read_need, value_at};
 use att_policy::Need;
 use att_table::read_type;
 use std::alloc::Global;
@@ -100,15 +100,15 @@ fn are_known(level: Level, table: &Table) -> bool
     ensures { result ≡ are_known level (table_view table.now) }
 {
     'members: for (name, _value) in table.iter() {
-        if !is_known(level, name.as_str()) {
+        if !is_known_key(level, name.as_str()) {
             return false;
         }
     }
     true
 }
 
-fn is_known(level: Level, key: &str) -> bool
-    ensures { result ≡ is_known level key.now }
+fn is_known_key(level: Level, key: &str) -> bool
+    ensures { result ≡ is_known_key level key.now }
 {
     match level {
         Level::File => is_file_key(key),
@@ -138,7 +138,7 @@ fn is_expectation_key(key: &str) -> bool
 /// Returns the first key that a table may not have.
 fn unknown_key<'a>(place: u16, table: &'a Table, level: Level) -> Fault<'a> {
     for (name, _value) in table.iter() {
-        if !is_known(level, name.as_str()) {
+        if !is_known_key(level, name.as_str()) {
             return fault_at(place, name.as_str(), Wrong::UnknownKey);
         }
     }
@@ -192,9 +192,9 @@ fn read_named(place: u16, table: &Table) -> Result<Named, Fault<'_>>
 {
     Ok(Named {
         characteristic: characteristic_of(place, table)?,
-        service: type_at(place, table, "service")?,
+        service: type_of_member(place, table, "service")?,
         number: number_of(place, table)?,
-        descriptor: type_at(place, table, "descriptor")?,
+        descriptor: type_of_member(place, table, "descriptor")?,
     })
 }
 
@@ -202,11 +202,11 @@ fn read_named(place: u16, table: &Table) -> Result<Named, Fault<'_>>
 fn read_uses(place: u16, table: &Table) -> Result<Uses, Fault<'_>>
     ensures { result_ok result ≡ result_ok (uses_in (table_view table.now)) }
 {
-    let read = need_at(place, table, "read")?;
-    let write = need_at(place, table, "write")?;
-    let command = need_at(place, table, "command")?;
-    let notify = need_at(place, table, "notify")?;
-    let indicate = need_at(place, table, "indicate")?;
+    let read = need_of_member(place, table, "read")?;
+    let write = need_of_member(place, table, "write")?;
+    let command = need_of_member(place, table, "command")?;
+    let notify = need_of_member(place, table, "notify")?;
+    let indicate = need_of_member(place, table, "indicate")?;
     let subscribe = subscribe_at(place, table, notify.or(indicate))?;
     Ok(Uses {
         read,
@@ -231,16 +231,21 @@ fn subscribe_at(place: u16, table: &Table, sent: Option<Need>) -> Result<Option<
 
 fn characteristic_of(place: u16, table: &Table) -> Result<u128, Fault<'_>>
     ensures { result_ok result
-        ≡ option_and_then (λ kind. kind) (type_at (codes "characteristic") (table_view table.now)) }
+        ≡ option_and_then (λ kind. kind)
+        (type_of_member (codes "characteristic") (table_view table.now)) }
 {
-    match type_at(place, table, "characteristic")? {
+    match type_of_member(place, table, "characteristic")? {
         Some(kind) => Ok(kind),
         None => Err(fault_at(place, "characteristic", Wrong::MissingKey)),
     }
 }
 
-fn type_at<'a>(place: u16, table: &'a Table, key: &'static str) -> Result<Option<u128>, Fault<'a>>
-    ensures { result_ok result ≡ type_at key.now (table_view table.now) }
+fn type_of_member<'a>(
+    place: u16,
+    table: &'a Table,
+    key: &'static str,
+) -> Result<Option<u128>, Fault<'a>>
+    ensures { result_ok result ≡ type_of_member key.now (table_view table.now) }
 {
     match value_at(table, key) {
         Some(value) => type_of(place, key, value),

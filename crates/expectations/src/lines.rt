@@ -1,15 +1,14 @@
 //! The lines of a right that is not as it is meant.
 
 ghost use Rattle.std.specs.Prelude.{◌≡◌, ◌++◌, IfOk, OnOk};
-ghost use Rattle.std.specs.List.{filter, list_any};
-ghost use Rattle.gatt_rights.specs.Columns.{same_column};
+ghost use Rattle.std.specs.List.{filter};
 ghost use Rattle.expectations.specs.Lines.{differing_text, differs_so, is_on_side, is_today, kind_if, kinds_on, named_today, side_line, side_of, side_text, side_words, today_text};
 
 use crate::difference::{Differing, differs};
 use crate::words::{add_attribute, add_if, add_meant, add_right, add_verdict};
 use att_policy::KeyFacts;
 use att_table::Table;
-use gatt_rights::{is_same_column, may_with};
+use gatt_rights::{has_column, may_with};
 use rights_text::add_kinds;
 use std::alloc::{AllocError, Global};
 use text_words::add_octets;
@@ -228,12 +227,6 @@ fn is_today(columns: &[Option<KeyFacts>], key: Option<KeyFacts>) -> bool
     ensures { result ≡ is_today columns.now key }
 {
     key.is_some() && has_column(columns, key)
-}
-
-fn has_column(columns: &[Option<KeyFacts>], key: Option<KeyFacts>) -> bool
-    ensures { result ≡ list_any (same_column key) columns.now }
-{
-    columns.iter().any(|column| is_same_column(key, *column))
 }
 
 fn add_names(text: &mut Vec<u8>, today: &[Option<KeyFacts>]) -> Result<(), AllocError>

@@ -4,7 +4,7 @@ ghost use Rattle.std.specs.Prelude.{◌≡◌, ◌-◌, ◌++◌, drop, take, If
 ghost use Rattle.std.specs.List.{flat_map};
 ghost use Rattle.std.specs.Option.{option_copied};
 ghost use Rattle.att_table.specs.Changer.{last_service};
-ghost use Rattle.expectations.specs.Named.{attribute_if, descriptors_of, end_of_characteristic, fitting_value, fitting_values, is_fitting, is_in, is_in_service, named_among, named_by, numbered, of_type};
+ghost use Rattle.expectations.specs.Named.{attribute_if, descriptors_of, end_of_characteristic, fitting_value, fitting_values, is_fitting, is_in_named_service, is_in_service_of_type, named_among, attributes_named_by, numbered, of_type};
 
 use crate::expectation::Expectation;
 use att_table::{Attr, Role, Table, is_service, type_octets};
@@ -22,7 +22,7 @@ pub(crate) fn add_named(
     expected: &Expectation,
 ) -> Result<(), AllocError>
     ensures ok { OnOk result
-        (named.new.items ≡ named.old.items ++ named_by table.now expected.now) }
+        (named.new.items ≡ named.old.items ++ attributes_named_by table.now expected.now) }
 {
     let values = fitting_values(alloc, table, expected)?;
     let values = numbered(&values, expected.number);
@@ -74,21 +74,21 @@ fn is_fitting(table: &Table, expected: &Expectation, attr: &Attr) -> bool
 {
     attr.role == Role::Value
         && attr.kind == expected.characteristic
-        && is_in(table, expected.service, attr.handle)
+        && is_in_named_service(table, expected.service, attr.handle)
 }
 
 /// Returns true if an attribute is in a service of a type, or if none is asked for.
-fn is_in(table: &Table, service: Option<u128>, handle: u16) -> bool
-    ensures { result ≡ is_in table.now service handle }
+fn is_in_named_service(table: &Table, service: Option<u128>, handle: u16) -> bool
+    ensures { result ≡ is_in_named_service table.now service handle }
 {
     match service {
-        Some(service) => is_in_service(table, service, handle),
+        Some(service) => is_in_service_of_type(table, service, handle),
         None => true,
     }
 }
 
-fn is_in_service(table: &Table, service: u128, handle: u16) -> bool
-    ensures { result ≡ is_in_service table.now service handle }
+fn is_in_service_of_type(table: &Table, service: u128, handle: u16) -> bool
+    ensures { result ≡ is_in_service_of_type table.now service handle }
 {
     match last_service(table.in_range(1, handle.saturating_sub(1))) {
         Some(attr) => told_value(table, attr.handle) == type_octets(service).as_slice(),

@@ -6,7 +6,7 @@ ghost use Rattle.toml.specs.Data.{get_member};
 ghost use Rattle.toml.specs.View.{table_view, view};
 ghost use Rattle.att_table.specs.file.Field.{key_size_asked};
 ghost use Rattle.att_table.specs.file.Needs.{need_in};
-ghost use Rattle.expectations.specs.File.{need_among, need_at, need_named, need_written};
+ghost use Rattle.expectations.specs.File.{need_among, need_of_member, need_named, need_written};
 
 use crate::fault::{Fault, Wrong};
 use att_policy::Need;
@@ -14,12 +14,12 @@ use att_table::NEED;
 use toml::{Table, Value};
 
 /// Returns the need of a use; without its key, or with `nobody`, the use is for nobody.
-pub(crate) fn need_at<'a>(
+pub(crate) fn need_of_member<'a>(
     place: u16,
     table: &'a Table,
     right: &'static str,
 ) -> Result<Option<Need>, Fault<'a>>
-    ensures { result_ok result ≡ need_at right.now (table_view table.now) }
+    ensures { result_ok result ≡ need_of_member right.now (table_view table.now) }
 {
     match value_at(table, right) {
         Some(value) => read_need(place, right, value),

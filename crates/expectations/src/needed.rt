@@ -3,12 +3,12 @@
 ghost use Rattle.std.specs.Prelude.{◌≡◌, Some};
 ghost use Rattle.std.specs.Option.{option_copied};
 ghost use Rattle.att_attributes.specs.Attributes.{guard_at, is_configuration_at};
-ghost use Rattle.expectations.specs.Needed.{IsNeedFor, configuration_need, is_same_need, need_for, need_in, needed_if, same_need, written_need};
+ghost use Rattle.expectations.specs.Needed.{IsNeedFor, need_of_configuration, is_same_need, need_for, need_of_right, needed_if, same_need, written_need};
 
 use att_policy::{Guard, Need, Properties};
 use att_table::{Attr, Role, Table};
 use bitflags::Flags;
-use gatt_rights::{Right, is_announced};
+use gatt_rights::{Right, is_notified_or_indicated};
 
 /// Returns what a connection needs for a right, or `None` if nobody has it.
 #[tactic(auto, using(crate::proofs::RightNeeds::is_need_for))]
@@ -18,14 +18,14 @@ pub(crate) fn need_for(table: &Table, handle: u16, right: Right) -> Option<Need>
     ensures law { IsNeedFor }
 {
     match table.get(handle) {
-        Some(attr) => need_in(table, handle + 1, right, attr),
+        Some(attr) => need_of_right(table, handle + 1, right, attr),
         None => None,
     }
 }
 
 /// Returns the need at an attribute, by the handle of the next one.
-fn need_in(table: &Table, next: u16, right: Right, attr: &Attr) -> Option<Need>
-    ensures { result ≡ need_in table.now.attributes next right (Some attr.now) }
+fn need_of_right(table: &Table, next: u16, right: Right, attr: &Attr) -> Option<Need>
+    ensures { result ≡ need_of_right table.now.attributes next right (Some attr.now) }
 {
     let has = attr.guard.properties;
     let is_value = attr.role == Role::Value;
@@ -48,8 +48,8 @@ fn need_in(table: &Table, next: u16, right: Right, attr: &Attr) -> Option<Need>
                 attr.guard.read,
             )
         }
-        Right::Subscribe => configuration_need(
-            is_configuration(table, next) && is_announced(has),
+        Right::Subscribe => need_of_configuration(
+            is_configuration(table, next) && is_notified_or_indicated(has),
             guard_of(table, next),
         ),
     }
@@ -61,10 +61,10 @@ fn needed_if(is_permitted: bool, need: Need) -> Option<Need>
     if is_permitted { Some(need) } else { None }
 }
 
-fn configuration_need(is_announced: bool, guard: Option<&Guard>) -> Option<Need>
-    ensures { result ≡ configuration_need is_announced (option_copied guard.entry) }
+fn need_of_configuration(is_notified_or_indicated: bool, guard: Option<&Guard>) -> Option<Need>
+    ensures { result ≡ need_of_configuration is_notified_or_indicated (option_copied guard.entry) }
 {
-    if is_announced {
+    if is_notified_or_indicated {
         written_need(guard)
     } else {
         None

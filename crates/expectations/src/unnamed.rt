@@ -3,8 +3,8 @@
 ghost use Rattle.std.specs.Prelude.{◌≡◌, ◌++◌, OnOk};
 ghost use Rattle.std.specs.List.{flat_map, list_any};
 ghost use Rattle.gatt_rights.specs.Held.{may_use};
-ghost use Rattle.expectations.specs.Differences.{all_named, is_among, is_unnamed, is_used, unnamed_differences};
-ghost use Rattle.expectations.specs.Named.{named_by};
+ghost use Rattle.expectations.specs.Differences.{all_named, is_among_named, is_unnamed, is_used_by_some_kind, unnamed_differences};
+ghost use Rattle.expectations.specs.Named.{attributes_named_by};
 
 use crate::difference::{Difference, add};
 use crate::expectation::Expectation;
@@ -40,7 +40,7 @@ fn add_all_named(
     expectations: &[Expectation],
 ) -> Result<(), AllocError>
     ensures ok { OnOk result (named.new.items
-        ≡ named.old.items ++ flat_map (named_by table.now) expectations.now) }
+        ≡ named.old.items ++ flat_map (attributes_named_by table.now) expectations.now) }
 {
     for expected in expectations {
         add_named(alloc, named, table, expected)?;
@@ -85,12 +85,12 @@ fn add_other(
 fn is_unnamed(table: &Table, kinds: &[Option<KeyFacts>], named: &[Attr], attr: &Attr) -> bool
     ensures { result ≡ is_unnamed table.now.attributes kinds.now named.now attr.now }
 {
-    is_used(table, kinds, attr) && !is_among(named, attr.handle)
+    is_used_by_some_kind(table, kinds, attr) && !is_among_named(named, attr.handle)
 }
 
 /// Returns true if an attribute is a value or a descriptor that somebody may use.
-fn is_used(table: &Table, kinds: &[Option<KeyFacts>], attr: &Attr) -> bool
-    ensures { result ≡ is_used table.now.attributes kinds.now attr.now }
+fn is_used_by_some_kind(table: &Table, kinds: &[Option<KeyFacts>], attr: &Attr) -> bool
+    ensures { result ≡ is_used_by_some_kind table.now.attributes kinds.now attr.now }
 {
     (attr.role == Role::Value || attr.role == Role::Descriptor)
         && anybody_may_use(table, kinds, attr.handle)
@@ -102,8 +102,8 @@ fn anybody_may_use(table: &Table, kinds: &[Option<KeyFacts>], handle: u16) -> bo
     kinds.iter().any(|key| may_use(table, *key, handle))
 }
 
-fn is_among(named: &[Attr], handle: u16) -> bool
-    ensures { result ≡ is_among named.now handle }
+fn is_among_named(named: &[Attr], handle: u16) -> bool
+    ensures { result ≡ is_among_named named.now handle }
 {
     named.iter().any(|attr| attr.handle == handle)
 }
