@@ -1,6 +1,6 @@
 //! Key files as inputs.
 
-ghost use Rattle.std.specs.Prelude.{◌≡◌, ◌≢◌, ◌≤◌, ℕ, length, IfErr, IfOk, IfSome};
+ghost use Rattle.std.specs.Prelude.{◌≡◌, ◌≢◌, ◌≤◌, ◌<◌, ℕ, Err, length, IfErr, IfOk, IfSome};
 ghost use Rattle.shell_files.specs.KeyFile.{keys_out_of_memory, keys_in, KeysAreRefusedAs, IsKeyRefusal, IsKeyFileFault};
 ghost use Rattle.shell_files.specs.declared.input.TheConstants.{TOML_OCTETS};
 
@@ -19,7 +19,7 @@ pub fn read_keys<R: Read>(alloc: Global, reader: &mut R) -> Result<Keys, ShellFa
         → IfSome (R.remaining reader.old) (λ octets. KeysAreRefusedAs number (keys_in octets)) }
     ensures faults { IfErr result IsKeyFileFault }
 {
-    let octets = input::read_all(alloc, reader)?;
+    let octets = input::read_at_most(alloc, reader, input::TOML_OCTETS)?;
     judged_keys(alloc, octets.as_slice())
 }
 
@@ -30,6 +30,8 @@ pub fn judged_keys(alloc: Global, octets: &[u8]) -> Result<Keys, ShellFault>
     ensures keys { IfOk result (λ keys. keys_in octets.now ≡ Ok keys) }
     ensures refused { IfErr result (IsKeyRefusal octets.now) }
     ensures size { IfOk result (λ _. length octets.now ≤ TOML_OCTETS) }
+    ensures large { TOML_OCTETS < length octets.now
+        → result ≡ Err (ShellFault.Keys keys_out_of_memory) }
 {
     if octets.len() > input::TOML_OCTETS {
         return Err(ShellFault::Keys(KeyFault::OutOfMemory.number()));

@@ -16,13 +16,14 @@ mod rows_store;
 mod script_file;
 mod server;
 mod session;
+mod shared;
 mod table_file;
 mod with_place;
 
 pub use att::att_lines;
 pub use check::{KeysPath, TablePath, check_files, check_paths};
 pub use fault::{ShellFault, status, text};
-pub use input::{CHUNK, READS, TOML_OCTETS, read_all};
+pub use input::{CHUNK, READS, TOML_OCTETS, read_all, read_at_most};
 pub use key_file::{judged_keys, read_keys};
 pub use lazy_file::LazyFile;
 pub use output::{print, print_hex_line, print_number_line};
@@ -31,6 +32,7 @@ pub use rows_out::RowsOut;
 pub use rows_path::{RowsPath, RowsReader, RowsWriter};
 pub use rows_store::{RowsStore, save_after};
 pub use script_file::judged_script;
+pub use shared::is_shared;
 pub use table_file::{judged_table, read_next, read_table};
 pub use with_place::{
     judge_rows_at, read_key_file_at, read_table_at, tell_keys_fault, tell_rows_fault,

@@ -1,6 +1,6 @@
 //! Table files as inputs.
 
-ghost use Rattle.std.specs.Prelude.{◌≡◌, ◌≢◌, ◌≤◌, ℕ, length, is_some, IfErr, IfOk, IfSome, IsOk};
+ghost use Rattle.std.specs.Prelude.{◌≡◌, ◌≢◌, ◌≤◌, ◌<◌, ℕ, Err, length, is_some, IfErr, IfOk, IfSome, IsOk};
 ghost use Rattle.std.specs.Option.{option_map};
 ghost use Rattle.shell_files.specs.TableFile.{table_out_of_memory, table_in, HasNextTable, TableIsRefusedAs, IsTableRefusal, IsTableFileFault, IsNextFileFault, next_fault_of};
 ghost use Rattle.shell_files.specs.declared.input.TheConstants.{TOML_OCTETS};
@@ -20,7 +20,7 @@ pub fn read_table<R: Read>(alloc: Global, reader: &mut R) -> Result<Table, Shell
         → IfSome (R.remaining reader.old) (λ octets. TableIsRefusedAs number (table_in octets)) }
     ensures faults { IfErr result IsTableFileFault }
 {
-    let octets = input::read_all(alloc, reader)?;
+    let octets = input::read_at_most(alloc, reader, input::TOML_OCTETS)?;
     judged_table(alloc, octets.as_slice())
 }
 
@@ -65,6 +65,8 @@ pub fn judged_table(alloc: Global, octets: &[u8]) -> Result<Table, ShellFault>
     ensures table { IfOk result (λ table. table_in octets.now ≡ Ok table) }
     ensures refused { IfErr result (IsTableRefusal octets.now) }
     ensures size { IfOk result (λ _. length octets.now ≤ TOML_OCTETS) }
+    ensures large { TOML_OCTETS < length octets.now
+        → result ≡ Err (ShellFault.Table table_out_of_memory) }
 {
     if octets.len() > input::TOML_OCTETS {
         return Err(ShellFault::Table(TableFault::OutOfMemory.number()));

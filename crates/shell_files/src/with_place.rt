@@ -6,7 +6,7 @@ ghost use Rattle.shell_files.specs.RowsFile.{rows_out_of_memory, rows_in, RowsAr
 ghost use Rattle.shell_files.specs.TableFile.{table_out_of_memory, table_in, TableIsRefusedAs, IsTableFileFault};
 
 use crate::fault::ShellFault;
-use crate::input::{TOML_OCTETS, read_all};
+use crate::input::{TOML_OCTETS, read_all, read_at_most};
 use crate::key_file::judged_keys;
 use crate::rows_file::judged_rows;
 use crate::table_file::judged_table;
@@ -35,7 +35,7 @@ pub fn read_table_at<R: Read>(
     ensures place { IsOk result → place.new ≡ place.old }
     ensures faults { IfErr result IsTableFileFault }
 {
-    let octets = read_all(alloc, reader)?;
+    let octets = read_at_most(alloc, reader, TOML_OCTETS)?;
     match judged_table(alloc, octets.as_slice()) {
         Ok(table) => Ok(table),
         Err(fault) => {
@@ -87,7 +87,7 @@ pub fn read_key_file_at<K: Read>(
     ensures place { IsOk result → place.new ≡ place.old }
     ensures faults { IfErr result IsKeyFileFault }
 {
-    let octets = read_all(alloc, reader)?;
+    let octets = read_at_most(alloc, reader, TOML_OCTETS)?;
     match judged_keys(alloc, octets.as_slice()) {
         Ok(keys) => Ok(keys),
         Err(fault) => {
