@@ -35,4 +35,5 @@ pub record AreOptionsOf (words : OptionTexts) (options : HostOptions) : Type 0 w
       ≡ Some options.patience
   pub host : AreSettingsOf words options.host
   pub log_values : options.log_values ≡ words.log_values
+  pub log_refusals : options.log_refusals ≡ words.log_refusals
   pub once : options.once ≡ words.once

@@ -1,6 +1,6 @@
 -- The files, the controller and the application of a device, by the options of `host` (this
 -- profile's own).
-use Rattle.std.specs.Prelude.{◌≡◌, ⊤, Bool, true, false, [], ◌∷◌, Option, Some, None}
+use Rattle.std.specs.Prelude.{◌≡◌, ◌<◌, ◌≤◌, ⊤, Bool, true, false, [], ◌∷◌, length, Option, Some, None}
 use Rattle.std.specs.Borrow.{Bor}
 use Rattle.std.specs.Option.{option_map}
 use Rattle.std.specs.Net.Grammar.{IsSocketText}
@@ -12,6 +12,7 @@ use Rattle.device_options.specs.declared.places.ApplicationAddress.{ApplicationA
 use Rattle.device_options.specs.declared.places.ApplicationAddress.TheVariants as application
 use Rattle.device_options.specs.declared.places.ControllerAddress.{ControllerAddress}
 use Rattle.device_options.specs.declared.places.ControllerAddress.TheVariants.{Connect, Listen, Serial}
+use Rattle.device_options.specs.declared.places.TheConstants.{LONGEST_PATH}
 use Rattle.device_options.specs.declared.texts.OptionTexts.{OptionTexts}
 use Rattle.device_options.specs.Numbers.{size_of}
 
@@ -47,10 +48,14 @@ IsControllerAt None (Some word) None (Connect address) = IsSocketText word.now a
 IsControllerAt None None (Some path) (Serial device) = device ≡ path
 IsControllerAt _ _ _ _ = ⊥
 
+-- A path that has an octet at least, and fits the system's sockets.
+abbrev pub IsSocketPath : Octets → Type 0
+IsSocketPath path = (0 < length path) × (length path ≤ LONGEST_PATH)
+
 -- At most one place of applications is given.
 abbrev pub IsApplicationAt : Option (Bor Octets) → Option (Bor Octets) → ApplicationAddress
     → Type 0
 IsApplicationAt None None application.None = ⊤
-IsApplicationAt (Some path) None (application.Path at) = at ≡ path
+IsApplicationAt (Some path) None (application.Path at) = (at ≡ path) × IsSocketPath path.now
 IsApplicationAt None (Some word) (application.Port address) = IsSocketText word.now address
 IsApplicationAt _ _ _ = ⊥

@@ -53,6 +53,8 @@ pub struct HostOptions<'a> {
     pub host: HostSettings,
     /// Set to log the values that clients write.
     pub log_values: bool,
+    /// Set to log the rights that clients are refused.
+    pub log_refusals: bool,
     /// Set to end after the first controller.
     pub once: bool,
 }
@@ -83,6 +85,7 @@ impl<'a> HostOptions<'a> {
             patience: patience.unwrap_or(PATIENCE),
             host,
             log_values: words.log_values,
+            log_refusals: words.log_refusals,
             once: words.once,
         })
     }

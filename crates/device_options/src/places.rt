@@ -6,6 +6,11 @@ ghost use Rattle.device_options.specs.Places.{IsApplicationAt, IsControllerAt};
 
 use std::net::SocketAddr;
 
+/// The longest path of an application's socket, in bytes.
+///
+/// It is made at a path with six bytes more, and Linux has space for 107.
+const LONGEST_PATH: usize = 101;
+
 /// The address of a controller.
 #[derive(Clone, Copy)]
 pub enum ControllerAddress<'a> {
@@ -55,6 +60,9 @@ pub(crate) fn read_application<'a>(
 {
     match (path, port) {
         (None, None) => Ok(ApplicationAddress::None),
+        (Some(path), None) if path.is_empty() || path.len() > LONGEST_PATH => {
+            Err("--application: the path of a socket, of 1 to 101 bytes")
+        }
         (Some(path), None) => Ok(ApplicationAddress::Path(path)),
         (None, Some(address)) => {
             let wrong =

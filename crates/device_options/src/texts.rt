@@ -33,6 +33,7 @@ pub struct OptionTexts<'a> {
     pub capture: Option<&'a str>,
     pub capture_size: Option<&'a str>,
     pub log_values: bool,
+    pub log_refusals: bool,
     pub slots: Option<&'a str>,
     /// The longest silence of a client without a key, in seconds.
     pub idle: Option<&'a str>,

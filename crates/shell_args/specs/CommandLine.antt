@@ -129,6 +129,7 @@ host_shape = shape_with (codes "host") (
     ∷ option_rule (codes "capture")
     ∷ option_rule (codes "capture-size")
     ∷ flag_rule (codes "log-values")
+    ∷ flag_rule (codes "log-refusals")
     ∷ option_rule (codes "slots")
     ∷ option_rule (codes "idle")
     ∷ option_rule (codes "stranger")
@@ -272,6 +273,7 @@ HasFilesOf arguments (Host words) =
     × IsGivenIfAny (codes "capture-size") arguments
     (option_map (λ word. word.now) words.capture_size)
     × IsSetIfGiven (codes "log-values") arguments words.log_values
+    × IsSetIfGiven (codes "log-refusals") arguments words.log_refusals
     × IsGivenIfAny (codes "slots") arguments (option_map (λ word. word.now) words.slots)
     × IsGivenIfAny (codes "idle") arguments (option_map (λ word. word.now) words.idle)
     × IsGivenIfAny (codes "stranger") arguments (option_map (λ word. word.now) words.stranger)

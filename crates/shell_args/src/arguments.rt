@@ -91,6 +91,8 @@ pub const CAPTURE_SIZE: &str = "capture-size";
 
 pub const LOG_VALUES: &str = "log-values";
 
+pub const LOG_REFUSALS: &str = "log-refusals";
+
 pub const SLOTS: &str = "slots";
 
 pub const IDLE: &str = "idle";
@@ -262,7 +264,7 @@ const SERVE_ARGUMENTS: [Argument; 4] = [
     ROWS_FILE,
 ];
 
-const HOST_ARGUMENTS: [Argument; 23] = [
+const HOST_ARGUMENTS: [Argument; 24] = [
     TABLE_FILE,
     KEY_FILE,
     Argument {
@@ -340,6 +342,11 @@ const HOST_ARGUMENTS: [Argument; 23] = [
         name: LOG_VALUES,
         takes: Takes::Nothing,
         about: "Log also the bytes that clients write, which can be secret",
+    },
+    Argument {
+        name: LOG_REFUSALS,
+        takes: Takes::Nothing,
+        about: "Log each right that a client is refused, and how often",
     },
     Argument {
         name: SLOTS,

@@ -57,11 +57,11 @@ pub const SHOW_ABOUT: &str = "Show who may do what with a table, and what is wro
 pub const SHOW_DETAILS: &str = "\
 Show who may do what with a table, and what is wrong in a file.
 
-A matrix has a row for each value and descriptor, and a column for each kind of key in KEYS. The
-first column is that of a link without a key: of everybody. Below it are the meaning of its letters,
-and all that an author has perhaps not meant: a value that everybody may write, a rule without
-effect, a key that is too short. The rows file is only checked. The number of the first fault goes
-to standard error, as by `check`, with its place and its cause.
+A matrix has a row for each value and descriptor, and a column for all kinds of keys in KEYS with
+equal rights. The first column is that of a link without a key: of everybody. Below it are the
+meaning of its letters, and all that an author has perhaps not meant: a value that everybody may
+write, a rule without effect, a key that is too short. The rows file is only checked. The number of
+the first fault goes to standard error, as by `check`, with its place and its cause.
 
   gatt_shell show examples/door.toml examples/keys.toml";
 

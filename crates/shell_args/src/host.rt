@@ -35,6 +35,7 @@ pub(crate) fn hosting<'a>(matches: &ArgMatches<'a>) -> Option<Choice<'a>>
         capture: matches.get_str(arguments::CAPTURE),
         capture_size: matches.get_str(arguments::CAPTURE_SIZE),
         log_values: matches.get_flag(arguments::LOG_VALUES),
+        log_refusals: matches.get_flag(arguments::LOG_REFUSALS),
         slots: matches.get_str(arguments::SLOTS),
         idle: matches.get_str(arguments::IDLE),
         stranger: matches.get_str(arguments::STRANGER),
