@@ -41,7 +41,7 @@ pub use poller::{ControllerReady, Poller, Ready, Source};
 pub use recording::Recording;
 pub use replacing::replace;
 pub use saved_file::SavedFile;
-pub use socket::{Listener, Retry, Socket, bind_at_path, retry_after};
+pub use socket::{Listener, Retry, Socket, bind_at_path, connect_at_path, retry_after};
 pub use stack::take_stack;
 pub use supervisor::{Supervisor, monotonic_micros};
 pub use system::System;

@@ -124,10 +124,17 @@ fn is_taken<R: Files + Net>(rt: &R, path: &str) -> io::Result<bool> {
     if !found.file_type().is_socket() || found.uid() != libc::geteuid() {
         return Ok(true);
     }
-    match UnixStream::connect(rt, path) {
+    match connect_at_path(rt, path) {
         Err(error) if error.kind() == ErrorKind::ConnectionRefused => Ok(false),
         _ => Ok(true),
     }
+}
+
+/// Connects to a socket without waiting. The connection does not wait either.
+///
+/// Errors: `WouldBlock` if the listener has no capacity for one more connection.
+pub fn connect_at_path<R: Net>(rt: &R, path: &str) -> io::Result<UnixStream> {
+    Ok(UnixStream::from(mio::net::UnixStream::connect(rt, path)?))
 }
 
 /// Makes a folder that only its owner may enter.

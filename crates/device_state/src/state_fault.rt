@@ -53,7 +53,7 @@ impl StateFault {
     pub fn words(self) -> &'static str {
         match self {
             StateFault::Unended => {
-                "it ends before its last line, which is `[end]` with a checksum"
+                "its last line is not `[end]` with a checksum: it is cut, or text follows that line"
             }
             StateFault::OtherChecksum => {
                 "its last line has another checksum than the lines before it; `sed '$d' FILE | sha256sum` prints the one that fits"
