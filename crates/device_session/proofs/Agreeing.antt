@@ -8,7 +8,7 @@ use Rattle.octet_io.specs.Number.{Octets}
 use Rattle.device_session.specs.declared.pending.Subject.{Subject}
 use Rattle.device_session.specs.declared.pending.Subject.TheVariants.{Value, Configuration}
 use Rattle.device_session.specs.Pending.{Line, is_same, with_line, without_subject}
-use Rattle.device_session.specs.Reading.{Agrees, Events, LeavesHostsValues, Read, Sight, Turn, Update, Values, after_change, after_events, after_read, after_turn, after_update, answers_in, at_first, changes_in, is_about, lines_read, sent_of, sight_after, still_waiting, updates_in, waiting_after, with_change, with_next, with_value, without_update}
+use Rattle.device_session.specs.Reading.{Agrees, Events, LeavesHostsValues, Read, Sight, ReadTurn, Update, ValuesByHandle, after_known_change, values_after_events, values_after_read, sight_after_turn, after_known_update, answers_in, first_sight, changes_in, is_about, lines_read, lines_at_once, sight_after, still_waiting, updates_in, waiting_after, with_known_change, with_waiting_line, with_known_value, without_update}
 use Rattle.device_session.specs.Reading.Events.{ByClients, ByItself, ByVisitor}
 use Rattle.device_session.specs.Reading.Read.{Changed, Done, Updated, Missed}
 use Rattle.device_session.proofs.Lasting.{is-it, differ}
@@ -21,21 +21,21 @@ module _ (says : Octets → Octets) (handle : ℕ) where
   abbrev updated : Octets → Update → Octets
   updated value update = if update.handle == handle then update.value else value
 
-  change-at : (values : Values) (line : Line) → after_change says values line handle ≡ changed (values handle) line
+  change-at : (values : ValuesByHandle) (line : Line) → after_known_change says values line handle ≡ changed (values handle) line
   change-at values line = by line.subject
     where
-      by : (subject : Subject) → with_change subject (says line.text) values handle ≡ (if is_same subject (Value handle) then says line.text else values handle)
+      by : (subject : Subject) → with_known_change subject (says line.text) values handle ≡ (if is_same subject (Value handle) then says line.text else values handle)
       by (Value other) = refl
       by (Configuration peer attribute) = refl
 
-  changes-at : (values : Values) (lines : List Line) → fold (after_change says) values lines handle ≡ fold changed (values handle) lines
+  changes-at : (values : ValuesByHandle) (lines : List Line) → fold (after_known_change says) values lines handle ≡ fold changed (values handle) lines
   changes-at values [] = refl
   changes-at values (line ∷ lines) =
-      changes-at (after_change says values line) lines ∙ ap (λ (value : Octets). fold changed value lines) (change-at values line)
+      changes-at (after_known_change says values line) lines ∙ ap (λ (value : Octets). fold changed value lines) (change-at values line)
 
-  updates-at : (values : Values) (updates : List Update) → fold after_update values updates handle ≡ fold updated (values handle) updates
+  updates-at : (values : ValuesByHandle) (updates : List Update) → fold after_known_update values updates handle ≡ fold updated (values handle) updates
   updates-at values [] = refl
-  updates-at values (update ∷ updates) = updates-at (after_update values update) updates
+  updates-at values (update ∷ updates) = updates-at (after_known_update values update) updates
 
   -- lines about it, and others
   changed-by : (value : Octets) (line : Line) (about : Bool) → is_about handle line ≡ about → changed value line ≡ (if about then says line.text else value)
@@ -99,7 +99,7 @@ module _ (says : Octets → Octets) (handle : ℕ) where
   none-stays value lines =
       none-kept (λ (line : Line). not (is_same line.subject (Value handle))) (λ line about. ap not about) lines value
 
-  with-line-at : (value : Octets) (waiting : List Line) (line : Line) → fold changed value (with_next waiting line) ≡ changed (fold changed value waiting) line
+  with-line-at : (value : Octets) (waiting : List Line) (line : Line) → fold changed value (with_waiting_line waiting line) ≡ changed (fold changed value waiting) line
   with-line-at value waiting line =
       fold-append changed value (without_subject line.subject waiting) (line ∷ [])
       ∙ by (is_about handle line) refl
@@ -111,10 +111,10 @@ module _ (says : Octets → Octets) (handle : ℕ) where
       by false is =
           ap (λ (value : Octets). changed value line) (others-stay line.subject is value waiting)
 
-  with-lines-at : (value : Octets) (waiting lines : List Line) → fold changed value (fold with_next waiting lines) ≡ fold changed (fold changed value waiting) lines
+  with-lines-at : (value : Octets) (waiting lines : List Line) → fold changed value (fold with_waiting_line waiting lines) ≡ fold changed (fold changed value waiting) lines
   with-lines-at value waiting [] = refl
   with-lines-at value waiting (line ∷ lines) =
-      with-lines-at value (with_next waiting line) lines
+      with-lines-at value (with_waiting_line waiting line) lines
       ∙ ap (λ (value : Octets). fold changed value lines) (with-line-at value waiting line)
 
   -- an update, and the lines that it leaves
@@ -174,16 +174,16 @@ module _ (says : Octets → Octets) (handle : ℕ) where
   known value (Updated update) = updated value update
   known value (Missed other now) = if other == handle then now else value
 
-  read-at : (values : Values) (line : Read) → after_read says values line handle ≡ known (values handle) line
+  read-at : (values : ValuesByHandle) (line : Read) → values_after_read says values line handle ≡ known (values handle) line
   read-at values (Changed line) = change-at values line
   read-at values (Done update) = refl
   read-at values (Updated update) = refl
   read-at values (Missed other now) = refl
 
-  reads-at : (values : Values) (lines : List Read) → fold (after_read says) values lines handle ≡ fold known (values handle) lines
+  reads-at : (values : ValuesByHandle) (lines : List Read) → fold (values_after_read says) values lines handle ≡ fold known (values handle) lines
   reads-at values [] = refl
   reads-at values (line ∷ lines) =
-      reads-at (after_read says values line) lines ∙ ap (λ (value : Octets). fold known value lines) (read-at values line)
+      reads-at (values_after_read says values line) lines ∙ ap (λ (value : Octets). fold known value lines) (read-at values line)
 
   reads-changed : (value : Octets) (lines : List Line) → fold known value (map Changed lines) ≡ fold changed value lines
   reads-changed value [] = refl
@@ -197,18 +197,18 @@ module _ (says : Octets → Octets) (handle : ℕ) where
   reads-updated value [] = refl
   reads-updated value (update ∷ updates) = reads-updated (updated value update) updates
 
-  abbrev reminders : Values → List ℕ → List Read
+  abbrev reminders : ValuesByHandle → List ℕ → List Read
   reminders host handles = map (λ other. Missed other (host other)) handles
 
-  abbrev Ends : Values → Octets → List ℕ → Octets → Type 0
+  abbrev Ends : ValuesByHandle → Octets → List ℕ → Octets → Type 0
   Ends host value handles next =
       (fold known next (reminders host handles) ≡ value) ⊎ (fold known next (reminders host handles) ≡ host handle)
 
-  of-host : (host : Values) (value : Octets) (handles : List ℕ) → Ends host (host handle) handles (host handle) → Ends host value handles (host handle)
+  of-host : (host : ValuesByHandle) (value : Octets) (handles : List ℕ) → Ends host (host handle) handles (host handle) → Ends host value handles (host handle)
   of-host host value handles (inl same) = inr same
   of-host host value handles (inr same) = inr same
 
-  one-missed : (host : Values) (value : Octets) (other : ℕ) (handles : List ℕ) (about : Bool) → (other == handle) ≡ about
+  one-missed : (host : ValuesByHandle) (value : Octets) (other : ℕ) (handles : List ℕ) (about : Bool) → (other == handle) ≡ about
       → ((value : Octets) → Ends host value handles value) → Ends host value handles (if other == handle then host other else value)
   one-missed host value other handles true is rest =
       subst (Ends host value handles)
@@ -217,7 +217,7 @@ module _ (says : Octets → Octets) (handle : ℕ) where
   one-missed host value other handles false is rest =
       subst (Ends host value handles) (sym (ap (λ (about : Bool). if about then host other else value) is)) (rest value)
 
-  reads-missed : (host : Values) (handles : List ℕ) (value : Octets) → Ends host value handles value
+  reads-missed : (host : ValuesByHandle) (handles : List ℕ) (value : Octets) → Ends host value handles value
   reads-missed host [] value = inl refl
   reads-missed host (other ∷ handles) value = one-missed host value other handles (other == handle) refl (reads-missed host handles)
 
@@ -244,7 +244,7 @@ module _ (says : Octets → Octets) (handle : ℕ) where
       by (inl none) = none (fold changed value lines)
       by (inr one) = one (fold changed value lines) value
 
-  reminded : (host : Values) (value : Octets) (handles : List ℕ) (waiting : List Line) → fold changed value waiting ≡ host handle
+  reminded : (host : ValuesByHandle) (value : Octets) (handles : List ℕ) (waiting : List Line) → fold changed value waiting ≡ host handle
       → fold changed (fold known value (reminders host handles)) waiting ≡ host handle
   reminded host value handles waiting same = by (reads-missed host handles value)
     where
@@ -292,14 +292,14 @@ module _ (says : Octets → Octets) (handle : ℕ) where
     parts value first second last =
         fold-append known value first (second ++ last) ∙ fold-append known (fold known value first) second last
 
-    module _ (host : Values) (value : Octets) (waiting : List Line) (holds : Holds (host handle) value waiting) (missed : List ℕ) where
-      abbrev Left : Values → List Read → List Line → Type 0
+    module _ (host : ValuesByHandle) (value : Octets) (waiting : List Line) (holds : Holds (host handle) value waiting) (missed : List ℕ) where
+      abbrev Left : ValuesByHandle → List Read → List Line → Type 0
       Left after lines left = Holds (after handle) (fold known value lines) left
 
       -- an update of its own, or of its visitor
       module _ (reading : Update → Read) (is-read : (value : Octets) (updates : List Update) → fold known value (map reading updates) ≡ fold updated value updates) (updates : List Update) where
-        abbrev after : Values
-        after = fold after_update host updates
+        abbrev after : ValuesByHandle
+        after = fold after_known_update host updates
 
         abbrev left : List Line
         left = fold without_update waiting updates
@@ -331,8 +331,8 @@ module _ (says : Octets → Octets) (handle : ℕ) where
 
       -- changes by clients
       module _ (lines : List Line) where
-        abbrev now : Values
-        now = fold (after_change says) host lines
+        abbrev now : ValuesByHandle
+        now = fold (after_known_change says) host lines
 
         abbrev sent : List Line
         sent = filter (λ (line : Line). not (waits-now line)) lines
@@ -363,12 +363,12 @@ module _ (says : Octets → Octets) (handle : ℕ) where
             ∙ all-kept (λ (line : Line). not (waits-now line)) (λ line about. ap not (as-its-value line about ∙ is)) lines value
             ∙ ap (λ (value : Octets). fold changed value lines) (sym (holds.none is value) ∙ holds.saved)
 
-        unsaved-changes : Left now (map Changed sent ++ reminders now missed) (fold with_next waiting late)
+        unsaved-changes : Left now (map Changed sent ++ reminders now missed) (fold with_waiting_line waiting late)
         unsaved-changes = record {
           saved =
-              ap (λ (value : Octets). fold changed value (fold with_next waiting late)) (fold-append known value (map Changed sent) (reminders now missed))
-              ∙ reminded now (fold known value (map Changed sent)) missed (fold with_next waiting late)
-              (ap (λ (value : Octets). fold changed value (fold with_next waiting late)) (reads-changed value sent)
+              ap (λ (value : Octets). fold changed value (fold with_waiting_line waiting late)) (fold-append known value (map Changed sent) (reminders now missed))
+              ∙ reminded now (fold known value (map Changed sent)) missed (fold with_waiting_line waiting late)
+              (ap (λ (value : Octets). fold changed value (fold with_waiting_line waiting late)) (reads-changed value sent)
               ∙ with-lines-at (fold changed value sent) waiting late
               ∙ said-later (waits (Value handle)) refl
               ∙ sym (changes-at host lines));
@@ -379,8 +379,8 @@ module _ (says : Octets → Octets) (handle : ℕ) where
         }
 
       turn-keeps : (events : Events) (saved : Bool)
-          → Left (after_events says host events)
-          (lines_read waits (record { events = events; is_saved = saved; missed = missed }) waiting (after_events says host events))
+          → Left (values_after_events says host events)
+          (lines_read waits (record { events = events; is_saved = saved; missed = missed }) waiting (values_after_events says host events))
           (waiting_after waits saved (changes_in events) (still_waiting events waiting))
       turn-keeps (ByClients lines) true = saved-changes lines
       turn-keeps (ByClients lines) false = unsaved-changes lines
@@ -392,24 +392,24 @@ module _ (says : Octets → Octets) (handle : ℕ) where
     abbrev Sound : Sight → Type 0
     Sound sight = Holds (sight.host handle) (sight.known handle) sight.waiting
 
-    sound-after : (sight : Sight) (turn : Turn) → Sound sight → Sound (after_turn says waits sight turn)
+    sound-after : (sight : Sight) (turn : ReadTurn) → Sound sight → Sound (sight_after_turn says waits sight turn)
     sound-after sight turn sound =
         let next = turn-keeps sight.host (sight.known handle) sight.waiting sound turn.missed turn.events turn.is_saved in
-        let after : Sight = after_turn says waits sight turn in
-        let same = reads-at sight.known (lines_read waits turn sight.waiting (after_events says sight.host turn.events)) in
+        let after : Sight = sight_after_turn says waits sight turn in
+        let same = reads-at sight.known (lines_read waits turn sight.waiting (values_after_events says sight.host turn.events)) in
         record {
           saved = ap (λ (value : Octets). fold changed value after.waiting) same ∙ next.saved;
           none = next.none;
         }
 
-    all-sound : (sight : Sight) (turns : List Turn) → Sound sight → Sound (fold (after_turn says waits) sight turns)
+    all-sound : (sight : Sight) (turns : List ReadTurn) → Sound sight → Sound (fold (sight_after_turn says waits) sight turns)
     all-sound sight [] sound = sound
-    all-sound sight (turn ∷ turns) sound = all-sound (after_turn says waits sight turn) turns (sound-after sight turn sound)
+    all-sound sight (turn ∷ turns) sound = all-sound (sight_after_turn says waits sight turn) turns (sound-after sight turn sound)
 
-    agrees : (values : Values) (turns : List Turn) → Agrees says (sight_after says waits values turns) handle
+    agrees : (values : ValuesByHandle) (turns : List ReadTurn) → Agrees says (sight_after says waits values turns) handle
     agrees values turns =
         let sight : Sight = sight_after says waits values turns in
-        let sound : Sound sight = all-sound (at_first values) turns (record { saved = refl; none = λ is other. refl }) in
+        let sound : Sound sight = all-sound (first_sight values) turns (record { saved = refl; none = λ is other. refl }) in
         record {
           now = λ none. sym (no-line sight.waiting (sight.known handle) none) ∙ sound.saved;
           saved = changes-at sight.known sight.waiting ∙ sound.saved;

@@ -23,7 +23,7 @@ use Rattle.device_session.specs.Application.{chosen_in, after_visit, has_next_li
 use Rattle.device_session.specs.ApplicationValue.{Application}
 use Rattle.device_session.specs.Holder.{has_line, is_found, may_read}
 use Rattle.device_session.specs.Incoming.Arrival.{Ready, Taken as Took}
-use Rattle.device_session.specs.Laws.{ArePossible, Bounds, Event, IsBounded, IsBoundedHolder, IsBoundedInput, IsBoundedOutput, IsBoundedPlace, IsBoundedVisit, IsPossible, after_event}
+use Rattle.device_session.specs.Laws.{ArePossible, Bounds, Event, IsBounded, IsBoundedHolder, IsBoundedInput, IsBoundedOutput, IsBoundedPlace, IsBoundedVisit, IsPossibleEvent, after_event}
 use Rattle.device_session.specs.Laws.Event.{Knocks, Attends, Fills, Watches, Flushes, Readies, Tells, Answers, Chooses, Asks as Takes, Welcomes, Ends, Holds, Releases}
 use Rattle.device_session.specs.Outgoing.{after_sent, fits, watched, with_text}
 use Rattle.device_session.specs.Place.{ended, filled_in, fits_in, given, has_next, is_free, is_full_in, is_giving, is_gone, is_slow_in, left_by, on_holding, watched_in, with_next}
@@ -227,11 +227,11 @@ module _ (application : Application) (fits : IsBounded application) where
   fill-fits reading few false false true = fits
   fill-fits reading few false false false = placed (filled_in reading application.place) (fills reading few application.place fits.place)
 
-  chooses : (held : Bool) → IsBounded (if held then application else record application { askers = chosen_in application })
-  chooses true = fits
-  chooses false = record { place = fits.place; visiting = fits.visiting }
+  chooses : (now : ℕ) (held : Bool) → IsBounded (if held then application else record application { askers = chosen_in application now })
+  chooses now true = fits
+  chooses now false = record { place = fits.place; visiting = fits.visiting }
 
-  event-keeps : (event : Event) → IsPossible application event → IsBounded (after_event application event)
+  event-keeps : (event : Event) → IsPossibleEvent application event → IsBounded (after_event application event)
   event-keeps (Knocks now came) possible =
       record {
         place = fits.place;
@@ -251,7 +251,7 @@ module _ (application : Application) (fits : IsBounded application) where
   event-keeps (Tells text false) possible = placed _ (ends application.place fits.place)
   event-keeps (Answers true) possible = fits
   event-keeps (Answers false) possible = record { place = fits.place; visiting = tt }
-  event-keeps Chooses possible = chooses application.is_held
+  event-keeps (Chooses now) possible = chooses now application.is_held
   event-keeps Takes possible = takes (has_next_line application) application.askers.asker
   event-keeps Welcomes possible = placed _ (on welcomed (λ holding bounded. bounded) application.place fits.place)
   event-keeps Ends possible = placed _ (ends application.place fits.place)

@@ -115,9 +115,9 @@ event-keeps application (Tells text true) known = known
 event-keeps application (Tells text false) known = known
 event-keeps application (Answers true) known = known
 event-keeps application (Answers false) known = tt
-event-keeps application Chooses known = chosen application.is_held
+event-keeps application (Chooses now) known = chosen application.is_held
   where
-    chosen : (held : Bool) → IsKnown (if held then application else record application { askers = chosen_in application }).visiting
+    chosen : (held : Bool) → IsKnown (if held then application else record application { askers = chosen_in application now }).visiting
     chosen true = known
     chosen false = known
 event-keeps application Takes known = takes application (has_next_line application) application.askers.asker known

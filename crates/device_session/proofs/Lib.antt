@@ -8,6 +8,7 @@ pub mod Lines
 pub mod Readers
 pub mod Replies
 pub mod Succession
+pub mod Tallying
 pub mod Tellings
 pub mod Texts
 pub mod Visits

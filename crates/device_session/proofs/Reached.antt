@@ -4,22 +4,22 @@ use Rattle.std.proofs.lemmas.List.Sums.{fold-append}
 use Rattle.octet_io.specs.Number.{Octets}
 use Rattle.device_session.specs.Application.{after_asking, after_choosing, after_end, after_release, after_telling, after_welcome, nobody, IsAnswered, IsAttended, IsFilled, IsFlushed, IsKnock, IsReady, IsWatch}
 use Rattle.device_session.specs.ApplicationValue.{Application}
-use Rattle.device_session.specs.Laws.{after_event, ArePossible, Event, IsPossible, IsReached, Answers, Asks, Attends, Chooses, Ends, Fills, Flushes, Holds, Knocks, Readies, Releases, Tells, Watches, Welcomes}
+use Rattle.device_session.specs.Laws.{after_event, ArePossible, Event, IsPossibleEvent, IsReached, Answers, Asks, Attends, Chooses, Ends, Fills, Flushes, Holds, Knocks, Readies, Releases, Tells, Watches, Welcomes}
 use Rattle.device_session.specs.Place.{fits_in}
 
 one_more : (application : Application) (events : List Event) (event : Event) → ArePossible application events
-    → IsPossible (fold after_event application events) event → ArePossible application (events ++ event ∷ [])
+    → IsPossibleEvent (fold after_event application events) event → ArePossible application (events ++ event ∷ [])
 unfolding ArePossible
 one_more application [] event possible now = (now, tt)
 one_more application (first ∷ events) event (possible, others) now =
     (possible, one_more (after_event application first) events event others now)
 
-reached : (before after : Application) (event : Event) → IsReached before → IsPossible before event
+reached : (before after : Application) (event : Event) → IsReached before → IsPossibleEvent before event
     → after ≡ after_event before event → IsReached after
 unfolding IsReached
 reached before after event (events, possible, same) now step = (
   events ++ event ∷ [],
-  one_more nobody events event possible (subst (λ (earlier : Application). IsPossible earlier event) same now),
+  one_more nobody events event possible (subst (λ (earlier : Application). IsPossibleEvent earlier event) same now),
   step ∙ ap (λ (earlier : Application). after_event earlier event) same
       ∙ sym (fold-append after_event nobody events (event ∷ [])),
 )
@@ -56,8 +56,8 @@ by_telling before after text known fits same = reached before after (Tells text 
 pub by_refusal : (before after : Application) → IsReached before → after ≡ after_end before → IsReached after
 by_refusal before after known same = reached before after Ends known tt same
 
-pub by_choosing : (before after : Application) → IsReached before → after ≡ after_choosing before → IsReached after
-by_choosing before after known same = reached before after Chooses known tt same
+pub by_choosing : (now : ℕ) (before after : Application) → IsReached before → after ≡ after_choosing before now → IsReached after
+by_choosing now before after known same = reached before after (Chooses now) known tt same
 
 pub by_asking : (before after : Application) → IsReached before → after ≡ after_asking before → IsReached after
 by_asking before after known same = reached before after Asks known tt same

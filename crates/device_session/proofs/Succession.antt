@@ -218,9 +218,9 @@ serves_in_turn application (Readies writing) off = ready-writes writing applicat
 serves_in_turn application (Tells text true) off = tells application.place text true
 serves_in_turn application (Tells text false) off = tells application.place text false
 serves_in_turn application (Answers accepted) off = stays application.place
-serves_in_turn application Chooses off =
+serves_in_turn application (Chooses now) off =
     subst (λ (after : Place). GoesOn application.place after)
-    (sym (chosen application application.is_held (chosen_in application))) (stays application.place)
+    (sym (chosen application application.is_held (chosen_in application now))) (stays application.place)
 serves_in_turn application Takes off = takes application (has_next_line application) application.askers.asker
 serves_in_turn application Welcomes off = changes welcomed (λ holding. ([], refl, refl)) application.place
 serves_in_turn application Ends off = ends application.place
@@ -245,7 +245,7 @@ comes_alone application (Flushes writing) is = cc is
 comes_alone application (Readies writing) is = cc is
 comes_alone application (Tells text fits) is = cc is
 comes_alone application (Answers accepted) is = cc is
-comes_alone application Chooses is = cc is
+comes_alone application (Chooses now) is = cc is
 comes_alone application Takes is = cc is
 comes_alone application Welcomes is = cc is
 comes_alone application Ends is = cc is

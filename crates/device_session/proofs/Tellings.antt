@@ -170,9 +170,9 @@ module _ (application : Application) (texts : Octets) (end : AtEnd texts applica
       on (written writing) (writes writing) texts (on_holding (with_arrival Ready) application.place)
       (on (with_arrival Ready) (λ texts holding end. end) texts application.place end)
 
-  choose-end : (held : Bool) → AtEnd texts (if held then application else record application { askers = chosen_in application }).place
-  choose-end true = end
-  choose-end false = end
+  choose-end : (now : ℕ) (held : Bool) → AtEnd texts (if held then application else record application { askers = chosen_in application now }).place
+  choose-end now true = end
+  choose-end now false = end
 
   take-end : (line : Bool) (who : Asker) → AtEnd texts (if line then with_taken who application else application).place
   take-end false who = end
@@ -194,7 +194,7 @@ event-keeps telling (Readies writing) end = no-more telling.texts _ (ready-end t
 event-keeps telling (Tells text true) end = tells telling.texts telling.application.place text end
 event-keeps telling (Tells text false) end = no-more telling.texts _ (ends telling.texts telling.application.place)
 event-keeps telling (Answers accepted) end = no-more telling.texts telling.application.place end
-event-keeps telling Chooses end = no-more telling.texts _ (choose-end telling.application telling.texts end telling.application.is_held)
+event-keeps telling (Chooses now) end = no-more telling.texts _ (choose-end telling.application telling.texts end now telling.application.is_held)
 event-keeps telling Takes end =
     no-more telling.texts _
     (take-end telling.application telling.texts end (has_next_line telling.application) telling.application.askers.asker)

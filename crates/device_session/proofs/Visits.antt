@@ -15,14 +15,14 @@ use Rattle.device_session.specs.declared.incoming.Input.TheVariants.{Readable, Q
 use Rattle.device_session.specs.declared.visitor.Visit.TheVariants.{Stays, Reads, Comes}
 use Rattle.device_session.specs.declared.visitor.Visitor.{Visitor}
 use Rattle.device_session.specs.Incoming.{Arrival, is_nothing, received}
-use Rattle.device_session.specs.Lines.{kind_of}
+use Rattle.device_session.specs.Lines.{kind_of_line}
 use Rattle.device_session.specs.Visitor.{BeginsWith, ClaimsRightly, EndsInTime, LeavesInTime, WakesInTime, by_found, by_input, by_kind, due_after, is_nothing_found, is_quiet, visit_of, visitor_after}
 use Rattle.device_session.proofs.Feeds.{with_feed}
 use Rattle.device_session.proofs.Lines.{Told, all_told}
 
 -- a read needs an input without a line
 reads-nothing : (found : Found) (visitor : Visitor) (now : ℕ) (free : Bool) → by_found found visitor now free ≡ Reads → found ≡ Nothing
-reads-nothing Line visitor now free is = absurd (kind (kind_of (line_in visitor.incoming.inbox)) free is)
+reads-nothing Line visitor now free is = absurd (kind (kind_of_line (line_in visitor.incoming.inbox)) free is)
   where
     kind : (kind : LineKind) (free : Bool) → by_kind kind free ≢ Reads
     kind Claim free is = cc is
@@ -74,7 +74,7 @@ module _ (born : ℕ) (arrivals : List Arrival) (now : ℕ) where
       ⊎ (((received arrivals).came ≡ []) × (due_after born ≤ now))
 
   by-line : (kind : LineKind) (free : Bool) → found_in (received arrivals).incoming.inbox ≡ Line
-      → kind_of (line_in (received arrivals).incoming.inbox) ≡ kind → by_kind kind free ≡ Comes → Rightly free
+      → kind_of_line (line_in (received arrivals).incoming.inbox) ≡ kind → by_kind kind free ≡ Comes → Rightly free
   by-line Claim free found kind is = inl (found, kind)
   by-line Call true found kind is = inr (inl (refl, (found, kind)))
   by-line Call false found kind is = cc is
@@ -83,7 +83,7 @@ module _ (born : ℕ) (arrivals : List Arrival) (now : ℕ) where
 
   comes : (found : Found) (free : Bool) → found_in (received arrivals).incoming.inbox ≡ found
       → by_found found (visitor_after born arrivals) now free ≡ Comes → Rightly free
-  comes Line free found is = by-line (kind_of (line_in (received arrivals).incoming.inbox)) free found refl is
+  comes Line free found is = by-line (kind_of_line (line_in (received arrivals).incoming.inbox)) free found refl is
   comes TooLong free found is = cc is
   comes Nothing free found is =
       let tests = comes-late (received arrivals).incoming.input (is_nothing (received arrivals).incoming) (nat_le (due_after born) now) is in
@@ -114,7 +114,7 @@ module _ (born : ℕ) (arrivals : List Arrival) (now : ℕ) (free : Bool) where
   ends : (found : Found) (late : Bool) → late ≡ true → nat_le (due_after born) now ≡ late
       → EndsInTime (by_found found (visitor_after born arrivals) now free) (received arrivals).came
   ends Line late is test =
-      let ends = line-ends (kind_of (line_in (received arrivals).incoming.inbox)) free in
+      let ends = line-ends (kind_of_line (line_in (received arrivals).incoming.inbox)) free in
       record { ends = ends.0; reads_no_more = λ reads. absurd (ends.1 reads) }
   ends TooLong late is test = record { ends = λ is. cc is; reads_no_more = λ is. cc is }
   ends Nothing late is test =
@@ -152,7 +152,7 @@ others-act Ended nothing late is stays = cc stays
 
 module _ (visitor : Visitor) (now : ℕ) (free : Bool) where
   acts : (found : Found) → not (is_quiet visitor.incoming.input && is_nothing_found found) ≡ true → by_found found visitor now free ≢ Stays
-  acts Line is stays = (line-ends (kind_of (line_in visitor.incoming.inbox)) free).0 stays
+  acts Line is stays = (line-ends (kind_of_line (line_in visitor.incoming.inbox)) free).0 stays
   acts TooLong is stays = cc stays
   acts Nothing is stays = others-act visitor.incoming.input (is_nothing visitor.incoming) (nat_le visitor.due now) is stays
 

@@ -3,8 +3,8 @@ use Rattle.std.proofs.Common.{◌≡◌, ℕ, ◌<◌, ◌≤◌, Bool, true, fa
 use Rattle.std.specs.Prelude.{fold, if◌then◌else◌, is_some, nat_le}
 use Rattle.std.proofs.lemmas.Bool.{leb-false, leb-true}
 use Rattle.device_session.specs.declared.turns.Turns.{Turns}
-use Rattle.device_session.specs.Turns.{Clocked, IsAfterWork, JudgesAfterWork, NeverGoesBack, Step, after_tick, after_turn, after_work, at_start, tick_at, tick_in, with_step}
-use Rattle.device_session.specs.Turns.Step.{Turn, Work}
+use Rattle.device_session.specs.Turns.{Clocked, IsAfterWork, JudgesAfterWork, NeverGoesBack, ClockStep, after_tick, after_turn, after_work, clock_at_start, tick_at, tick_in, with_clock_step}
+use Rattle.device_session.specs.Turns.ClockStep.{Turn, Work}
 
 record Sound (clocked : Clocked) : Type 0 where
   told : clocked.turns.is_told ≡ true → clocked.worked ≤ clocked.turns.time
@@ -44,21 +44,21 @@ module _ (turns : Turns) (worked last now : ℕ) (sound : Sound (record { turns 
   first-by true is none = sound.told is
   first-by false is none = first-by-clock (nat_le now turns.time) refl none
 
-step-keeps : (clocked : Clocked) (step : Step) → Sound clocked → (later : clocked.now ≤ (with_step clocked step).now) → Sound (with_step clocked step)
+step-keeps : (clocked : Clocked) (step : ClockStep) → Sound clocked → (later : clocked.now ≤ (with_clock_step clocked step).now) → Sound (with_clock_step clocked step)
 step-keeps clocked (Turn now) sound later =
     by-turn clocked.turns clocked.worked clocked.now now (record { told = sound.told; current = sound.current; past = sound.past }) later clocked.turns.is_told refl
 step-keeps clocked (Work now) sound later = record { told = λ told. absurd (cc told); current = λ current. absurd (cc current); past = omega arith }
 
-judges : (clocked : Clocked) (steps : List Step) (now : ℕ) → Sound clocked → NeverGoesBack clocked.now (steps ++ Turn now ∷ []) → IsAfterWork (fold with_step clocked steps) now
+judges : (clocked : Clocked) (steps : List ClockStep) (now : ℕ) → Sound clocked → NeverGoesBack clocked.now (steps ++ Turn now ∷ []) → IsAfterWork (fold with_clock_step clocked steps) now
 unfolding NeverGoesBack
 judges clocked [] now sound later =
     record {
       first = first-by clocked.turns clocked.worked clocked.now now (record { told = sound.told; current = sound.current; past = sound.past }) later.0 clocked.turns.is_told refl;
       further = sound.current;
     }
-judges clocked (Turn at ∷ steps) now sound later = judges (with_step clocked (Turn at)) steps now (step-keeps clocked (Turn at) sound later.0) later.1
-judges clocked (Work at ∷ steps) now sound later = judges (with_step clocked (Work at)) steps now (step-keeps clocked (Work at) sound later.0) later.1
+judges clocked (Turn at ∷ steps) now sound later = judges (with_clock_step clocked (Turn at)) steps now (step-keeps clocked (Turn at) sound later.0) later.1
+judges clocked (Work at ∷ steps) now sound later = judges (with_clock_step clocked (Work at)) steps now (step-keeps clocked (Work at) sound later.0) later.1
 
 pub judges_after_work : JudgesAfterWork
 judges_after_work steps now later =
-    judges at_start steps now (record { told = λ told. absurd (cc told); current = λ current. absurd (cc current); past = omega arith }) later
+    judges clock_at_start steps now (record { told = λ told. absurd (cc told); current = λ current. absurd (cc current); past = omega arith }) later

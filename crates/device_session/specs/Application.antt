@@ -165,14 +165,18 @@ abbrev pub has_next_line : Application → Bool
 has_next_line application =
     not application.is_held && may_be_asked application.askers.asker application
 
-abbrev pub chosen_in : Application → Askers
-chosen_in application =
-    after_choice application.askers (is_asked application) (is_busy_in application.place)
+-- The sender of the next line, chosen at a time in milliseconds.
+abbrev pub chosen_in : Application → ℕ → Askers
+chosen_in application now = after_choice application.askers (record {
+  visited = is_asked application;
+  busy = is_busy_in application.place;
+  now = now;
+})
 
-abbrev pub after_choosing : Application → Application
-after_choosing application =
+abbrev pub after_choosing : Application → ℕ → Application
+after_choosing application now =
     if application.is_held then application
-    else record application { askers = chosen_in application }
+    else record application { askers = chosen_in application now }
 
 abbrev pub input_of : Asker → Application → Option Incoming
 input_of asker.Application application = input_in application.place

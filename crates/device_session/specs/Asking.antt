@@ -19,7 +19,7 @@ use Rattle.device_session.specs.Application.{after_asking, line_from, next_line_
 use Rattle.device_session.specs.ApplicationValue.{Application}
 use Rattle.device_session.specs.Holder.{is_found}
 use Rattle.device_session.specs.Questions.{call_in, question_in}
-use Rattle.device_session.specs.Lines.{kind_of}
+use Rattle.device_session.specs.Lines.{kind_of_line}
 
 -- The last line, which may wait for its answer, and the answers that wait for a save, if any do.
 -- Their texts are missing if memory was refused for one.
@@ -84,7 +84,7 @@ abbrev pub closing_after : Found → Bool → Octets → Closing → Closing
 closing_after found.Nothing first line closing = closing
 closing_after found.TooLong first line closing = LineTooLong
 closing_after found.Line first line closing =
-    if first && is_wrong_kind (kind_of line) then FirstLineWrong else No
+    if first && is_wrong_kind (kind_of_line line) then FirstLineWrong else No
 
 abbrev pub with_next_line : NextLine → Octets → Asking → Asking
 with_next_line next line asking = record asking {

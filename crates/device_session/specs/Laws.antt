@@ -27,7 +27,7 @@ pub data Event : Type 0 where
   Readies : (writing : Writing) → Event
   Tells : (text : Octets) (fits : Bool) → Event
   Answers : (accepted : Bool) → Event
-  Chooses : Event
+  Chooses : (now : ℕ) → Event
   Asks : Event
   Welcomes : Event
   Ends : Event
@@ -43,7 +43,7 @@ after_event application (Flushes writing) = after_flush application writing
 after_event application (Readies writing) = after_ready application writing
 after_event application (Tells text fits) = after_telling application text fits
 after_event application (Answers accepted) = after_answer application accepted
-after_event application Chooses = after_choosing application
+after_event application (Chooses now) = after_choosing application now
 after_event application Asks = after_asking application
 after_event application Welcomes = after_welcome application
 after_event application Ends = after_end application
@@ -159,16 +159,16 @@ TellsInOrder =
     → IsEndOf (telling_after events).texts (output_in (telling_after events).application.place)
 
 -- A read brings few octets, and a text is queued only if it fits.
-abbrev pub IsPossible : Application → Event → Type 0
-IsPossible application (Attends now reading) = IsShort reading
-IsPossible application (Fills reading) = IsShort reading
-IsPossible application (Tells text true) = fits_in application.place text ≡ true
-IsPossible application event = Unit {0}
+abbrev pub IsPossibleEvent : Application → Event → Type 0
+IsPossibleEvent application (Attends now reading) = IsShort reading
+IsPossibleEvent application (Fills reading) = IsShort reading
+IsPossibleEvent application (Tells text true) = fits_in application.place text ≡ true
+IsPossibleEvent application event = Unit {0}
 
 unfoldable pub ArePossible : Application → List Event → Type 0
 ArePossible application [] = Unit {0}
 ArePossible application (event ∷ events) =
-    IsPossible application event × ArePossible (after_event application event) events
+    IsPossibleEvent application event × ArePossible (after_event application event) events
 
 -- It became what it is by such events alone.
 unfoldable pub IsReached : Application → Type 0

@@ -16,6 +16,7 @@ pub mod Pending
 pub mod Place
 pub mod Questions
 pub mod Reading
+pub mod Refusals
 pub mod Seats
 pub mod Strangers
 pub mod Telling

@@ -22,5 +22,5 @@ abbrev pub kind_of_text : Octets → LineKind
 kind_of_text text =
     if is_utf8 text then kind_of_command (command_of text) else kind.Wrong
 
-unfoldable pub kind_of : Octets → LineKind
-kind_of line = kind_of_text (without_return line)
+unfoldable pub kind_of_line : Octets → LineKind
+kind_of_line line = kind_of_text (without_return line)

@@ -65,9 +65,9 @@ SparesOthers =
 
 -- All that a device does by its clock: it takes turns and works, for example saves. The clock says
 -- a time in each turn, and another one at the end of the work.
-pub data Step : Type 0 where
-  Turn : (now : ℕ) → Step
-  Work : (now : ℕ) → Step
+pub data ClockStep : Type 0 where
+  Turn : (now : ℕ) → ClockStep
+  Work : (now : ℕ) → ClockStep
 
 -- The turns, the end of the last work, and what the clock said last.
 pub record Clocked : Type 0 where
@@ -75,26 +75,27 @@ pub record Clocked : Type 0 where
   pub worked : ℕ
   pub now : ℕ
 
-abbrev pub with_step : Clocked → Step → Clocked
-with_step clocked (Turn now) = record clocked { turns = after_turn clocked.turns now; now = now }
-with_step clocked (Work now) = record {
+abbrev pub with_clock_step : Clocked → ClockStep → Clocked
+with_clock_step clocked (Turn now) =
+    record clocked { turns = after_turn clocked.turns now; now = now }
+with_clock_step clocked (Work now) = record {
   turns = after_work clocked.turns;
   worked = now;
   now = now;
 }
 
-abbrev pub at_start : Clocked
-at_start = record { turns = at_first; worked = 0; now = 0 }
+abbrev pub clock_at_start : Clocked
+clock_at_start = record { turns = at_first; worked = 0; now = 0 }
 
-abbrev pub clocked_after : List Step → Clocked
-clocked_after steps = fold with_step at_start steps
+abbrev pub clocked_after : List ClockStep → Clocked
+clocked_after steps = fold with_clock_step clock_at_start steps
 
-abbrev pub now_of : Step → ℕ
+abbrev pub now_of : ClockStep → ℕ
 now_of (Turn now) = now
 now_of (Work now) = now
 
 -- The clock of the device never goes back.
-unfoldable pub NeverGoesBack : ℕ → List Step → Type 0
+unfoldable pub NeverGoesBack : ℕ → List ClockStep → Type 0
 NeverGoesBack last [] = Unit
 NeverGoesBack last (step ∷ steps) = (last ≤ now_of step) × NeverGoesBack (now_of step) steps
 
@@ -109,5 +110,5 @@ pub record IsAfterWork (clocked : Clocked) (now : ℕ) : Type 0 where
 -- Octets and lines are judged by no time before the last work of the device.
 abbrev pub JudgesAfterWork : Type 0
 JudgesAfterWork =
-    (steps : List Step) (now : ℕ) → NeverGoesBack 0 (steps ++ Turn now ∷ [])
+    (steps : List ClockStep) (now : ℕ) → NeverGoesBack 0 (steps ++ Turn now ∷ [])
     → IsAfterWork (clocked_after steps) now

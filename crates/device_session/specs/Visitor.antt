@@ -13,7 +13,7 @@ use Rattle.device_session.specs.declared.visitor.Visit.{Visit}
 use Rattle.device_session.specs.declared.visitor.Visit.TheVariants.{Stays, Reads, Asks, Comes, Leaves}
 use Rattle.device_session.specs.declared.visitor.Visitor.{Visitor}
 use Rattle.device_session.specs.Incoming.{Arrival, fresh, is_nothing, received}
-use Rattle.device_session.specs.Lines.{kind_of}
+use Rattle.device_session.specs.Lines.{kind_of_line}
 
 -- The end of a visit, at most 2^64 - 1.
 abbrev pub due_after : ℕ → ℕ
@@ -36,7 +36,7 @@ by_input Quiet nothing late =
     if late && not nothing then Leaves else if late then Comes else Stays
 
 abbrev pub by_found : Found → Visitor → ℕ → Bool → Visit
-by_found Line visitor now free = by_kind (kind_of (line_in visitor.incoming.inbox)) free
+by_found Line visitor now free = by_kind (kind_of_line (line_in visitor.incoming.inbox)) free
 by_found TooLong visitor now free = Asks
 by_found Nothing visitor now free =
     by_input visitor.incoming.input (is_nothing visitor.incoming) (nat_le visitor.due now)
@@ -50,7 +50,7 @@ asks_by_kind Call free = not free
 asks_by_kind kind free = true
 
 abbrev pub asks_by_found : Found → Octets → Bool → Bool
-asks_by_found Line octets free = asks_by_kind (kind_of (line_in octets)) free
+asks_by_found Line octets free = asks_by_kind (kind_of_line (line_in octets)) free
 asks_by_found TooLong octets free = true
 asks_by_found Nothing octets free = false
 
@@ -63,7 +63,7 @@ is_claim Claim = true
 is_claim kind = false
 
 abbrev pub claims_by_found : Found → Octets → Bool
-claims_by_found Line octets = is_claim (kind_of (line_in octets))
+claims_by_found Line octets = is_claim (kind_of_line (line_in octets))
 claims_by_found found octets = false
 
 -- Its next line claims the place, whether that is free or not.
@@ -82,7 +82,7 @@ visitor_after now arrivals = record {
 }
 
 abbrev pub BeginsWith : LineKind → Octets → Type 0
-BeginsWith kind octets = (found_in octets ≡ Line) × (kind_of (line_in octets) ≡ kind)
+BeginsWith kind octets = (found_in octets ≡ Line) × (kind_of_line (line_in octets) ≡ kind)
 
 -- The line `application` is next, or a call while there is no application, or nothing came of it
 -- in its time.

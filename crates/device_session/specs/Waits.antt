@@ -10,6 +10,7 @@ use Rattle.device_session.specs.declared.acceptance.Acceptance.{Acceptance}
 use Rattle.device_session.specs.declared.peer_clock.PeerClock.{PeerClock}
 use Rattle.device_session.specs.declared.place.Filled.{Filled}
 use Rattle.device_session.specs.declared.place.Filled.TheVariants as filled
+use Rattle.device_session.specs.declared.session.Session.{Session}
 use Rattle.device_session.specs.declared.strangers.Limits.{Limits}
 use Rattle.device_session.specs.declared.strangers.Stranger.{Stranger}
 use Rattle.device_session.specs.Acceptance.{accepts_at, after_failure, after_success}
@@ -74,6 +75,15 @@ pub record Parts : Type 0 where
   pub missed : Missed
   pub acceptance : Acceptance
   pub controller : Controller
+
+abbrev pub waiting_parts_of : {R : Type 0} → Session R → Parts
+waiting_parts_of session = record {
+  clock = session.clock;
+  application = session.application;
+  missed = session.missed;
+  acceptance = session.acceptance;
+  controller = session.controller.controller;
+}
 
 abbrev pub AreSame : Parts → Parts → Type 0
 AreSame before after = after ≡ before

@@ -314,20 +314,19 @@ impl Application {
     /// Returns the next line of the application or the visitor.
     ///
     /// The application's lines go first, up to a limit, so that a visitor sees their effects. A new
-    /// application receives the current state first.
-    #[tactic(auto, using(crate::proofs::Reached::by_choosing))]
-    pub(crate) fn next_line(&mut self, line: &mut ArrayVec<u8, LONGEST>) -> NextLine
-        ensures next { result ≡ spec.next_line_in (spec.after_choosing self.old) }
+    /// application receives the current state first. `now` is in milliseconds.
+    pub(crate) fn next_line(&mut self, line: &mut ArrayVec<u8, LONGEST>, now: u64) -> NextLine
+        ensures next { result ≡ spec.next_line_in (spec.after_choosing self.old now) }
         ensures line { line.new.items
-            ≡ spec.line_from (spec.after_choosing self.old) line.old.items }
-        ensures taken { self.new ≡ spec.after_asking (spec.after_choosing self.old) }
+            ≡ spec.line_from (spec.after_choosing self.old now) line.old.items }
+        ensures taken { self.new ≡ spec.after_asking (spec.after_choosing self.old now) }
     {
         if self.is_held {
             return NO_LINE;
         }
         let is_visited = self.is_asked_by_visitor();
         let is_busy = self.place.is_busy();
-        self.askers.choose(is_visited, is_busy);
+        self.askers.choose(is_visited, is_busy, now);
         self.next_line_of_asker(line)
     }
 

@@ -7,7 +7,7 @@ ghost use Rattle.app_lines.specs.Names.{handle_of as named_handle};
 ghost use Rattle.host_api.specs.declared.app.AppFault.TheVariants.{NoSuchConnection};
 ghost use Rattle.device_session.specs.Questions as questions;
 ghost use Rattle.device_session.specs.Questions.{called, question_by, question_of, question_of_line, question_of_text};
-ghost use Rattle.device_session.specs.Lines.{kind_of, kind_of_command, kind_of_text};
+ghost use Rattle.device_session.specs.Lines.{kind_of_line, kind_of_command, kind_of_text};
 
 use app_lines::{Command, Fault, Names, read_line, without_return, word_at};
 use arrayvec::ArrayVec;
@@ -70,9 +70,9 @@ pub(crate) enum LineKind {
 }
 
 /// Returns the kind of a line.
-#[tactic(auto, unfolding(crate::specs::Lines::kind_of))]
+#[tactic(auto, unfolding(crate::specs::Lines::kind_of_line))]
 pub(crate) fn line_kind(line: &[u8]) -> LineKind
-    ensures { result ≡ kind_of line.now }
+    ensures { result ≡ kind_of_line line.now }
 {
     kind_of_octets(without_return(line))
 }

@@ -6,7 +6,7 @@ ghost use Rattle.std.specs.Result.{result_ok};
 ghost use Rattle.device_session.specs.Application.{after_choosing};
 ghost use Rattle.device_session.specs.Asking as spec;
 ghost use Rattle.device_session.specs.Asking.{AnswersEachLine, ContinuesLines, EndsWithClosing, IsAnswerKept};
-ghost use Rattle.device_session.specs.Lines.{kind_of};
+ghost use Rattle.device_session.specs.Lines.{kind_of_line};
 ghost use Rattle.device_session.specs.Questions.{call_in, called, question_in, question_of};
 
 use crate::application::Application;
@@ -112,17 +112,18 @@ impl Asking {
         buffer: &'a mut [u8],
     ) -> Option<App<'a>>
         ensures application { application.new ≡ spec.application_if (spec.may_begin self.old)
-            (after_choosing application.old) application.old }
+            (after_choosing application.old time) application.old }
         ensures call { option_map called result ≡ spec.call_made (spec.call_if
-            (spec.may_begin self.old) (after_choosing application.old) self.old
+            (spec.may_begin self.old) (after_choosing application.old time) self.old
             names.now.named time (length buffer.old)) }
         ensures asked { self.new ≡ spec.asked_if (spec.may_begin self.old)
-            (after_choosing application.old) self.old names.now.named time (length buffer.old) }
+            (after_choosing application.old time) self.old
+            names.now.named time (length buffer.old) }
     {
         if !self.may_begin() {
             return None;
         }
-        let next = application.next_line(&mut self.line);
+        let next = application.next_line(&mut self.line, time);
         let line = self.line.as_slice();
         take(next, line, &mut self.unanswered, &mut self.closing);
         call(line, &mut self.unanswered, names, time, buffer)
@@ -341,7 +342,7 @@ fn are_few(answers: &Option<Result<Vec<u8>, AllocError>>) -> bool
 }
 
 fn is_wrong(line: &[u8]) -> bool
-    ensures { result ≡ spec.is_wrong_kind (kind_of line.now) }
+    ensures { result ≡ spec.is_wrong_kind (kind_of_line line.now) }
 {
     matches!(line_kind(line), LineKind::Wrong)
 }

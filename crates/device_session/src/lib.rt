@@ -19,6 +19,8 @@ mod output;
 mod peer_clock;
 mod pending;
 mod place;
+mod refusal_log;
+mod refusals;
 mod seats;
 mod session;
 mod session_output;

@@ -6,7 +6,7 @@ ghost use Rattle.device_session.specs.Timeout.{application_acts, limits_of, read
 ghost use Rattle.device_session.specs.Turns.{after_reading, reads, IsTurn};
 ghost use Rattle.device_session.specs.Acceptance.{accepts_at};
 ghost use Rattle.device_session.specs.Place.{is_there};
-ghost use Rattle.device_session.specs.Waits.{has_other, readied_if, AreSame, IsAcceptanceIf, IsFlushedIf, IsReadyIf, IsTakenIn, IsWait};
+ghost use Rattle.device_session.specs.Waits.{has_other, readied_if, AreSame, IsAcceptanceIf, IsFlushedIf, IsReadyIf, IsTakenIn, IsWait, waiting_parts_of};
 
 use crate::acceptance::Acceptance;
 use crate::application::Application;
@@ -91,33 +91,11 @@ impl<R: System> Session<'_, R> {
     /// worked since.
     pub fn next_tick(&mut self, deadline: Option<u64>) -> Option<u64>
         ensures turn { IsTurn self.old.turns result self.new.turns }
-        ensures same { self.old.turns.is_told ≡ true → AreSame (record {
-          clock = self.old.clock;
-          application = self.old.application;
-          missed = self.old.missed;
-          acceptance = self.old.acceptance;
-          controller = self.old.controller.controller;
-        }) (record {
-          clock = self.new.clock;
-          application = self.new.application;
-          missed = self.new.missed;
-          acceptance = self.new.acceptance;
-          controller = self.new.controller.controller;
-        }) }
+        ensures same { self.old.turns.is_told ≡ true
+            → AreSame (waiting_parts_of self.old) (waiting_parts_of self.new) }
         ensures waited { self.old.turns.is_told ≡ false
-            → IsWait self.old.waits_for_application (record {
-              clock = self.old.clock;
-              application = self.old.application;
-              missed = self.old.missed;
-              acceptance = self.old.acceptance;
-              controller = self.old.controller.controller;
-            }) (record {
-              clock = self.new.clock;
-              application = self.new.application;
-              missed = self.new.missed;
-              acceptance = self.new.acceptance;
-              controller = self.new.controller.controller;
-            }) }
+            → IsWait self.old.waits_for_application
+            (waiting_parts_of self.old) (waiting_parts_of self.new) }
         ensures asking { self.new.asking ≡ self.old.asking }
         ensures names { self.new.names ≡ self.old.names }
         ensures pending { self.new.pending ≡ self.old.pending }
@@ -131,19 +109,8 @@ impl<R: System> Session<'_, R> {
     }
 
     fn wait(&mut self, deadline: Option<u64>)
-        ensures waited { IsWait self.old.waits_for_application (record {
-          clock = self.old.clock;
-          application = self.old.application;
-          missed = self.old.missed;
-          acceptance = self.old.acceptance;
-          controller = self.old.controller.controller;
-        }) (record {
-          clock = self.new.clock;
-          application = self.new.application;
-          missed = self.new.missed;
-          acceptance = self.new.acceptance;
-          controller = self.new.controller.controller;
-        }) }
+        ensures waited { IsWait self.old.waits_for_application
+            (waiting_parts_of self.old) (waiting_parts_of self.new) }
         ensures turns { self.new.turns ≡ self.old.turns }
         ensures asking { self.new.asking ≡ self.old.asking }
         ensures names { self.new.names ≡ self.old.names }
@@ -171,19 +138,8 @@ impl<R: System> Session<'_, R> {
     }
 
     fn take_in(&mut self, ready: Ready)
-        ensures taken { IsTakenIn ready self.old.waits_for_application (record {
-          clock = self.old.clock;
-          application = self.old.application;
-          missed = self.old.missed;
-          acceptance = self.old.acceptance;
-          controller = self.old.controller.controller;
-        }) (record {
-          clock = self.new.clock;
-          application = self.new.application;
-          missed = self.new.missed;
-          acceptance = self.new.acceptance;
-          controller = self.new.controller.controller;
-        }) }
+        ensures taken { IsTakenIn ready self.old.waits_for_application
+            (waiting_parts_of self.old) (waiting_parts_of self.new) }
         ensures turns { self.new.turns ≡ self.old.turns }
         ensures asking { self.new.asking ≡ self.old.asking }
         ensures names { self.new.names ≡ self.old.names }

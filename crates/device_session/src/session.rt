@@ -27,6 +27,7 @@ use crate::missed::Missed;
 use crate::opening::{connector_to, listener_at, record_to};
 use crate::peer_clock::PeerClock;
 use crate::pending::{Pending, Subject};
+use crate::refusals::Refusals;
 use crate::strangers::{Keyless, Limits};
 use crate::turns::Turns;
 use app_lines::Names;
@@ -60,6 +61,8 @@ pub struct Session<'a, R> {
     pub(crate) asking: Asking,
     pub(crate) turns: Turns,
     pub(crate) clock: PeerClock,
+    pub(crate) refusals: Refusals,
+    pub(crate) logs_refusals: bool,
 }
 
 impl<'a, R: Net<Listener = TcpListener, Stream = TcpStream> + Clock + Eprint> Session<'a, R> {
@@ -108,6 +111,8 @@ impl<'a, R: Net<Listener = TcpListener, Stream = TcpStream> + Clock + Eprint> Se
             asking: Asking::nothing(),
             turns: Turns::new(),
             clock,
+            refusals: Refusals::none(),
+            logs_refusals: false,
         })
     }
 }
@@ -147,17 +152,17 @@ impl<'a, R> Session<'a, R> {
         ensures call { IfNone (first_due self.old.controller.strangers.limits
             self.old.clock.counted self.old.controller.strangers.known.items)
             (option_map called result ≡ call_made (call_if (may_begin self.old.asking)
-            (after_choosing self.old.application) self.old.asking
+            (after_choosing self.old.application self.old.turns.time) self.old.asking
             self.old.names.named self.old.turns.time (length buffer.old))) }
         ensures asked { IfNone (first_due self.old.controller.strangers.limits
             self.old.clock.counted self.old.controller.strangers.known.items)
             (self.new.asking ≡ asked_if (may_begin self.old.asking)
-            (after_choosing self.old.application) self.old.asking
+            (after_choosing self.old.application self.old.turns.time) self.old.asking
             self.old.names.named self.old.turns.time (length buffer.old)) }
         ensures application { IfNone (first_due self.old.controller.strangers.limits
             self.old.clock.counted self.old.controller.strangers.known.items)
             (self.new.application ≡ application_if (may_begin self.old.asking)
-            (after_choosing self.old.application) self.old.application) }
+            (after_choosing self.old.application self.old.turns.time) self.old.application) }
         ensures turns { self.new.turns ≡ self.old.turns }
     {
         if let Some(handle) = self.controller.strangers.next_due(self.clock.time()) {

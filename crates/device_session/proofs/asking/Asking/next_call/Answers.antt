@@ -5,4 +5,4 @@ use Rattle.device_session.proofs.asking.Asking.next_call.Goals as goal
 
 pub invariant_of-self : goal.invariant_of-self
 invariant_of-self c =
-    by_beginning _ _ (after_choosing c.args.application.now) c.args.names.now.named c.args.time (length c.args.buffer.now) c.self.invariant (search rules)
+    by_beginning _ _ (after_choosing c.args.application.now c.args.time) c.args.names.now.named c.args.time (length c.args.buffer.now) c.self.invariant (search rules)
