@@ -1,5 +1,6 @@
-//! The state of another table, which is kept before it is replaced.
+//! The states of other tables, which are kept before they are replaced.
 
+use crate::files::octets_of;
 use crate::stop::{Stop, refuse};
 use device_io::{Log, SavedFile};
 use device_state::State;
@@ -7,29 +8,70 @@ use shell_files::ShellFault;
 use std::alloc::Global;
 use std::fs;
 use std::fs::{File, Files};
+use std::io::ErrorKind;
 use std::time::Clock;
 
-/// Keeps a state in the same folder, as `state.before`, or as `state.other` if `state.before` has a
-/// state of the table that is served now.
+/// The most states that are kept.
+const MOST_KEPT: u32 = 999;
+
+/// A path at which a state may be kept.
+#[derive(Clone, Copy, PartialEq, Eq)]
+enum Place {
+    Free,
+    /// It has the state that is to be kept.
+    Same,
+    /// It has a state of the table that is served now.
+    Right,
+    Other,
+}
+
+/// Keeps a state in the same folder, unless it is kept there already.
+///
+/// Its name is the first free one of `state.before`, `state.before.2` and so on: a kept state is
+/// never replaced. Logs which of them are of the table that is served now.
 pub(crate) fn keep_before<R: Files<File = File> + Clock + Eprint>(
     alloc: Global,
     log: &Log<'_, R>,
     file: &SavedFile,
     table_text: &[u8],
 ) -> Result<(), Stop> {
-    let path = file.path();
-    let (Ok(before), Ok(other)) = (
-        format!(in alloc; "{path}.before"),
-        format!(in alloc; "{path}.other"),
-    ) else {
-        return Err(Stop::Fault(ShellFault::Memory));
+    let state = match octets_of(alloc, log.rt, file.path()) {
+        Ok(state) => state.unwrap_or(Vec::new(alloc)),
+        Err(refusal) => return Err(refuse(log.rt, refusal)),
     };
-    if may_serve(alloc, log.rt, before.as_str(), table_text) {
-        keep_as(alloc, log, file, other.as_str())?;
-        log.say_of("a state of this table is in", before.as_str());
-        Ok(())
+    let mut is_kept = false;
+    for number in 1..=MOST_KEPT {
+        let kept = path_of(alloc, file.path(), number)?;
+        match place_at(alloc, log.rt, kept.as_str(), state.as_slice(), table_text) {
+            Place::Free if is_kept => return Ok(()),
+            Place::Free => return keep_as(alloc, log, file, kept.as_str()),
+            Place::Same => is_kept = true,
+            Place::Right => log.say_of("a state of this table is in", kept.as_str()),
+            Place::Other => {}
+        }
+    }
+    if is_kept {
+        return Ok(());
+    }
+    let path = file.path();
+    Err(refuse(
+        log.rt,
+        format!(in alloc;
+            "{path}.before: {MOST_KEPT} states are kept: delete those you do not need"
+        ).ok(),
+    ))
+}
+
+/// Returns the path of a kept state by its number from 1.
+fn path_of(alloc: Global, path: &str, number: u32) -> Result<String, Stop> {
+    let kept = if number == 1 {
+        format!(in alloc; "{path}.before")
     } else {
-        keep_as(alloc, log, file, before.as_str())
+        format!(in alloc; "{path}.before.{number}")
+    };
+    match kept {
+        Ok(kept) => Ok(kept),
+        Err(_) => Err(Stop::Fault(ShellFault::Memory)),
     }
 }
 
@@ -48,20 +90,31 @@ fn keep_as<R: Files<File = File> + Clock + Eprint>(
     }
 }
 
-/// Returns true if the file at a path has a state of the table with this text, or cannot be read.
-fn may_serve<R: Files<File = File>>(alloc: Global, rt: &R, path: &str, table_text: &[u8]) -> bool {
+/// Returns what is at a path. A file that cannot be read counts as another one.
+fn place_at<R: Files<File = File>>(
+    alloc: Global,
+    rt: &R,
+    path: &str,
+    state: &[u8],
+    table_text: &[u8],
+) -> Place {
+    match fs::symlink_metadata(rt, path) {
+        Err(error) if error.kind() == ErrorKind::NotFound => return Place::Free,
+        Err(_) => return Place::Other,
+        Ok(_) => {}
+    }
     match fs::metadata(rt, path) {
         Ok(found) if found.is_file() => {}
-        _ => return false,
+        _ => return Place::Other,
     }
-    let Ok(mut file) = File::open(rt, path) else {
-        return true;
+    let Ok(Some(octets)) = octets_of(alloc, rt, path) else {
+        return Place::Other;
     };
-    let Ok(octets) = shell_files::read_all(alloc, &mut file) else {
-        return true;
-    };
+    if octets.as_slice() == state {
+        return Place::Same;
+    }
     match State::read(alloc, octets.as_slice()) {
-        Ok(state) => state.table_text().as_bytes() == table_text,
-        Err(_) => false,
+        Ok(state) if state.table_text().as_bytes() == table_text => Place::Right,
+        _ => Place::Other,
     }
 }

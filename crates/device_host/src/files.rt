@@ -14,6 +14,9 @@ use std::fs::{File, Files};
 use std::io::ErrorKind;
 use std::str;
 
+/// The largest size of a file that a device reads. A state within all limits is smaller.
+const MOST_OCTETS: usize = 16_777_216;
+
 /// The keys of a file, and its text.
 #[derive(Drop)]
 pub(crate) struct KeyFile {
@@ -73,7 +76,7 @@ pub(crate) fn read_table<R: Files<File = File> + Eprint>(
     let Some(text) = read_file(alloc, rt, path)? else {
         return Err(refuse(rt, format!(in alloc; "{path}: not there").ok()));
     };
-    match judged(alloc, path, text.as_slice()) {
+    match judged(alloc, path, text.as_slice(), usize::MAX) {
         Ok(table) => Ok(TableFile { table, text }),
         Err(refusal) => Err(refuse(rt, refusal)),
     }
@@ -84,22 +87,25 @@ pub(crate) fn read_keys<R: Files<File = File> + Eprint>(
     rt: &R,
     path: &str,
 ) -> Result<KeyFile, Stop> {
-    match judged_key_file(alloc, rt, path) {
+    match judged_key_file(alloc, rt, path, usize::MAX) {
         Ok(file) => Ok(file),
         Err(refusal) => Err(refuse(rt, refusal)),
     }
 }
 
 /// Reads a key file. A refusal has its path and the reason, or nothing if memory was refused.
+///
+/// It also has the place of the fault if the file has at most `placed` bytes.
 pub(crate) fn judged_key_file<R: Files<File = File>>(
     alloc: Global,
     rt: &R,
     path: &str,
+    placed: usize,
 ) -> Result<KeyFile, Option<String>> {
     let Some(text) = octets_of(alloc, rt, path)? else {
         return Err(format!(in alloc; "{path}: not there").ok());
     };
-    let keys = judged(alloc, path, text.as_slice())?;
+    let keys = judged(alloc, path, text.as_slice(), placed)?;
     Ok(KeyFile { keys, text })
 }
 
@@ -110,19 +116,28 @@ pub(crate) fn read_subscriptions<R: Files<File = File> + Eprint>(
     path: &str,
 ) -> Result<Rows, Stop> {
     let text = read_file(alloc, rt, path)?.unwrap_or(Vec::new(alloc));
-    match judged(alloc, path, text.as_slice()) {
+    match judged(alloc, path, text.as_slice(), usize::MAX) {
         Ok(rows) => Ok(rows),
         Err(refusal) => Err(refuse(rt, refusal)),
     }
 }
 
 /// Reads the content of a file. A refusal: as of `judged_key_file`.
-fn judged<T: Content>(alloc: Global, path: &str, octets: &[u8]) -> Result<T, Option<String>> {
+fn judged<T: Content>(
+    alloc: Global,
+    path: &str,
+    octets: &[u8],
+    placed: usize,
+) -> Result<T, Option<String>> {
     match T::judge(alloc, octets) {
         Ok(content) => Ok(content),
         Err(fault) => {
             let mut place = Vec::new(alloc);
-            let told = T::tell_fault(alloc, &mut place, octets);
+            let told = if octets.len() <= placed {
+                T::tell_fault(alloc, &mut place, octets)
+            } else {
+                Ok(())
+            };
             Err(refusal_at(alloc, path, fault, told, place.as_slice()))
         }
     }
@@ -140,7 +155,10 @@ pub(crate) fn read_file<R: Files<File = File> + Eprint>(
     }
 }
 
-fn octets_of<R: Files<File = File>>(
+/// Returns the bytes of a file, or `None` if it is missing.
+///
+/// Stops soon after `MOST_OCTETS`, and refuses the file. A refusal: as of `judged_key_file`.
+pub(crate) fn octets_of<R: Files<File = File>>(
     alloc: Global,
     rt: &R,
     path: &str,
@@ -150,7 +168,11 @@ fn octets_of<R: Files<File = File>>(
         Err(error) if error.kind() == ErrorKind::NotFound => return Ok(None),
         Err(error) => return Err(format!(in alloc; "{path}: {error}").ok()),
     };
-    match shell_files::read_all(alloc, &mut file) {
+    match shell_files::read_at_most(alloc, &mut file, MOST_OCTETS) {
+        Ok(octets) if octets.len() > MOST_OCTETS => {
+            drop(octets);
+            Err(format!(in alloc; "{path}: more than {MOST_OCTETS} bytes").ok())
+        }
         Ok(octets) => Ok(Some(octets)),
         Err(ShellFault::Memory) => Err(None),
         Err(_) => Err(format!(in alloc; "{path}: cannot be read").ok()),

@@ -12,6 +12,7 @@ mod device;
 mod files;
 mod finding;
 mod keeping;
+mod key_notes;
 mod opening;
 mod outgoing;
 mod outside;

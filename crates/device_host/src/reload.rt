@@ -21,6 +21,11 @@ use std::fs::{File, Files};
 use std::time::Clock;
 use std::{fs, str};
 
+/// The largest file in which the place of a fault is searched for, in bytes.
+///
+/// Clients wait meanwhile.
+const PLACED_OCTETS: usize = 4_096;
+
 /// The outcome of the line `reload`.
 #[derive(Drop)]
 enum Answer {
@@ -100,7 +105,7 @@ fn read_again<R: Files<File = File> + Clock + Eprint>(
         Ok(_) => return Err(format!(in alloc; "{path}: not a file").ok()),
         Err(error) => return Err(format!(in alloc; "{path}: {error}").ok()),
     }
-    let file = match judged_key_file(alloc, rt, path) {
+    let file = match judged_key_file(alloc, rt, path, PLACED_OCTETS) {
         Ok(file) => file,
         Err(refusal) => return Err(refusal),
     };
@@ -181,6 +186,16 @@ pub(crate) fn reopen_with_keys<R: Files<File = File> + Clock + Eprint>(
     device.session.flush();
     device.supervision.ready();
     opened
+}
+
+/// Answers the line `reload`, if any, of a device that ends before it opens a host again.
+pub(crate) fn give_up_reload<R: Clock + Eprint>(device: &mut Device<'_, R>) {
+    if let Course::Reloads { .. } = device.course {
+        let words = format!(in device.alloc; "the device ends").ok();
+        answer_reload(device, &Answer::Refused(words));
+        device.session.reply();
+        device.session.flush();
+    }
 }
 
 fn exchange_keys<R: Files<File = File> + Clock + Eprint>(

@@ -188,7 +188,7 @@ fn log_line<R: Clock + Eprint>(log: &Log<'_, R>, line: Option<String>) -> Result
 }
 
 /// Returns address type and address.
-fn peer_text(alloc: Global, front: &str, peer: &Peer) -> Result<String, AllocError> {
+pub(crate) fn peer_text(alloc: Global, front: &str, peer: &Peer) -> Result<String, AllocError> {
     let address = address_text(peer.address);
     let address = str::from_utf8(&address).unwrap_or("");
     let kind = peer.kind;

@@ -9,9 +9,10 @@ use crate::answers::note_event;
 use crate::course::Course;
 use crate::device::{Device, Takes};
 use crate::keeping::{Contents, Keeping};
+use crate::key_notes::note_keys;
 use crate::opening::{open_host, reopen};
 use crate::outgoing::ToController;
-use crate::reload::reopen_with_keys;
+use crate::reload::{give_up_reload, reopen_with_keys};
 use crate::starting::{Start, begin_capture, reaching};
 use crate::state_lines::add_ends;
 use crate::stop::Stop;
@@ -159,6 +160,13 @@ fn save_and_serve<R: System>(
         drop(host);
         return Err(stop);
     }
+    device.session.log_refusals(options.log_refusals);
+    note_keys(
+        device.alloc,
+        device.session.log(),
+        device.files.keys,
+        device.key_text.as_slice(),
+    );
     device.session.log().say("ready");
     device.supervision.ready();
     serve_each(device, host, options)
@@ -176,10 +184,11 @@ fn serve_each<R: System>(
     for _controller in 0..u64::MAX {
         let over = serve_one(device, &mut host, &mut hearing);
         if over.is_last(options.once) {
+            give_up_reload(device);
             outcome = over.outcome();
             break;
         }
-        host = open_next(device, host, &options.host, over)?;
+        host = open_next(device, host, &options.host)?;
         device.session.lose();
     }
     drop(hearing);
@@ -187,15 +196,14 @@ fn serve_each<R: System>(
     outcome
 }
 
-/// Opens the host of the next controller.
+/// Opens the host of the next controller, with other keys if the device reloads.
 fn open_next<R: Files<File = File> + Clock + Eprint>(
     device: &mut Device<'_, R>,
     host: Host,
     settings: &HostSettings,
-    over: Over,
 ) -> Result<Host, Stop> {
-    match over {
-        Over::Reloads => reopen_with_keys(device, host, settings),
+    match device.course {
+        Course::Reloads { .. } => reopen_with_keys(device, host, settings),
         _ => reopen(device, host, settings),
     }
 }
@@ -224,6 +232,7 @@ fn serve_one<R: System>(
     device.session.know(&hearing.heard);
     device.ending.clear();
     let over = serve_turns(device, host, hearing);
+    device.session.end_all_refusals();
     match device.course {
         Course::Serves => {
             tell_over(device.alloc, &mut device.session, host, over);
@@ -242,7 +251,7 @@ fn serve_one<R: System>(
                 reset(device);
             }
             tell_over(device.alloc, &mut device.session, host, over);
-            Over::Reloads
+            over
         }
     }
 }

@@ -9,7 +9,7 @@ use std::alloc::Global;
 use std::time::Clock;
 
 /// The least octets of a packet, and so the most packets in so many octets.
-const LEAST: usize = 4;
+pub(crate) const LEAST: usize = 4;
 
 /// The connections that the log names already, each by its name.
 #[derive(Drop)]
@@ -34,10 +34,7 @@ impl Unkeyed {
     ) {
         let mut rest = octets;
         for _packet in 0..octets.len() / LEAST {
-            let Some(size) = first_size(rest) else {
-                return;
-            };
-            let (Some(packet), Some(others)) = (rest.get(..size), rest.get(size..)) else {
+            let Some((packet, others)) = first_packet(rest) else {
                 return;
             };
             if let Some(handle) = refused_key(packet)
@@ -67,4 +64,10 @@ impl Unkeyed {
             log.say(line.as_str());
         }
     }
+}
+
+/// Returns the first packet, if it is whole, and the octets after it.
+pub(crate) fn first_packet(octets: &[u8]) -> Option<(&[u8], &[u8])> {
+    let size = first_size(octets)?;
+    octets.split_at_checked(size)
 }
