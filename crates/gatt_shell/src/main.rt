@@ -158,6 +158,16 @@ fn run_show(rt: &HostRuntime, paths: ShowPaths<'_>, view: View) -> u8 {
         tell_at(rt, &ShellFault::Unreadable, place.as_bytes());
         return gatt_commands::status(&ShellFault::Unreadable);
     }
+    if let Some(path) = keys
+        && ran.is_ok()
+        && shell_files::is_shared(rt, path)
+        && let Ok(line) = format!(in rt.alloc();
+            "note: {path} can be used by others than its owner: run `chmod 600 {path}`"
+        )
+    {
+        // If this fails, the note cannot be printed at all.
+        let _ = rt.eprintln(line.as_str());
+    }
     exit_status(rt, ran)
 }
 

@@ -2,14 +2,20 @@
 
 use gatt_commands::ShellFault;
 use shell_args::Refusal;
-use std::io;
 use std::io::{ErrorKind, Read, Write};
 use std::net::Shutdown;
 use std::os::unix::net::UnixStream;
-use std::time::Duration;
+use std::time::{Duration, Instant};
+use std::{io, thread};
 
-/// Time limit for an answer, in seconds. A device may wait ten for its controller.
+/// Time limit for a whole answer, in seconds. A device may wait ten for its controller.
 const PATIENCE: u64 = 20;
+
+/// Time between attempts to connect, in milliseconds.
+const RETRY_TIME: u64 = 50;
+
+/// The most attempts to connect, whatever the clock shows.
+const MOST_ATTEMPTS: u32 = 1_000;
 
 /// The most bytes of an answer. A device has at most 8 connections and 4,096 subscriptions.
 const MOST: usize = 1_048_576;
@@ -61,18 +67,43 @@ fn exchange(rt: &HostRuntime, socket: &str, words: &[&str]) -> io::Result<Vec<u8
         line.extend_from_slice(word.as_bytes())?;
     }
     line.extend_from_slice(b"\n")?;
-    let mut stream = UnixStream::connect(rt, socket)?;
-    stream.set_read_timeout(Some(Duration::from_secs(PATIENCE)))?;
+    let start = Instant::now(rt)?;
+    let mut stream = connect(rt, socket, start)?;
+    stream.set_nonblocking(false)?;
+    stream.set_write_timeout(Some(time_left(rt, start)?))?;
     stream.write_all(line.as_slice())?;
     stream.shutdown(Shutdown::Write)?;
-    read_answer(rt, &mut stream)
+    read_answer(rt, &mut stream, start)
+}
+
+/// Connects to a device, and tries again while its socket has no capacity for one more connection.
+fn connect(rt: &HostRuntime, socket: &str, start: Instant) -> io::Result<UnixStream> {
+    for _attempt in 0..MOST_ATTEMPTS {
+        match device_io::connect_at_path(rt, socket) {
+            Err(error) if error.kind() == ErrorKind::WouldBlock => {}
+            connected => return connected,
+        }
+        time_left(rt, start)?;
+        thread::sleep(rt, Duration::from_millis(RETRY_TIME));
+    }
+    Err(io::Error::from(ErrorKind::TimedOut))
+}
+
+/// Returns the time until the limit, or the error `TimedOut`.
+fn time_left(rt: &HostRuntime, start: Instant) -> io::Result<Duration> {
+    let limit = Duration::from_secs(PATIENCE);
+    match limit.checked_sub(start.elapsed(rt)?) {
+        Some(left) if !left.is_zero() => Ok(left),
+        _ => Err(io::Error::from(ErrorKind::TimedOut)),
+    }
 }
 
 /// Reads to the end of a connection, or up to the limit.
-fn read_answer(rt: &HostRuntime, stream: &mut UnixStream) -> io::Result<Vec<u8>> {
+fn read_answer(rt: &HostRuntime, stream: &mut UnixStream, start: Instant) -> io::Result<Vec<u8>> {
     let mut text = Vec::new(rt.alloc());
     let mut buffer = [0; 1_024];
     for _read in 0..MOST {
+        stream.set_read_timeout(Some(time_left(rt, start)?))?;
         let count = stream.read(&mut buffer)?;
         if count == 0 || text.len() >= MOST {
             break;

@@ -1,6 +1,8 @@
 //! Words for ATT PDUs: the command `words`, and the option of `att` and `run`.
 
 use crate::outcome_of;
+use att_table::Table;
+use att_table::examples::DOOR;
 use att_words::{CopyFault, Handles, Worded};
 use gatt_commands::{
     KeysPath, LazyFile, RowsOut, RowsReader, RunPaths, ShellFault, TablePath, att_lines, read_table,
@@ -34,12 +36,16 @@ fn copy(rt: &HostRuntime, handles: Handles<'_>) -> Result<(), ShellFault> {
     }
 }
 
-/// Answers PDUs from standard input with words, as `att` does without.
+/// Answers PDUs from standard input with words, as `att` does without, and names handles by its
+/// table.
 pub(crate) fn answer_lines(rt: &HostRuntime) -> Result<(), ShellFault> {
+    let Ok(table) = Table::read(rt.alloc(), DOOR) else {
+        return Err(ShellFault::Memory);
+    };
     let Ok(writer) = BufWriter::new(rt.alloc(), io::writer(rt)) else {
         return Err(ShellFault::Memory);
     };
-    let mut worded = Worded::new(writer, Handles::unnamed());
+    let mut worded = Worded::new(writer, Handles::of(&table, None));
     let ran = att_lines(rt.alloc(), &mut rt.reader(), &mut worded);
     outcome_of(ran, worded.flush().is_ok())
 }

@@ -10,25 +10,26 @@ use Rattle.att_attributes.specs.declared.attr.Role.{Role}
 use Rattle.att_attributes.specs.declared.attr.Role.TheVariants.{Declaration, Value, Configuration, Descriptor}
 use Rattle.att_attributes.specs.Group.{is_service_type}
 use Rattle.att_table.specs.Table.{Contents}
+use Rattle.le_hci.specs.declared.peer.Peer.{Peer}
 use Rattle.le_security.specs.declared.entry.Entry.{Entry}
-use Rattle.gatt_rights.specs.Columns.{columns_among}
+use Rattle.gatt_rights.specs.Columns.{columns_among, peers_of_kind}
 use Rattle.gatt_show.specs.Line.{length_text, told_value}
 use Rattle.gatt_show.specs.TypeText.{type_text}
 use Rattle.rights_text.specs.Cell.{cell_text}
 use Rattle.rights_text.specs.Columns.{named_from}
-use Rattle.rights_text.specs.Legend.{is_of_column, key_text, peer_words}
+use Rattle.rights_text.specs.Legend.{key_text, peer_words}
 use Rattle.rights_text.specs.declared.columns.Column.{Column}
 
--- The peers with a key of a column.
-unfoldable pub peer_data : Column → Entry → Octets
-peer_data column entry =
-    if is_of_column column entry
-    then codes "peer\t" ++ column.name ∷ 9 ∷ peer_words entry.peer ++ 10 ∷ [] else []
+-- A peer with a key of the kind of a column.
+unfoldable pub peer_data : Column → Peer → Octets
+peer_data column peer =
+    codes "peer\t" ++ column.name ∷ 9 ∷ peer_words peer ++ 10 ∷ []
 
+-- A column, and each of its peers once.
 unfoldable pub column_data : List Entry → Column → Octets
 column_data keys column =
     codes "column\t" ++ column.name ∷ 9 ∷ key_text column.key ++ 10 ∷ []
-    ++ flat_map (peer_data column) keys
+    ++ flat_map (peer_data column) (peers_of_kind keys column.key)
 
 -- The cell of an attribute in each column.
 abbrev pub cell_data : Contents → Attr → Column → Octets
@@ -59,11 +60,11 @@ line_data_by Descriptor table columns attr = row_data table columns attr
 abbrev pub line_data : Contents → List Column → Attr → Octets
 line_data table columns attr = line_data_by attr.role table columns attr
 
-abbrev pub columns_for : List Entry → List Column
-columns_for keys = named_from 65 (columns_among keys)
+abbrev pub page_columns : List Entry → List Column
+page_columns keys = named_from 65 (columns_among keys)
 
 -- The columns, and then the attributes.
 unfoldable pub rights_data : Contents → List Entry → Octets
 rights_data table keys =
-    flat_map (column_data keys) (columns_for keys)
-    ++ flat_map (line_data table (columns_for keys)) table.attributes
+    flat_map (column_data keys) (page_columns keys)
+    ++ flat_map (line_data table (page_columns keys)) table.attributes

@@ -1,15 +1,15 @@
 //! The rights of a table as lines of fields.
 
-ghost use Rattle.std.specs.Prelude.{◌≡◌, ◌++◌, ◌∷◌, IfOk, OnOk, [], slice_get};
+ghost use Rattle.std.specs.Prelude.{◌≡◌, ◌++◌, ◌∷◌, IfOk, OnOk};
 ghost use Rattle.std.specs.List.{flat_map};
-ghost use Rattle.std.specs.Option.{option_map_or};
 ghost use Rattle.rights_text.specs.Cell.{always_of, cell_text, is_once, once_of};
 ghost use Rattle.playground.specs.Fields.{cell_data, column_data, line_data, name_data, peer_data, rights_data, row_data, service_data};
 
 use att_policy::KeyFacts;
 use att_table::{Attr, Role, Table, is_service, type_octets};
-use gatt_rights::{Right, all_attributes, columns_of, is_same_column, may_with};
+use gatt_rights::{Right, all_attributes, columns_of, may_with, peers_of_kind};
 use gatt_show::{add_length, add_type, told_value};
+use le_hci::Peer;
 use le_security::Keys;
 use rights_text::{Column, Rights, add_key, add_peer_words, cell_of, named_columns};
 use std::alloc::{AllocError, Global};
@@ -28,22 +28,32 @@ pub(crate) fn add_rights_data(
     ensures ok { OnOk result (text.new.items ≡ text.old.items ++ rights_data table.now keys.now) }
 {
     let columns = named_columns(alloc, &columns_of(alloc, keys)?)?;
-    add_columns(text, keys, &columns)?;
+    add_columns(alloc, text, keys, &columns)?;
     add_lines(alloc, text, table, &columns, all_attributes(table))
 }
 
-fn add_columns(text: &mut Vec<u8>, keys: &Keys, columns: &[Column]) -> Result<(), AllocError>
+fn add_columns(
+    alloc: Global,
+    text: &mut Vec<u8>,
+    keys: &Keys,
+    columns: &[Column],
+) -> Result<(), AllocError>
     ensures ok { OnOk result (text.new.items
         ≡ text.old.items ++ flat_map (column_data keys.now) columns.now) }
 {
     for column in columns {
-        add_column(text, keys, column)?;
+        add_column(alloc, text, keys, column)?;
     }
     Ok(())
 }
 
 #[tactic(auto, unfolding(crate::specs::Fields::column_data))]
-fn add_column(text: &mut Vec<u8>, keys: &Keys, column: &Column) -> Result<(), AllocError>
+fn add_column(
+    alloc: Global,
+    text: &mut Vec<u8>,
+    keys: &Keys,
+    column: &Column,
+) -> Result<(), AllocError>
     ensures ok { OnOk result (text.new.items
         ≡ text.old.items ++ column_data keys.now column.now) }
 {
@@ -51,30 +61,25 @@ fn add_column(text: &mut Vec<u8>, keys: &Keys, column: &Column) -> Result<(), Al
     add_octets(text, &[column.name, b'\t'])?;
     add_key(text, column.key)?;
     add_octets(text, b"\n")?;
-    add_peers(text, keys, column)
+    let peers = peers_of_kind(alloc, keys, column.key)?;
+    add_peers(text, column, &peers)
 }
 
-fn add_peers(text: &mut Vec<u8>, keys: &Keys, column: &Column) -> Result<(), AllocError>
+fn add_peers(text: &mut Vec<u8>, column: &Column, peers: &[Peer]) -> Result<(), AllocError>
     ensures ok { OnOk result (text.new.items
-        ≡ text.old.items ++ flat_map (peer_data column.now) keys.now) }
+        ≡ text.old.items ++ flat_map (peer_data column.now) peers.now) }
 {
-    for at in 0..keys.count() {
-        add_peer(text, keys, column, at)?;
+    for peer in peers {
+        add_peer(text, column, peer)?;
     }
     Ok(())
 }
 
 #[tactic(auto, unfolding(crate::specs::Fields::peer_data))]
-fn add_peer(text: &mut Vec<u8>, keys: &Keys, column: &Column, at: usize) -> Result<(), AllocError>
+fn add_peer(text: &mut Vec<u8>, column: &Column, peer: &Peer) -> Result<(), AllocError>
     ensures ok { OnOk result (text.new.items
-        ≡ text.old.items ++ option_map_or (peer_data column.now) (slice_get keys.now at) []) }
+        ≡ text.old.items ++ peer_data column.now peer.now) }
 {
-    let Some(peer) = keys.peer(at) else {
-        return Ok(());
-    };
-    if !is_same_column(keys.facts(at), column.key) {
-        return Ok(());
-    }
     add_octets(text, b"peer\t")?;
     add_octets(text, &[column.name, b'\t'])?;
     add_peer_words(text, peer)?;
