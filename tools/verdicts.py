@@ -24,8 +24,13 @@ LINKED = ("c/system.c", "c/heap.c")
 # The page in a browser, and what it is made of besides its crate.
 PAGE_CRATE, PAGE = "playground", f"{ROOT}/crates/playground/out/page.html"
 PAGE_PARTS = ("tools/page", "page/heap.c", "page/page.css", "page/page.html", "page/page.js")
+# The wrong edits that tools/edits tries before a release, in a folder for each crate.
+EDITS = "tests/edits"
 # What tools/unproved and `tools/page --unproved` leave in all that they make.
 MARK = b"(not proved)"
+# By these a hook of git names its repository, which may be another one than this checkout.
+for it in ("DIR", "WORK_TREE", "INDEX_FILE", "COMMON_DIR", "OBJECT_DIRECTORY", "ALTERNATE_OBJECT_DIRECTORIES", "NAMESPACE"):
+    os.environ.pop(f"GIT_{it}", None)
 
 
 class Refusal(Exception):
@@ -106,6 +111,41 @@ def sum_of_sources(crate, target=None):
                 paths += [os.path.relpath(f"{folder}/{it}", ROOT) for it in files]
     lines = sorted(f"{sum_of(f'{ROOT}/{it}')}  {it}\n".encode() for it in paths)
     return hashlib.sha256(b"".join(lines)).hexdigest()
+
+
+def edited_crates():
+    """Returns the crates that have edits for a release."""
+    return sorted(it.name for it in os.scandir(f"{ROOT}/{EDITS}") if it.is_dir())
+
+
+def edits_of(crate):
+    """Returns the edits of a crate for a release, as CRATE/NAME.edit."""
+    return sorted(f"{crate}/{it}" for it in os.listdir(f"{ROOT}/{EDITS}/{crate}") if it.endswith(".edit"))
+
+
+def sum_of_edits(crate):
+    """Returns the sum of a crate's sources, of those below it, and of its edits for a release, as they are now."""
+    sums = [sum_of_sources(crate), *(f"{it} {sum_of(f'{ROOT}/{EDITS}/{it}')}" for it in edits_of(crate))]
+    return hashlib.sha256("\n".join(sums).encode()).hexdigest()
+
+
+def edits_note(crate):
+    """Returns the path of the note that all edits of a crate for a release were refused."""
+    return f"{out(crate)}/edits.refused"
+
+
+def note_edits(crate):
+    """Notes that all edits of a crate for a release were refused, by the kit of now."""
+    os.makedirs(out(crate), exist_ok=True)
+    with open(edits_note(crate), "w", encoding="utf-8") as file:
+        file.write(f"{sum_of_edits(crate)} {kit()}\n")
+
+
+def check_edits():
+    """Checks that the edits for a release were tried on the sources as they are now. Errors: Refusal."""
+    untried = [it for it in edited_crates() if text_of(edits_note(it)) != f"{sum_of_edits(it)} {kit()}\n"]
+    if untried:
+        raise Refusal(1, f"the wrong edits of {', '.join(untried)} were not tried on these sources: `tools/edits` tries them")
 
 
 def kit():
