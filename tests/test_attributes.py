@@ -1,5 +1,6 @@
 """Tries `gatt_shell show --attributes`: a line for each attribute, the names of common types, and refused files."""
 
+import os
 import subprocess
 
 import pytest
@@ -97,5 +98,6 @@ def test_files(show, folder, table, keys, rows, status, lines, fault):
     for name, octets in files.items():
         with open(f"{folder}/{name}", "wb") as file:
             file.write(octets)
+        os.chmod(f"{folder}/{name}", 0o600)
     words = ["--rows", "rows"] if keys is None else ["keys", "--rows", "rows"]
     assert show("table", *words) == (status, lines, fault)

@@ -57,7 +57,8 @@ CHANGES = {
     "no property": ([], ["   17  fff3  r  every key  B C D"]),
 }
 
-NO_CHANGER = "Service Changed reaches no peer: it is not at the same handle in both tables."
+NO_CHANGER = "No peer is reached: neither table has a Service Changed characteristic."
+OTHER_CHANGER = "Service Changed reaches no peer: it is not at the same handle in both tables."
 CHANGER = "Service Changed reaches the peers that subscribed to it."
 
 
@@ -91,6 +92,20 @@ def section_of(heading, lines):
 
 def test_the_same_table(compare):
     assert compare(DOOR, DOOR) == (0, [NOTHING % "opened", NOTHING % "closed", NO_CHANGER])
+
+
+def test_whom_service_changed_reaches(compare):
+    bare = PORCH.partition("[[service]]")[0] + "[[service]]" + PORCH.rpartition("[[service]]")[2]
+    moved = bare + "[[service]]" + PORCH.split("[[service]]")[1]
+    texts = {CHANGER, NO_CHANGER, OTHER_CHANGER}
+    for old, new, text in (
+        (PORCH, PORCH, CHANGER),
+        (bare, bare, NO_CHANGER),
+        (PORCH, bare, OTHER_CHANGER),
+        (bare, PORCH, OTHER_CHANGER),
+        (PORCH, moved, OTHER_CHANGER),
+    ):
+        assert texts & set(compare(old, new)[1]) == {text}
 
 
 @pytest.mark.parametrize("slip", SLIPS)

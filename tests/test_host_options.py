@@ -9,6 +9,7 @@ from parties import ADVERTISING_DATA, DOOR, PROGRAM, RANDOM_ADDRESS, Device, con
 LISTEN = ["--listen", "127.0.0.1:0"]
 PORT = "an IP address and a port, such as 127.0.0.1:5000, and no host name"
 TWO = "one of --listen, --connect and --serial is needed, and no more"
+SOCKET = "--application: the path of a socket, of 1 to 101 bytes"
 SECONDS = "a number of seconds"
 STATIC = "--address: a static random address, whose first digit is c, d, e or f"
 ADVERTISE = (
@@ -22,6 +23,8 @@ REFUSED = [
     ([*LISTEN, "--application-port", "5000"], f"--application-port: {PORT}"),
     ([*LISTEN, "--application", "a", "--application-port", "127.0.0.1:1"],
      "--application and --application-port: one of them is enough"),
+    ([*LISTEN, "--application", ""], SOCKET),
+    ([*LISTEN, "--application", "x" * 102], SOCKET),
     ([*LISTEN, "--wait-for-application"], "--wait-for-application: it needs --application or --application-port"),
     ([*LISTEN, "--idle", "0"], f"--idle: {SECONDS}"),
     ([*LISTEN, "--idle", "+5"], f"--idle: {SECONDS}"),

@@ -1,5 +1,6 @@
 """Tries key and rows files with one fault each: what `gatt_shell show` prints of the fault, and where it is."""
 
+import os
 import subprocess
 
 import pytest
@@ -175,6 +176,13 @@ more = 1""",
     ),
     ("[[key]]\nediv = -1", "key 2, ediv: it has to be from 0 to 65535"),
     ('[[key]]\n"\\u001b" = 1', "key 2, \\u{1b}: there is no such key"),
+    ("[[key]]\nffeeddccbbaa99887766554433221100 = 1", "key 2, [hexadecimal digits]: there is no such key"),
+    ("ffeeddccbbaa99887766554433221100 = 1", "key 1, [hexadecimal digits]: there is no such key"),
+    ('[ffeeddccbbaa99887766554433221100]', "[hexadecimal digits]: there is no such key"),
+    (ENTRY.replace("00:01", "00:02") + "\n[[key]]\nsize = 17", "key 3, address: the key is missing"),
+    (ENTRY.replace("00:01", "00:02") + "\n[[key]]\nsize = 16.5", "key 3, size: it has to be an integer"),
+    ("[[key]]\nsize = 16.5\n[[key]]\nmore = 1", "key 2, size: it has to be an integer"),
+    ("[other]\na = [[1], [2, 3]]", "other: there is no such key"),
 ]
 
 # Rows files, with the faults of their lines.
@@ -211,6 +219,7 @@ def shown(program, folder, keys, rows=None):
     for name, text in files.items():
         with open(f"{folder}/{name}", "w", encoding="utf-8") as file:
             file.write(text)
+        os.chmod(f"{folder}/{name}", 0o600)
     if rows is not None:
         words += ["--rows", f"{folder}/rows"]
     ran = subprocess.run(words, capture_output=True, text=True)

@@ -3,6 +3,7 @@
 import fcntl
 import os
 import re
+import resource
 import subprocess
 
 import pytest
@@ -58,6 +59,21 @@ def test_refused_keys(folder, text, why):
     assert (text_of(path), text_of(other)) == (text, LEGACY), "is not changed"
     ran = subprocess.run([PROGRAM, "check", DOOR[0], path], capture_output=True)
     assert ran.returncode == 1, "gatt_shell"
+
+
+@pytest.mark.parametrize("nested", ["[" * 100_000, "{a=" * 100_000], ids=["arrays", "tables"])
+def test_a_nested_file(folder, nested):
+    """A file that is nested deeply is refused as any other."""
+    refused("is nested too deeply" if KEYS.tomllib else "is not TOML", "check", put(f"{folder}/deep.toml", f"key = {nested}\n"))
+
+
+@pytest.mark.parametrize("words", [["check", "/dev/zero"], from_info("/dev/zero", "central")], ids=["check", "from-bluez"])
+def test_an_endless_file(words):
+    """A file without an end is refused once it is larger than a key file may be."""
+    limit = lambda: resource.setrlimit(resource.RLIMIT_AS, (1 << 29, 1 << 29))
+    with begun(*words, preexec_fn=limit) as call:
+        told = call.communicate(timeout=60)[1]
+    assert (call.returncode, told) == (1, "tools/keys: /dev/zero: is too large: a key file may have 2,097,152 bytes\n")
 
 
 def test_the_program(folder):

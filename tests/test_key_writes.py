@@ -7,13 +7,14 @@ import runpy
 import shutil
 import signal
 import stat
+import struct
 import sys
 
 import pytest
 
 from parties import text_of
 from parties.key_tool import (
-    CENTRAL, DEVICE, LEGACY, SECURE, SHORT, TAKEN, TOOL, accepted, begun, mode_of, own_file, put, refused,
+    CENTRAL, DEVICE, LEGACY, SECURE, SHORT, TAKEN, TOOL, accepted, begun, keys, mode_of, own_file, put, refused,
 )
 
 pytestmark = pytest.mark.without_program
@@ -88,6 +89,65 @@ def test_a_file_that_is_exchanged(folder, command, capsys):
     assert "another program has exchanged it" in capsys.readouterr().err
 
 
+@pytest.mark.parametrize("change", ["write", "replace"])
+def test_a_change_meanwhile(folder, change, monkeypatch):
+    """A file that an editor changes between the reading and the writing retains the change, and is no success."""
+    path, real = own_file(f"{folder}/keys.toml", LEGACY), os.fsync
+
+    def fsync(file):
+        real(file)
+        if change == "replace":
+            os.rename(own_file(f"{folder}/edited.toml", SECURE), path)
+        else:
+            own_file(path, SECURE)
+
+    monkeypatch.setattr(os, "fsync", fsync)
+    refused("another program has changed it meanwhile", "new", DEVICE, "public", "--add", path)
+    assert text_of(path) == SECURE, "the change stays"
+    assert sorted(os.listdir(folder)) == ["keys.toml", "keys.toml.lock"], "no other file is left"
+
+
+def access_list(group):
+    """Returns an access control list by which user 1234 may read a file, and others of its group as said."""
+    # USER_OBJ, USER, GROUP_OBJ, MASK and OTHER of the kernel's form.
+    entries = (1, 6, 0xFFFFFFFF), (2, 4, 1234), (4, group, 0xFFFFFFFF), (16, 4, 0xFFFFFFFF), (32, 0, 0xFFFFFFFF)
+    return struct.pack("<I", 2) + b"".join(struct.pack("<HHI", *it) for it in entries)
+
+
+def set_list(path, name, value):
+    """Sets an access control list, or skips the test if the file system has none."""
+    try:
+        os.setxattr(path, f"system.posix_acl_{name}", value)
+    except OSError as error:
+        pytest.skip(f"no access control list here: {error.strerror}")
+
+
+def test_an_access_list(folder):
+    """A file with an access control list retains it: its group may not read a file that only a user may."""
+    path = own_file(f"{folder}/keys.toml", LEGACY)
+    set_list(path, "access", access_list(0))
+    status = keys("new", DEVICE, "public", "--add", path)[0]
+    found = status, os.getxattr(path, "system.posix_acl_access"), mode_of(path)
+    assert found == (0, access_list(0), 0o640), "the list"
+
+
+def test_a_list_of_the_folder(folder):
+    """A file without an access control list gets none of its folder."""
+    path = own_file(f"{folder}/keys.toml", LEGACY)
+    os.chmod(path, 0o640)
+    set_list(folder, "default", access_list(4))
+    status = keys("new", DEVICE, "public", "--add", path)[0]
+    assert (status, os.listxattr(path), mode_of(path)) == (0, [], 0o640), "no list"
+
+
+def no_links(monkeypatch):
+    """Refuses hard links, as a file system that has none."""
+    def link(*_):
+        raise PermissionError(errno.EPERM, os.strerror(errno.EPERM))
+
+    monkeypatch.setattr(os, "link", link)
+
+
 def interrupt(number, line, words):
     """Runs tools/keys and sends it a signal at this line of those that write a file. Returns its status."""
     left = None
@@ -145,7 +205,23 @@ def test_an_end_at_each_line(folder, words, before):
     assert texts == {before, after}, "the file is whole"
 
 
-@pytest.mark.parametrize("number", [signal.SIGHUP, signal.SIGINT], ids=lambda it: it.name)
+def test_an_end_without_links(folder, monkeypatch):
+    """SIGTERM at a line that makes a file where there are no hard links leaves the file, or none."""
+    no_links(monkeypatch)
+    texts, status, line, path = set(), None, 0, f"{folder}/keys.toml"
+    while status != 0 and line < 200:
+        line += 1
+        status = interrupt(signal.SIGTERM, line, [*TAKEN, "--output", path])
+        texts.add(text_of(path) if os.path.exists(path) else None)
+        for it in os.listdir(folder):
+            os.remove(f"{folder}/{it}")
+    assert 8 < line < 200, "lines"
+    assert texts == {None, LEGACY}, "the file is whole"
+
+
+@pytest.mark.parametrize("number", [
+    signal.SIGHUP, signal.SIGINT, signal.SIGQUIT, signal.SIGALRM, signal.SIGUSR1, signal.SIGXCPU,
+], ids=lambda it: it.name)
 def test_signals(folder, number):
     """Other signals end it too, and leave nothing."""
     assert interrupt(number, 8, [*TAKEN, "--output", f"{folder}/keys.toml"]) == -number, "ends it"
@@ -154,11 +230,8 @@ def test_signals(folder, number):
 
 def test_no_links(folder, monkeypatch):
     """A new file is written on a file system that has no hard links."""
-    def link(*_):
-        raise PermissionError(errno.EPERM, os.strerror(errno.EPERM))
-
     path = f"{folder}/keys.toml"
-    monkeypatch.setattr(os, "link", link)
+    no_links(monkeypatch)
     accepted(*TAKEN, "--output", path)
     refused("is there already", "new", DEVICE, "public", "--output", path)
     found = text_of(path), mode_of(path), os.listdir(folder)

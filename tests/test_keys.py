@@ -1,6 +1,7 @@
 """Tries tools/keys: new keys, keys from BlueZ and to it, lists, what it refuses, and a Python without tomllib."""
 
 import os
+import re
 
 import pytest
 
@@ -176,6 +177,17 @@ def test_private_addresses(folder):
     assert found == (0, SECURE, True), "a client with private addresses"
 
 
+@pytest.mark.parametrize("end", "\v\f\x1c\x1d\x1e\x85\u2028\u2029", ids=lambda it: f"U+{ord(it):04X}")
+def test_a_name_is_one_line(folder, end):
+    """A client's name with an end of a line that BlueZ does not know is no line, and gives no key."""
+    group = "[LongTermKey]\nKey=00112233445566778899AABBCCDDEEFF\nAuthenticated=3\nEncSize=16\nEDiv=0\nRand=0\n"
+    real = text_of(f"{INFO}/legacy-peripheral.info")
+    own = real[real.index("[LongTermKey]") : real.index("[PeripheralLongTermKey]")]
+    name = "Name=x" + f"\n{group}[General]".replace("\n", end)
+    info = put(f"{folder}/named.info", real.replace(own, "").replace("Name=", name, 1))
+    assert accepted(*from_info(info, "peripheral")) == LEGACY, "the key of the bond alone"
+
+
 def refused_info():
     """Returns files `info` that are refused: name, text, role, and what has to be told of each."""
     received = LEGACY_CENTRAL[: LEGACY_CENTRAL.index("[PeripheralLongTermKey]")]
@@ -255,11 +267,13 @@ def test_a_pasted_name():
 @pytest.mark.parametrize("text", [
     f'"{PASTED}" = 1\n', f"[{PASTED}]\na = 1\n[{PASTED}]\n", LEGACY + f"{PASTED} = 1\n",
     LEGACY + f'"{PASTED[1:]}" = 1\n', LEGACY.replace("5904", PASTED),
-], ids=["root", "table", "key", "quoted", "value"])
+    *(LEGACY + f'"{it.join(re.findall("..", PASTED))}" = 1\n' for it in ":-_."),
+], ids=["root", "table", "key", "quoted", "value", "colons", "hyphens", "underscores", "dots"])
 def test_a_pasted_key(folder, text):
     """A key in the place of another name of a key file is not printed."""
-    status, printed, _ = keys("to-bluez", put(f"{folder}/pasted.toml", text), CENTRAL, "public")
+    status, printed, message = keys("to-bluez", put(f"{folder}/pasted.toml", text), CENTRAL, "public")
     assert (status, printed) == (1, ""), "is refused"
+    assert PASTED not in re.sub("[-:_.]", "", message), "prints no key"
 
 
 needs_tomllib = pytest.mark.skipif(KEYS.tomllib is None, reason="this Python has no tomllib to compare with")

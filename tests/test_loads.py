@@ -7,7 +7,7 @@ import time
 import pytest
 
 from parties import (
-    ADVERTISE_ENABLE, DOOR, PATIENCE, STRANGER, Application, Device, controller_at, soon, text_of,
+    ADVERTISE_ENABLE, DOOR, PATIENCE, STRANGER, Application, Device, controller_at, look, soon, text_of,
 )
 from parties.acts import Act
 from parties.doors import Door
@@ -105,6 +105,39 @@ def test_a_loud_phone(folder):
     # What the phone said before is still to be read.
     controller.say(64, "0a0300")
     assert controller.hears(64, LONG) == "0b" + "00" * 22, "the phone is served"
+
+
+def floods(controller):
+    """Floods a device until it ends."""
+    try:
+        while True:
+            controller.stream.sendall(COMMAND * 1_000)
+    except OSError:
+        # The device has ended.
+        pass
+
+
+def reads_at_once(stream):
+    while stream.recv(65_536):
+        pass
+
+
+@pytest.mark.long(10)
+def test_questions_beside_a_flood(folder):
+    """A visitor is answered soon, however much a phone has an application told that reads at once."""
+    path, waits = f"{folder}/flood.socket", []
+    device, controller = loud_device(folder, "--application", path)
+    application = Application(path, "application")
+    acts = [Act(floods, controller), Act(reads_at_once, application.stream)]
+    device.said("+ written ", 100)
+    for _ in range(3):
+        begun = time.monotonic()
+        assert look(path, "value 3") == [f"value 3 {'00' * 512}"], "the answer"
+        waits.append(time.monotonic() - begun)
+    assert max(waits) < 5, f"each question waits for about a second: {waits}"
+    device.end()
+    for it in acts:
+        it.end()
 
 
 def in_pieces(stream):

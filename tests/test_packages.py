@@ -41,11 +41,23 @@ StandardOutput=file:/packages/log
 StandardError=file:/packages/log
 ExecStopPost=/usr/bin/systemctl --no-block poweroff
 """
-# What the script does after the tests: a device runs, and the packages are installed again, removed and purged.
-RUNNING = """install -d /etc/gihandop
+# What the script does after the tests: a device with the files of all, and one with files of its own, run. Then the
+# packages are installed again, removed and purged.
+RUNNING = """install -d /etc/gihandop/hci1
 install -m 600 -o gihandop examples/door.toml /etc/gihandop/table.toml
 install -m 600 -o gihandop examples/keys.toml /etc/gihandop/keys.toml
-systemctl enable --now gihandop@hci0
+install -m 600 -o gihandop examples/post.toml /etc/gihandop/hci1/table.toml
+install -m 600 -o gihandop examples/keys.toml /etc/gihandop/hci1/keys.toml
+echo OPTIONS=--name Shared > /etc/gihandop/options
+words() {{ tr '\\0' ' ' < "/proc/$(systemctl show --property=MainPID --value "$1")/cmdline"; }}
+begin() {{ echo "/usr/bin/gatt_shell host $1/table.toml $1/keys.toml --serial /run/gihandop/$2"; }}
+systemctl enable --now gihandop@hci0 gihandop@hci1
+case $(words gihandop@hci0) in "$(begin /etc/gihandop hci0)"*' --idle 30 --name Shared ') ;; *) exit 1 ;; esac
+case $(words gihandop@hci1) in "$(begin /etc/gihandop/hci1 hci1)"*' --idle 30 --name Shared ') ;; *) exit 1 ;; esac
+echo 'OPTIONS=--name "Two words" --save-updates' > /etc/gihandop/hci1/options
+systemctl restart gihandop@hci1
+case $(words gihandop@hci1) in *' --idle 30 --name Two words --save-updates ') ;; *) exit 1 ;; esac
+gatt_shell tell /run/gihandop/hci1.application stop
 gatt_shell tell /run/gihandop/hci0.application update 10 01
 process=$(systemctl show --property=MainPID --value gihandop@hci0)
 apt-get -qq -y install --reinstall {files}
@@ -265,4 +277,5 @@ def test_booted_root(packages, checkout, root):
     log = text_of(f"{root}/packages/log") if os.path.exists(f"{root}/packages/log") else said
     assert log.endswith("\nall of it\n"), log[-3_000:]
     left = sorted(it for it in listing(root) if re.search("gihandop|hci_bridge|gatt_shell", it))
-    assert left == ["/etc/gihandop", "/etc/gihandop/keys.toml", "/etc/gihandop/table.toml"], "what purge leaves"
+    files = ["hci1", *(f"hci1/{it}" for it in ("keys.toml", "options", "table.toml")), "keys.toml", "options", "table.toml"]
+    assert left == ["/etc/gihandop", *(f"/etc/gihandop/{it}" for it in files)], "what purge leaves"

@@ -4,12 +4,15 @@ The page is made without proofs, once, unless GIHANDOP_PAGE has the path of one.
 page by Chromium: tests are skipped that miss one of them, or wasm-opt.
 """
 
+import base64
 import json
 import os
 import random
 import re
 import shutil
 import subprocess
+import urllib.parse
+import zlib
 
 import pytest
 
@@ -81,6 +84,7 @@ def told(program, folder):
         for name, text in files.items():
             with open(f"{folder}/{name}", "w", encoding="utf-8", newline="") as file:
                 file.write(text)
+            os.chmod(f"{folder}/{name}", 0o600)
         ended = subprocess.run(
             [program, *words], cwd=folder, input=given, capture_output=True, text=True, encoding="utf-8"
         )
@@ -257,6 +261,73 @@ def test_a_link_holds_the_files(browser, page):
     browser.open(f"file://{page}#x")
     browser.wait("document.querySelector('#matrix tr')")
     assert "The address holds no files" in browser.text("shared")
+
+
+def link_of(text):
+    """The part of an address that holds this text in the place of files."""
+    packing = zlib.compressobj(9, zlib.DEFLATED, -15)
+    return "#" + urllib.parse.quote(base64.b64encode(packing.compress(text) + packing.flush()), safe="")
+
+
+def test_another_link(browser):
+    """A link that is entered while the page is there is followed, and one that holds no files is not."""
+    value = lambda it: browser.evaluate(f"document.getElementById('{it}').value")
+    link = link_of(json.dumps({"table": TABLES["bell"], "keys": "", "script": "# a\n"}).encode())
+    browser.evaluate(f"location.hash = {json.dumps(link)}")
+    browser.wait("document.getElementById('script').value === '# a\\n'")
+    assert (value("table"), value("keys")) == (TABLES["bell"], "")
+    for text in (b"null", b"5", b"[", b'"x"', b'{"table": 5}', b'{"script": {"a": 1}}'):
+        browser.evaluate("document.getElementById('shared').textContent = ''")
+        browser.evaluate(f"location.hash = {json.dumps(link_of(text))}")
+        browser.wait("document.getElementById('shared').textContent.includes('holds no files')")
+        assert value("table") == TABLES["bell"]
+
+
+def test_a_large_link(browser):
+    """A link that is unpacked to 100 MB is refused, and the page goes on."""
+    link = link_of(b'{"table": "' + b"#" * 100_000_000 + b'"}')
+    browser.evaluate(f"location.hash = {json.dumps(link)}")
+    browser.wait("document.getElementById('shared').textContent.includes('holds no files')")
+    assert browser.evaluate("document.getElementById('table').value") == TABLES["door"]
+
+
+@pytest.mark.parametrize("field", ["table", "script"])
+def test_a_key_in_another_field(browser, field):
+    """No link is made of a key file that was put into another field, or of a key of the key file."""
+    browser.click("share")
+    browser.wait("location.hash")
+    made = browser.evaluate("location.hash")
+    for text in (KEYS, f"# {re.search('ltk = .(.{32})', KEYS)[1].upper()}\n"):
+        browser.enter(field, text)
+        assert browser.text("shared") == "", "the link that was made holds other files"
+        browser.click("share")
+        browser.wait("document.getElementById('shared').textContent.startsWith('No link is made')")
+    assert browser.evaluate("location.hash") == made
+
+
+def test_the_fields_are_not_saved(browser):
+    """A browser saves none of what is in the fields with its open pages."""
+    fields = "[...document.querySelectorAll('textarea')].map((it) => it.autocomplete)"
+    assert browser.evaluate(fields) == ["off"] * 3
+
+
+@pytest.mark.parametrize("cut, words", [
+    (lambda page: page[: page.index('id="module">') + 5_000], "its file is not whole"),
+    (lambda page: re.sub('(?<=id="module">)[^<]{4000}', "", page), "or is not whole: "),
+    (lambda page: page.replace("<script>", "<script>delete self.WebAssembly;"), "The page cannot run here"),
+], ids=["cut", "another_module", "no_module"])
+def test_a_page_that_does_not_run(page, tmp_path, cut, words):
+    """A page whose file is cut, or which its browser cannot run, says so."""
+    with open(page, encoding="utf-8") as file:
+        text = cut(file.read())
+    with open(f"{tmp_path}/page.html", "w", encoding="utf-8") as file:
+        file.write(text)
+    browser = started(Chromium, tmp_path)
+    try:
+        browser.open(f"file://{tmp_path}/page.html")
+        browser.wait(f"document.getElementById('shared')?.textContent.replace(/\\s+/g, ' ').includes({json.dumps(words)})")
+    finally:
+        browser.close()
 
 
 def test_it_reaches_no_network(browser):

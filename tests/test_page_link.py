@@ -72,3 +72,16 @@ def test_the_plain_form():
 @pytest.mark.parametrize("form", OTHERS)
 def test_another_form(form):
     assert without_keys(PLAIN.replace(f'ltk = "{KEY}"', OTHERS[form])) == [None]
+
+
+@pytest.mark.parametrize(("text", "keys", "is_one"), [
+    (PLAIN, "", True), (f"# {KEY}\n", PLAIN, True), (f'x = "{KEY.upper()}"\n', PLAIN, True), ("ltk", "", True),
+    (ZEROS.replace("ltk", "x"), ZEROS, False), ("# filtktest\n", PLAIN, False), (f"# {KEY}\n", "", False),
+    (text_of(f"{ROOT}/examples/door.toml") + text_of(f"{ROOT}/examples/bonded.script"), PLAIN, False),
+], ids=["file", "key", "upper", "word", "zeros", "another word", "another key", "examples"])
+def test_a_key_in_another_text(text, keys, is_one):
+    source = text_of(f"{ROOT}/page/page.js")
+    part = source[source.index("function hasKey") : source.index("/** Returns octets in base64.")]
+    script = f"{part}\nconsole.log(hasKey({json.dumps(text)}, {json.dumps(keys)}));"
+    ran = subprocess.run(["node", "-e", script], capture_output=True, text=True, check=True)
+    assert ran.stdout == f"{str(is_one).lower()}\n"

@@ -1,9 +1,12 @@
 """Tries the module of python/ with `gatt_shell host`: a phone's day, restarts, and the blocking form."""
 
 import asyncio
+import contextlib
+import os
 import socket
 import threading
 import time
+import warnings
 
 import pytest
 
@@ -105,6 +108,7 @@ async def test_a_day(folder):
 async def test_reload(folder):
     """It has the device read its key file again, and stays its application."""
     path, keys = f"{folder}/door.socket", write_text(f"{folder}/keys.toml", text_of(DOOR[1]))
+    os.chmod(keys, 0o600)
     host = Device(DOOR[0], keys, "--listen", "127.0.0.1:0", "--application", path)
     host.said("ready")
     async with gihandop.Device(path) as device:
@@ -243,6 +247,61 @@ def test_blocking(folder):
     assert str(error.value) == "the connection to the device is closed", "after its end"
     with pytest.raises(FileNotFoundError):
         gihandop.BlockingDevice(path + "x", retry=None).__enter__()
+
+
+def ended(play):
+    """What a function returns in a thread of its own, or the kind of its error."""
+    found = []
+
+    def run():
+        try:
+            found.append(play())
+        except Exception as error:
+            found.append(type(error).__name__)
+
+    thread = threading.Thread(target=run, daemon=True)
+    thread.start()
+    thread.join(PATIENCE)
+    assert found, "it hangs"
+    return found[0]
+
+
+def forked(play):
+    """What a function returns in a process that is forked, or the kind of its error."""
+    reader, writer = os.pipe()
+    with warnings.catch_warnings():
+        # Python 3.12 warns of threads.
+        warnings.simplefilter("ignore")
+        child = os.fork()
+    if child == 0:
+        with contextlib.suppress(BaseException):
+            os.write(writer, repr(ended(play)).encode())
+        os._exit(0)
+    os.close(writer)
+    with open(reader, encoding="ascii") as file:
+        said = file.read()
+    assert os.waitpid(child, 0)[1] == 0
+    return said
+
+
+def test_not_opened(folder):
+    """A device without `with` is a device that is not there."""
+    device = gihandop.BlockingDevice(f"{folder}/no.socket")
+    for play in (lambda: device.value(6), lambda: next(iter(device)), device.stop):
+        assert ended(play) == "Gone"
+    assert ended(device.__exit__) is None
+    device._loop.close()
+
+
+def test_another_process(folder):
+    """In a process that is forked from that of a device it is not there, and that of the device goes on."""
+    path = f"{folder}/blocking.socket"
+    door(path)
+    with gihandop.BlockingDevice(path) as device:
+        for play in (lambda: device.value(6), lambda: next(iter(device)), device.stop):
+            assert forked(play) == "'Gone'"
+        assert forked(device.__exit__) == "None"
+        assert ended(lambda: device.value(6)) == b"\x64"
 
 
 def test_threads_at_the_end(folder):

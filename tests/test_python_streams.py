@@ -72,6 +72,26 @@ async def test_nonsense(folder):
         assert await heard(device, 3) == [started[0], gihandop.Away(), started[1]], "two starts"
 
 
+@pytest.mark.parametrize("answer", [
+    "", "ok 1", "hello", "value", "value 10", "value x 00", "value 10 0", "value 10 0g", "value 10 00 00", "value 10 00 ",
+    "handle", "handle x", "handle -5", "handle 1_0", "handle 10 11", "fault", "fault 3", "fault x: y", "fault -1: y", "bad",
+    f"fault {'9' * 5_000}: y", f"handle {'9' * 5_000}", "\0", "ok\r",
+], ids=lambda it: repr(it[:20]))
+@in_loop
+async def test_a_strange_answer(folder, answer):
+    """An answer that no device gives is an error of this module, and no success."""
+    path = f"{folder}/strange.socket"
+
+    async def strange(reader, writer):
+        while await reader.readline():
+            writer.write(f"{answer}\n".encode())
+
+    async with pretended(path, strange), gihandop.Device(path) as device:
+        for question in (device.update(10, b""), device.value(10), device.find("fff0", "fff1")):
+            kind, words = await error_of(question)
+            assert (kind, words.partition(":")[0]) == ("DeviceError", "this is no answer of a device")
+
+
 @in_loop
 async def test_a_line_without_an_end(folder):
     """A device that ends no line is connected to again."""

@@ -52,6 +52,8 @@ FAULTS = [
     ("no program", PROGRAM, None, "`tools/prove gatt_shell` proves it"),
     ("no archive", ARCHIVE, None, "`tools/prove gihandop_c` proves it"),
     ("another program", PROGRAM, "#!/bin/sh\necho gatt_shell 0.2.0\n", f"{PROGRAM} is not the file that was proved"),
+    ("no edits tried", "crates/le_h4/out/edits.refused", None, "the wrong edits of le_h4 were not tried on these sources"),
+    ("edits of another kit", "crates/le_h4/out/edits.refused", lambda text: text + "x", "`tools/edits` tries them"),
     ("another archive", ARCHIVE, "!<arch>\n", f"{ARCHIVE} is not the file that was proved"),
 ]
 
@@ -252,12 +254,45 @@ def test_replaced_meanwhile(own, folder, command, path):
     assert glob.glob(f"{folder}/root/**/{os.path.basename(path)}", recursive=True) == [], "the copy is removed"
 
 
+@pytest.mark.parametrize("change, wanted", [
+    ("cp README.md new; echo changed >> new; mv new README.md", " M README.md"),
+    ("git -c user.name=a -c user.email=a commit --allow-empty -qm another", "another commit was checked out meanwhile"),
+], ids=["a file", "a commit"])
+def test_changed_meanwhile(own, folder, change, wanted):
+    """A checkout that changes while its release is made is refused."""
+    put = f"{folder}/bin/install"
+    write(put, f"#!/bin/sh\nif mkdir {folder}/once 2>/dev/null; then\n    {change}\nfi\nexec {shutil.which('install')} \"$@\"\n")
+    os.chmod(put, 0o755)
+    ended = run(["tools/release", f"{folder}/made"], cwd=own, env={**os.environ, "PATH": f"{folder}/bin:{os.environ['PATH']}"})
+    assert (ended.returncode, wanted in ended.stdout) == (1, True), ended.stdout
+    assert not os.path.exists(f"{folder}/made"), "there is no release"
+
+
+def test_a_new_file_that_git_hides(own, folder):
+    """A new file is a change, also if git is configured to list none."""
+    ran(["git", "config", "status.showUntrackedFiles", "no"], cwd=own)
+    write(f"{own}/docs/NEW.md", "new\n")
+    refuses(own, folder, "docs/NEW.md")
+
+
 def test_check(checkout):
     """tools/release --check prints VERDICTS, and changes nothing."""
     text = ran(["tools/release", "--check"], cwd=checkout)
     assert ran(["git", "rev-parse", "HEAD"], cwd=checkout).strip() in text, "the commit"
     assert text == ran(["tools/release", "--check", PROGRAM, ARCHIVE], cwd=checkout), "with the paths"
     assert ran(["git", "status", "--porcelain"], cwd=checkout) == "", "no file is left"
+
+
+@pytest.mark.long(12)
+def test_in_a_hook(checkout, folder):
+    """In a hook of another repository, for which git has variables, the commit and the sources are those of the checkout."""
+    other, env = f"{folder}/other", {**os.environ, "GIT_DIR": f"{folder}/other/.git", "GIT_INDEX_FILE": f"{folder}/other/.git/index"}
+    ran(["git", "init", "-q", other])
+    ran(["git", "-c", "user.name=a", "-c", "user.email=a", "commit", "--allow-empty", "-qm", "another"], cwd=other)
+    commit = ran(["git", "rev-parse", "HEAD"], cwd=checkout).strip()
+    assert f"commit  {commit}\n" in ran(["tools/release", "--check"], cwd=checkout, env=env)
+    ran(["tools/release", f"{folder}/made"], cwd=checkout, env=env)
+    assert "gihandop-0.2.0/README.md\n" in ran(["tar", "-tzf", f"{folder}/made/gihandop-0.2.0.tar.gz"])
 
 
 @pytest.mark.parametrize("words", [[], ["--check", "a"], ["--check", "--target", "z80"], ["a", "b"], ["--gate"]], ids=" ".join)
@@ -307,6 +342,8 @@ def test_twice(program, folder, request):
     """The release of a copy with other paths and times is the same."""
     need("tools/release", "make, gcc, binutils", "make", "cc", "ar")
     other = linked(checkout_at("another-place/deeper", program), f"{folder}/other/gihandop")
+    # Git then writes other files to a folder, and to an archive too.
+    ran(["git", "config", "core.autocrlf", "true"], cwd=other)
     time.sleep(1.1)
     ran(["tools/release", f"{folder}/release"], cwd=other)
     # Another test may have made it meanwhile.

@@ -34,6 +34,7 @@ class Keys:
 
     def put(self, *numbers, more=""):
         write_text(f"{self.path}.new", self.head + "".join(self.entries[it] for it in numbers) + more)
+        os.chmod(f"{self.path}.new", 0o600)
         os.replace(f"{self.path}.new", self.path)
 
 
@@ -188,6 +189,35 @@ def test_a_faulty_file(place, fault):
     assert place.reload(controller) == ["ok"], "a right one afterwards"
 
 
+def test_the_place_of_a_fault(place):
+    """The place of a fault is searched for in up to 4,096 bytes. Clients do not wait while a device searches more."""
+    device = place.start()
+    device.port()
+    more = "[[key]]\nsize = 17\n"
+    place.keys.put(0, more=f"{more}# {'x' * 3_000}\n")
+    assert place.reload()[0].endswith(": keys: fault 2: key 2, address: the key is missing"), "a small file"
+    device.said(NOT_AGAIN)
+    place.keys.put(0, more=f"{more}# {'x' * 4_100}\n")
+    assert place.reload()[0].endswith(": keys: fault 2"), "a large one"
+    place.keys.put(0, more=f"# {'x' * 2_097_152}\n")
+    assert place.reload()[0].endswith(": keys: fault 8"), "one above the limit"
+    os.remove(place.keys.path)
+    os.symlink("/dev/zero", place.keys.path)
+    assert place.reload() == [f"fault 9: not read again: {place.keys.path}: not a file"], "one without an end"
+
+
+def test_a_key_at_the_place_of_a_name(place):
+    """Neither the answer nor the log has the digits of a key that stands at the place of a name."""
+    device = place.start()
+    device.port()
+    secret = "ffeeddccbbaa99887766554433221100"
+    place.keys.put(0, more=f"{secret} = 1\n")
+    [answer] = place.reload()
+    assert answer.endswith("key 1, [hexadecimal digits]: there is no such key"), "the answer"
+    device.said(NOT_AGAIN)
+    assert secret not in answer + "".join(device.log), "the digits"
+
+
 @pytest.mark.parametrize("change", ["none", "a comment"])
 def test_equal_keys(place, change):
     """A file with the same keys ends no link, and is a line of the log."""
@@ -227,6 +257,29 @@ def test_once(place):
     assert place.reload(controller) == ["ok"]
     place.controller().close()
     assert device.process.wait(PATIENCE) == 0, "it ends"
+
+
+@pytest.mark.parametrize("how, status, words", [
+    ("gone", 0, "controller gone"), ("broken", 2, "stopped: "),
+], ids=["gone", "broken"])
+def test_once_while_it_reloads(place, how, status, words):
+    """A device with `--once` ends if its controller goes or breaks while a reload waits, and answers the reload."""
+    device = place.start("--once")
+    controller = place.controller()
+    owner_comes(controller)
+    # The connection does not end.
+    controller.take = lambda packet: None
+    place.keys.put(0, 1)
+    visitor = Visitor(place.socket)
+    visitor.say("reload")
+    device.said("keys: read again: ")
+    if how == "gone":
+        controller.close()
+    else:
+        controller.event(0x10, b"\1")
+    assert visitor.line() == "fault 9: not read again: the device ends", "the answer"
+    device.said(words)
+    assert device.process.wait(PATIENCE) == status, "it ends"
 
 
 @pytest.mark.parametrize("way", ["--serial", "--connect"])

@@ -4,6 +4,7 @@ The rights are proved to be those of the server; here stand whole outputs, and s
 program has to name.
 """
 
+import os
 import subprocess
 import time
 
@@ -39,11 +40,12 @@ SHORT_KEY = "   10  a key of 7 may write it: `key_size = 16` in `write` would ex
 LASTING = "   10  who subscribed once is sent it as long as `read` permits: `config` needs more"
 EASY = "   10  to subscribe needs less than to be sent it: compare `config` and `read`"
 OPEN = "   21  everybody may write it: `write` has no rule"
+SHORTEST = "       a key of 7, authenticated is shorter than all others"
 
 NO_CHANGED = "       no Service Changed (1801, 2a05): after another table clients use old handles"
 
-# Slips in the table of the door: a text, another one in its place, and what to look at twice besides OPEN and
-# NO_CHANGED.
+# Slips in the table of the door: a text, another one in its place, and what to look at twice besides OPEN,
+# NO_CHANGED and SHORTEST.
 LAST = """uuid = "fff4"
 value = ""
 max = 512
@@ -189,6 +191,7 @@ def show(program, folder):
                 paths.append(f"{folder}/{name}")
                 with open(paths[-1], "w", encoding="utf-8") as file:
                     file.write(text)
+                os.chmod(paths[-1], 0o600)
         ran = subprocess.run([program, "show", *paths, *words], capture_output=True, text=True)
         assert (ran.returncode, ran.stderr) == (0, "")
         return ran.stdout.splitlines()
@@ -205,6 +208,24 @@ def findings_in(lines):
 def rows_in(lines):
     """The rows of a matrix of one block, without its header and the headings."""
     return [line for line in lines[1 : lines.index("")] if line.startswith(" ")]
+
+
+def kinds_in(lines):
+    """The letters of the legend, with the kinds of keys of each."""
+    kinds = {}
+    for line in lines[: [*lines, "Look twice:"].index("Look twice:")]:
+        if line[1:3] == "  " and line[0] != " " and line[3:].startswith(("no key", "key of")):
+            kinds.setdefault(line[0], []).append(line[3:].partition(":")[0])
+    return kinds
+
+
+def cells_in(lines):
+    """For each kind of key its cells in a matrix of one block."""
+    names = lines[0].split()[3:]
+    rows = [row.split()[-len(names) :] for row in rows_in(lines)]
+    kinds = kinds_in(lines)
+    assert list(kinds) == names
+    return {kind: [row[at] for row in rows] for at, name in enumerate(names) for kind in kinds[name]}
 
 
 @pytest.mark.parametrize("name", ["door", "bell", "porch"])
@@ -225,7 +246,9 @@ def test_the_rights_of_the_door(show):
 def test_a_slip_is_named(show, slip):
     before, after, findings = SLIPS[slip]
     assert DOOR.count(before) == 1
-    assert sorted(findings_in(show(DOOR.replace(before, after), KEYS))) == sorted([*findings, OPEN, NO_CHANGED])
+    assert sorted(findings_in(show(DOOR.replace(before, after), KEYS))) == sorted(
+        [*findings, OPEN, NO_CHANGED, SHORTEST]
+    )
 
 
 def test_a_table_without_findings(show):
@@ -241,7 +264,9 @@ def test_a_key_that_permits_nothing(show):
 
 def test_no_key_makes_a_difference(show):
     bell = text_of(f"{ROOT}/examples/bell.toml")
-    assert findings_in(show(bell, KEYS)) == [NO_CHANGED, "       no key makes a difference to this table"]
+    lines = show(bell, KEYS)
+    assert findings_in(lines) == [NO_CHANGED, "       no key makes a difference to this table", SHORTEST]
+    assert (lines[0].split()[3:], list(kinds_in(lines))) == (["A"], ["A"])
 
 
 def test_without_a_key_file_there_is_one_column(show):
@@ -264,9 +289,9 @@ def test_the_shortest_key_is_named(show):
 def test_a_key_for_a_private_address(show, first, is_private):
     found = f"       random {first}:00:00:00:00:02 is a private address, which its client changes"
     lines = findings_in(show(DOOR, KEYS + SECURE.replace("c0:00", f"{first}:00")))
-    assert (found in lines, len(lines)) == (is_private, 3 + is_private)
+    assert (found in lines, len(lines)) == (is_private, 4 + is_private)
     public = SECURE.replace("c0:00", f"{first}:00").replace('"random"', '"public"')
-    assert len(findings_in(show(DOOR, KEYS + public))) == 3
+    assert len(findings_in(show(DOOR, KEYS + public))) == 4
 
 
 # A right to be sent a value is the need of `read`, and one to subscribe that of `config`.
@@ -291,22 +316,77 @@ properties = ["read", "notify"]
     ],
 )
 def test_to_be_sent_a_value_and_to_subscribe(show, rules, cells):
-    (row,) = rows_in(show(FOLLOWED + rules, KEYS))
-    assert row.split()[-4:] == cells
+    kinds = ["no key", "key of 16", "key of 16, authenticated", "key of 7, authenticated"]
+    assert cells_in(show(FOLLOWED + rules, KEYS)) == {kind: [cell] for kind, cell in zip(kinds, cells)}
 
 
 def test_keys_of_one_kind_share_a_column(show):
-    lines = show(DOOR, KEYS + SECURE + WEAK + WEAK.replace("44:66", "44:77").replace("0404", "0505"))
+    table = DOOR.replace(FIRST_FFF3, FIRST_FFF3 + "read = { secure = true }\n")
+    table = table.replace("config = { encrypted = true }", "config = { key_size = 16 }")
+    lines = show(table, KEYS + SECURE + WEAK + WEAK.replace("44:66", "44:77").replace("0404", "0505"))
     assert lines[0].split()[-6:] == ["A", "B", "C", "D", "E", "F"]
     legend = lines[lines.index("F  key of 7") :]
     assert legend[:3] == ["F  key of 7", "     public 00:11:22:33:44:66", "     public 00:11:22:33:44:77"]
     assert "E  key of 16, authenticated, secure connections" in lines
 
 
+def test_kinds_with_equal_rights_share_a_column(show):
+    middle = WEAK.replace("44:66", "44:55").replace("0404", "0606").replace("size = 7", "size = 15")
+    middle = middle.replace("a1a2a3a4a5a6a7000000000000000000", "a1a2a3a4a5a6a7a8a9aaabacadaeaf00")
+    lines = show(DOOR, KEYS + SECURE + WEAK + middle)
+    assert lines[0].split()[3:] == ["A", "B", "C", "D"]
+    begin = lines.index("A  no key: everybody, and each peer until its link is encrypted")
+    assert lines[begin + 1 : lines.index("Look twice:") - 1] == [
+        "B  key of 16",
+        "     random c0:00:00:00:00:01",
+        "B  key of 7",
+        "     public 00:11:22:33:44:66",
+        "B  key of 15",
+        "     public 00:11:22:33:44:55 (also C) (also D)",
+        "C  key of 16, authenticated",
+        "     public 00:11:22:33:44:55 (also B) (also D)",
+        "C  key of 16, authenticated, secure connections",
+        "     random c0:00:00:00:00:02",
+        "D  key of 7, authenticated",
+        "     public 00:11:22:33:44:55 (also B) (also C)",
+    ]
+
+
+def test_one_row_that_differs_separates_columns(show):
+    keys = KEYS + SECURE
+    assert show(DOOR, keys)[0].split()[3:] == ["A", "B", "C", "D"]
+    for rule in ("read = { secure = true }", "read = { secure = true, authorized = true }"):
+        table = DOOR.replace(FIRST_FFF3, FIRST_FFF3 + rule + "\n")
+        assert show(table, keys)[0].split()[3:] == ["A", "B", "C", "D", "E"]
+
+
 def test_one_peer_with_two_keys(show):
     lines = show(DOOR, KEYS)
     assert "     public 00:11:22:33:44:55 (also D)" in lines
     assert "     public 00:11:22:33:44:55 (also C)" in lines
+
+
+def test_one_peer_with_two_keys_of_a_kind(show):
+    lines = show(DOOR, KEYS + WEAK + WEAK.replace("0404", "0505"))
+    assert lines.count("     public 00:11:22:33:44:66") == 1
+
+
+@pytest.mark.parametrize(
+    "keys, found",
+    [
+        (KEYS, SHORTEST),
+        (KEYS + WEAK, None),
+        (SECURE, None),
+        (WEAK, None),
+        (WEAK + WEAK.replace("44:66", "44:77"), None),
+        (SECURE + WEAK, "       a key of 7 is shorter than all others"),
+        (WEAK + SECURE, "       a key of 7 is shorter than all others"),
+        (SECURE + WEAK + WEAK.replace("44:66", "44:77"), "       a key of 7 is shorter than all others"),
+    ],
+)
+def test_a_key_that_is_shorter_than_all_others(show, keys, found):
+    lines = [line for line in findings_in(show(DOOR, keys)) if "shorter" in line]
+    assert lines == ([found] if found else [])
 
 
 def test_a_secure_key_that_is_not_authenticated(show):
@@ -317,7 +397,8 @@ def test_a_secure_key_that_is_not_authenticated(show):
 
 @pytest.mark.parametrize("width", [1, 40, 60, 80, 132, 65_535])
 def test_a_width(show, width):
-    lines = show(DOOR, KEYS + SECURE, "--width", str(width))
+    table = DOOR.replace(FIRST_FFF3, FIRST_FFF3 + "read = { secure = true }\n")
+    lines = show(table, KEYS + SECURE, "--width", str(width))
     blocks = "\n".join(lines).split("\n\nr read")[0].split("\n\n")
     names = [block.split("\n")[0].split()[3:] for block in blocks]
     assert sum(names, []) == ["A", "B", "C", "D", "E"]
@@ -350,12 +431,46 @@ uuid = "12345678-9abc-def0-0123-456789abcdef"
     assert [row.split()[3] for row in rows_in(show(table, None))] == list(VALUES.values())
 
 
+LONG_UUID = "12345678-9abc-def0-0123-456789abcdef"
+
+
+@pytest.mark.parametrize(
+    "keys, rule, width, is_whole",
+    [
+        (None, "", 80, True),
+        (None, "", 63, True),
+        (None, "", 62, False),
+        (KEYS, "", 63, True),
+        (KEYS, "read = { encrypted = true }\n", 66, True),
+        (KEYS, "read = { encrypted = true }\n", 65, False),
+        (KEYS, "read = { key_size = 16, authorized = true }\n", 70, True),
+        (KEYS, "read = { key_size = 16, authorized = true }\n", 69, False),
+    ],
+)
+def test_a_long_uuid_is_whole_if_there_is_space(show, keys, rule, width, is_whole):
+    table = f'[[service]]\nuuid = "180f"\n[[service.characteristic]]\nuuid = "{LONG_UUID}"\n'
+    table += 'value = "00"\nproperties = ["read"]\n' + rule
+    (row,) = rows_in(show(table, keys, "--width", str(width)))
+    assert row.split()[1] == (LONG_UUID if is_whole else "12345678-9abc..-456789abcdef")
+
+
+def test_a_long_name_is_whole_if_there_is_space(show):
+    table = text_of(f"{ROOT}/examples/door.toml") + """[[service.characteristic.descriptor]]
+uuid = "2901"
+value = "00"
+properties = ["read"]
+"""
+    whole = "2901 Characteristic User Description"
+    assert any(whole in row for row in rows_in(show(table, KEYS, "--width", "84")))
+    assert any("2901 Characteristic User D.." in row for row in rows_in(show(table, KEYS, "--width", "83")))
+
+
 def test_a_long_uuid_is_cut_in_its_middle(show):
     table = ""
     for end in ("ef", "f0"):
         table += f'[[service]]\nuuid = "180f"\n[[service.characteristic]]\nvalue = "00"\nproperties = ["read"]\n'
         table += f'uuid = "12345678-9abc-def0-0123-456789abcd{end}"\n'
-    assert [row.split()[1] for row in rows_in(show(table, None))] == [
+    assert [row.split()[1] for row in rows_in(show(table, None, "--width", "60"))] == [
         "12345678-9abc..-456789abcdef", "12345678-9abc..-456789abcdf0",
     ]
 
@@ -364,5 +479,6 @@ def test_a_large_table(show):
     begun = time.monotonic()
     lines = show(LARGE, MANY_KEYS, "--width", "120")
     assert time.monotonic() - begun < 10
-    assert lines[0].split()[-5:] == ["A", "B", "C", "D", "E"]
+    assert lines[0].split()[3:] == ["A", "B", "C"]
+    assert [len(kinds) for kinds in kinds_in(lines).values()] == [1, 3, 1]
     assert len(rows_in(lines)) == 224

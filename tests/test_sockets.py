@@ -76,11 +76,14 @@ def test_the_socket(folder):
     assert not os.path.lexists(f"{path}.new"), "nothing is left of that"
 
 
-def test_a_path_that_is_too_long(folder):
-    """A path that is too long is refused, and nothing is made."""
-    device = device_at(f"{folder}/{'x' * 120}")
-    assert device.process.wait(PATIENCE) == 2, "a path that is too long"
+def test_the_longest_path(folder):
+    """A socket has a path of at most 101 bytes. For a longer one nothing is made."""
+    path = f"{folder}/".ljust(101, "x")
+    device = device_at(path + "x")
+    assert device.process.wait(PATIENCE) == 64, "a path that is too long"
     assert os.listdir(folder) == [], "nothing is left of it"
+    device_at(path).said("ready")
+    assert os.listdir(folder) == [os.path.basename(path)], "the longest one"
 
 
 def test_a_socket_of_another_user(folder):

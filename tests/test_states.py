@@ -77,11 +77,11 @@ def with_line(number, text):
 # Of each the text, the line that is wrong, if it is one, and what the message has.
 FAULTY = {
     "nothing": ("", None, ""),
-    "half of it": (GOOD[: len(GOOD) // 2], None, "ends before"),
-    "no last line": (BODY, None, "ends before"),
+    "half of it": (GOOD[: len(GOOD) // 2], None, "it is cut"),
+    "no last line": (BODY, None, "it is cut"),
     "no last line feed": (GOOD[:-1], None, ""),
-    "a line too many": (GOOD + "\n", None, ""),
-    "a state twice": (GOOD + GOOD, None, ""),
+    "a line too many": (GOOD + "\n", None, "text follows that line"),
+    "a state twice": (GOOD + GOOD, None, "sha256sum"),
     "another checksum": (BODY + "[end] " + "0" * 64 + "\n", None, "sha256sum"),
     "a short checksum": (BODY + "[end] 00\n", None, ""),
     "one digit of a value": (GOOD.replace("fff1 01", "fff1 02"), None, "sha256sum"),

@@ -2,6 +2,7 @@
 
 import os
 import re
+import shlex
 import shutil
 import signal
 import subprocess
@@ -11,6 +12,7 @@ import pytest
 
 from parties import DOOR, OWNER, PATIENCE, ROOT, STRANGER, Device, controller_at, look, text_of
 from parties.homes import write
+from parties.places import write_text
 from parties.supervised import Supervisor
 from parties.tables import VALUE
 
@@ -144,6 +146,44 @@ def test_what_a_unit_says(unit):
     assert (lines["Type"], lines["NotifyAccess"]) == ("notify", "main")
     assert lines["ExecReload"] == lines["ExecStop"].replace(" stop", " reload"), "the same socket"
     assert int(lines["WatchdogSec"]) >= 30, "a slow disk is no hang"
+    begun = lines.get("SyslogIdentifier") or lines["ExecStart"].split()[0].rpartition("/")[2]
+    assert begun == "gatt_shell", "its name in the journal"
+
+
+def files_of(folder, instance):
+    """The table and the keys with which the unit of an instance starts its program, below a folder as /etc."""
+    text = text_of(f"{ROOT}/{DEVICES[0]}").replace("\\\n", " ")
+    line = re.search(r"(?m)^ExecStart=(.*) \$OPTIONS$", text)[1]
+    # Specifiers and dollars are of each word, after the quotes.
+    words = [it.replace("%i", instance).replace("$$", "$") for it in shlex.split(line)]
+    program = write_text(f"{folder}/program", "#!/bin/sh\nprintf '%s\\n' \"$@\"\n")
+    os.chmod(program, 0o755)
+    words = [it.replace("/usr/bin/gatt_shell", program).replace("/etc/", f"{folder}/") for it in words]
+    ended = subprocess.run([*words, "--name", "Two words"], capture_output=True, text=True, check=True)
+    host, table, keys, *others = ended.stdout.splitlines()
+    assert (host, others[:2]) == ("host", ["--serial", f"/run/gihandop/{instance}"])
+    assert others[-2:] == ["--name", "Two words"], "the options"
+    return [os.path.relpath(it, f"{folder}/gihandop") for it in (table, keys)]
+
+
+@pytest.mark.without_program
+@pytest.mark.parametrize("instance", ["hci0", "usb\\x2d1", "a:b_c", "-n", "$HOME", "a b"])
+def test_files_of_a_unit(folder, instance):
+    """Each instance has the files of its own folder, whatever is in it, and without one those of all."""
+    shared, own = ["table.toml", "keys.toml"], [f"{instance}/table.toml", f"{instance}/keys.toml"]
+    assert files_of(folder, instance) == shared, "not even that of all is there"
+    os.makedirs(f"{folder}/gihandop/another")
+    assert files_of(folder, instance) == shared, "no folder"
+    place = f"{folder}/gihandop/{instance}"
+    os.mkdir(place, 0o000)
+    assert files_of(folder, instance) == own, "a folder that nobody can read"
+    os.rmdir(place)
+    for aim in ("another", "nowhere"):
+        os.symlink(aim, place)
+        assert files_of(folder, instance) == own, "a link"
+        os.remove(place)
+    write_text(place, "")
+    assert files_of(folder, instance) == own, "a file"
 
 
 def calls_of(name):

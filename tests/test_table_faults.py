@@ -15,7 +15,16 @@ SERVICES = [
     ('service = []\na = "é" b', "line 2, column 9: unexpected key or value, expected newline, `#`"),
     ("", "service: the key is missing"),
     ("services = []", "services: there is no such key"),
-    ("service = 1", "service: it has to be an array of tables"),
+    ("service = 1", "service: it has to be an array of tables; write [[service]]"),
+    ('[service]\nuuid = "1800"', "service: it has to be an array of tables; write [[service]]"),
+    (
+        '[[service]]\nuuid = "1800"\n[[characteristic]]\nuuid = "2a00"',
+        "characteristic: there is no such key; write [[service.characteristic]]",
+    ),
+    (
+        '[[service]]\nuuid = "1800"\n[[service.descriptor]]\nuuid = "2901"',
+        "service 1, descriptor: there is no such key; write [[service.characteristic.descriptor]]",
+    ),
     ('service = [{ uuid = "1800" }, 1]', "service 2: it has to be a table"),
     ('[[service]]\nuuid = "18zz"', "service 1, uuid: this is no UUID, or this UUID is not allowed here"),
     ("[[service]]\nuuid = 1", "service 1, uuid: it has to be a string"),
@@ -28,6 +37,32 @@ uuid = "1801"
 include = [0, 1]""",
         "service 2, include 2: an include of a service that is not before it",
     ),
+]
+
+# Types that the server adds by itself.
+CONFIGURATION = "the server adds 2902 for notify and indicate; write its rules as config = { .. }"
+DECLARATION = "the server adds the declarations by itself"
+ADDED = [
+    ("2902", CONFIGURATION),
+    ("00002902-0000-1000-8000-00805F9B34FB", CONFIGURATION),
+    ("2800", DECLARATION),
+    ("2803", DECLARATION),
+    ("00002801-0000-1000-8000-00805f9b34fb", DECLARATION),
+    ("10002902-0000-1000-8000-00805f9b34fb", ""),
+    ("29020", "this is no UUID, or this UUID is not allowed here"),
+    ("00002902", "this is no UUID, or this UUID is not allowed here"),
+    ("\u00e9\u00e92902", "this is no UUID, or this UUID is not allowed here"),
+]
+
+# Names with what may be the digits of a key, and without.
+NAMES = [
+    ("ffeeddccbbaa99887766554433221100", "[hexadecimal digits]"),
+    ("FFEEDDCCBBAA9988", "[hexadecimal digits]"),
+    ('"ff:ee:dd:cc:bb:aa:99:88"', "[hexadecimal digits]"),
+    ('"ltk ffeeddcc bbaa9988 77665544 33221100"', "[hexadecimal digits]"),
+    ("x_ffeeddccbbaa9988776655443322110g", "[hexadecimal digits]"),
+    ("ffeeddccbbaa998", "ffeeddccbbaa998"),
+    ("deadbeef_authenticated", "deadbeef_authenticated"),
 ]
 
 # Texts with faults in characteristics and descriptors.
@@ -163,7 +198,8 @@ properties = ["read"]
 [[service]]
 uuid = "zz"
 """,
-        "service 1, characteristic 1, descriptor 2, uuid: this is no UUID, or this UUID is not allowed here",
+        "service 1, characteristic 1, descriptor 2, uuid: the server adds 2902 for notify and indicate; "
+        "write its rules as config = { .. }",
     ),
     (
         """\
@@ -234,23 +270,26 @@ FIELDS = [
     ("fixed = true\nmax = 2", "max: it has to be 1"),
     ("max = 2.5", "max: it has to be an integer"),
     ('fixed = "no"', "fixed: it has to be a boolean"),
-    ("descriptor = {}", "descriptor: it has to be an array of tables"),
+    (
+        "descriptor = {}",
+        "descriptor: it has to be an array of tables; write [[service.characteristic.descriptor]]",
+    ),
     ('"\\u001b[2J" = 1', "\\u{1b}[2J: there is no such key"),
     ('"\\u009b\\u202e" = 1', "\\u{9b}\\u{202e}: there is no such key"),
     ('"a\\nb\\\\" = 1', "a\\nb\\\\: there is no such key"),
     ('"é" = 1', "\\u{e9}: there is no such key"),
     ('write = { "\\u001b" = 1 }', "write, \\u{1b}: there is no such key"),
     (
-        "a23456789b123456789c123456789d123456789e123456789f123456789 = 1",
-        "a23456789b123456789c123456789d123456789e123456789f123456789: there is no such key",
+        "a234567g9b12345g789c1234g6789d123g56789e12g456789f1g3456789 = 1",
+        "a234567g9b12345g789c1234g6789d123g56789e12g456789f1g3456789: there is no such key",
     ),
     (
-        "a23456789b123456789c123456789d123456789e123456789f123456789g = 1",
-        "a23456789b123456789c123456789d123456789e123456789f123456789g: there is no such key",
+        "a234567g9b12345g789c1234g6789d123g56789e12g456789f1g3456789g = 1",
+        "a234567g9b12345g789c1234g6789d123g56789e12g456789f1g3456789g: there is no such key",
     ),
     (
-        "a23456789b123456789c123456789d123456789e123456789f123456789gh = 1",
-        "a23456789b123456789c123456789d123456789e123456789f123456789g..: there is no such key",
+        "a234567g9b12345g789c1234g6789d123g56789e12g456789f1g3456789gh = 1",
+        "a234567g9b12345g789c1234g6789d123g56789e12g456789f1g3456789g..: there is no such key",
     ),
 ]
 
@@ -278,6 +317,19 @@ def test_a_fault(program, folder, text, fault):
 def test_a_fault_of_a_characteristic(program, folder, line, fault):
     text = f"service 1, characteristic 1, {fault}"
     assert shown(program, folder, f"{CHARACTERISTIC}{line}".encode()) == (1, text)
+
+
+@pytest.mark.parametrize(("uuid", "words"), ADDED)
+def test_a_type_that_the_server_adds(program, folder, uuid, words):
+    text = CHARACTERISTIC.replace("2a19", uuid)
+    fault = (1, f"service 1, characteristic 1, uuid: {words}") if words else (0, "")
+    assert shown(program, folder, text.encode()) == fault
+
+
+@pytest.mark.parametrize(("name", "named"), NAMES)
+def test_a_name_with_digits(program, folder, name, named):
+    text = f"service 1, characteristic 1, {named}: there is no such key"
+    assert shown(program, folder, f"{CHARACTERISTIC}{name} = 1".encode()) == (1, text)
 
 
 def test_no_text(program, folder):

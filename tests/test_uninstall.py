@@ -101,3 +101,19 @@ def test_without(make, program, folder, name):
     assert ended.returncode != 0, "it fails"
     assert "tools/prove" in ended.stdout, "what makes it"
     assert not os.path.exists(copy.folder), "nothing is installed"
+
+
+@pytest.mark.parametrize("destination, prefix", [
+    ("{}/my package", "/usr"), ("{}/package ", "{}/usr"), ("", "{}/usr /local"),
+], ids=["within", "behind", "prefix"])
+@pytest.mark.parametrize("what", ["install", "uninstall"])
+def test_white_space(folder, destination, prefix, what):
+    """A folder whose name has white space is refused: the files that its words name stay."""
+    need("make uninstall", "make", "make")
+    others = [f"{folder}/{it}" for it in ("my", "package", "usr/bin/gatt_shell")]
+    for it in others:
+        write(it, "")
+    words = [f"DESTDIR={destination.format(folder)}", f"PREFIX={prefix.format(folder)}", f"BUILD={folder}/build"]
+    ended = run(["make", "-k", what, *words])
+    assert (ended.returncode, "has white space" in ended.stdout) == (2, True), ended.stdout
+    assert [os.path.exists(it) for it in others] == [True] * 3, "they stay"

@@ -108,7 +108,9 @@ def test_many_rows(folder, program, configurations, peers, answer):
     with open(f"{folder}/rows", "w", encoding="ascii") as file:
         file.writelines(f"0 00:00:00:00:00:00 {it} 1\n" for it in range(1, configurations + 1))
         file.writelines(f"! 0 00:00:00:00:00:{it:02x}\n" for it in range(peers))
-    words = [program, "show", f"{ROOT}/examples/door.toml", f"{ROOT}/examples/keys.toml", "--rows", f"{folder}/rows"]
+    keys = shutil.copyfile(f"{ROOT}/examples/keys.toml", f"{folder}/keys.toml")
+    os.chmod(keys, 0o600)
+    words = [program, "show", f"{ROOT}/examples/door.toml", keys, "--rows", f"{folder}/rows"]
     ran = subprocess.run(words, stdin=subprocess.DEVNULL, capture_output=True, text=True, timeout=60)
     assert (ran.returncode, ran.stderr) == answer
 

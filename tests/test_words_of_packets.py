@@ -325,6 +325,19 @@ def test_names(program):
     assert words_of(program, lines, "--table", DOOR) == wanted
 
 
+def test_the_number_of_names(program):
+    """The command line's page has the number of types that `words` names, and that without the declarations.
+    The Bluetooth SIG assigns types of services from 1800 on, and of characteristics from 2a00 on."""
+    types = [f"{number:04x}" for number in range(0x1700, 0x2D00)]
+    found = words_of(program, [f"100100ffff{number[2:]}{number[:2]}" for number in types])
+    named = [number for number, words in zip(types, found) if f", {number} (" in words]
+    assert all(words.endswith(number) for number, words in zip(types, found) if number not in named)
+    assert {"2800", "2801", "2802", "2803"} < set(named)
+    with open(f"{ROOT}/docs/CLI.md", encoding="utf-8") as file:
+        numbers = [int(number) for number in re.findall(r"(\d+) common types", file.read())]
+    assert numbers == [len(named) - 4, len(named)]
+
+
 def test_a_long_type(program, folder):
     """A type of 128 bits is named by its UUID."""
     path = f"{folder}/table.toml"
@@ -374,7 +387,7 @@ def test_examples(program):
 
 @pytest.mark.parametrize("name", ["att_first", "discovery", "long_write"])
 def test_att(program, name):
-    """`att --words` prints the answers of `att`, with their words."""
+    """`att --words` prints the answers of `att`, with their words and the types of its handles."""
     with open(f"{ROOT}/examples/{name}.txt", "rb") as file:
         asked = file.read()
     plain, found = (
@@ -382,7 +395,7 @@ def test_att(program, name):
         for words in ([], ["--words"])
     )
     assert plain.count(b"\n") > 5
-    assert found == worded(program, plain)
+    assert found == worded(program, plain, "--table", DOOR)
 
 
 @pytest.mark.parametrize("shows", [[], ["--echo"], ["--echo", "--notices"]], ids=["frames", "lines", "all"])

@@ -25,6 +25,12 @@ for crate, path in zip(verdicts.OUTPUTS, sys.argv[1:]):
     why = verdicts.note(crate, None, verdicts.sum_of_sources(crate), os.environ[crate], path)
     sys.exit(why) if why else None
 """
+# What notes that the edits for a release were refused.
+EDITED = """
+import verdicts
+for crate in verdicts.edited_crates():
+    verdicts.note_edits(crate)
+"""
 NAMED = {"NAME": "a", "EMAIL": "a@b", "DATE": "2026-01-01T00:00:00Z"}
 
 
@@ -83,6 +89,11 @@ def write_notes(root, program, archive, logs):
     ran(words, cwd=f"{root}/tools", env={**os.environ, **logs})
 
 
+def note_edits(root):
+    """Notes that the edits for a release were refused on the sources of a checkout."""
+    ran([sys.executable, "-B", "-c", EDITED], cwd=f"{root}/tools")
+
+
 def lay_stand_ins(root, program, places):
     """Lays a stand-in for each output, with a note, and returns their paths."""
     sources = dict(zip(OUTPUTS, (program, ARCHIVE)))
@@ -115,6 +126,7 @@ def copy_checkout(to, program):
     for words in (["init", "-q"], ["add", "-A"], ["commit", "-qm", "a release"]):
         ran(["git", *words], cwd=to, env=env)
     lay_stand_ins(to, program, {crate: f"{to}/crates/{crate}/out" for crate in OUTPUTS})
+    note_edits(to)
     for folder in glob.glob(f"{ROOT}/crates/*/out/*-linux-gnu"):
         shutil.copytree(folder, f"{to}/{os.path.relpath(folder, ROOT)}", copy_function=shutil.copy)
 
