@@ -41,7 +41,7 @@ _gatt_shell() {
         host)
             words='--state --save-updates --rows --drop-unknown --listen --connect --serial --application
                 --application-port --wait-for-application --name --advertise --address --capture --capture-size
-                --log-values --slots --idle --stranger --patience --once --help'
+                --log-values --log-refusals --slots --idle --stranger --patience --once --help'
             ;;
         *) return ;;
         esac

@@ -44,7 +44,7 @@ end
 for it in listen connect application-port name advertise address capture-size slots idle stranger patience
     complete -c gatt_shell -n '__gatt_shell_is host' -l $it -x
 end
-for it in save-updates drop-unknown wait-for-application log-values once
+for it in save-updates drop-unknown wait-for-application log-values log-refusals once
     complete -c gatt_shell -n '__gatt_shell_is host' -l $it
 end
 
