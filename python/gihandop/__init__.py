@@ -13,6 +13,8 @@ from __future__ import annotations
 import asyncio
 import concurrent.futures
 import logging
+import os
+import re
 import threading
 from collections import deque
 from dataclasses import dataclass
@@ -315,14 +317,17 @@ def notice_of(line: str) -> Notice:
         return Unknown(line)
 
 
-def _accepted(answer: str) -> str:
-    """Returns an answer, or raises the error that it is."""
+def _accepted(answer: str, form: str = "(ok)") -> str:
+    """Returns the group of an answer of this form, or raises the error that the answer is."""
     if answer.startswith("bad: "):
         raise NotUnderstood(answer[len("bad: ") :])
-    if answer.startswith("fault "):
-        number, _, words = answer[len("fault ") :].partition(": ")
-        raise Refused(int(number), words)
-    return answer
+    fault = re.fullmatch(r"fault ([0-9]{1,9}): (.*)", answer)
+    if fault:
+        raise Refused(int(fault[1]), fault[2])
+    found = re.fullmatch(form, answer)
+    if not found:
+        raise DeviceError(f"this is no answer of a device: {answer[:60]!r}")
+    return found[1]
 
 
 def _word(value: bytes) -> str:
@@ -505,11 +510,11 @@ class Device:
 
     async def value(self, handle: int) -> bytes:
         """Returns the value of the attribute at `handle`."""
-        return _octets((await self._ask("value", handle)).split(" ")[2])
+        return _octets(await self._ask("value", handle, form=r"value [0-9]+ (-|(?:[0-9A-Fa-f]{2})+)"))
 
     async def find(self, service: str, characteristic: str, n: int = 1) -> int:
         """Returns the handle of the value of the `n`th characteristic with these UUIDs, from 1."""
-        return int((await self._ask("find", service, characteristic, n)).split(" ")[1])
+        return int(await self._ask("find", service, characteristic, n, form=r"handle ([0-9]{1,5})"))
 
     async def connections(self) -> List[Connection]:
         """Returns the clients that are connected."""
@@ -540,14 +545,14 @@ class Device:
             raise
         await self.close()
 
-    async def _ask(self, *words: object) -> str:
-        """Sends a line on the connection of the application, and returns its answer."""
+    async def _ask(self, *words: object, form: str = "(ok)") -> str:
+        """Sends a line on the connection of the application, and returns the group of an answer of this form."""
         line, link = _line(*words), self._link
         while link is not None and not link.may_write.is_set():
             await link.may_write.wait()
         if link is None or link is not self._link or self._is_replaced or self._is_over:
             raise self._absence()
-        return _accepted(await link.send(line))
+        return _accepted(await link.send(line), form)
 
     async def _look(self, *words: object) -> List[Notice]:
         """Asks on a connection of its own, which reads no notices, and returns the lines of its answer."""
@@ -565,8 +570,9 @@ class Device:
                 writer.close()
         except OSError as error:
             raise Gone(f"the device is not connected: {error}") from error
-        if len(lines) < 2 or lines[-1] or _accepted(lines[-2]) != "ok":
+        if len(lines) < 2 or lines[-1]:
             raise Gone("the device closed the connection")
+        _accepted(lines[-2])
         return [notice_of(it) for it in lines[:-2]]
 
     async def _connect(self) -> None:
@@ -651,7 +657,7 @@ class Device:
 
 
 class BlockingDevice:
-    """A `Device` for programs without asyncio. Its methods may be called by any thread."""
+    """A `Device` for programs without asyncio, within `with`. Its methods may be called by any thread."""
 
     def __init__(self, address: Address, *, retry: Optional[float] = 0.5, capacity: int = 4_096) -> None:
         self.device = Device(address, retry=retry, capacity=capacity)
@@ -660,9 +666,12 @@ class BlockingDevice:
         # Once it is ending, no question begins that nobody would answer.
         self._lock = threading.Lock()
         self._is_ending = False
+        # The process whose thread answers: one that was forked from it has no such thread.
+        self._process: Optional[int] = None
 
     def __enter__(self) -> BlockingDevice:
         self._thread.start()
+        self._process = os.getpid()
         try:
             self.wait(self.device.open())
         except BaseException:
@@ -671,6 +680,8 @@ class BlockingDevice:
         return self
 
     def __exit__(self, *error: object) -> None:
+        if self._process != os.getpid():
+            return
         with self._lock:
             if self._is_ending:
                 return
@@ -702,6 +713,9 @@ class BlockingDevice:
 
     def wait(self, question: Coroutine[Any, Any, Result]) -> Result:
         """Waits for a question to `device`, for example `wait(device.connections())`."""
+        if self._process != os.getpid():
+            question.close()
+            raise Gone("this process has not opened the device: use `with`")
         with self._lock:
             if self._is_ending:
                 question.close()
