@@ -5,11 +5,23 @@ const EXAMPLES = JSON.parse(at("examples").textContent);
 const LETTERS = { r: "read", w: "write", c: "write without response", n: "be notified", i: "be indicated", s: "subscribe" };
 let compiled, base;
 
+/** The most octets that are unpacked: the files of an address, or the module, have far fewer. */
+const MOST_OCTETS = 16 << 20;
+
 /** Returns the octets of a stream that a text in base64 gives through a decompressor. */
 async function unpacked(text, format) {
   const octets = Uint8Array.from(atob(text), (it) => it.charCodeAt(0));
-  const stream = new Blob([octets]).stream().pipeThrough(new DecompressionStream(format));
-  return new Uint8Array(await new Response(stream).arrayBuffer());
+  const reader = new Blob([octets]).stream().pipeThrough(new DecompressionStream(format)).getReader();
+  const parts = [];
+  for (let count = 0, part; !(part = await reader.read()).done; ) {
+    parts.push(part.value);
+    count += part.value.length;
+    if (count > MOST_OCTETS) {
+      await reader.cancel();
+      throw new RangeError("it is too large");
+    }
+  }
+  return new Uint8Array(await new Blob(parts).arrayBuffer());
 }
 
 /** Calls a function of the module over texts, in an instance of its own. Returns its status and its text. */
@@ -119,7 +131,7 @@ function showFault({ status, text }) {
   return line === "";
 }
 
-function update() {
+function answer() {
   const [table, keys, script] = FILES.map((it) => at(it).value);
   const data = call("page_rights", table, keys);
   at("answered").classList.toggle("old", data.status !== 0);
@@ -136,6 +148,16 @@ function update() {
   const ran = call("page_run", table, keys, script);
   showFault(ran);
   at("transcript").textContent = call("page_words", table, ran.text).text;
+}
+
+/** Answers for the files as they are now. */
+function update() {
+  try {
+    answer();
+  } catch (error) {
+    at("answered").classList.add("old");
+    at("shared").textContent = `There is no answer: ${error.message}`;
+  }
 }
 
 function fill(files) {
@@ -171,6 +193,12 @@ function withoutKeys(text) {
   return (made.match(/[0-9a-f]{24,}/gi) ?? []).some((it) => /[^0]/.test(it)) ? undefined : made;
 }
 
+/** Tells whether a text has a key: one of this key file, or an entry that was put into the wrong field. */
+function hasKey(text, keys) {
+  const known = (keys.match(/[0-9a-f]{32}/gi) ?? []).filter((it) => /[^0]/.test(it));
+  return /\bltk\b/.test(text) || known.some((it) => text.toLowerCase().includes(it.toLowerCase()));
+}
+
 /** Returns octets in base64. A call has space for some of them only. */
 function base64(octets) {
   let text = "";
@@ -183,6 +211,10 @@ function base64(octets) {
 /** Puts the files into the address, without the keys themselves. */
 async function share() {
   const files = Object.fromEntries(FILES.map((it) => [it, at(it).value]));
+  if (hasKey(files.table + files.script, files.keys)) {
+    at("shared").textContent = "No link is made: the table or the script has a key, or the word ltk.";
+    return;
+  }
   const isAccepted = call("page_rights", files.table, files.keys).status === 0;
   files.keys = isAccepted ? withoutKeys(files.keys) : undefined;
   try {
@@ -199,28 +231,50 @@ async function share() {
     : "The address of this page holds the table, the keys with zeros in place of each ltk, and the script.";
 }
 
-async function filesOfAddress() {
+/** Shows the files of the address, if it holds some. Returns whether it does. */
+async function showAddress() {
+  const hash = location.hash;
+  let files;
   try {
-    const octets = await unpacked(decodeURIComponent(location.hash.slice(1)), "deflate-raw");
-    return JSON.parse(new TextDecoder().decode(octets));
+    const octets = await unpacked(decodeURIComponent(hash.slice(1)), "deflate-raw");
+    files = JSON.parse(new TextDecoder().decode(octets));
   } catch {
-    at("shared").textContent = "The address holds no files that can be read; this is an example.";
-    return undefined;
+    files = undefined;
   }
+  if (Object(files) !== files || FILES.some((it) => typeof (files[it] ?? "") !== "string")) {
+    at("shared").textContent = "The address holds no files that can be read.";
+    return false;
+  }
+  // The address may be another one meanwhile.
+  if (hash === location.hash) {
+    at("shared").textContent = "";
+    fill(files);
+  }
+  return true;
 }
 
 async function begin() {
   compiled = await WebAssembly.compile(await unpacked(at("module").textContent, "gzip"));
   at("example").append(...Object.keys(EXAMPLES).map((it) => element("option", it)));
   at("example").addEventListener("change", () => fill(EXAMPLES[at("example").value]));
-  FILES.forEach((it) => at(it).addEventListener("input", update));
+  FILES.forEach((it) => at(it).addEventListener("input", () => {
+    // The address does not hold the files as they are now.
+    at("shared").textContent = "";
+    update();
+  }));
   at("share").addEventListener("click", share);
   at("begin").addEventListener("click", () => {
     const data = call("page_rights", at("table").value, at("keys").value);
     base = data.status === 0 ? { table: at("table").value, rights: rightsOf(data.text) } : undefined;
     update();
   });
-  fill((location.hash && (await filesOfAddress())) || Object.values(EXAMPLES)[0]);
+  addEventListener("hashchange", showAddress);
+  at("shared").textContent = "";
+  if (!location.hash || !(await showAddress())) {
+    fill(Object.values(EXAMPLES)[0]);
+  }
 }
 
-begin();
+begin().catch((error) => {
+  at("shared").textContent = `The page cannot run here, or is not whole: ${error.message}`;
+});
