@@ -32,6 +32,10 @@ ARCHIVE = crates/gihandop_c/$(OUT)/libgihandop_c.a
 PROGRAM = crates/gatt_shell/$(OUT)/gatt_shell
 BUILD = $(OUT)
 
+# With white space a name is several words for the shell, and `make uninstall` would remove what they name.
+FOLDERS = PREFIX BINDIR LIBDIR INCLUDEDIR DATADIR DOCDIR UNITDIR COMPLETIONDIR ZSHDIR FISHDIR DESTDIR BUILD
+$(foreach it,$(FOLDERS),$(if $(filter-out 1,$(words [$($(it))])),$(error $(it) has white space: "$($(it))")))
+
 PROVE = tools/prove$(if $(TARGET), --target $(TARGET))
 UNITS = $(wildcard bridge/*.service)
 FISH = $(wildcard completions/*.fish)
