@@ -5,6 +5,9 @@ the tests in Python are played by the proved program, while the library for C is
 tools/unproved compiles it, under AddressSanitizer; and over the proved library, with what is C and Rust,
 as far as the machine has compilers. Both are proved for aarch64 too, if it has an emulator.
 
+Tests that fail side by side are played once more at the end, one after the other: many wait for a time
+that a busy machine does not keep. The gate names those that passed only then.
+
 A line is printed for each part as it ends, and a table of all parts at the end. After the table stands
 what failed.
 """
@@ -39,6 +42,8 @@ OTHERS = [f"--ignore-glob=*/{it}" for it in (*ARCHIVED, EMULATED, PAGED)]
 FIRST = [f"tests/test_{it}.py" for it in ("claims", "launcher", "limits_page", "links", "pages", "traces", "unproved")]
 # rt ci only notes an edit that does not apply or compile. It shows nothing.
 BAD = re.compile(r"BAD EDIT|^FAILED|^failed:|^ERROR|^note: .* is not proved", re.MULTILINE)
+# If more tests of a part fail, the machine is not the reason.
+MOST_AGAIN = 9
 # What a part that passed prints of itself.
 SHOWN = re.compile(r"^(?:SKIPPED .*|\d+ checks held|\d+ passed.*|rt: ok.*|.*skipped: .*)$", re.MULTILINE)
 
@@ -53,7 +58,7 @@ class Part:
         """`is_live` prints the output as it comes. `unless` is a status for which the part is skipped."""
         self.name, self.commands, self.is_live, self.unless = name, commands, is_live, unless
         self.variables = {name: f"{ROOT}/{path}" for name, path in variables.items()}
-        self.output, self.result, self.seconds = "", "passed", 0
+        self.output, self.result, self.seconds, self.failed = "", "passed", 0, None
         self.thread = threading.Thread(target=self.run)
 
     def start(self):
@@ -68,7 +73,7 @@ class Part:
                 self.result = "skipped"
                 break
             if status or (self.is_live and "BAD EDIT" in self.output):
-                self.result = "failed"
+                self.result, self.failed = "failed", words
                 self.output += f"status {status} of {' '.join(words)}\n"
                 break
         self.seconds = time.monotonic() - begun
@@ -88,6 +93,16 @@ class Part:
                 if self.is_live:
                     print(line, end="", flush=True)
         return command.returncode
+
+    def play_again(self):
+        """Plays the tests that failed once more, one after the other and beside nothing."""
+        names = list(dict.fromkeys(re.findall(r"(?m)^(?:FAILED|ERROR) (tests/[^\s[]+(?:\[.*?\])?)(?: - |$)", self.output)))
+        if not self.failed or self.failed[0] != TESTS[0] or not 0 < len(names) <= MOST_AGAIN:
+            return
+        status = self.run_one([TESTS[0], "-q", "-r", "fEs", *names])
+        if not status:
+            self.result = "passed"
+        print(*(f"{'failed again' if status else 'passed only alone'}: {it}" for it in names), sep="\n", flush=True)
 
     def has_passed(self):
         """Runs this part to its end. Returns whether nothing failed so far."""
@@ -133,6 +148,8 @@ def play():
             "aarch64", [*prove, "gihandop_c"], [*prove, "gatt_shell"], play_emulated,
             GATT_SHELL=PROGRAM, GIHANDOP_ARCHIVE=ARCHIVE,
         ).has_passed()
+    for part in Part.ended:
+        part.play_again()
 
 
 def main():

@@ -70,11 +70,12 @@ def pytest_xdist_make_scheduler(config, log):
     """Makes a scheduler that has each process know one test besides the one that it plays.
 
     That of pytest-xdist gives a process many at once: at the end one may have a whole file left, and the
-    others nothing.
+    others nothing. A version of it without the fields that are used here plays the tests by its own.
     """
     from xdist.scheduler import LoadScheduling
 
-    if config.getoption("dist") != "load":
+    is_known = hasattr(LoadScheduling, "_send_tests") and hasattr(LoadScheduling(config, log), "node2pending")
+    if config.getoption("dist") != "load" or not is_known:
         return None
 
     class OneByOne(LoadScheduling):

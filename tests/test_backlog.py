@@ -6,7 +6,7 @@ import subprocess
 import threading
 import time
 
-from parties import DOOR, PATIENCE, PROGRAM
+from parties import DOOR, PATIENCE, PROGRAM, late
 from parties.doors import LISTEN
 
 # The limit of `tell`, in seconds.
@@ -64,7 +64,7 @@ def test_a_full_backlog(folder):
     assert told[:2] == (2, f"tell: {path}: no answer in 20 seconds"), "tell"
     assert LIMIT - 1 < told[2] < LIMIT + PATIENCE, "the time of tell"
     assert second[:2] == (2, f"listen: failed: {path}: address in use"), "the second device"
-    assert second[2] < PATIENCE, "the second device does not wait"
+    assert second[2] < late(LIMIT / 2), "the second device does not wait"
 
 
 def test_a_backlog_that_empties(folder):

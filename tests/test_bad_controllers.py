@@ -5,9 +5,7 @@ import time
 
 import pytest
 
-from parties import (
-    ADVERTISE_ENABLE, DOOR, PATIENCE, Application, Controller, Device, controller_at, stream_to,
-)
+from parties import ADVERTISE_ENABLE, DOOR, PATIENCE, Application, Controller, Device, controller_at, late, stream_to
 from parties.doors import RESET, serving, visitor, waiting
 from parties.watching import is_idle
 
@@ -45,7 +43,7 @@ def test_silent_controllers_connect(folder):
     is_idle("a silent controller", device)
     assert application.ask("value 10") == "value 10 00", "an application is answered"
     assert real.until(lambda: (ADVERTISE_ENABLE, b"\1") in real.commands, 40), "a real one is served"
-    assert 19.5 < time.monotonic() - begun < 40, "within their patience"
+    assert 19.5 < time.monotonic() - begun < late(40), "within their patience"
     assert application.line() == "+ serving", "which the application reads, and no more"
     device.said(GIVEN_UP, 10)  # another thread reads the log, perhaps later than the lines above were read
     assert len(device.logged(GIVEN_UP)) == 10, "each is given up"
@@ -73,7 +71,7 @@ def test_silent_controllers_listen(folder):
         begun = time.monotonic()
         assert silent.recv(100) == RESET, "a Reset"
         assert silent.recv(100) == b"", "the end"
-        assert 1.8 < time.monotonic() - begun < 6, "within its patience"
+        assert 1.8 < time.monotonic() - begun < late(6), "within its patience"
         silent.close()
     real = Controller(server.accept()[0])
     assert real.is_advertised(), "a real one is served"
@@ -108,7 +106,7 @@ def test_a_connection_that_is_never_made(folder):
         slowest = max(slowest, time.monotonic() - since)
         time.sleep(0.02)
     # An attempt to connect takes three seconds, and these were more than six.
-    assert slowest < 2.5, "an application does not wait for an attempt"
+    assert slowest < late(2.5), "an application does not wait for an attempt"
     assert len(device.logged("controller: %s:%d: no answer" % address)) == 1, "it is logged once"
     is_idle("a connection that is never made", device)
     for one in blockers:
@@ -145,7 +143,7 @@ def test_a_vanished_controller(folder, has_octets):
         application.line()
     begun = time.monotonic()
     assert application.up_to("+ waiting")[-1] == "+ waiting", "it is gone"
-    assert time.monotonic() - begun < 8, "soon"
+    assert time.monotonic() - begun < late(8), "soon"
     real = controller_at(device)
     assert real.is_advertised(), "the next one is served"
     assert (application.line(), application.line(4)) == ("+ serving", None), "and stays at rest"
@@ -159,7 +157,7 @@ def test_half_an_initialisation(folder):
     device, application = waiting(folder, *SHORT)
     for count in (0, 1, 3, 5):
         half = Halfway(stream_to(device), count)
-        assert half.until(lambda: half.is_gone, 8), f"one that answers {count}: the end"
+        assert half.until(lambda: half.is_gone, late(8)), f"one that answers {count}: the end"
         found = half.received.count(b"\1") and len(half.commands) + 1
         assert found == count + 1, f"one that answers {count}: commands"
         half.close()
@@ -172,7 +170,7 @@ def test_half_an_initialisation(folder):
             time.sleep(0.02)
     except OSError:
         heard = b""
-    found = heard, time.monotonic() - begun < 6
+    found = heard, time.monotonic() - begun < late(6)
     assert found == (b"", True), "one that talks and answers nothing is given up"
     talker.close()
     real = controller_at(device)

@@ -6,7 +6,7 @@ import time
 
 import pytest
 
-from parties import DISCONNECT, PATIENCE, STRANGER, controller_at, stream_to
+from parties import DISCONNECT, PATIENCE, STRANGER, controller_at, late, stream_to
 from parties.disks import Disk
 from parties.doors import CODE_READ, LONG, NAME_READ
 from parties.homes import AT_OWNER, AT_STRANGER, Home, owner_comes, read
@@ -37,7 +37,7 @@ def test_tries_once_a_second(home):
     assert (set(answers), len(answers) > 20) == ({"20"}, True), "a phone is served meanwhile"
     assert disk.syncs() == before + 3, "three tries"
     # The device counts whole milliseconds.
-    assert 1.99 <= took < 3, "the third one after two seconds"
+    assert 1.99 <= took < late(3), "the third one after two seconds"
     disk.empty()
     device.said("saved again:")
 
@@ -121,7 +121,7 @@ def test_strangers_while_it_is_stopped(home, word):
     assert [it for it in controller.commands if it[0] == DISCONNECT] == [], "it stays"
     assert controller.command(DISCONNECT) == "400013", "it is disconnected in the end"
     counted = time.monotonic() - began_again + (0 if word == "--idle" else began_again - begun - 5)
-    assert 2.2 < counted < 5, "after three seconds"
+    assert 2.2 < counted < late(5), "after three seconds"
 
 
 @pytest.mark.long(8)

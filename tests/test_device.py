@@ -10,8 +10,8 @@ import time
 import pytest
 
 from parties import (
-    BELL, DISCONNECT, DOOR, OWNER, PATIENCE, STRANGER, Application, Controller, Device, captured,
-    controller_at, is_one_packet, soon, text_of,
+    BELL, DISCONNECT, DOOR, OWNER, PATIENCE, STRANGER, Application, Controller, Device, captured, controller_at,
+    is_one_packet, late, soon, text_of,
 )
 
 
@@ -202,7 +202,7 @@ def test_a_late_indication(folder):
     time.sleep(8)
     device.process.send_signal(signal.SIGCONT)
     assert bell.line(40) == "+ timed-out 1", "it is late"
-    assert 29 < time.monotonic() - begun < 35, "after 30 seconds, whatever the device did in them"
+    assert 29 < time.monotonic() - begun < late(35), "after 30 seconds, whatever the device did in them"
     assert bell.ask("update 3 02") == "ok", "nothing more"
     assert controller.hears(64, 0.5) is None, "is told"
 

@@ -7,7 +7,7 @@ import shutil
 import pytest
 
 from parties.building import is_marked, once, ran, run
-from parties.compiling import ARCHIVE, LINKED, PROGRAMS, compilers
+from parties.compiling import LINKED, PROGRAMS, compilers
 from parties.places import ROOT, text_of
 from parties.releases import stand_ins
 from parties.rust import cargo_env, lacks

@@ -6,7 +6,7 @@ import time
 
 import pytest
 
-from parties import DOOR, PATIENCE, STRANGER, Application, Device, controller_at, look
+from parties import DOOR, PATIENCE, STRANGER, Application, Device, controller_at, late, look
 from parties.acts import Act
 
 # What a browser sends: the lines of its body would be done if it were an application.
@@ -112,5 +112,5 @@ def test_an_endless_asker(door, line):
         for it in (Act(ask), Act(listen)):
             it.end()
     # It may be closed before its second, if it does not take an answer at once.
-    assert time.monotonic() - begun < 8, "after its second at the latest"
+    assert time.monotonic() - begun < late(8), "after its second at the latest"
     assert look(door.path, "value 10") == ["value 10 00"], "others are answered"

@@ -7,7 +7,7 @@ import time
 import pytest
 
 from parties import (
-    ADVERTISE_ENABLE, DOOR, PATIENCE, STRANGER, Application, Device, controller_at, look, soon, text_of,
+    ADVERTISE_ENABLE, DOOR, PATIENCE, STRANGER, Application, Device, controller_at, late, look, soon, text_of,
 )
 from parties.acts import Act
 from parties.doors import Door
@@ -27,7 +27,7 @@ fixed = true
 properties = ["read", "command"]
 """ % ("00" * 512)
 # How long a flood may take, in seconds.
-LONG = 30 * PATIENCE
+LONG = 20 * PATIENCE
 PLACES = {"--application": "FOLDER/socket", "--application-port": "127.0.0.1:0"}
 CUT_OFF = "application cut off: it does not read"
 
@@ -134,7 +134,7 @@ def test_questions_beside_a_flood(folder):
         begun = time.monotonic()
         assert look(path, "value 3") == [f"value 3 {'00' * 512}"], "the answer"
         waits.append(time.monotonic() - begun)
-    assert max(waits) < 5, f"each question waits for about a second: {waits}"
+    assert max(waits) < late(5), f"each question waits for about a second: {waits}"
     device.end()
     for it in acts:
         it.end()

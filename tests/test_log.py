@@ -11,7 +11,7 @@ import time
 
 import pytest
 
-from parties import DOOR, PATIENCE, PROGRAM, Application, Device
+from parties import DOOR, PATIENCE, PROGRAM, Application, Device, late
 from parties.doors import LISTEN
 from parties.watching import is_idle
 
@@ -97,7 +97,7 @@ def test_a_log_that_nobody_reads(folder, begin, visits):
     application = begun_at(path)
     assert application.line() == "+ waiting", "it serves"
     # A device that waits for the reader waits for ever.
-    assert slowest < 10, "a line of the log stops nothing"
+    assert slowest < late(10), "a line of the log stops nothing"
     is_idle("a full log", device)
     first = read_some(reading, 2)
     application.close()

@@ -361,7 +361,7 @@ LASTING = {
 @pytest.mark.parametrize("case", LASTING)
 def test_a_subscription_lasts(program, folder, case):
     rules, script, question = LASTING[case]
-    table = f'[[service]]\nuuid = "fff0"\n[[service.characteristic]]\nuuid = "fff1"\nvalue = "00"\nfixed = true\n'
+    table = '[[service]]\nuuid = "fff0"\n[[service.characteristic]]\nuuid = "fff1"\nvalue = "00"\nfixed = true\n'
     for name, text in (("t.toml", f'{table}properties = ["read", "notify"]\n{rules}'), ("t.script", script)):
         with open(f"{folder}/{name}", "w", encoding="utf-8") as file:
             file.write(text)

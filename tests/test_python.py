@@ -10,7 +10,7 @@ import warnings
 
 import pytest
 
-from parties import DOOR, OWNER, PATIENCE, ROOT, Device, controller_at, text_of
+from parties import DOOR, OWNER, PATIENCE, Device, controller_at, late, text_of
 from parties.asynchronous import (
     ADDRESS, ADDRESS_OF_STRANGER, apart, door, error_of, gihandop, heard, in_loop, rest_of, timed, within,
 )
@@ -29,7 +29,7 @@ async def test_at_once(folder):
         begun = time.monotonic()
         async with gihandop.Device(path):
             took.append(time.monotonic() - begun)
-    assert min(took) < 0.9, "it is the application at once"
+    assert min(took) < late(0.9), "it is the application at once"
 
 
 @in_loop

@@ -6,7 +6,7 @@ import time
 
 import pytest
 
-from parties import DOOR, Application, Controller, Device, SerialLine, controller_at, soon
+from parties import DOOR, Application, Controller, Device, SerialLine, controller_at, late, soon
 from parties.doors import LISTEN, LONG, NAME, NAME_READ, visitor
 from parties.watching import is_idle, memory
 
@@ -108,7 +108,7 @@ def test_a_reader_who_stops(folder, begin):
     quiet, begun, slowest = Quiet(controller.stream), time.monotonic(), 0
     writer = threading.Thread(target=quiet.sends, args=(3_000,), daemon=True)
     writer.start()
-    while not device.logged(STALLED) and time.monotonic() < begun + 20:
+    while not device.logged(STALLED) and time.monotonic() < begun + late(20):
         since = time.monotonic()
         answer = application.ask("value 10")
         if answer != "value 10 00":
@@ -120,9 +120,9 @@ def test_a_reader_who_stops(folder, begin):
         slowest = max(slowest, time.monotonic() - since)
         time.sleep(0.05)
     device.said(STALLED)
-    assert 7.8 < time.monotonic() - begun < 20, "given up in time"
+    assert 7.8 < time.monotonic() - begun < late(20), "given up in time"
     # A device that waits for the controller waits for eight seconds.
-    assert slowest < 4, "an application waits for less than four seconds"
+    assert slowest < late(4), "an application waits for less than four seconds"
     controller.close()
     if begin is slow_socket:
         real = controller_at(device)

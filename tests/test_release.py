@@ -315,7 +315,7 @@ if "changed" in sys.argv:
 print(gate.note(sys.stdin.read()))
 print(verdicts.is_of_gate("gihandop_c"), os.path.exists(note))
 """
-PROVED = f"== octet_io\nlogic=failed\nrt: octet_io proved\n== gatt_shell\n%srt: gatt_shell proved\n"
+PROVED = "== octet_io\nlogic=failed\nrt: octet_io proved\n== gatt_shell\n%srt: gatt_shell proved\n"
 KEPT = "rt: gatt_shell is kept: an earlier run on this machine proved the same files over the same libraries\n"
 # What the gate does: its name, its words, what rt ci prints, and what is said of the note.
 GATES = [

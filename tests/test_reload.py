@@ -7,8 +7,8 @@ import time
 import pytest
 
 from parties import (
-    ADVERTISE_ENABLE, DISCONNECT, GUEST, GUEST_KEY, KEY, KEY_REFUSAL, OWNER, PATIENCE, STRANGER, Controller, Device,
-    SerialLine, Visitor, controller_at, look, stream_to, text_of,
+    ADVERTISE_ENABLE, DISCONNECT, GUEST, GUEST_KEY, KEY, KEY_REFUSAL, OWNER, PATIENCE, STRANGER, Controller,
+    Device, SerialLine, Visitor, controller_at, late, look, stream_to, text_of,
 )
 from parties.acts import Act
 from parties.disks import Broken
@@ -238,7 +238,7 @@ def test_before_a_controller(place):
     place.keys.put(0, 1)
     begun = time.monotonic()
     assert place.reload() == ["ok"]
-    assert time.monotonic() - begun < 1, "at once"
+    assert time.monotonic() - begun < late(1), "at once"
     controller = place.controller()
     controller.connect(AT_OWNER, OWNER)
     assert controller.encrypt(AT_OWNER, KEY), "the key serves"
@@ -318,7 +318,7 @@ def test_a_silent_controller(place):
     place.keys.put(0, 1)
     begun = time.monotonic()
     assert place.reload() == ["ok"]
-    assert time.monotonic() - begun < 5, "within five seconds"
+    assert time.monotonic() - begun < late(5), "within five seconds"
     assert place.controller().is_advertised(), "the next one"
 
 

@@ -10,7 +10,7 @@ import time
 
 import pytest
 
-from parties import ROOT, text_of
+from parties import ROOT, late, text_of
 
 DOOR = text_of(f"{ROOT}/examples/door.toml")
 KEYS = text_of(f"{ROOT}/examples/keys.toml")
@@ -468,7 +468,7 @@ properties = ["read"]
 def test_a_long_uuid_is_cut_in_its_middle(show):
     table = ""
     for end in ("ef", "f0"):
-        table += f'[[service]]\nuuid = "180f"\n[[service.characteristic]]\nvalue = "00"\nproperties = ["read"]\n'
+        table += '[[service]]\nuuid = "180f"\n[[service.characteristic]]\nvalue = "00"\nproperties = ["read"]\n'
         table += f'uuid = "12345678-9abc-def0-0123-456789abcd{end}"\n'
     assert [row.split()[1] for row in rows_in(show(table, None, "--width", "60"))] == [
         "12345678-9abc..-456789abcdef", "12345678-9abc..-456789abcdf0",
@@ -478,7 +478,7 @@ def test_a_long_uuid_is_cut_in_its_middle(show):
 def test_a_large_table(show):
     begun = time.monotonic()
     lines = show(LARGE, MANY_KEYS, "--width", "120")
-    assert time.monotonic() - begun < 10
+    assert time.monotonic() - begun < late(10)
     assert lines[0].split()[3:] == ["A", "B", "C"]
     assert [len(kinds) for kinds in kinds_in(lines).values()] == [1, 3, 1]
     assert len(rows_in(lines)) == 224

@@ -5,7 +5,7 @@ import time
 
 import pytest
 
-from parties import DISCONNECT, STRANGER
+from parties import DISCONNECT, STRANGER, late
 from parties.disks import Broken
 from parties.homes import (
     AT_GUEST, AT_OWNER, AT_STRANGER, Home, end, guest_comes, has_saved, owner_comes, read,
@@ -190,7 +190,7 @@ def test_a_failed_save(folder, saved):
     os.rename(f"{folder}/away", home.place)
     begun = time.monotonic()
     assert device.said("saved again:") == f" {home.path}", "it is saved again"
-    assert time.monotonic() - begun < 2, "within two seconds"
+    assert time.monotonic() - begun < late(2), "within two seconds"
     assert f"{OWNER_NAME} {VALUE_CONFIG} 1\n" in home.state(), "the subscription is there"
     assert application.up_to("+ saved")[-1] == "+ saved", "the application reads that"
     assert application.line() == f"+ configured 1 {VALUE_CONFIG} 1", "and then of the change"

@@ -5,7 +5,7 @@ import time
 
 import pytest
 
-from parties import ADVERTISE_ENABLE, DOOR, OWNER, STRANGER, Application, Controller, Device, SerialLine
+from parties import ADVERTISE_ENABLE, DOOR, OWNER, STRANGER, Application, Controller, Device, SerialLine, late
 from parties.doors import CODE_READ, NAME, NAME_READ, RESET, visitor
 from parties.watching import is_idle
 
@@ -42,7 +42,7 @@ def test_a_silent_serial_line(folder, line):
     application = Application(path)
     for count in range(3):
         assert line.recv(len(RESET)) == RESET, "a Reset"
-        assert 2 * count - 0.3 < time.monotonic() - begun < 2 * count + 3, "each within the patience"
+        assert 2 * count - 0.3 < time.monotonic() - begun < late(2 * count + 3), "each within the patience"
     is_idle("a silent line", device)
     real = Controller(line)
     assert real.is_advertised(), "a real one is served"

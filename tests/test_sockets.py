@@ -8,7 +8,7 @@ import time
 
 import pytest
 
-from parties import DOOR, PATIENCE, Application, Device
+from parties import DOOR, PATIENCE, Application, Device, late
 from parties.doors import LISTEN, NAME, NAME_READ, RESET, serving, visitor
 from parties.watching import highest, is_idle, limit
 
@@ -159,7 +159,7 @@ def is_soon_served(device, streams, first):
     begun = time.monotonic()
     streams[0].settimeout(PATIENCE)
     assert streams[0].recv(100)[:9] == first, "served"
-    assert time.monotonic() - begun < 5, "soon"
+    assert time.monotonic() - begun < late(5), "soon"
     for one in streams:
         one.close()
 

@@ -6,7 +6,7 @@ import time
 
 import pytest
 
-from parties import DISCONNECT, DOOR, OWNER, PATIENCE, STRANGER, Application, Device, controller_at, text_of
+from parties import DISCONNECT, DOOR, OWNER, PATIENCE, STRANGER, Application, Device, controller_at, late, text_of
 from parties.doors import Door
 from parties.places import write_text
 
@@ -146,7 +146,7 @@ def test_rows_without_a_folder(folder):
     os.mkdir(place)
     begun = time.monotonic()
     assert device.said("saved again:") == f" {place}/door.rows", "which is logged too"
-    assert time.monotonic() - begun < 2, "within two seconds"
+    assert time.monotonic() - begun < late(2), "within two seconds"
     # In the order in which the phone configured them first.
     assert text_of(f"{place}/door.rows") == both, "all is written"
     controller.connect(65, OWNER)

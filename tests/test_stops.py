@@ -4,7 +4,7 @@ import time
 
 import pytest
 
-from parties import DISCONNECT, DOOR, OWNER, PATIENCE, STRANGER, Application, Device, controller_at, look
+from parties import DISCONNECT, DOOR, OWNER, PATIENCE, STRANGER, Application, Device, controller_at, late, look
 from parties.acts import Act
 from parties.disks import Broken
 from parties.tables import VALUE
@@ -64,7 +64,7 @@ def test_a_silent_controller(device, path):
     begun = time.monotonic()
     assert look(path, "stop") == ["ok"], "a controller that answers no more"
     assert device.process.wait(PATIENCE) == 0, "it ends"
-    assert time.monotonic() - begun < 5, "within five seconds"
+    assert time.monotonic() - begun < late(5), "within five seconds"
 
 
 @pytest.mark.parametrize("wait", [0, 0.3, 0.6])

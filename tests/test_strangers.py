@@ -2,7 +2,7 @@
 
 import time
 
-from parties import OWNER, STRANGER
+from parties import OWNER, STRANGER, late
 from parties.doors import NAME, NAME_READ, serving, visitor
 from parties.watching import is_idle
 
@@ -58,6 +58,6 @@ def test_a_handle_that_is_used_again(folder):
     lines = application.lines(2)
     assert [it.split()[1] for it in lines] == ["disconnected", "connected"], "one goes and one comes"
     assert (application.line() or "? ?").split()[1] == "ending", "it is ended"
-    assert 2.7 < time.monotonic() - begun < 6, "three seconds after it came"
+    assert 2.7 < time.monotonic() - begun < late(6), "three seconds after it came"
     device.end()
     controller.close()

@@ -6,7 +6,7 @@ import time
 
 import pytest
 
-from parties import DOOR, PATIENCE, Device, look, soon
+from parties import DOOR, PATIENCE, Device, late, look, soon
 from parties.doors import LISTEN
 from parties.watching import spent
 
@@ -119,7 +119,7 @@ def test_a_deaf_replaced_application(folder):
             device.said("application cut off: it does not read")
             other.settimeout(PATIENCE)
             assert other.recv(9) == b"+ started", "the next one"
-            assert 3 < time.monotonic() - begun < 15, "in time"
+            assert 3 < time.monotonic() - begun < late(15), "in time"
             assert third.makefile().readline().startswith("+ started"), "and the third"
 
 
@@ -151,7 +151,7 @@ def test_a_slow_look(door):
         slow.sendall(b"ue 10\n")
         assert slow.makefile().readline() == "value 10 00\n", "a slow one"
         assert slow.recv(1) == b"", "is closed"
-        assert 0.5 < time.monotonic() - begun < 5, "after a second"
+        assert 0.5 < time.monotonic() - begun < late(5), "after a second"
     assert one.ask("value 10") == "value 10 00", "it is the application still"
 
 
@@ -173,7 +173,7 @@ def test_a_silent_connection(door):
     with reach(door.path) as silent:
         begun = time.monotonic()
         assert look(door.path, "value 10") == ["value 10 00"], "a silent one keeps none out"
-        assert time.monotonic() - begun < 5, "for long"
+        assert time.monotonic() - begun < late(5), "for long"
         assert one.lines(2) == ["+ replaced", "END"], "it is the application now"
         silent.sendall(b"value 10\n")
         assert silent.makefile().readline()[:10] == "+ started ", "and is told what stands"
@@ -187,7 +187,7 @@ def test_an_unfinished_line(door):
         begun = time.monotonic()
         unfinished.sendall(b"val")
         assert unfinished.makefile().read() == "", "it is closed without an answer"
-        assert 0.5 < time.monotonic() - begun < 5, "after a second"
+        assert 0.5 < time.monotonic() - begun < late(5), "after a second"
     assert one.ask("value 10") == "value 10 00", "it is the application still"
 
 
@@ -216,7 +216,7 @@ def test_a_line_of_an_application(door, line):
     begun = time.monotonic()
     one = door.application(line)
     # It would be one after a second of silence.
-    assert time.monotonic() - begun < 0.9, "an application at once"
+    assert time.monotonic() - begun < late(0.9), "an application at once"
     one.close()
     assert soon(lambda: look(door.path, "value 21")) is not None, "which goes"
 
@@ -226,6 +226,6 @@ def test_a_claim(door):
     one, begun = door.application("application"), time.monotonic()
     assert soon(lambda: one.line() == "ok"), "the answer to its claim"
     two = door.application("application")
-    assert time.monotonic() - begun < 0.9, "another takes its place at once"
+    assert time.monotonic() - begun < late(0.9), "another takes its place at once"
     assert one.up_to("END")[-2:] == ["+ replaced", "END"], "of the one before"
     two.close()

@@ -26,6 +26,7 @@ from parties.places import (
     PROGRAM,
     ROOT,
     STRANGER,
+    late,
     soon,
     text_of,
 )
@@ -33,6 +34,6 @@ from parties.places import (
 __all__ = [
     "ADVERTISE_ENABLE", "ADVERTISING_DATA", "BELL", "DISCONNECT", "DOOR", "GUEST", "GUEST_KEY", "KEY", "KEY_REFUSAL",
     "KEY_REPLY", "OWNER", "PATIENCE", "PROGRAM", "RANDOM_ADDRESS", "ROOT", "STRANGER", "Application", "Controller",
-    "Device", "SerialLine", "Visitor", "captured", "controller_at", "end_all", "is_one_packet", "look", "soon",
+    "Device", "SerialLine", "Visitor", "captured", "controller_at", "end_all", "is_one_packet", "late", "look", "soon",
     "stream_to", "text_of",
 ]

@@ -11,6 +11,8 @@ import time
 
 import pytest
 
+from parties.places import late
+
 # Starts a program with two descriptors as its third and fourth.
 PIPED = """import fcntl, os, sys
 read, write = (fcntl.fcntl(int(it), fcntl.F_DUPFD, 10) for it in sys.argv[1:3])
@@ -19,7 +21,7 @@ os.dup2(write, 4)
 os.execv(sys.argv[3], sys.argv[3:])
 """
 # How long a page may take to do what a test waits for, in seconds.
-PATIENCE = 60
+PATIENCE = late(60)
 
 
 class Browser:
