@@ -134,12 +134,12 @@ def test_letters_and_columns_are_explained(compare):
     assert lines[at - 1 : at + 2] == ["", lines[at], "B  key of 16"]
 
 
-def test_without_a_key_file_letters_alone_are_explained(compare):
-    for keys in (None, ""):
-        lines = compare(DOOR, DOOR.replace("read = { encrypted = true }\nwrite", "write"), keys)[1]
-        assert lines[1] == "   10  fff1  rn  no key"
-        assert lines[7].startswith("r read  w write  c write without response")
-        assert lines[-1].startswith("( ) only while the application authorizes the connection")
+@pytest.mark.parametrize("keys", [None, ""], ids=["no_file", "no_keys"])
+def test_without_a_key_file_letters_alone_are_explained(compare, keys):
+    lines = compare(DOOR, DOOR.replace("read = { encrypted = true }\nwrite", "write"), keys)[1]
+    assert lines[1] == "   10  fff1  rn  no key"
+    assert lines[7].startswith("r read  w write  c write without response")
+    assert lines[-1].startswith("( ) only while the application authorizes the connection")
 
 
 def test_an_attribute_before_the_others(compare):

@@ -76,8 +76,8 @@ def test_new(folder, worth, size):
 def test_new_keys():
     """Each new key is another."""
     many = [fields_of(keys("new", CENTRAL, "random")[1]) for _ in range(12)]
-    for field in ("ltk", "rand"):
-        assert len({it[field] for it in many}) == len(many), f"each {field} is another"
+    others = {field: len({it[field] for it in many}) for field in ("ltk", "rand")}
+    assert others == {"ltk": len(many), "rand": len(many)}
 
 
 def test_a_private_address():

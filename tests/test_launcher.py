@@ -50,16 +50,21 @@ def test_help(it, word, without):
     status, output, errors, builds, _ = it.call(word, without=without)
     assert (status, errors, builds) == (0, "", 0), f"{word} without a program"
     assert re.findall(r"(?m)^  (\w+) +\w.*$", output.split("\nOptions:\n")[0]) == COMMANDS, "the commands"
-    for text in ("--unproved", "minutes", "README.md"):
-        assert text in output, "--unproved, the time and the documents"
+    said = [it for it in ("--unproved", "minutes", "README.md") if it in output]
+    assert said == ["--unproved", "minutes", "README.md"], "the time and the documents"
 
 
 @pytest.mark.parametrize("without", [(), ("rt", "python3", "sha256sum")], ids=["", "bare"])
-def test_version(it, without):
-    """Without a program, the version is printed at once, and calls without words are refused."""
+@pytest.mark.parametrize("word", ["--version", "-V"])
+def test_version(it, word, without):
+    """Without a program, the version is printed at once."""
     version = re.search(r'VERSION: &str = "(.*)"', text_of(f"{ROOT}/crates/shell_args/src/help.rt"))[1]
-    for word in ("--version", "-V"):
-        assert it.call(word, without=without)[:4] == (0, f"gatt_shell {version}\n", "", 0), word
+    assert it.call(word, without=without)[:4] == (0, f"gatt_shell {version}\n", "", 0)
+
+
+@pytest.mark.parametrize("without", [(), ("rt", "python3", "sha256sum")], ids=["", "bare"])
+def test_no_words(it, without):
+    """Without a program, a call without words is refused at once."""
     status, output, errors, builds, _ = it.call(without=without)
     assert (status, output, builds) == (64, "", 0), "no words without a program"
     assert "Usage:" in errors, "its text"

@@ -110,15 +110,15 @@ def test_little_stack(prlimit, command, size):
 
 @pytest.mark.parametrize("depth", [40, 78, 79, 80, 100_000])
 @pytest.mark.parametrize("kind", NESTED)
-def test_nested(folder, prlimit, kind, depth):
+@pytest.mark.parametrize("words", [["check"], ["show"], ["host", "--listen", "127.0.0.1:0"]], ids=["check", "show", "host"])
+@pytest.mark.parametrize("place", ["table", "keys"])
+def test_nested(folder, prlimit, place, words, kind, depth):
     """No command needs more than its stack for a table or keys that are nested."""
-    table = f"{folder}/nested.toml"
-    with open(table, "w") as file:
+    nested = f"{folder}/nested.toml"
+    with open(nested, "w") as file:
         file.write(NESTED[kind](depth) + "\n")
-    for files in ([table, DOOR[1]], [DOOR[0], table]):
-        for name, more in (("check", []), ("show", []), ("host", ["--listen", "127.0.0.1:0"])):
-            status = limited("--stack=4194304", name, *files, *more)[0]
-            assert status == 1, f"{name} {' '.join(map(os.path.basename, files))}: {kind}, {depth} deep"
+    files = [nested, DOOR[1]] if place == "table" else [DOOR[0], nested]
+    assert limited("--stack=4194304", words[0], *files, *words[1:])[0] == 1
 
 
 def end_with(folder, size):

@@ -330,9 +330,9 @@ def test_a_page_that_does_not_run(page, tmp_path, cut, words):
         browser.close()
 
 
-def test_it_reaches_no_network(browser):
-    for reached in ("fetch('http://127.0.0.1:9/')", "import('http://127.0.0.1:9/x.js')"):
-        assert browser.evaluate(f"{reached}.then(() => 'reached', () => 'refused')") == "refused"
+@pytest.mark.parametrize("reached", ["fetch('http://127.0.0.1:9/')", "import('http://127.0.0.1:9/x.js')"], ids=["fetch", "import"])
+def test_it_reaches_no_network(browser, reached):
+    assert browser.evaluate(f"{reached}.then(() => 'reached', () => 'refused')") == "refused"
     assert browser.evaluate("document.querySelectorAll('[src], [href]').length") == 0
 
 

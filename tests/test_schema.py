@@ -297,7 +297,6 @@ def test_documented(kind):
     """Each key of each table has a title and a description, and no table has others than its own."""
     schema = json.loads(text_of(SCHEMAS[kind]))
     tables = {"root": schema, **{k: v for k, v in schema["definitions"].items() if v.get("type") == "object"}}
-    for name, table in tables.items():
-        assert table.get("additionalProperties") is False, f"{name}: closed"
-        for key, it in table["properties"].items():
-            assert it.get("title") and it.get("description"), f"{name}, {key}: documented"
+    assert [name for name, it in tables.items() if it.get("additionalProperties") is not False] == [], "closed"
+    keys = {f"{name}, {key}": it for name, table in tables.items() for key, it in table["properties"].items()}
+    assert [key for key, it in keys.items() if not (it.get("title") and it.get("description"))] == [], "documented"

@@ -160,22 +160,16 @@ def words_of(program, lines, *words):
 
 def test_pdus(program):
     """Each PDU is named, with its parameters."""
-    for (pdu, words), found in zip(PDUS, words_of(program, [pdu for pdu, _ in PDUS])):
-        assert found == words, pdu
+    assert list(zip((pdu for pdu, _ in PDUS), words_of(program, [pdu for pdu, _ in PDUS]))) == list(PDUS)
     assert {int(pdu[:2], 16) for pdu, _ in PDUS} == set(NAMES), "each opcode is tried"
 
 
 def test_errors(program):
     """Each error code is named, or has its kind."""
+    kinds = {code: "application" for code in range(0x80, 0xA0)} | {code: "common profile" for code in range(0xE0, 256)}
+    names = [ERRORS.get(code, f"{kinds.get(code, 'reserved')} error {code:02x}") for code in range(256)]
     found = words_of(program, [f"010a0300{code:02x}" for code in range(256)])
-    for code, words in enumerate(found):
-        if 0x80 <= code <= 0x9F:
-            kind = f"application error {code:02x}"
-        elif code >= 0xE0:
-            kind = f"common profile error {code:02x}"
-        else:
-            kind = f"reserved error {code:02x}"
-        assert words == f"Error Response: Read Request of handle 3, {ERRORS.get(code, kind)}", code
+    assert found == [f"Error Response: Read Request of handle 3, {it}" for it in names]
 
 
 def test_opcodes(program):
@@ -183,18 +177,17 @@ def test_opcodes(program):
     asked = words_of(program, [f"01{opcode:02x}030006" for opcode in range(256)])
     alone = words_of(program, [f"{opcode:02x}" for opcode in range(256)])
     longer = words_of(program, [f"{opcode:02x}0300" for opcode in range(256)])
-    for opcode in range(256):
-        unknown = f"unknown opcode {opcode:02x}"
-        name = NAMES.get(opcode, unknown)
-        assert asked[opcode] == f"Error Response: {name} of handle 3, Request Not Supported", opcode
-        if opcode not in NAMES:
-            assert (alone[opcode], longer[opcode]) == (unknown, unknown), opcode
+    unknown = {opcode: f"unknown opcode {opcode:02x}" for opcode in range(256) if opcode not in NAMES}
+    names = [NAMES.get(opcode) or unknown[opcode] for opcode in range(256)]
+    assert asked == [f"Error Response: {it} of handle 3, Request Not Supported" for it in names]
+    assert {opcode: alone[opcode] for opcode in unknown} == unknown, "alone"
+    assert {opcode: longer[opcode] for opcode in unknown} == unknown, "with a handle"
 
 
 def test_malformed(program):
     """A malformed PDU has words that say so."""
-    for pdu, found in zip(MALFORMED, words_of(program, MALFORMED)):
-        assert found == f"malformed {NAMES[int(pdu[:2], 16)]}", pdu
+    wanted = {it: f"malformed {NAMES[int(it[:2], 16)]}" for it in MALFORMED}
+    assert dict(zip(MALFORMED, words_of(program, MALFORMED))) == wanted
 
 
 def test_many_entries(program):
