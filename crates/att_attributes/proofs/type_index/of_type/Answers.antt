@@ -1,11 +1,33 @@
-use Rattle.std.proofs.Common.{◌≡◌, ◌+◌, ◌-◌, ◌/◌, ◌<◌, length, get_or, refl, sym, ap, subst, ◌∙◌, arith}
+use Rattle.std.proofs.Common.{◌≡◌, ℕ, ◌≤◌, ◌+◌, ◌-◌, ◌/◌, ◌<◌, length, get_or, refl, sym, ap, subst, ◌∙◌, arith}
 use Rattle.att_attributes.specs.Attributes.{type_at}
 use Rattle.att_attributes.specs.TypeIndex.{IsAscending, handles_within}
 use Rattle.att_attributes.proofs.OfType.{above_at, found, index_given, length_given, none_between, place_less, run_ascending}
-use Rattle.att_attributes.proofs.Runs.{beside, run_fits, run_long, run_taken}
-use Rattle.att_attributes.proofs.Search.{before_run, half_within, lower_less, lower_more, lower_same, paid_at_first, paid_in_run, past_run, same_upper, upper_less, upper_more}
+use Rattle.att_attributes.specs.declared.type_index.Run.{Run}
+use Rattle.att_attributes.proofs.Runs.{beside, run_fits, run_long, run_taken, IsBeside}
+use Rattle.att_attributes.proofs.Search.{HaveSameUpper, before_run, half_within, lower_less, lower_more, lower_same, paid_at_first, paid_in_run, past_run, same_upper, upper_less, upper_more}
 use Rattle.att_attributes.proofs.TypeOrder.{place_within}
+use Rattle.att_attributes.proofs.type_index.of_type.Given.{Over}
+use Rattle.att_attributes.proofs.type_index.of_type.Goals.{After-tick}
 use Rattle.att_attributes.proofs.type_index.of_type.Goals as goal
+
+-- what is known of the middle of each turn
+abbrev own-at : (g : Over) → After-tick g → ℕ
+own-at g c = type_at c.args.attributes.now (get_or c.args.index.now ((c.loop-low.low + c.loop-low.high) / 2) 0)
+
+abbrev run-at : (g : Over) → After-tick g → Run
+run-at g c = get_or c.args.runs.now ((c.loop-low.low + c.loop-low.high) / 2) (record { begin = 0; end = 0 })
+
+stands-at : (g : Over) (c : After-tick g) → IsBeside (type_at c.args.attributes.now) c.args.index.now (own-at g c)
+    ((c.loop-low.low + c.loop-low.high) / 2) (run-at g c).begin (run-at g c).end
+stands-at g c =
+    let within = half_within c.loop-low.low c.loop-low.high _ c.loop-low-test.true c.loop-low.invariant.0.inside in
+    beside c.args.attributes.now c.args.index.now c.args.runs.now _ _ _ _ c.requires.numbered c.requires.index c.requires.runs within refl refl
+
+halves-at : (g : Over) (c : After-tick g) → c.halves-upper.result.0 ≤ c.halves-own_upper.result.0 → c.halves-own_upper.result.0 ≤ c.halves-upper.result.0
+    → HaveSameUpper (own-at g c) c.args.kind c.halves-own_upper.result.1 c.halves-upper.result.1
+halves-at g c least most =
+    same_upper c.type_of.result _ _ _ _ _ _ c.type_of.ensures c.halves-own_upper.ensures.upper c.halves-upper.ensures.upper least most
+    c.halves-own_upper.ensures.lower c.halves-upper.ensures.lower
 
 pub loop-low-init : goal.loop-low-init
 loop-low-init g c = (
@@ -23,34 +45,19 @@ type_of-requires-clause-last g c =
 
 pub loop-low-smaller-then-own_upper-upper : goal.loop-low-smaller-then-own_upper-upper
 loop-low-smaller-then-own_upper-upper g c =
-    let index = c.args.index.now in
-    let attributes = c.args.attributes.now in
-    let kind = type_at attributes in
-    let low = c.loop-low.low in
-    let high = c.loop-low.high in
-    let middle = (low + high) / 2 in
-    let own = kind (get_or index middle 0) in
-    let run = get_or c.args.runs.now middle (record { begin = 0; end = 0 }) in
-    let within : middle < length index = half_within low high _ c.loop-low-test.true c.loop-low.invariant.0.inside in
-    let stands =
-    beside attributes index c.args.runs.now middle (record { begin = 0; end = 0 }) run.begin run.end c.requires.numbered c.requires.index c.requires.runs
-    within refl refl in
-    omega (arith, c.from-low.ensures, stands.behind, c.loop-low-test.true)
+    let at = (goal.at.loop-low-smaller-then-own_upper-upper g c).After-tick in
+    omega (arith, c.from-low.ensures, (stands-at g at).behind, c.loop-low-test.true)
 
 pub loop-low-preserved-then-own_upper-upper : goal.loop-low-preserved-then-own_upper-upper
 loop-low-preserved-then-own_upper-upper g c =
+    let at = (goal.at.loop-low-preserved-then-own_upper-upper g c).After-tick in
+    let kind = type_at c.args.attributes.now in
     let index = c.args.index.now in
-    let attributes = c.args.attributes.now in
-    let kind = type_at attributes in
     let low = c.loop-low.low in
     let high = c.loop-low.high in
-    let middle = (low + high) / 2 in
-    let own = kind (get_or index middle 0) in
-    let run = get_or c.args.runs.now middle (record { begin = 0; end = 0 }) in
-    let within : middle < length index = half_within low high _ c.loop-low-test.true c.loop-low.invariant.0.inside in
-    let stands =
-    beside attributes index c.args.runs.now middle (record { begin = 0; end = 0 }) run.begin run.end c.requires.numbered c.requires.index c.requires.runs
-    within refl refl in
+    let middle = (c.loop-low.low + c.loop-low.high) / 2 in
+    let own = own-at g at in
+    let stands = stands-at g at in
     let told : own < c.args.kind =
     upper_less c.type_of.result own c.args.kind c.halves-own_upper.result.0 c.halves-upper.result.0 c.type_of.ensures c.halves-own_upper.ensures.upper
     c.halves-upper.ensures.upper c.if-own_upper-upper.true in
@@ -61,34 +68,19 @@ loop-low-preserved-then-own_upper-upper g c =
 
 pub loop-low-smaller-then-own_upper-upper-2 : goal.loop-low-smaller-then-own_upper-upper-2
 loop-low-smaller-then-own_upper-upper-2 g c =
-    let index = c.args.index.now in
-    let attributes = c.args.attributes.now in
-    let kind = type_at attributes in
-    let low = c.loop-low.low in
-    let high = c.loop-low.high in
-    let middle = (low + high) / 2 in
-    let own = kind (get_or index middle 0) in
-    let run = get_or c.args.runs.now middle (record { begin = 0; end = 0 }) in
-    let within : middle < length index = half_within low high _ c.loop-low-test.true c.loop-low.invariant.0.inside in
-    let stands =
-    beside attributes index c.args.runs.now middle (record { begin = 0; end = 0 }) run.begin run.end c.requires.numbered c.requires.index c.requires.runs
-    within refl refl in
-    omega (arith, c.from-high.ensures, stands.ahead, c.loop-low-test.true)
+    let at = (goal.at.loop-low-smaller-then-own_upper-upper-2 g c).After-tick in
+    omega (arith, c.from-high.ensures, (stands-at g at).ahead, c.loop-low-test.true)
 
 pub loop-low-preserved-then-own_upper-upper-2 : goal.loop-low-preserved-then-own_upper-upper-2
 loop-low-preserved-then-own_upper-upper-2 g c =
+    let at = (goal.at.loop-low-preserved-then-own_upper-upper-2 g c).After-tick in
+    let kind = type_at c.args.attributes.now in
     let index = c.args.index.now in
-    let attributes = c.args.attributes.now in
-    let kind = type_at attributes in
     let low = c.loop-low.low in
     let high = c.loop-low.high in
-    let middle = (low + high) / 2 in
-    let own = kind (get_or index middle 0) in
-    let run = get_or c.args.runs.now middle (record { begin = 0; end = 0 }) in
-    let within : middle < length index = half_within low high _ c.loop-low-test.true c.loop-low.invariant.0.inside in
-    let stands =
-    beside attributes index c.args.runs.now middle (record { begin = 0; end = 0 }) run.begin run.end c.requires.numbered c.requires.index c.requires.runs
-    within refl refl in
+    let middle = (c.loop-low.low + c.loop-low.high) / 2 in
+    let own = own-at g at in
+    let stands = stands-at g at in
     let told : c.args.kind < own =
     upper_more c.type_of.result own c.args.kind c.halves-own_upper.result.0 c.halves-upper.result.0 c.type_of.ensures c.halves-own_upper.ensures.upper
     c.halves-upper.ensures.upper c.if-own_upper-upper-2.true in
@@ -99,38 +91,20 @@ loop-low-preserved-then-own_upper-upper-2 g c =
 
 pub loop-low-smaller-then-own_lower-lower : goal.loop-low-smaller-then-own_lower-lower
 loop-low-smaller-then-own_lower-lower g c =
-    let index = c.args.index.now in
-    let attributes = c.args.attributes.now in
-    let kind = type_at attributes in
-    let low = c.loop-low.low in
-    let high = c.loop-low.high in
-    let middle = (low + high) / 2 in
-    let own = kind (get_or index middle 0) in
-    let run = get_or c.args.runs.now middle (record { begin = 0; end = 0 }) in
-    let within : middle < length index = half_within low high _ c.loop-low-test.true c.loop-low.invariant.0.inside in
-    let stands =
-    beside attributes index c.args.runs.now middle (record { begin = 0; end = 0 }) run.begin run.end c.requires.numbered c.requires.index c.requires.runs
-    within refl refl in
-    omega (arith, c.from-low-then-own_lower-lower.ensures, stands.behind, c.loop-low-test.true)
+    let at = (goal.at.loop-low-smaller-then-own_lower-lower g c).After-tick in
+    omega (arith, c.from-low-then-own_lower-lower.ensures, (stands-at g at).behind, c.loop-low-test.true)
 
 pub loop-low-preserved-then-own_lower-lower : goal.loop-low-preserved-then-own_lower-lower
 loop-low-preserved-then-own_lower-lower g c =
+    let at = (goal.at.loop-low-preserved-then-own_lower-lower g c).After-tick in
+    let kind = type_at c.args.attributes.now in
     let index = c.args.index.now in
-    let attributes = c.args.attributes.now in
-    let kind = type_at attributes in
     let low = c.loop-low.low in
     let high = c.loop-low.high in
-    let middle = (low + high) / 2 in
-    let own = kind (get_or index middle 0) in
-    let run = get_or c.args.runs.now middle (record { begin = 0; end = 0 }) in
-    let within : middle < length index = half_within low high _ c.loop-low-test.true c.loop-low.invariant.0.inside in
-    let stands =
-    beside attributes index c.args.runs.now middle (record { begin = 0; end = 0 }) run.begin run.end c.requires.numbered c.requires.index c.requires.runs
-    within refl refl in
-    let halves =
-    same_upper c.type_of.result own c.args.kind c.halves-own_upper.result.0 c.halves-upper.result.0 c.halves-own_upper.result.1 c.halves-upper.result.1
-    c.type_of.ensures c.halves-own_upper.ensures.upper c.halves-upper.ensures.upper c.if-own_upper-upper.false c.if-own_upper-upper-2.false
-    c.halves-own_upper.ensures.lower c.halves-upper.ensures.lower in
+    let middle = (c.loop-low.low + c.loop-low.high) / 2 in
+    let own = own-at g at in
+    let stands = stands-at g at in
+    let halves = halves-at g at c.if-own_upper-upper.false c.if-own_upper-upper-2.false in
     let told : own < c.args.kind = lower_less own c.args.kind c.halves-own_upper.result.1 c.halves-upper.result.1 halves c.if-own_lower-lower.true in
     let below = place_less kind index (own + 1) c.args.kind (omega (arith, told)) in
     past_run _ _ low high _ _ _ _ middle c.from-low-then-own_lower-lower.result c.loop-low.invariant c.loop-low-test.true refl
@@ -139,38 +113,20 @@ loop-low-preserved-then-own_lower-lower g c =
 
 pub loop-low-smaller : goal.loop-low-smaller
 loop-low-smaller g c =
-    let index = c.args.index.now in
-    let attributes = c.args.attributes.now in
-    let kind = type_at attributes in
-    let low = c.loop-low.low in
-    let high = c.loop-low.high in
-    let middle = (low + high) / 2 in
-    let own = kind (get_or index middle 0) in
-    let run = get_or c.args.runs.now middle (record { begin = 0; end = 0 }) in
-    let within : middle < length index = half_within low high _ c.loop-low-test.true c.loop-low.invariant.0.inside in
-    let stands =
-    beside attributes index c.args.runs.now middle (record { begin = 0; end = 0 }) run.begin run.end c.requires.numbered c.requires.index c.requires.runs
-    within refl refl in
-    omega (arith, c.from-high-then-own_lower-lower-2.ensures, stands.ahead, c.loop-low-test.true)
+    let at = (goal.at.loop-low-smaller g c).After-tick in
+    omega (arith, c.from-high-then-own_lower-lower-2.ensures, (stands-at g at).ahead, c.loop-low-test.true)
 
 pub loop-low-preserved : goal.loop-low-preserved
 loop-low-preserved g c =
+    let at = (goal.at.loop-low-preserved g c).After-tick in
+    let kind = type_at c.args.attributes.now in
     let index = c.args.index.now in
-    let attributes = c.args.attributes.now in
-    let kind = type_at attributes in
     let low = c.loop-low.low in
     let high = c.loop-low.high in
-    let middle = (low + high) / 2 in
-    let own = kind (get_or index middle 0) in
-    let run = get_or c.args.runs.now middle (record { begin = 0; end = 0 }) in
-    let within : middle < length index = half_within low high _ c.loop-low-test.true c.loop-low.invariant.0.inside in
-    let stands =
-    beside attributes index c.args.runs.now middle (record { begin = 0; end = 0 }) run.begin run.end c.requires.numbered c.requires.index c.requires.runs
-    within refl refl in
-    let halves =
-    same_upper c.type_of.result own c.args.kind c.halves-own_upper.result.0 c.halves-upper.result.0 c.halves-own_upper.result.1 c.halves-upper.result.1
-    c.type_of.ensures c.halves-own_upper.ensures.upper c.halves-upper.ensures.upper c.if-own_upper-upper.false c.if-own_upper-upper-2.false
-    c.halves-own_upper.ensures.lower c.halves-upper.ensures.lower in
+    let middle = (c.loop-low.low + c.loop-low.high) / 2 in
+    let own = own-at g at in
+    let stands = stands-at g at in
+    let halves = halves-at g at c.if-own_upper-upper.false c.if-own_upper-upper-2.false in
     let told : c.args.kind < own = lower_more own c.args.kind c.halves-own_upper.result.1 c.halves-upper.result.1 halves c.if-own_lower-lower-2.true in
     let above = place_less kind index (c.args.kind + 1) own (omega (arith, told)) in
     before_run _ _ low high _ _ _ _ middle c.from-high-then-own_lower-lower-2.result c.loop-low.invariant c.loop-low-test.true refl
@@ -179,54 +135,31 @@ loop-low-preserved g c =
 
 pub in_run-requires-clause-begin : goal.in_run-requires-clause-begin
 in_run-requires-clause-begin g c =
-    let index = c.args.index.now in
-    let attributes = c.args.attributes.now in
-    let kind = type_at attributes in
-    let low = c.loop-low.low in
-    let high = c.loop-low.high in
-    let middle = (low + high) / 2 in
-    let own = kind (get_or index middle 0) in
-    let run = get_or c.args.runs.now middle (record { begin = 0; end = 0 }) in
-    let within : middle < length index = half_within low high _ c.loop-low-test.true c.loop-low.invariant.0.inside in
-    let stands =
-    beside attributes index c.args.runs.now middle (record { begin = 0; end = 0 }) run.begin run.end c.requires.numbered c.requires.index c.requires.runs
-    within refl refl in
+    let at = (goal.at.in_run-requires-clause-begin g c).After-tick in
+    let stands = stands-at g at in
     omega (arith, stands.ahead, stands.behind)
 
 pub in_range-requires-clause-some : goal.in_range-requires-clause-some
 in_range-requires-clause-some g c =
+    let at = (goal.at.in_range-requires-clause-some g c).After-tick in
+    let kind = type_at c.args.attributes.now in
     let index = c.args.index.now in
-    let attributes = c.args.attributes.now in
-    let kind = type_at attributes in
-    let low = c.loop-low.low in
-    let high = c.loop-low.high in
-    let middle = (low + high) / 2 in
-    let own = kind (get_or index middle 0) in
-    let run = get_or c.args.runs.now middle (record { begin = 0; end = 0 }) in
-    let within : middle < length index = half_within low high _ c.loop-low-test.true c.loop-low.invariant.0.inside in
-    let stands =
-    beside attributes index c.args.runs.now middle (record { begin = 0; end = 0 }) run.begin run.end c.requires.numbered c.requires.index c.requires.runs
-    within refl refl in
+    let middle = (c.loop-low.low + c.loop-low.high) / 2 in
+    let own = own-at g at in
+    let run = run-at g at in
+    let stands = stands-at g at in
     omega (arith, ap length c.in_run.ensures, run_long kind index own middle run.begin run.end stands, stands.ahead, stands.behind)
 
 pub in_range-requires-clause-ascending : goal.in_range-requires-clause-ascending
 in_range-requires-clause-ascending g c =
+    let at = (goal.at.in_range-requires-clause-ascending g c).After-tick in
+    let kind = type_at c.args.attributes.now in
     let index = c.args.index.now in
-    let attributes = c.args.attributes.now in
-    let kind = type_at attributes in
-    let low = c.loop-low.low in
-    let high = c.loop-low.high in
-    let middle = (low + high) / 2 in
-    let own = kind (get_or index middle 0) in
-    let run = get_or c.args.runs.now middle (record { begin = 0; end = 0 }) in
-    let within : middle < length index = half_within low high _ c.loop-low-test.true c.loop-low.invariant.0.inside in
-    let stands =
-    beside attributes index c.args.runs.now middle (record { begin = 0; end = 0 }) run.begin run.end c.requires.numbered c.requires.index c.requires.runs
-    within refl refl in
-    let halves =
-    same_upper c.type_of.result own c.args.kind c.halves-own_upper.result.0 c.halves-upper.result.0 c.halves-own_upper.result.1 c.halves-upper.result.1
-    c.type_of.ensures c.halves-own_upper.ensures.upper c.halves-upper.ensures.upper c.if-own_upper-upper.false c.if-own_upper-upper-2.false
-    c.halves-own_upper.ensures.lower c.halves-upper.ensures.lower in
+    let middle = (c.loop-low.low + c.loop-low.high) / 2 in
+    let own = own-at g at in
+    let run = run-at g at in
+    let stands = stands-at g at in
+    let halves = halves-at g at c.if-own_upper-upper.false c.if-own_upper-upper-2.false in
     let same : own ≡ c.args.kind =
     lower_same own c.args.kind c.halves-own_upper.result.1 c.halves-upper.result.1 halves c.if-own_lower-lower.false c.if-own_lower-lower-2.false in
     subst IsAscending (sym (c.in_run.ensures ∙ run_taken kind index own c.args.kind middle run.begin run.end stands same))
@@ -234,22 +167,15 @@ in_range-requires-clause-ascending g c =
 
 pub returns-else-own_lower-lower-2-clause-handles : goal.returns-else-own_lower-lower-2-clause-handles
 returns-else-own_lower-lower-2-clause-handles g c =
+    let at = (goal.at.returns-else-own_lower-lower-2-clause-handles g c).After-tick in
+    let kind = type_at c.args.attributes.now in
     let index = c.args.index.now in
     let attributes = c.args.attributes.now in
-    let kind = type_at attributes in
-    let low = c.loop-low.low in
-    let high = c.loop-low.high in
-    let middle = (low + high) / 2 in
-    let own = kind (get_or index middle 0) in
-    let run = get_or c.args.runs.now middle (record { begin = 0; end = 0 }) in
-    let within : middle < length index = half_within low high _ c.loop-low-test.true c.loop-low.invariant.0.inside in
-    let stands =
-    beside attributes index c.args.runs.now middle (record { begin = 0; end = 0 }) run.begin run.end c.requires.numbered c.requires.index c.requires.runs
-    within refl refl in
-    let halves =
-    same_upper c.type_of.result own c.args.kind c.halves-own_upper.result.0 c.halves-upper.result.0 c.halves-own_upper.result.1 c.halves-upper.result.1
-    c.type_of.ensures c.halves-own_upper.ensures.upper c.halves-upper.ensures.upper c.if-own_upper-upper.false c.if-own_upper-upper-2.false
-    c.halves-own_upper.ensures.lower c.halves-upper.ensures.lower in
+    let middle = (c.loop-low.low + c.loop-low.high) / 2 in
+    let own = own-at g at in
+    let run = run-at g at in
+    let stands = stands-at g at in
+    let halves = halves-at g at c.if-own_upper-upper.false c.if-own_upper-upper-2.false in
     let same : own ≡ c.args.kind =
     lower_same own c.args.kind c.halves-own_upper.result.1 c.halves-upper.result.1 halves c.if-own_lower-lower.false c.if-own_lower-lower-2.false in
     c.in_range.ensures.handles
@@ -258,22 +184,16 @@ returns-else-own_lower-lower-2-clause-handles g c =
 
 pub returns-else-own_lower-lower-2-clause-steps : goal.returns-else-own_lower-lower-2-clause-steps
 returns-else-own_lower-lower-2-clause-steps g c =
+    let at = (goal.at.returns-else-own_lower-lower-2-clause-steps g c).After-tick in
+    let kind = type_at c.args.attributes.now in
     let index = c.args.index.now in
-    let attributes = c.args.attributes.now in
-    let kind = type_at attributes in
     let low = c.loop-low.low in
     let high = c.loop-low.high in
-    let middle = (low + high) / 2 in
-    let own = kind (get_or index middle 0) in
-    let run = get_or c.args.runs.now middle (record { begin = 0; end = 0 }) in
-    let within : middle < length index = half_within low high _ c.loop-low-test.true c.loop-low.invariant.0.inside in
-    let stands =
-    beside attributes index c.args.runs.now middle (record { begin = 0; end = 0 }) run.begin run.end c.requires.numbered c.requires.index c.requires.runs
-    within refl refl in
-    let halves =
-    same_upper c.type_of.result own c.args.kind c.halves-own_upper.result.0 c.halves-upper.result.0 c.halves-own_upper.result.1 c.halves-upper.result.1
-    c.type_of.ensures c.halves-own_upper.ensures.upper c.halves-upper.ensures.upper c.if-own_upper-upper.false c.if-own_upper-upper-2.false
-    c.halves-own_upper.ensures.lower c.halves-upper.ensures.lower in
+    let middle = (c.loop-low.low + c.loop-low.high) / 2 in
+    let own = own-at g at in
+    let run = run-at g at in
+    let stands = stands-at g at in
+    let halves = halves-at g at c.if-own_upper-upper.false c.if-own_upper-upper-2.false in
     let same : own ≡ c.args.kind =
     lower_same own c.args.kind c.halves-own_upper.result.1 c.halves-upper.result.1 halves c.if-own_lower-lower.false c.if-own_lower-lower-2.false in
     let long = run_long kind index own middle run.begin run.end stands in
