@@ -195,7 +195,7 @@ def test_a_busy_controller(bridge):
     """A host waits for a controller that cannot be opened yet."""
     bridge.begin()
     device = Device(*DOOR, "--serial", bridge.line, "--patience", "30")
-    time.sleep(1)
+    assert bridge.logs("hci0: No such file or directory"), "the first try"
     bridge.plug_in()
     assert bridge.controller().is_advertised(), "it is advertised"
     device.end()

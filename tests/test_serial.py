@@ -96,7 +96,7 @@ def test_a_full_read(served):
         device.process.send_signal(signal.SIGCONT)
         asked = time.monotonic()
         assert application.ask("value 10") == "value 10 00", f"{size} octets: an application is answered"
-        assert time.monotonic() - asked < 1, f"{size} octets: at once"
+        assert time.monotonic() - asked < late(1), f"{size} octets: at once"
     is_idle("after them", device)
     time.sleep(max(0, begun + 2.3 - time.monotonic()))
     assert controller.ask(64, CODE_READ) == "010a0d0008", "the code is not allowed any more"
