@@ -1,2 +1,3 @@
 pub mod AttributeType
+pub mod ErrorCode
 pub mod Types

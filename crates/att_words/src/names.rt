@@ -1,4 +1,4 @@
-//! The names of opcodes and of error codes in the Core Specification.
+//! The names of opcodes in the Core Specification, and error codes in words.
 
 use crate::text::Text;
 use att_numbers::{error_code, opcode};
@@ -62,55 +62,12 @@ const PDUS: [Named; 28] = [
     (SIGNED_WRITE_COMMAND, "Signed Write Command"),
 ];
 
-/// The error codes (Core 5.2, Vol 3 Part F, 3.4.1.1, Table 3.3), and those of profiles (Core
-/// Specification Supplement, Part B, 1.2).
-const ERRORS: [Named; 23] = [
-    (error_code::INVALID_HANDLE, "Invalid Handle"),
-    (error_code::READ_NOT_PERMITTED, "Read Not Permitted"),
-    (error_code::WRITE_NOT_PERMITTED, "Write Not Permitted"),
-    (error_code::INVALID_PDU, "Invalid PDU"),
-    (
-        error_code::INSUFFICIENT_AUTHENTICATION,
-        "Insufficient Authentication",
-    ),
-    (error_code::REQUEST_NOT_SUPPORTED, "Request Not Supported"),
-    (error_code::INVALID_OFFSET, "Invalid Offset"),
-    (
-        error_code::INSUFFICIENT_AUTHORIZATION,
-        "Insufficient Authorization",
-    ),
-    (error_code::PREPARE_QUEUE_FULL, "Prepare Queue Full"),
-    (error_code::ATTRIBUTE_NOT_FOUND, "Attribute Not Found"),
-    (0x0B, "Attribute Not Long"),
-    (
-        error_code::INSUFFICIENT_ENCRYPTION_KEY_SIZE,
-        "Insufficient Encryption Key Size",
-    ),
-    (
-        error_code::INVALID_ATTRIBUTE_VALUE_LENGTH,
-        "Invalid Attribute Value Length",
-    ),
-    (0x0E, "Unlikely Error"),
-    (
-        error_code::INSUFFICIENT_ENCRYPTION,
-        "Insufficient Encryption",
-    ),
-    (error_code::UNSUPPORTED_GROUP_TYPE, "Unsupported Group Type"),
-    (0x11, "Insufficient Resources"),
-    (0x12, "Database Out Of Sync"),
-    (0x13, "Value Not Allowed"),
-    (0xFC, "Write Request Rejected"),
-    (
-        0xFD,
-        "Client Characteristic Configuration Descriptor Improperly Configured",
-    ),
-    (0xFE, "Procedure Already in Progress"),
-    (error_code::OUT_OF_RANGE, "Out of Range"),
-];
-
 /// Returns the name of the PDU with this opcode, if it has one.
 pub(crate) fn name_of_pdu(opcode: u8) -> Option<&'static str> {
-    name_in(&PDUS, opcode)
+    match PDUS.iter().find(|named| named.0 == opcode) {
+        Some(named) => Some(named.1),
+        None => None,
+    }
 }
 
 /// Adds the name of the PDU with this opcode, or the unknown opcode.
@@ -126,7 +83,7 @@ pub(crate) fn add_pdu_name(text: &mut Text, opcode: u8) {
 
 /// Adds the name of an error code, or its kind and the code.
 pub(crate) fn add_error(text: &mut Text, code: u8) {
-    match name_in(&ERRORS, code) {
+    match error_code::name(code) {
         Some(name) => text.add(name),
         None => {
             text.add(kind_of_error(code));
@@ -141,12 +98,5 @@ fn kind_of_error(code: u8) -> &'static str {
         0x80..=0x9F => "application error ",
         0xE0..=0xFF => "common profile error ",
         _ => "reserved error ",
-    }
-}
-
-fn name_in(names: &[Named], number: u8) -> Option<&'static str> {
-    match names.iter().find(|named| named.0 == number) {
-        Some(named) => Some(named.1),
-        None => None,
     }
 }

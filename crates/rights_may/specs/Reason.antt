@@ -1,12 +1,12 @@
 -- An answer in words: the rule by its key of the table file, and the error code by its name in the
 -- Core Specification (Core 5.2, Vol 3 Part F, 3.4.1.1, Table 3.3).
-use Rattle.std.specs.Prelude.{ℕ, ◌==◌, if◌then◌else◌, List, [], ◌∷◌, ◌++◌, codes}
+use Rattle.std.specs.Prelude.{ℕ, if◌then◌else◌, List, [], ◌∷◌, ◌++◌, codes}
 use Rattle.std.specs.Fmt.{decimal}
 use Rattle.std.specs.Option.{option_map_or}
 use Rattle.hex.specs.Hex.{encode_lower}
 use Rattle.octet_io.specs.Number.{Octets}
 use Rattle.att_numbers.specs.Types.{Code, Handle}
-use Rattle.att_numbers.specs.declared.error_code.TheConstants.{INVALID_HANDLE, READ_NOT_PERMITTED, WRITE_NOT_PERMITTED, INSUFFICIENT_AUTHENTICATION, INSUFFICIENT_AUTHORIZATION, INSUFFICIENT_ENCRYPTION_KEY_SIZE, INSUFFICIENT_ENCRYPTION}
+use Rattle.att_numbers.specs.ErrorCode.{error_name}
 use Rattle.att_policy.specs.Need.{key_size_of}
 use Rattle.att_policy.specs.Policy.{need_of}
 use Rattle.att_policy.specs.declared.policy.Access.{Access}
@@ -71,19 +71,10 @@ rule_text attributes handle access right SecureConnections =
 rule_text attributes handle access right Authorization =
     needed_text (place_word attributes handle access) (codes "authorized")
 
-abbrev pub error_name : Code → Octets
-error_name code =
-    if code == INVALID_HANDLE then codes "Invalid Handle"
-    else if code == READ_NOT_PERMITTED then codes "Read Not Permitted"
-    else if code == WRITE_NOT_PERMITTED then codes "Write Not Permitted"
-    else if code == INSUFFICIENT_AUTHENTICATION then codes "Insufficient Authentication"
-    else if code == INSUFFICIENT_AUTHORIZATION then codes "Insufficient Authorization"
-    else if code == INSUFFICIENT_ENCRYPTION_KEY_SIZE then codes "Insufficient Encryption Key Size"
-    else if code == INSUFFICIENT_ENCRYPTION then codes "Insufficient Encryption"
-    else codes "Out of Range"
-
 unfoldable pub error_text : Code → Octets
-error_text code = error_name code ++ codes " (" ++ encode_lower (code ∷ []) ++ 41 ∷ []
+error_text code =
+    option_map_or (λ name. name) (error_name code) []
+    ++ codes " (" ++ encode_lower (code ∷ []) ++ 41 ∷ []
 
 -- A missing attribute is named by the error code alone.
 abbrev pub separator : Rule → Octets

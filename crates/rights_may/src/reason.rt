@@ -5,7 +5,7 @@ ghost use Rattle.hex.specs.Hex.{encode_lower};
 ghost use Rattle.att_policy.specs.Need.{key_size_of};
 ghost use Rattle.att_policy.specs.Policy.{need_of};
 ghost use Rattle.att_attributes.specs.Attributes.{is_configuration_at};
-ghost use Rattle.rights_may.specs.Reason.{access_of, error_name, error_text, needed_text, place_word, property_text, property_word, ending_in_quote, rule_text, separator, size_at, size_text, verdict_code, verdict_front, verdict_rule, verdict_text};
+ghost use Rattle.rights_may.specs.Reason.{access_of, error_text, needed_text, place_word, property_text, property_word, ending_in_quote, rule_text, separator, size_at, size_text, verdict_code, verdict_front, verdict_rule, verdict_text};
 
 use crate::verdict::{Verdict, is_configuration};
 use att_numbers::error_code;
@@ -225,7 +225,7 @@ fn add_size_text(text: &mut Vec<u8>, size: u8) -> Result<(), AllocError>
 fn add_error(text: &mut Vec<u8>, code: u8) -> Result<(), AllocError>
     ensures ok { OnOk result (text.new.items ≡ text.old.items ++ error_text code) }
 {
-    add_octets(text, error_name(code).as_bytes())?;
+    add_octets(text, error_code::name(code).unwrap_or("").as_bytes())?;
     add_octets(text, b" (")?;
     add_hex(text, code)?;
     add_octets(text, b")")
@@ -237,20 +237,4 @@ fn add_hex(text: &mut Vec<u8>, octet: u8) -> Result<(), AllocError>
     let mut digits = [0; 2];
     hex::encode_to_slice([octet], &mut digits).unwrap();
     add_octets(text, &digits)
-}
-
-/// Returns the name of an error code of the policy, or of a CCCD.
-fn error_name(code: u8) -> &'static str
-    ensures { result.now ≡ error_name code }
-{
-    match code {
-        error_code::INVALID_HANDLE => "Invalid Handle",
-        error_code::READ_NOT_PERMITTED => "Read Not Permitted",
-        error_code::WRITE_NOT_PERMITTED => "Write Not Permitted",
-        error_code::INSUFFICIENT_AUTHENTICATION => "Insufficient Authentication",
-        error_code::INSUFFICIENT_AUTHORIZATION => "Insufficient Authorization",
-        error_code::INSUFFICIENT_ENCRYPTION_KEY_SIZE => "Insufficient Encryption Key Size",
-        error_code::INSUFFICIENT_ENCRYPTION => "Insufficient Encryption",
-        _ => "Out of Range",
-    }
 }
