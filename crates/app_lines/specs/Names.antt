@@ -2,7 +2,7 @@
 use Rattle.std.specs.Prelude.{ℕ, ◌-◌, ◌^◌, ◌<◌, ◌==◌, ◌&&◌, Bool, not, nat_lt, List, [], ◌∷◌, ◌++◌, length, filter, find, All, Option}
 use Rattle.std.specs.Option.{option_map}
 use Rattle.app_lines.specs.declared.names.Named.{Named}
-use Rattle.gatt_laws.specs.declared.TheConstants.{MAX_SLOTS}
+use Rattle.host_api.specs.declared.TheConstants.{MAX_SLOTS}
 
 -- The connections in order, and the name of the next one.
 pub record Names : Type 0 where

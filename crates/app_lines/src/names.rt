@@ -4,7 +4,7 @@ ghost use Rattle.std.specs.Prelude.{◌≡◌, ◌+◌, ◌<◌, ℕ, [], is_som
 ghost use Rattle.app_lines.specs.Names.{AreBelow, handle_of, may_name, name_of, with_name, without_handle};
 
 use arrayvec::ArrayVec;
-use gatt_laws::MAX_SLOTS;
+use host_api::MAX_SLOTS;
 use std::marker::Model;
 
 /// A connection and its name.

@@ -2,7 +2,7 @@
 -- them.
 use Rattle.std.specs.Prelude.{◌≡◌, ◌≢◌, ◌↔◌, ℕ, Bool, true, ◌==◌, ◌≤◌, not, if◌then◌else◌, List, [], ◌∷◌, ◌++◌, length, filter, fold, All, Option, Some, None}
 use Rattle.std.specs.List.{list_any}
-use Rattle.gatt_laws.specs.declared.TheConstants.{MAX_SLOTS}
+use Rattle.host_api.specs.declared.TheConstants.{MAX_SLOTS}
 use Rattle.gatt_laws.specs.machine.Notice.{Notice, Disconnected, Written, Configured, Confirmed}
 
 abbrev pub has_connection : List ℕ → ℕ → Bool

@@ -3,7 +3,7 @@
 ghost use Rattle.std.specs.Prelude.{◌≡◌, ◌<◌, ◌≤◌, [], length};
 ghost use Rattle.gatt_host.specs.Notices.{notice_of};
 ghost use Rattle.device_loop.specs.Unsaved.{has_connection, unsaved_after, with_connection, without_connection, FollowsTheNotices, HoldsWhoHasChanged};
-ghost use Rattle.gatt_laws.specs.declared.TheConstants.{MAX_SLOTS};
+ghost use Rattle.host_api.specs.declared.TheConstants.{MAX_SLOTS};
 
 use arrayvec::ArrayVec;
 use gatt_host::{MAX_SLOTS, Notice};

@@ -4,7 +4,7 @@ use Rattle.std.specs.Option.{option_map}
 use Rattle.octet_io.specs.Missing.{◌>>=◌}
 use Rattle.octet_io.specs.Number.{Octets}
 use Rattle.text_words.specs.Numeral.{numeral_of}
-use Rattle.gatt_laws.specs.declared.TheConstants.{MAX_SLOTS}
+use Rattle.host_api.specs.declared.TheConstants.{MAX_SLOTS}
 use Rattle.device_options.specs.declared.numbers.TheConstants.{CAPTURE_SIZE, SLOTS}
 
 -- A decimal number from 1 to a largest one.

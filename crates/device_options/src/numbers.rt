@@ -5,7 +5,7 @@ ghost use Rattle.std.specs.Option.{option_map};
 ghost use Rattle.std.specs.Result.{result_ok};
 ghost use Rattle.device_options.specs.Numbers.{limit_of, number_up_to, size_of, slots_of};
 
-use gatt_laws::MAX_SLOTS;
+use host_api::MAX_SLOTS;
 use text_words::read_u64;
 
 /// The default number of clients connected at once.

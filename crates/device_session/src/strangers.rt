@@ -6,8 +6,7 @@ ghost use Rattle.std.specs.Option.{option_map};
 ghost use Rattle.device_session.specs.Strangers.{are_limited, due_of, first_due, first_limit, found_at, heard_at, is_due, is_silent, keyless_of, sooner_of, stranger_of, strangers_of, time_after};
 
 use arrayvec::ArrayVec;
-use gatt_laws::MAX_SLOTS;
-use host_api::Connection;
+use host_api::{Connection, MAX_SLOTS};
 
 /// A connection whose link has no key.
 #[derive(Clone, Copy, Default)]

@@ -1,10 +1,10 @@
 //! Incoming frames and arrivals of the connections in slots.
 
 ghost use Rattle.std.specs.Prelude.{◌≡◌, length};
-ghost use Rattle.gatt_laws.specs.declared.TheConstants.{MAX_SLOTS};
+ghost use Rattle.host_api.specs.declared.TheConstants.{MAX_SLOTS};
 ghost use Rattle.host_connections.specs.Arrivals.{no_arrivals};
 
-use gatt_laws::MAX_SLOTS;
+use host_api::MAX_SLOTS;
 use host_connections::Arrivals;
 use le_acl::Reassembler;
 use std::array;

@@ -9,3 +9,6 @@ pub mod notice_number;
 pub use app::{App, AppFault};
 pub use connection::Connection;
 pub use notice::Notice;
+
+/// The largest number of connections at once (this profile's own).
+pub const MAX_SLOTS: usize = 8;

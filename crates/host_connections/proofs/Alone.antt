@@ -32,7 +32,7 @@ use Rattle.le_hci.specs.declared.peer.Peer.{Peer}
 use Rattle.le_security.specs.Link.{Linking}
 use Rattle.host_connections.specs.Slots.{SlotStates, all_heard, all_notified_alone, handles_for, is_in, is_own_place, slot_heard, slot_notified_alone, slot_state_at}
 use Rattle.host_connections.specs.declared.places.Due.TheVariants.{Value}
-use Rattle.gatt_laws.specs.declared.TheConstants.{MAX_SLOTS}
+use Rattle.host_api.specs.declared.TheConstants.{MAX_SLOTS}
 use Rattle.host_connections.proofs.Found.{clash, past}
 use Rattle.host_connections.proofs.InTurn.{alike, alike-there, nothing, together, unlistened}
 use Rattle.le_acl.specs.Outgoing.{Outgoing}

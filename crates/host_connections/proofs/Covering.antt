@@ -23,7 +23,7 @@ use Rattle.host_connections.specs.declared.marks.Marks.{Marks}
 use Rattle.host_connections.specs.declared.places.Due.{Due}
 use Rattle.host_connections.specs.declared.places.Places.{Places}
 use Rattle.host_connections.specs.declared.places.Due.TheVariants.{Command, Packet, Value, Indication}
-use Rattle.gatt_laws.specs.declared.TheConstants.{MAX_SLOTS}
+use Rattle.host_api.specs.declared.TheConstants.{MAX_SLOTS}
 
 pub none-due : (due : Due) → is_slot_due due None ≡ false
 none-due Command = refl

@@ -10,7 +10,7 @@ use Rattle.host_connections.specs.SlotState.{SlotState}
 use Rattle.host_connections.specs.Places.{may_listen, Covers}
 use Rattle.host_connections.specs.Slots.{SlotStates, all_heard, all_notified, all_notified_in_turn, handles_for, slot_heard, heard_from, is_in, is_own_place, slot_state_at, slot_notified_at, slot_notified}
 use Rattle.host_connections.specs.declared.places.Due.TheVariants.{Indication, Value}
-use Rattle.gatt_laws.specs.declared.TheConstants.{MAX_SLOTS}
+use Rattle.host_api.specs.declared.TheConstants.{MAX_SLOTS}
 use Rattle.host_connections.proofs.Found.{clash, past}
 use Rattle.host_connections.proofs.Uncovered.{unmarked_idle}
 use Rattle.host_connections.proofs.Quiet.{nothing_raised, quiet_slot, unlistening}

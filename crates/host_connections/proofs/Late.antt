@@ -5,7 +5,7 @@ use Rattle.std.specs.Option.{option_map_or}
 use Rattle.host_connections.specs.SlotState.{SlotState}
 use Rattle.host_connections.specs.Slots.{SlotStates, late_handle, late_handles}
 use Rattle.gatt_subs.specs.Indications.{times_out}
-use Rattle.gatt_laws.specs.declared.TheConstants.{MAX_SLOTS}
+use Rattle.host_api.specs.declared.TheConstants.{MAX_SLOTS}
 
 module _ (now : ℕ) (change : Option SlotState → Option SlotState) where
   abbrev late : Option SlotState → List ℕ

@@ -24,7 +24,7 @@ use Rattle.host_connections.specs.SlotState.{SlotState, slot_backlog}
 use Rattle.host_connections.specs.Request.{overflows, slot_after_request}
 use Rattle.host_connections.specs.Slots.{SlotStates, all_heard, handles_for, slot_heard, is_holding, is_serving, slot_state_at, place_holding, place_serving}
 use Rattle.host_connections.specs.SlotEffects.{after_link_step, slot_after_ending, slot_after_other_channel, after_table, with_channel_answer}
-use Rattle.gatt_laws.specs.declared.TheConstants.{MAX_SLOTS}
+use Rattle.host_api.specs.declared.TheConstants.{MAX_SLOTS}
 use Rattle.host_connections.specs.declared.handles.TheConstants.{FREE}
 use Rattle.gatt_subs.specs.Rows.{Subscriptions, row_of}
 use Rattle.le_acl.specs.Outgoing.{with_pdu}

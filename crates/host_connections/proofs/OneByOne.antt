@@ -6,7 +6,7 @@ use Rattle.std.proofs.lemmas.Bool.{cases_eq, cases_lt}
 use Rattle.std.proofs.lemmas.List.{length-set}
 use Rattle.std.proofs.lemmas.Nat.Bits.{bit_at-zero}
 use Rattle.std.proofs.Math.Logic.{⊎_elim}
-use Rattle.gatt_laws.specs.declared.TheConstants.{MAX_SLOTS}
+use Rattle.host_api.specs.declared.TheConstants.{MAX_SLOTS}
 use Rattle.host_connections.proofs.Covering.{at-other, at-same}
 use Rattle.host_connections.proofs.HeardMarks.{heard-at}
 use Rattle.host_connections.proofs.Found.{past}

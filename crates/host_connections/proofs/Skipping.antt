@@ -20,7 +20,7 @@ use Rattle.host_connections.specs.declared.slot.Use.TheVariants.{Live}
 use Rattle.host_connections.specs.Hearing.{HearerFacts, delivery_of, hearer_facts_of, row_by_key, slot_hearer}
 use Rattle.host_connections.specs.Places.{may_listen, Covers, IsFirstPlace}
 use Rattle.host_connections.specs.declared.places.Due.TheVariants.{Value}
-use Rattle.gatt_laws.specs.declared.TheConstants.{MAX_SLOTS}
+use Rattle.host_api.specs.declared.TheConstants.{MAX_SLOTS}
 use Rattle.host_connections.proofs.Uncovered.{unmarked_idle}
 use Rattle.std.specs.Int.{bit_at}
 use Rattle.std.proofs.lemmas.Nat.Bits.{bit_at-zero}

@@ -1,6 +1,6 @@
 -- The ordinals of connections, and when each was last heard (this profile's own).
 use Rattle.std.specs.Prelude.{ℕ, ◌+◌, ◌-◌, ◌^◌, min, set, replicate}
-use Rattle.gatt_laws.specs.declared.TheConstants.{MAX_SLOTS}
+use Rattle.host_api.specs.declared.TheConstants.{MAX_SLOTS}
 use Rattle.host_connections.specs.declared.arrivals.Arrivals.{Arrivals}
 
 -- The ordinal of one more connection, at most 2^64 - 1. (P-ALL-4)

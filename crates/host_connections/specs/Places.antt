@@ -5,12 +5,12 @@ use Rattle.std.specs.List.{list_any}
 use Rattle.std.specs.Option.{option_map_or}
 use Rattle.host_connections.specs.Commands.{gives, has_command}
 use Rattle.host_connections.specs.declared.marks.Marks.{Marks}
-use Rattle.host_connections.specs.declared.event_end.Heard.{Heard}
+use Rattle.host_connections.specs.declared.event_end.HeardPlaces.{HeardPlaces}
 use Rattle.host_connections.specs.declared.places.Due.{Due}
 use Rattle.host_connections.specs.declared.places.Due.TheVariants.{Command, Packet, Value, Indication}
 use Rattle.host_connections.specs.SlotState.{SlotState}
 use Rattle.host_connections.specs.Slots.{SlotStates, slot_state_at}
-use Rattle.gatt_laws.specs.declared.TheConstants.{MAX_SLOTS}
+use Rattle.host_api.specs.declared.TheConstants.{MAX_SLOTS}
 
 -- A connection may be notified if its link has a key, so that its bond's row is in force, or if it
 -- has configured something.
@@ -53,7 +53,7 @@ pub record IsMarked (slots : SlotStates) (marks : Marks) : Type 0 where
   pub waiting : Covers Indication marks.waiting.bits slots
   pub free : marks.free ≡ false → list_any (λ slot. is_none slot) slots ≡ false
 
-pub record CoversHeard (slots : SlotStates) (heard : Heard) : Type 0 where
+pub record CoversHeard (slots : SlotStates) (heard : HeardPlaces) : Type 0 where
   pub packets : Covers Packet heard.packets.bits slots
   pub waiting : Covers Indication heard.waiting.bits slots
 

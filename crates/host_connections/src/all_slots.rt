@@ -12,7 +12,7 @@ use crate::marks::Marks;
 use crate::slot::{Slot, Use};
 use arrayvec::ArrayVec;
 use att_table::Table;
-use gatt_laws::MAX_SLOTS;
+use host_api::MAX_SLOTS;
 use le_hci::CompletedPackets;
 
 #[cold]

@@ -3,7 +3,7 @@
 ghost use Rattle.std.specs.Prelude.{◌≡◌, ◌<◌};
 ghost use Rattle.host_connections.specs.Arrivals.{no_arrivals, with_accepted, with_heard};
 
-use gatt_laws::MAX_SLOTS;
+use host_api::MAX_SLOTS;
 
 /// The connections in the order of acceptance, and when each was last heard.
 #[derive(Clone, Copy)]

@@ -2,7 +2,7 @@
 
 ghost use Rattle.std.specs.Prelude.{◌≡◌, ◌<◌, ◌≤◌, length};
 ghost use Rattle.host_connections.specs.Connections.{slot_seen, FindsNext};
-ghost use Rattle.gatt_laws.specs.declared.TheConstants.{MAX_SLOTS};
+ghost use Rattle.host_api.specs.declared.TheConstants.{MAX_SLOTS};
 
 use crate::arrivals::Arrivals;
 use crate::slot::{Slot, Use};

@@ -7,7 +7,7 @@ ghost use Rattle.host_connections.specs.OfTable.{AreOfTable, AreOfTableIfAny};
 ghost use Rattle.host_connections.specs.Places.{waits, CoversHeard};
 ghost use Rattle.host_connections.specs.Skips.{skips_among};
 ghost use Rattle.host_connections.specs.Slots.{all_heard, all_notified, all_notified_alone, all_notified_in_turn, slot_heard, slot_state_at, SlotStates};
-ghost use Rattle.gatt_laws.specs.declared.TheConstants.{MAX_SLOTS};
+ghost use Rattle.host_api.specs.declared.TheConstants.{MAX_SLOTS};
 
 use crate::moment::Moment;
 use crate::places::Places;
@@ -17,12 +17,12 @@ use gatt_subs::Raised;
 
 /// The places where something may be pending after values are notified.
 #[derive(Clone, Copy)]
-pub(crate) struct Heard {
+pub(crate) struct HeardPlaces {
     pub(crate) packets: Places,
     pub(crate) waiting: Places,
 }
 
-impl Heard {
+impl HeardPlaces {
     /// Marks a slot after a value was notified: a packet if it was sent at once, else perhaps a
     /// waiting value.
     fn take(&mut self, place: usize, told: bool, waiting: bool)
@@ -62,7 +62,7 @@ impl Heard {
 #[inline(always)]
 pub(crate) fn notify_all(
     slots: &mut [Slot],
-    heard: &mut Heard,
+    heard: &mut HeardPlaces,
     moment: Moment<'_>,
     whom: Places,
     handles: &[u16],
@@ -87,7 +87,13 @@ pub(crate) fn notify_all(
 
 /// Notifies a value. Looks it up once, and reads no slot if nobody may be notified.
 #[inline(always)]
-fn notify_for(slots: &mut [Slot], heard: &mut Heard, moment: Moment<'_>, whom: Places, handle: u16)
+fn notify_for(
+    slots: &mut [Slot],
+    heard: &mut HeardPlaces,
+    moment: Moment<'_>,
+    whom: Places,
+    handle: u16,
+)
     requires few { length slots.old ≤ MAX_SLOTS }
     requires covered { CoversHeard slots.old heard.old }
     requires of_table { AreOfTable moment.table.now.attributes moment.rows.now
@@ -119,7 +125,7 @@ fn notify_for(slots: &mut [Slot], heard: &mut Heard, moment: Moment<'_>, whom: P
 /// it.
 pub(crate) fn notify_alone(
     slots: &mut [Slot],
-    heard: &mut Heard,
+    heard: &mut HeardPlaces,
     moment: Moment<'_>,
     whom: Places,
     handle: u16,
@@ -158,7 +164,7 @@ pub(crate) fn notify_alone(
 /// Sends pending indications at the marked slots.
 #[inline(always)]
 #[tactic(auto, using(crate::proofs::Uncovered::quiet_where_unmarked))]
-pub(crate) fn indicate_due(slots: &mut [Slot], heard: &mut Heard, moment: Moment<'_>)
+pub(crate) fn indicate_due(slots: &mut [Slot], heard: &mut HeardPlaces, moment: Moment<'_>)
     requires few { length slots.old ≤ MAX_SLOTS }
     requires covered { CoversHeard slots.old heard.old }
     ensures heard { slots.new
@@ -174,7 +180,7 @@ pub(crate) fn indicate_due(slots: &mut [Slot], heard: &mut Heard, moment: Moment
 }
 
 #[inline(always)]
-fn indicate_all(slots: &mut [Slot], heard: &mut Heard, moment: Moment<'_>)
+fn indicate_all(slots: &mut [Slot], heard: &mut HeardPlaces, moment: Moment<'_>)
     requires few { length slots.old ≤ MAX_SLOTS }
     requires covered { CoversHeard slots.old heard.old }
     ensures heard { slots.new
@@ -193,7 +199,7 @@ fn indicate_all(slots: &mut [Slot], heard: &mut Heard, moment: Moment<'_>)
 }
 
 #[inline(always)]
-fn indicate_at(slots: &mut [Slot], heard: &mut Heard, moment: Moment<'_>, place: usize)
+fn indicate_at(slots: &mut [Slot], heard: &mut HeardPlaces, moment: Moment<'_>, place: usize)
     requires few { length slots.old ≤ MAX_SLOTS }
     requires place { place < length slots.old }
     ensures slots { slots.new

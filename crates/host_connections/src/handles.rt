@@ -7,7 +7,7 @@ ghost use Rattle.host_connections.specs.Slots.{place_holding, IsThere, SlotState
 
 use crate::all_slots::find_holding;
 use crate::slot::{Slot, Use};
-use gatt_laws::MAX_SLOTS;
+use host_api::MAX_SLOTS;
 use std::simd::prelude::*;
 
 /// The entry of a free slot; no handle.

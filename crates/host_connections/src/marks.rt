@@ -5,7 +5,7 @@ ghost use Rattle.host_connections.specs.Commands.{gives, has_command};
 ghost use Rattle.host_connections.specs.SlotState.{SlotState};
 ghost use Rattle.host_connections.specs.Places.{may_listen, HasNoValueMore, WaitsForNothingNew, IsMarked};
 ghost use Rattle.host_connections.specs.Slots.{slot_state_at, SlotStates};
-ghost use Rattle.gatt_laws.specs.declared.TheConstants.{MAX_SLOTS};
+ghost use Rattle.host_api.specs.declared.TheConstants.{MAX_SLOTS};
 
 use crate::places::Places;
 

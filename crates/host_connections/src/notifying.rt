@@ -11,7 +11,7 @@ ghost use Rattle.host_connections.specs.Skips.{all_skipped};
 ghost use Rattle.host_connections.specs.Slots.{all_heard};
 ghost use Rattle.gatt_subs.specs.Rows.{Subscriptions};
 
-use crate::event_end::{Heard, indicate_due, notify_all, notify_alone};
+use crate::event_end::{HeardPlaces, indicate_due, notify_all, notify_alone};
 use crate::moment::Moment;
 use crate::places::{Due, Places, first_due};
 use crate::skipped::{Skips, note_all_skips};
@@ -172,7 +172,7 @@ impl Slots {
             (handle ∷ []) self.old }
         ensures count { length self.new ≡ length self.old }
     {
-        let mut heard = Heard {
+        let mut heard = HeardPlaces {
             packets: self.marks.packets,
             waiting: self.marks.waiting,
         };
@@ -195,7 +195,7 @@ impl Slots {
             handles.now self.old }
         ensures count { length self.new ≡ length self.old }
     {
-        let mut heard = Heard {
+        let mut heard = HeardPlaces {
             packets: self.marks.packets,
             waiting: self.marks.waiting,
         };

@@ -8,7 +8,7 @@ ghost use Rattle.host_connections.specs.Places.{is_slot_due, may_listen, Covers,
 ghost use Rattle.host_connections.specs.Slots.{is_own_place};
 
 use crate::slot::{Slot, Use};
-use gatt_laws::MAX_SLOTS;
+use host_api::MAX_SLOTS;
 use std::mem::size_of;
 
 /// Something that may be pending at a slot.

@@ -6,7 +6,7 @@ ghost use Rattle.host_connections.specs.declared.places.Due.TheVariants.{Value};
 ghost use Rattle.host_connections.specs.Places.{Covers};
 ghost use Rattle.host_connections.specs.Skips.{all_skipped, skip_of, skips_by, slot_skips, wants_notification};
 ghost use Rattle.host_connections.specs.Slots.{handles_for};
-ghost use Rattle.gatt_laws.specs.declared.TheConstants.{MAX_SLOTS};
+ghost use Rattle.host_api.specs.declared.TheConstants.{MAX_SLOTS};
 
 use crate::moment::Moment;
 use crate::notifications::{row_in_force, standing};
@@ -16,8 +16,8 @@ use arrayvec::ArrayVec;
 use att_policy::Standing;
 use att_table::{ConfigRow, Table};
 use att_writes::MAX_PREPARED;
-use gatt_laws::MAX_SLOTS;
 use gatt_subs::{MAX_BACKLOG, PendingOfTable, Raised};
+use host_api::MAX_SLOTS;
 
 /// A value that a connection is not notified of, because too many PDUs are queued for it.
 #[derive(Clone, Copy, Default, Debug, PartialEq, Eq)]

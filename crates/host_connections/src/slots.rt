@@ -25,9 +25,8 @@ use crate::slot::Slot;
 use arrayvec::ArrayVec;
 use att_table::{ConfigRow, Table};
 use gatt_conn::Touched;
-use gatt_laws::MAX_SLOTS;
 use gatt_subs::Rows;
-use host_api::Connection;
+use host_api::{Connection, MAX_SLOTS};
 use std::alloc::{AllocError, Global};
 use std::marker::Model;
 

@@ -30,7 +30,7 @@ use Rattle.le_h4.specs.Division.{division}
 use Rattle.le_security.specs.declared.entry.Entry.{Entry}
 use Rattle.le_security.specs.Keys.{is_known}
 use Rattle.octet_io.specs.Number.{Octets}
-use Rattle.gatt_laws.specs.declared.TheConstants.{MAX_SLOTS}
+use Rattle.host_api.specs.declared.TheConstants.{MAX_SLOTS}
 
 -- a row that is fitted to a table is one of it
 entries-fitted : (attributes : List Attr) (row entries : Row) → IsRowOf attributes row

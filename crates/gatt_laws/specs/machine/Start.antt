@@ -13,7 +13,7 @@ use Rattle.le_hci.specs.Init.{first_state}
 use Rattle.le_security.specs.declared.entry.Entry.{Entry}
 use Rattle.octet_io.specs.Number.{Octets}
 use Rattle.att_pdu.specs.declared.pdu_buf.TheConstants.{MAX_MTU, MIN_MTU}
-use Rattle.gatt_laws.specs.declared.TheConstants.{MAX_SLOTS}
+use Rattle.host_api.specs.declared.TheConstants.{MAX_SLOTS}
 
 -- `owed` has the peers with a pending Service Changed, `slots` is the largest number of
 -- connections, `rx_mtu` the largest PDU that is received; the address is random, or else the public

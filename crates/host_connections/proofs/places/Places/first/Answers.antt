@@ -1,6 +1,6 @@
 use Rattle.std.proofs.Common.{rules, ◌<◌, ◌^◌, arith}
 use Rattle.std.proofs.lemmas.Nat.Bits.{bit_at-trailing_zeros}
-use Rattle.gatt_laws.specs.declared.TheConstants.{MAX_SLOTS}
+use Rattle.host_api.specs.declared.TheConstants.{MAX_SLOTS}
 use Rattle.host_connections.proofs.SlotBits.{slot_bits}
 use Rattle.host_connections.proofs.places.Places.first.Goals as goal
 

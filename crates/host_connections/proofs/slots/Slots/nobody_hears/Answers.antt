@@ -3,7 +3,7 @@ use Rattle.std.specs.Int.{bit_at}
 use Rattle.std.proofs.lemmas.Bool.{OnTrue_at, OnTrue_from}
 use Rattle.att_numbers.specs.Types.{Handle}
 use Rattle.att_table.specs.Table.{Contents}
-use Rattle.gatt_laws.specs.declared.TheConstants.{MAX_SLOTS}
+use Rattle.host_api.specs.declared.TheConstants.{MAX_SLOTS}
 use Rattle.host_connections.proofs.Covering.{there}
 use Rattle.host_connections.proofs.InTurn.{nobody_listens, nothing_is_raised}
 use Rattle.host_connections.proofs.Quiet.{none_there}

@@ -9,7 +9,7 @@ use Rattle.host_connections.specs.OfTable.{AreOfTableIfAny}
 use Rattle.host_connections.specs.Places.{Covers, IsMarked}
 use Rattle.host_connections.specs.Slots.{SlotStates, all_heard, all_notified_in_turn}
 use Rattle.host_connections.specs.declared.places.Due.TheVariants.{Value}
-use Rattle.gatt_laws.specs.declared.TheConstants.{MAX_SLOTS}
+use Rattle.host_api.specs.declared.TheConstants.{MAX_SLOTS}
 use Rattle.host_connections.proofs.slots.Slots.notify_each.Goals as goal
 
 pub invariant_of-self : goal.invariant_of-self

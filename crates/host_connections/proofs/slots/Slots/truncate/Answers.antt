@@ -1,5 +1,5 @@
 use Rattle.std.proofs.Common.{◌≤◌, length, sym, subst, arith}
-use Rattle.gatt_laws.specs.declared.TheConstants.{MAX_SLOTS}
+use Rattle.host_api.specs.declared.TheConstants.{MAX_SLOTS}
 use Rattle.host_connections.proofs.Covering.{front_marked}
 use Rattle.host_connections.proofs.Noted.{first_noted}
 use Rattle.host_connections.specs.Handles.{AreNotedIfAny}

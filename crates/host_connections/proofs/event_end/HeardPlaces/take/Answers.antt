@@ -2,7 +2,7 @@ use Rattle.std.proofs.Common.{sym, ◌∙◌}
 use Rattle.host_connections.proofs.Covering.{covered_still, covered_with}
 use Rattle.host_connections.proofs.Found.{clash}
 use Rattle.host_connections.specs.declared.places.Due.TheVariants.{Packet, Indication}
-use Rattle.host_connections.proofs.event_end.Heard.take.Goals as goal
+use Rattle.host_connections.proofs.event_end.HeardPlaces.take.Goals as goal
 
 pub returns-then-told : goal.returns-then-told
 returns-then-told c = λ slots slot covers given waits idle.
