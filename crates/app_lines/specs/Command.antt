@@ -8,32 +8,32 @@ use Rattle.text_words.specs.Numeral.{numeral_of}
 use Rattle.text_words.specs.Payload.{payload_of}
 use Rattle.app_lines.specs.declared.command.Command.{Command}
 use Rattle.app_lines.specs.declared.command.Command.TheVariants.{Update, Allow, Deny, Disconnect, Value, Connections, Subscriptions, Find, Application, Reload, Stop}
-use Rattle.app_lines.specs.declared.wrong.Wrong.{Wrong}
-use Rattle.app_lines.specs.declared.wrong.Fault.{Fault}
-use Rattle.app_lines.specs.declared.wrong.Fault.TheVariants.{NoCommand, NoHandle, NoConnection, NoValue, NoTime, NoType, NoNumber, TooFew, TooMany}
+use Rattle.app_lines.specs.declared.wrong.WrongWord.{WrongWord}
+use Rattle.app_lines.specs.declared.wrong.WordFault.{WordFault}
+use Rattle.app_lines.specs.declared.wrong.WordFault.TheVariants.{NoCommand, NoHandle, NoConnection, NoValue, NoTime, NoType, NoNumber, TooFew, TooMany}
 
-abbrev pub wrong : Fault → ℕ → Wrong
+abbrev pub wrong : WordFault → ℕ → WrongWord
 wrong fault place = record { fault = fault; place = place }
 
 -- A word that is not understood has this fault.
-abbrev pub understood : {A : Type 0} → Fault → ℕ → Option A → Result A Wrong
+abbrev pub understood : {A : Type 0} → WordFault → ℕ → Option A → Result A WrongWord
 understood fault place (Some value) = Ok value
 understood fault place None = Err (wrong fault place)
 
 -- A handle, a connection name, a time in milliseconds, a hexadecimal value, and an attribute type.
-abbrev pub handle_at : ℕ → Octets → Result ℕ Wrong
+abbrev pub handle_at : ℕ → Octets → Result ℕ WrongWord
 handle_at place word = understood NoHandle place (numeral_of (2 ^ 16) word)
 
-abbrev pub name_at : ℕ → Octets → Result ℕ Wrong
+abbrev pub name_at : ℕ → Octets → Result ℕ WrongWord
 name_at place word = understood NoConnection place (numeral_of (2 ^ 64) word)
 
-abbrev pub time_at : ℕ → Octets → Result ℕ Wrong
+abbrev pub time_at : ℕ → Octets → Result ℕ WrongWord
 time_at place word = understood NoTime place (numeral_of (2 ^ 64) word)
 
-abbrev pub value_at : ℕ → Octets → Result Octets Wrong
+abbrev pub value_at : ℕ → Octets → Result Octets WrongWord
 value_at place word = understood NoValue place (payload_of word)
 
-abbrev pub type_at : ℕ → Octets → Result ℕ Wrong
+abbrev pub type_at : ℕ → Octets → Result ℕ WrongWord
 type_at place word = understood NoType place (type_named word)
 
 -- Counting begins at 1.
@@ -41,12 +41,12 @@ abbrev pub positive : Option ℕ → Option ℕ
 positive None = None
 positive (Some number) = if number == 0 then None else Some number
 
-abbrev pub count_at : ℕ → Octets → Result ℕ Wrong
+abbrev pub count_at : ℕ → Octets → Result ℕ WrongWord
 count_at place word = understood NoNumber place (positive (numeral_of (2 ^ 16) word))
 
 -- Reading continues after a correct word.
-abbrev pub then_asks : {A : Type 0} → Result A Wrong → (A → Result Command Wrong)
-    → Result Command Wrong
+abbrev pub then_asks : {A : Type 0} → Result A WrongWord → (A → Result Command WrongWord)
+    → Result Command WrongWord
 then_asks (Ok value) asks = asks value
 then_asks (Err fault) asks = Err fault
 
@@ -67,14 +67,14 @@ most_words word =
     else None
 
 -- The fault of a command with a wrong number of words: no command, too few, or too many.
-abbrev pub fault_by_count : Option ℕ → ℕ → Wrong
+abbrev pub fault_by_count : Option ℕ → ℕ → WrongWord
 fault_by_count None count = wrong NoCommand 0
 fault_by_count (Some most) count = if nat_lt most count then wrong TooMany most else wrong TooFew 0
 
-abbrev pub miscounted : Octets → ℕ → Result Command Wrong
+abbrev pub miscounted : Octets → ℕ → Result Command WrongWord
 miscounted word count = Err (fault_by_count (most_words word) count)
 
-unfoldable pub one_word : Octets → Result Command Wrong
+unfoldable pub one_word : Octets → Result Command WrongWord
 one_word first =
     if bytes_eq first (codes "connections") then Ok Connections
     else if bytes_eq first (codes "application") then Ok Application
@@ -82,7 +82,7 @@ one_word first =
     else if bytes_eq first (codes "stop") then Ok Stop
     else miscounted first 1
 
-unfoldable pub two_words : Octets → Octets → Result Command Wrong
+unfoldable pub two_words : Octets → Octets → Result Command WrongWord
 two_words first second =
     if bytes_eq first (codes "allow")
     then then_asks (name_at 1 second) (λ name. Ok (Allow name None))
@@ -96,22 +96,22 @@ two_words first second =
     else miscounted first 2
 
 -- `update HANDLE HEX`, `allow CONNECTION MS` and `find SERVICE CHARACTERISTIC`.
-abbrev pub update_of : Octets → Octets → Result Command Wrong
+abbrev pub update_of : Octets → Octets → Result Command WrongWord
 update_of second third =
     then_asks (handle_at 1 second) (λ handle.
     then_asks (value_at 2 third) (λ value. Ok (Update handle value)))
 
-abbrev pub allow_of : Octets → Octets → Result Command Wrong
+abbrev pub allow_of : Octets → Octets → Result Command WrongWord
 allow_of second third =
     then_asks (name_at 1 second) (λ name.
     then_asks (time_at 2 third) (λ lasting. Ok (Allow name (Some lasting))))
 
-abbrev pub find_of : Octets → Octets → ℕ → Result Command Wrong
+abbrev pub find_of : Octets → Octets → ℕ → Result Command WrongWord
 find_of second third count =
     then_asks (type_at 1 second) (λ service.
     then_asks (type_at 2 third) (λ characteristic. Ok (Find service characteristic count)))
 
-unfoldable pub three_words : Octets → Octets → Octets → Result Command Wrong
+unfoldable pub three_words : Octets → Octets → Octets → Result Command WrongWord
 three_words first second third =
     if bytes_eq first (codes "update") then update_of second third
     else if bytes_eq first (codes "allow") then allow_of second third
@@ -119,13 +119,13 @@ three_words first second third =
     else miscounted first 3
 
 -- `find SERVICE CHARACTERISTIC N`.
-unfoldable pub four_words : Octets → Octets → Octets → Octets → Result Command Wrong
+unfoldable pub four_words : Octets → Octets → Octets → Octets → Result Command WrongWord
 four_words first second third fourth =
     if bytes_eq first (codes "find") then then_asks (count_at 3 fourth) (find_of second third)
     else miscounted first 4
 
 -- The command, or the first wrong word.
-abbrev pub asked_by : List Octets → Result Command Wrong
+abbrev pub asked_by : List Octets → Result Command WrongWord
 asked_by [] = Err (wrong NoCommand 0)
 asked_by (first ∷ []) = one_word first
 asked_by (first ∷ second ∷ []) = two_words first second
@@ -133,7 +133,7 @@ asked_by (first ∷ second ∷ third ∷ []) = three_words first second third
 asked_by (first ∷ second ∷ third ∷ fourth ∷ []) = four_words first second third fourth
 asked_by (first ∷ second ∷ third ∷ fourth ∷ fifth ∷ words) = miscounted first 5
 
-unfoldable pub command_of : Octets → Result Command Wrong
+unfoldable pub command_of : Octets → Result Command WrongWord
 command_of line = asked_by (words_of line)
 
 -- A line without its final carriage return.

@@ -5,7 +5,7 @@ ghost use Rattle.app_lines.specs.Command.{allow_of, command_of, count_at, fault_
 ghost use Rattle.app_lines.specs.Command.{four_words, handle_at, most_words, name_at, one_word};
 ghost use Rattle.app_lines.specs.Command.{three_words, two_words, type_at, update_of, without_return};
 
-use crate::wrong::{Fault, Wrong};
+use crate::wrong::{WordFault, WrongWord};
 use att_table::read_type;
 use text_words::{Payload, first_word, read_u16, read_u64};
 
@@ -57,7 +57,7 @@ pub enum Command<'a> {
 
 /// Reads a line, or returns its first wrong word.
 #[tactic(auto, unfolding(crate::specs::Command::command_of))]
-pub fn read_line(line: &str) -> Result<Command<'_>, Wrong>
+pub fn read_line(line: &str) -> Result<Command<'_>, WrongWord>
     // A line means what its words say, or is refused by its wrong word.
     ensures { result ≡ command_of line.now }
 {
@@ -89,7 +89,7 @@ pub fn without_return(line: &[u8]) -> &[u8]
 }
 
 #[tactic(auto, unfolding(crate::specs::Command::one_word))]
-fn read_one(first: &str) -> Result<Command<'_>, Wrong>
+fn read_one(first: &str) -> Result<Command<'_>, WrongWord>
     ensures { result ≡ one_word first.now }
 {
     match first {
@@ -102,7 +102,7 @@ fn read_one(first: &str) -> Result<Command<'_>, Wrong>
 }
 
 #[tactic(auto, unfolding(crate::specs::Command::two_words))]
-fn read_two<'a>(first: &str, second: &'a str) -> Result<Command<'a>, Wrong>
+fn read_two<'a>(first: &str, second: &'a str) -> Result<Command<'a>, WrongWord>
     ensures { result ≡ two_words first.now second.now }
 {
     match first {
@@ -134,7 +134,7 @@ fn read_two<'a>(first: &str, second: &'a str) -> Result<Command<'a>, Wrong>
 }
 
 #[tactic(auto, unfolding(crate::specs::Command::three_words))]
-fn read_three<'a>(first: &str, second: &str, third: &'a str) -> Result<Command<'a>, Wrong>
+fn read_three<'a>(first: &str, second: &str, third: &'a str) -> Result<Command<'a>, WrongWord>
     ensures { result ≡ three_words first.now second.now third.now }
 {
     match first {
@@ -151,7 +151,7 @@ fn read_four<'a>(
     second: &str,
     third: &'a str,
     fourth: &str,
-) -> Result<Command<'a>, Wrong>
+) -> Result<Command<'a>, WrongWord>
     ensures { result ≡ four_words first.now second.now third.now fourth.now }
 {
     match first {
@@ -163,19 +163,19 @@ fn read_four<'a>(
     }
 }
 
-fn read_update<'a>(handle: &str, value: &'a str) -> Result<Command<'a>, Wrong>
+fn read_update<'a>(handle: &str, value: &'a str) -> Result<Command<'a>, WrongWord>
     ensures { result ≡ update_of handle.now value.now }
 {
     match handle_at(1, handle) {
         Ok(handle) => match Payload::read(value) {
             Some(value) => Ok(Command::Update { handle, value }),
-            None => Err(wrong(Fault::NoValue, 2)),
+            None => Err(wrong(WordFault::NoValue, 2)),
         },
         Err(wrong) => Err(wrong),
     }
 }
 
-fn read_allow<'a>(name: &str, time: &'a str) -> Result<Command<'a>, Wrong>
+fn read_allow<'a>(name: &str, time: &'a str) -> Result<Command<'a>, WrongWord>
     ensures { result ≡ allow_of name.now time.now }
 {
     match name_at(1, name) {
@@ -184,13 +184,17 @@ fn read_allow<'a>(name: &str, time: &'a str) -> Result<Command<'a>, Wrong>
                 name,
                 lasting: Some(lasting),
             }),
-            None => Err(wrong(Fault::NoTime, 2)),
+            None => Err(wrong(WordFault::NoTime, 2)),
         },
         Err(wrong) => Err(wrong),
     }
 }
 
-fn read_find<'a>(service: &str, characteristic: &'a str, number: u16) -> Result<Command<'a>, Wrong>
+fn read_find<'a>(
+    service: &str,
+    characteristic: &'a str,
+    number: u16,
+) -> Result<Command<'a>, WrongWord>
     ensures { result ≡ find_of service.now characteristic.now number }
 {
     match type_at(1, service) {
@@ -206,49 +210,49 @@ fn read_find<'a>(service: &str, characteristic: &'a str, number: u16) -> Result<
     }
 }
 
-fn name_at(place: usize, word: &str) -> Result<u64, Wrong>
+fn name_at(place: usize, word: &str) -> Result<u64, WrongWord>
     ensures { result ≡ name_at place word.now }
 {
     match read_u64(word) {
         Some(name) => Ok(name),
-        None => Err(wrong(Fault::NoConnection, place)),
+        None => Err(wrong(WordFault::NoConnection, place)),
     }
 }
 
-fn handle_at(place: usize, word: &str) -> Result<u16, Wrong>
+fn handle_at(place: usize, word: &str) -> Result<u16, WrongWord>
     ensures { result ≡ handle_at place word.now }
 {
     match read_u16(word) {
         Some(handle) => Ok(handle),
-        None => Err(wrong(Fault::NoHandle, place)),
+        None => Err(wrong(WordFault::NoHandle, place)),
     }
 }
 
-fn type_at(place: usize, word: &str) -> Result<u128, Wrong>
+fn type_at(place: usize, word: &str) -> Result<u128, WrongWord>
     ensures { result ≡ type_at place word.now }
 {
     match read_type(word) {
         Some(kind) => Ok(kind),
-        None => Err(wrong(Fault::NoType, place)),
+        None => Err(wrong(WordFault::NoType, place)),
     }
 }
 
-fn count_at(place: usize, word: &str) -> Result<u16, Wrong>
+fn count_at(place: usize, word: &str) -> Result<u16, WrongWord>
     ensures { result ≡ count_at place word.now }
 {
     match read_u16(word) {
-        Some(0) | None => Err(wrong(Fault::NoNumber, place)),
+        Some(0) | None => Err(wrong(WordFault::NoNumber, place)),
         Some(number) => Ok(number),
     }
 }
 
-fn count_fault(first: &str, count: usize) -> Wrong
+fn count_fault(first: &str, count: usize) -> WrongWord
     ensures { result ≡ fault_by_count (most_words first.now) count }
 {
     match most_words(first) {
-        None => wrong(Fault::NoCommand, 0),
-        Some(most) if most < count => wrong(Fault::TooMany, most),
-        Some(_) => wrong(Fault::TooFew, 0),
+        None => wrong(WordFault::NoCommand, 0),
+        Some(most) if most < count => wrong(WordFault::TooMany, most),
+        Some(_) => wrong(WordFault::TooFew, 0),
     }
 }
 
@@ -273,9 +277,9 @@ fn most_words(first: &str) -> Option<usize>
     }
 }
 
-fn wrong(fault: Fault, place: usize) -> Wrong
+fn wrong(fault: WordFault, place: usize) -> WrongWord
     ensures fault { result.fault ≡ fault }
     ensures place { result.place ≡ place }
 {
-    Wrong { fault, place }
+    WrongWord { fault, place }
 }

@@ -20,4 +20,4 @@ pub use notice_text::{add_line, add_named_line, add_number, add_value, connectio
 pub use outbox::Outbox;
 pub use reply::{Reply, add_reply};
 pub use told::{Told, add_if_named, add_told};
-pub use wrong::{Fault, Wrong, add_wrong, word_at};
+pub use wrong::{WordFault, WrongWord, add_wrong, word_at};

@@ -7,9 +7,9 @@ ghost use Rattle.app_lines.specs.Wrong.{printable, quoted, words_of_fault, wrong
 use std::alloc::AllocError;
 use text_words::first_word;
 
-/// Fault of a word.
+/// WordFault of a word.
 #[derive(Clone, Copy)]
-pub enum Fault {
+pub enum WordFault {
     /// Not a command.
     NoCommand,
     /// Not an attribute handle.
@@ -32,8 +32,8 @@ pub enum Fault {
 
 /// The first wrong word of a line.
 #[derive(Clone, Copy)]
-pub struct Wrong {
-    pub fault: Fault,
+pub struct WrongWord {
+    pub fault: WordFault,
     /// Index of the word, from 0.
     pub place: usize,
 }
@@ -43,7 +43,7 @@ pub const MOST_QUOTED: usize = 32;
 
 /// Appends the line that reports a wrong word.
 #[tactic(auto, unfolding(crate::specs::Wrong::wrong_line))]
-pub fn add_wrong(text: &mut Vec<u8>, word: &str, fault: Fault) -> Result<(), AllocError>
+pub fn add_wrong(text: &mut Vec<u8>, word: &str, fault: WordFault) -> Result<(), AllocError>
     ensures ok { OnOk result (text.new.items ≡ text.old.items ++ wrong_line word.now fault) }
 {
     text.extend_from_slice(b"bad: \"")?;
@@ -83,19 +83,19 @@ fn printable(octet: u8) -> u8
     }
 }
 
-fn words_of(fault: Fault) -> &'static str
+fn words_of(fault: WordFault) -> &'static str
     ensures { result.now ≡ words_of_fault fault }
 {
     match fault {
-        Fault::NoCommand => "is no command",
-        Fault::NoHandle => "is no handle",
-        Fault::NoConnection => "is no connection",
-        Fault::NoValue => "is no value",
-        Fault::NoTime => "is no time",
-        Fault::NoType => "is no UUID",
-        Fault::NoNumber => "is no number from 1 on",
-        Fault::TooFew => "needs more words",
-        Fault::TooMany => "is a word too many",
+        WordFault::NoCommand => "is no command",
+        WordFault::NoHandle => "is no handle",
+        WordFault::NoConnection => "is no connection",
+        WordFault::NoValue => "is no value",
+        WordFault::NoTime => "is no time",
+        WordFault::NoType => "is no UUID",
+        WordFault::NoNumber => "is no number from 1 on",
+        WordFault::TooFew => "needs more words",
+        WordFault::TooMany => "is a word too many",
     }
 }
 

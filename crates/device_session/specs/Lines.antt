@@ -5,11 +5,11 @@ use Rattle.octet_io.specs.Number.{Octets}
 use Rattle.app_lines.specs.Command.{command_of, without_return}
 use Rattle.app_lines.specs.declared.command.Command.{Command}
 use Rattle.app_lines.specs.declared.command.Command.TheVariants.{Update, Allow, Deny, Disconnect, Application}
-use Rattle.app_lines.specs.declared.wrong.Wrong.{Wrong}
+use Rattle.app_lines.specs.declared.wrong.WrongWord.{WrongWord}
 use Rattle.device_session.specs.declared.asked.LineKind.{LineKind}
 use Rattle.device_session.specs.declared.asked.LineKind.TheVariants as kind
 
-abbrev pub kind_of_command : Result Command Wrong → LineKind
+abbrev pub kind_of_command : Result Command WrongWord → LineKind
 kind_of_command (Ok Application) = kind.Claim
 kind_of_command (Ok (Update handle value)) = kind.Call
 kind_of_command (Ok (Allow name lasting)) = kind.Call

@@ -14,8 +14,8 @@ use Rattle.app_lines.specs.Names.{handle_of}
 use Rattle.app_lines.specs.declared.command.Command.{Command}
 use Rattle.app_lines.specs.declared.command.Command.TheVariants as command
 use Rattle.app_lines.specs.declared.names.Named.{Named}
-use Rattle.app_lines.specs.declared.wrong.Fault.{Fault}
-use Rattle.app_lines.specs.declared.wrong.Wrong.{Wrong}
+use Rattle.app_lines.specs.declared.wrong.WordFault.{WordFault}
+use Rattle.app_lines.specs.declared.wrong.WrongWord.{WrongWord}
 use Rattle.device_session.specs.declared.asked.Asked.{Asked}
 use Rattle.device_session.specs.declared.asked.Asked.TheVariants as asked
 use Rattle.device_session.specs.declared.asking.Unanswered.{Unanswered}
@@ -25,7 +25,7 @@ use Rattle.device_session.specs.declared.asking.Unanswered.TheVariants as waits
 pub data Question : Type 0 where
   Nothing : Question
   Asks : (command : Command) → Question
-  IsWrong : (word : Octets) (fault : Fault) → Question
+  IsWrong : (word : Octets) (fault : WordFault) → Question
   NoText : Question
   TooLong : Question
 
@@ -37,7 +37,7 @@ question_of (asked.Wrong word fault) = IsWrong word.now fault
 question_of asked.NoText = NoText
 question_of asked.TooLong = TooLong
 
-abbrev pub question_by : Octets → Result Command Wrong → Question
+abbrev pub question_by : Octets → Result Command WrongWord → Question
 question_by text (Ok command) = Asks command
 question_by text (Err wrong) = IsWrong (get_or (words_of text) wrong.place []) wrong.fault
 

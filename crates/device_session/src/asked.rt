@@ -9,7 +9,7 @@ ghost use Rattle.device_session.specs.Questions as questions;
 ghost use Rattle.device_session.specs.Questions.{called, question_by, question_of, question_of_line, question_of_text};
 ghost use Rattle.device_session.specs.Lines.{kind_of_line, kind_of_command, kind_of_text};
 
-use app_lines::{Command, Fault, Names, read_line, without_return, word_at};
+use app_lines::{Command, Names, WordFault, read_line, without_return, word_at};
 use arrayvec::ArrayVec;
 use host_api::{App, AppFault};
 use std::str;
@@ -21,7 +21,7 @@ pub enum Asked<'a> {
     Nothing,
     /// A command. A call of the host has already been made.
     Command(Command<'a>),
-    Wrong { word: &'a str, fault: Fault },
+    Wrong { word: &'a str, fault: WordFault },
     /// A line that is not UTF-8.
     NoText,
     TooLong,
