@@ -1,6 +1,6 @@
 //! The states of other tables, which are kept before they are replaced.
 
-use crate::files::octets_of;
+use crate::files::{STATE_OCTETS, octets_of};
 use crate::stop::{Stop, refuse};
 use device_io::{Log, SavedFile};
 use device_state::State;
@@ -35,7 +35,7 @@ pub(crate) fn keep_before<R: Files<File = File> + Clock + Eprint>(
     file: &SavedFile,
     table_text: &[u8],
 ) -> Result<(), Stop> {
-    let state = match octets_of(alloc, log.rt, file.path()) {
+    let state = match octets_of(alloc, log.rt, file.path(), STATE_OCTETS) {
         Ok(state) => state.unwrap_or(Vec::new(alloc)),
         Err(refusal) => return Err(refuse(log.rt, refusal)),
     };
@@ -107,7 +107,7 @@ fn place_at<R: Files<File = File>>(
         Ok(found) if found.is_file() => {}
         _ => return Place::Other,
     }
-    let Ok(Some(octets)) = octets_of(alloc, rt, path) else {
+    let Ok(Some(octets)) = octets_of(alloc, rt, path, STATE_OCTETS) else {
         return Place::Other;
     };
     if octets.as_slice() == state {

@@ -6,16 +6,16 @@ use crate::stop::{Stop, refuse};
 use arrayvec::ArrayVec;
 use gatt_host::{Keys, Rows, Table};
 use shell_files::{
-    ShellFault, judged_keys, judged_rows, judged_table, tell_keys_fault, tell_rows_fault,
-    tell_table_fault,
+    ShellFault, TOML_OCTETS, judged_keys, judged_rows, judged_table, tell_keys_fault,
+    tell_rows_fault, tell_table_fault,
 };
 use std::alloc::{AllocError, Global};
 use std::fs::{File, Files};
 use std::io::ErrorKind;
 use std::str;
 
-/// The largest size of a file that a device reads. A state within all limits is smaller.
-const MOST_OCTETS: usize = 16_777_216;
+/// The largest size of a state or a subscriptions file. One within all limits is smaller.
+pub(crate) const STATE_OCTETS: usize = 16_777_216;
 
 /// The keys of a file, and its text.
 #[derive(Drop)]
@@ -73,7 +73,7 @@ pub(crate) fn read_table<R: Files<File = File> + Eprint>(
     rt: &R,
     path: &str,
 ) -> Result<TableFile, Stop> {
-    let Some(text) = read_file(alloc, rt, path)? else {
+    let Some(text) = read_file(alloc, rt, path, TOML_OCTETS)? else {
         return Err(refuse(rt, format!(in alloc; "{path}: not there").ok()));
     };
     match judged(alloc, path, text.as_slice(), usize::MAX) {
@@ -102,7 +102,7 @@ pub(crate) fn judged_key_file<R: Files<File = File>>(
     path: &str,
     placed: usize,
 ) -> Result<KeyFile, Option<String>> {
-    let Some(text) = octets_of(alloc, rt, path)? else {
+    let Some(text) = octets_of(alloc, rt, path, TOML_OCTETS)? else {
         return Err(format!(in alloc; "{path}: not there").ok());
     };
     let keys = judged(alloc, path, text.as_slice(), placed)?;
@@ -115,7 +115,7 @@ pub(crate) fn read_subscriptions<R: Files<File = File> + Eprint>(
     rt: &R,
     path: &str,
 ) -> Result<Rows, Stop> {
-    let text = read_file(alloc, rt, path)?.unwrap_or(Vec::new(alloc));
+    let text = read_file(alloc, rt, path, STATE_OCTETS)?.unwrap_or(Vec::new(alloc));
     match judged(alloc, path, text.as_slice(), usize::MAX) {
         Ok(rows) => Ok(rows),
         Err(refusal) => Err(refuse(rt, refusal)),
@@ -143,13 +143,14 @@ fn judged<T: Content>(
     }
 }
 
-/// Returns the bytes of a file, or `None` if it is missing.
+/// Returns the bytes of a file, or `None` if it is missing, as `octets_of`.
 pub(crate) fn read_file<R: Files<File = File> + Eprint>(
     alloc: Global,
     rt: &R,
     path: &str,
+    most: usize,
 ) -> Result<Option<Vec<u8>>, Stop> {
-    match octets_of(alloc, rt, path) {
+    match octets_of(alloc, rt, path, most) {
         Ok(octets) => Ok(octets),
         Err(refusal) => Err(refuse(rt, refusal)),
     }
@@ -157,21 +158,23 @@ pub(crate) fn read_file<R: Files<File = File> + Eprint>(
 
 /// Returns the bytes of a file, or `None` if it is missing.
 ///
-/// Stops soon after `MOST_OCTETS`, and refuses the file. A refusal: as of `judged_key_file`.
+/// Reads no more than one read after `most` bytes: a reader refuses so large a file. Errors: as of
+/// `judged_key_file`.
 pub(crate) fn octets_of<R: Files<File = File>>(
     alloc: Global,
     rt: &R,
     path: &str,
+    most: usize,
 ) -> Result<Option<Vec<u8>>, Option<String>> {
     let mut file = match File::open(rt, path) {
         Ok(file) => file,
         Err(error) if error.kind() == ErrorKind::NotFound => return Ok(None),
         Err(error) => return Err(format!(in alloc; "{path}: {error}").ok()),
     };
-    match shell_files::read_at_most(alloc, &mut file, MOST_OCTETS) {
-        Ok(octets) if octets.len() > MOST_OCTETS => {
+    match shell_files::read_at_most(alloc, &mut file, most) {
+        Ok(octets) if octets.len() > STATE_OCTETS => {
             drop(octets);
-            Err(format!(in alloc; "{path}: more than {MOST_OCTETS} bytes").ok())
+            Err(format!(in alloc; "{path}: more than {STATE_OCTETS} bytes").ok())
         }
         Ok(octets) => Ok(Some(octets)),
         Err(ShellFault::Memory) => Err(None),

@@ -1,6 +1,6 @@
 //! Finds and locks the file in which a host is saved, and reads it.
 
-use crate::files::{read_file, read_subscriptions};
+use crate::files::{STATE_OCTETS, read_file, read_subscriptions};
 use crate::stop::{Stop, refuse};
 use device_io::{Lock, LockFault, Log, SavedFile};
 use device_state::State;
@@ -187,7 +187,7 @@ fn find_state<R: Files<File = File> + Clock + Eprint>(
     log: &Log<'_, R>,
     path: &str,
 ) -> Result<Option<State>, Stop> {
-    let Some(octets) = read_file(alloc, log.rt, path)? else {
+    let Some(octets) = read_file(alloc, log.rt, path, STATE_OCTETS)? else {
         return Ok(None);
     };
     match State::read(alloc, octets.as_slice()) {
