@@ -20,7 +20,7 @@ _gatt_shell() {
         return
         ;;
     --listen | --connect | --application-port | --name | --advertise | --address | --capture-size | --slots | \
-        --idle | --stranger | --patience | --width)
+        --idle | --stranger | --patience | --width | --rx-mtu)
         return
         ;;
     esac
@@ -36,7 +36,7 @@ _gatt_shell() {
         may) words='--authorized --unencrypted --help' ;;
         compare) words='--new-keys --help' ;;
         serve) words='--rows --help' ;;
-        run) words='--rows --next --notices --echo --words --help' ;;
+        run) words='--rows --next --rx-mtu --notices --echo --words --help' ;;
         words) words='--table --help' ;;
         host)
             words='--state --save-updates --rows --drop-unknown --listen --connect --serial --application

@@ -33,6 +33,7 @@ complete -c gatt_shell -n '__gatt_shell_is may' -l authorized
 complete -c gatt_shell -n '__gatt_shell_is may' -l unencrypted
 complete -c gatt_shell -n '__gatt_shell_is compare' -l new-keys -r -F
 complete -c gatt_shell -n '__gatt_shell_is run' -l next -r -F
+complete -c gatt_shell -n '__gatt_shell_is run' -l rx-mtu -x
 complete -c gatt_shell -n '__gatt_shell_is run' -l notices
 complete -c gatt_shell -n '__gatt_shell_is run' -l echo
 complete -c gatt_shell -n '__gatt_shell_is words' -l table -r -F

@@ -26,6 +26,7 @@ FILES = {
     "subscribes": SUBSCRIBES,
     "subscribed": "1 c0:00:00:00:00:01 7 1\n",
     "unsubscribes": SUBSCRIBES.replace("1207000100", "1207000000"),
+    "exchanges": "connect U 1 c0:00:00:00:00:0a\nU < 02f700\n",
     "both": f"{SUBSCRIBES}connect Q 0 00:11:22:33:44:55\nencrypt Q 0202020202020202 514\nQ < 120b000100\n",
     "replaces": "connect U 1 c0:00:00:00:00:0a\nU < 1204000200\nreplace\n",
 }

@@ -40,9 +40,9 @@ joins-lines start so_far shown names (act ∷ lines) old new held holds (middle,
     joins-lines start (after_line first.runs so_far) (shown_behind shown) names lines middle new between holds rest
     (joins-line start so_far shown.notices names act old middle first.echoed between first.runs was)
 
-joins-opened : (table : Contents) (keys : List Entry) (rows : Subscriptions) (host : HostModel) → IsOpened table keys rows host
-    → Joins (start_of table keys rows command_configuration) host (simulated_at_start simulated) nothing_yet
-joins-opened table keys rows host is = record {
+joins-opened : (table : Contents) (keys : List Entry) (rows : Subscriptions) (rx_mtu : ℕ) (host : HostModel) → IsOpened table keys rows rx_mtu host
+    → Joins (start_of table keys rows (command_configuration rx_mtu)) host (simulated_at_start simulated) nothing_yet
+joins-opened table keys rows rx_mtu host is = record {
   input = [];
   calls = [];
   refines = is.refines;
@@ -54,15 +54,15 @@ joins-opened table keys rows host is = record {
 }
 
 -- the lines of a run: all of them, or those before one that ends it
-joins-begun : (table : Contents) (next : Option Contents) (keys : List Entry) (rows : Subscriptions) (old : Stage)
-    → IsStageOpened table next keys rows old
+joins-begun : (table : Contents) (next : Option Contents) (keys : List Entry) (rows : Subscriptions) (rx_mtu : ℕ) (old : Stage)
+    → IsStageOpened table next keys rows rx_mtu old
     → (begun : Stage) (silent last : Notes) → ExchangesAll (pair_of old.host old.sim silent) (pair_of begun.host begun.sim last)
-    → Joins (start_of table keys rows command_configuration) begun.host begun.sim nothing_yet
-joins-begun table next keys rows old opened begun silent last is =
-    exchanges (start_of table keys rows command_configuration) nothing_yet is.count (pair_of old.host old.sim silent) (pair_of begun.host begun.sim last)
+    → Joins (start_of table keys rows (command_configuration rx_mtu)) begun.host begun.sim nothing_yet
+joins-begun table next keys rows rx_mtu old opened begun silent last is =
+    exchanges (start_of table keys rows (command_configuration rx_mtu)) nothing_yet is.count (pair_of old.host old.sim silent) (pair_of begun.host begun.sim last)
     is.exchanges
-    (subst (λ (sim : Simulated). Joins (start_of table keys rows command_configuration) old.host sim nothing_yet) (sym opened.fresh)
-    (joins-opened table keys rows old.host opened.opened))
+    (subst (λ (sim : Simulated). Joins (start_of table keys rows (command_configuration rx_mtu)) old.host sim nothing_yet) (sym opened.fresh)
+    (joins-opened table keys rows rx_mtu old.host opened.opened))
 
 -- the lines before the one that ends a run
 record HasLast (fault : ShellFault) (shown : Shown) (names : List Octets) (lines : List Act) (old new : Stage) (held holds : Option Octets) : Type 0 where
@@ -113,8 +113,8 @@ joined-up-to start fault shown names lines old new held holds ends was =
 
 pub closes_the_loop : ClosesTheLoop
 closes_the_loop = record {
-  opened = λ table keys rows host is.
-      is-joined (start_of table keys rows command_configuration) host (simulated_at_start simulated) nothing_yet (joins-opened table keys rows host is);
+  opened = λ table keys rows rx_mtu host is.
+      is-joined (start_of table keys rows (command_configuration rx_mtu)) host (simulated_at_start simulated) nothing_yet (joins-opened table keys rows rx_mtu host is);
   does_line = λ start so_far act told old new does was.
       is-joined start new.host new.sim (after_line_done old act so_far) (does-act start so_far act told old new does (joins start old.host old.sim so_far was));
   exchanges = λ start so_far count before after_calls is was.
@@ -128,12 +128,12 @@ closes_the_loop = record {
   all_lines = λ start so_far shown names lines old new held holds runs was.
       is-joined start new.host new.sim (after_lines shown names lines old new held holds runs so_far)
       (joins-lines start so_far shown names lines old new held holds runs (joins start old.host old.sim so_far was));
-  whole_run = λ table next keys rows shown script old new held holds opened runs.
-      is-joined (start_of table keys rows command_configuration) new.host new.sim
+  whole_run = λ table next keys rows rx_mtu shown script old new held holds opened runs.
+      is-joined (start_of table keys rows (command_configuration rx_mtu)) new.host new.sim
       (after_lines shown script.names script.acts runs.begun new held holds runs.lines nothing_yet)
-      (joins-lines (start_of table keys rows command_configuration) nothing_yet shown script.names script.acts runs.begun new held holds runs.lines
-      (joins-begun table next keys rows old opened runs.begun runs.silent runs.last runs.exchanges));
-  early_end = λ table next keys rows fault shown script old new held holds opened ends.
-      joined-up-to (start_of table keys rows command_configuration) fault shown script.names script.acts ends.begun new held holds ends.lines
-      (joins-begun table next keys rows old opened ends.begun ends.silent ends.last ends.exchanges);
+      (joins-lines (start_of table keys rows (command_configuration rx_mtu)) nothing_yet shown script.names script.acts runs.begun new held holds runs.lines
+      (joins-begun table next keys rows rx_mtu old opened runs.begun runs.silent runs.last runs.exchanges));
+  early_end = λ table next keys rows rx_mtu fault shown script old new held holds opened ends.
+      joined-up-to (start_of table keys rows (command_configuration rx_mtu)) fault shown script.names script.acts ends.begun new held holds ends.lines
+      (joins-begun table next keys rows rx_mtu old opened ends.begun ends.silent ends.last ends.exchanges);
 }

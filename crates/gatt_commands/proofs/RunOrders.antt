@@ -30,11 +30,11 @@ known_all None items text P all same is = tt
 known_all (Some input) items text P all same is = subst P (same ∙ all) is
 
 -- and what is run of it
-pub runs_all : (result : Result Unit ShellFault) (shows : Shows) (table : Contents) (next : Option Contents) (keys : List Entry) (rows : Subscriptions)
+pub runs_all : (result : Result Unit ShellFault) (shows : Shows) (rx_mtu : ℕ) (table : Contents) (next : Option Contents) (keys : List Entry) (rows : Subscriptions)
     (known : Option (List ℕ)) (items text : List ℕ) (held holds : Option (List ℕ)) (saves saves_then : Option (List Save))
-    → IfSome known (λ input. items ≡ input) → text ≡ items → RunsFile result shows table next keys rows (Some text) held holds saves saves_then
-    → RunsFile result shows table next keys rows known held holds saves saves_then
-runs_all result shows table next keys rows None items text held holds saves saves_then all same runs = record {
+    → IfSome known (λ input. items ≡ input) → text ≡ items → RunsFile result shows rx_mtu table next keys rows (Some text) held holds saves saves_then
+    → RunsFile result shows rx_mtu table next keys rows known held holds saves saves_then
+runs_all result shows rx_mtu table next keys rows None items text held holds saves saves_then all same runs = record {
   script = runs.script;
   has_script = tt;
   shown = runs.shown;
@@ -45,8 +45,8 @@ runs_all result shows table next keys rows None items text held holds saves save
   last = runs.last;
   runs = runs.runs;
 }
-runs_all result shows table next keys rows (Some input) items text held holds saves saves_then all same runs =
-    subst (λ (octets : List ℕ). RunsFile result shows table next keys rows (Some octets) held holds saves saves_then) (same ∙ all) runs
+runs_all result shows rx_mtu table next keys rows (Some input) items text held holds saves saves_then all same runs =
+    subst (λ (octets : List ℕ). RunsFile result shows rx_mtu table next keys rows (Some octets) held holds saves saves_then) (same ∙ all) runs
 
 -- a script is refused for the line that is told
 pub refused_at : (has_next : Bool) (text : List ℕ) (outer : Result Unit ShellFault) (fault : ShellFault) (line : ℕ)

@@ -172,9 +172,10 @@ pub record IsJoinedUpTo (start : Start) (fault : ShellFault) (shown : Shown) (na
 -- They are thus joined after each line, at the end of a run, and before a line that ends it early.
 -- If everything is sent, the controller accepted all packets of the host's run.
 pub record ClosesTheLoop : Type 0 where
-  pub opened : (table : Contents) (keys : List Entry) (rows : Subscriptions) (host : HostModel)
-      → IsOpened table keys rows host
-      → IsJoined (start_of table keys rows command_configuration) host
+  pub opened : (table : Contents) (keys : List Entry) (rows : Subscriptions) (rx_mtu : ℕ)
+      (host : HostModel)
+      → IsOpened table keys rows rx_mtu host
+      → IsJoined (start_of table keys rows (command_configuration rx_mtu)) host
       (simulated_at_start simulated) nothing_yet
   pub does_line : (start : Start) (so_far : SoFar) (act : Act) (told : Option Refused)
       (old new : Stage) → DoesLine act told old new
@@ -197,14 +198,15 @@ pub record ClosesTheLoop : Type 0 where
       → IsJoined start new.host new.sim
       (after_lines shown names lines old new held holds runs so_far)
   pub whole_run : (table : Contents) (next : Option Contents) (keys : List Entry)
-      (rows : Subscriptions) (shown : Shown) (script : scripts.Acts) (old new : Stage)
-      (held holds : Option Octets) → IsStageOpened table next keys rows old
+      (rows : Subscriptions) (rx_mtu : ℕ) (shown : Shown) (script : scripts.Acts)
+      (old new : Stage) (held holds : Option Octets) → IsStageOpened table next keys rows rx_mtu old
       → (runs : RunsAll shown script old new held holds)
-      → IsJoined (start_of table keys rows command_configuration) new.host new.sim
+      → IsJoined (start_of table keys rows (command_configuration rx_mtu)) new.host new.sim
       (after_lines shown script.names script.acts runs.begun new held holds runs.lines nothing_yet)
   pub early_end : (table : Contents) (next : Option Contents) (keys : List Entry)
-      (rows : Subscriptions) (fault : ShellFault) (shown : Shown) (script : scripts.Acts)
-      (old new : Stage) (held holds : Option Octets) → IsStageOpened table next keys rows old
+      (rows : Subscriptions) (rx_mtu : ℕ) (fault : ShellFault) (shown : Shown)
+      (script : scripts.Acts) (old new : Stage) (held holds : Option Octets)
+      → IsStageOpened table next keys rows rx_mtu old
       → (ends : EndsInLines fault shown script old new held holds)
-      → IsJoinedUpTo (start_of table keys rows command_configuration) fault shown script.names
-      script.acts ends.begun new held holds
+      → IsJoinedUpTo (start_of table keys rows (command_configuration rx_mtu)) fault shown
+      script.names script.acts ends.begun new held holds

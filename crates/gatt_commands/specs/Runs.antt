@@ -206,16 +206,17 @@ HostRuns (Ok done) shown script old new held holds saves saves_then =
 HostRuns (Err fault) shown script old new held holds saves saves_then =
     EndsHost fault shown script old new held holds saves saves_then
 
--- An open stage has a new host of these files, a new controller, and this next table.
+-- An open stage has a new host of these files and this ATT_MTU, a new controller, and this next
+-- table.
 pub record IsStageOpened (table : Contents) (next : Option Contents) (keys : List Entry)
-    (rows : Subscriptions) (stage : Stage) : Type 0 where
-  pub opened : IsOpened table keys rows stage.host
+    (rows : Subscriptions) (rx_mtu : ℕ) (stage : Stage) : Type 0 where
+  pub opened : IsOpened table keys rows rx_mtu stage.host
   pub fresh : stage.sim ≡ simulated_at_start simulated
   pub given : stage.next ≡ next
 
 -- Host and controller are new, and the script is the file's, if known.
-pub record RunsFile (result : Result (Unit {0}) ShellFault) (shows : Shows) (table : Contents)
-    (next : Option Contents) (keys : List Entry) (rows : Subscriptions)
+pub record RunsFile (result : Result (Unit {0}) ShellFault) (shows : Shows) (rx_mtu : ℕ)
+    (table : Contents) (next : Option Contents) (keys : List Entry) (rows : Subscriptions)
     (script_file held holds : Option Octets) (saves saves_then : Option (List Save)) : Type 0 where
   pub script : Acts
   pub has_script : IfSome script_file (λ octets. script_in (is_some next) octets ≡ Ok script)
@@ -223,7 +224,7 @@ pub record RunsFile (result : Result (Unit {0}) ShellFault) (shows : Shows) (tab
   pub has_notices : shown.notices ≡ shows.notices
   pub has_lines : IfSome script_file (λ octets. shown.lines ≡ lines_shown shows.lines octets)
   pub begun : Stage
-  pub opened : IsStageOpened table next keys rows begun
+  pub opened : IsStageOpened table next keys rows rx_mtu begun
   pub last : Stage
   pub runs : HostRuns result shown script begun last held holds saves saves_then
 
@@ -246,8 +247,9 @@ files_of table next keys rows script =
       script_file = script;
     }
 
-pub record RunsFiles (result : Result (Unit {0}) ShellFault) (shows : Shows) (files : Files)
-    (held holds : Option Octets) (saves saves_then : Option (List Save)) : Type 0 where
+pub record RunsFiles (result : Result (Unit {0}) ShellFault) (shows : Shows) (rx_mtu : ℕ)
+    (files : Files) (held holds : Option Octets) (saves saves_then : Option (List Save))
+    : Type 0 where
   pub table : Contents
   pub next : Option Contents
   pub keys : List Entry
@@ -256,5 +258,5 @@ pub record RunsFiles (result : Result (Unit {0}) ShellFault) (shows : Shows) (fi
   pub has_next : HasNextTable files.next_file next
   pub has_keys : IfSome files.key_file (λ octets. keys_in octets ≡ Ok keys)
   pub has_rows : IfSome files.rows_file (λ octets. rows_in octets ≡ Ok rows)
-  pub runs : RunsFile result shows table next keys rows files.script_file held holds saves
+  pub runs : RunsFile result shows rx_mtu table next keys rows files.script_file held holds saves
       saves_then

@@ -4,6 +4,7 @@
 mod acts;
 mod exchange;
 mod lines;
+mod mtu;
 mod notes;
 mod opening;
 mod outcome;
@@ -16,6 +17,7 @@ mod stage;
 mod told;
 
 pub use app_lines::{add_line, add_number, add_value};
+pub use mtu::RxMtu;
 pub use paths::{NextPath, RunPaths, ScriptPath, run_paths};
 pub use run::run_script;
 pub use script_text::Shows;

@@ -3,6 +3,7 @@
 ghost use Rattle.std.specs.Prelude.{◌≡◌, is_some, IfErr};
 ghost use Rattle.gatt_commands.specs.Faults.{IsRunCommandFault};
 
+use crate::mtu::RxMtu;
 use crate::run::run_script;
 use crate::script_text::Shows;
 use shell_files::{
@@ -31,6 +32,8 @@ pub struct RunPaths<'a> {
     pub script: ScriptPath<'a>,
     /// The output besides the frames of clients.
     pub shows: Shows,
+    /// The largest PDU that the host receives.
+    pub rx_mtu: RxMtu,
 }
 
 /// Runs the script of the files at these paths.
@@ -59,6 +62,7 @@ pub fn run_paths<F: Files, W: Write>(
         &mut script,
         &mut store,
         paths.shows,
+        paths.rx_mtu,
         writer,
     )
 }

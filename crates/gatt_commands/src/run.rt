@@ -15,6 +15,7 @@ ghost use Rattle.shell_files.specs.TableFile.{table_out_of_memory, table_in, Tab
 ghost use Rattle.shell_files.specs.Turns.{IsPast, OfTable, OfNext, OfKeys, OfRows, OfScript};
 
 use crate::lines::run_lines;
+use crate::mtu::RxMtu;
 use crate::script_text::{Shown, Shows, shown_text};
 use crate::stage::{Stage, open_stage};
 use att_table::Table;
@@ -31,7 +32,8 @@ use std::io::{Read, Write};
 /// Runs a script with a host over a simulated controller, and saves subscriptions.
 ///
 /// Reads table, replacing table, keys, subscriptions and script in this order, each only if those
-/// before it are accepted. `shows` selects the output besides the frames of clients.
+/// before it are accepted. `shows` selects the output besides the frames of clients. The host can
+/// receive PDUs of `rx_mtu` octets.
 pub fn run_script<T: Read, N: Read, K: Read, R: Read, S: Read, V: RowsStore, W: Write>(
     alloc: Global,
     table: &mut T,
@@ -41,6 +43,7 @@ pub fn run_script<T: Read, N: Read, K: Read, R: Read, S: Read, V: RowsStore, W: 
     script: &mut S,
     store: &mut V,
     shows: Shows,
+    rx_mtu: RxMtu,
     writer: &mut W,
 ) -> Result<(), ShellFault>
     // A file is refused by the number of its first fault, or by that of refused memory.
@@ -74,14 +77,14 @@ pub fn run_script<T: Read, N: Read, K: Read, R: Read, S: Read, V: RowsStore, W: 
         → IfSome (S.remaining script.old)
         (λ octets. IsOk (script_in (is_some next.old) octets)) }
     // The script is then run up to its end or a fault, and the store is asked to save.
-    ensures runs { IsPast OfScript result → RunsFiles result shows
+    ensures runs { IsPast OfScript result → RunsFiles result shows rx_mtu
         (files_of (T.remaining table.old) (option_map N.remaining next.old)
         (K.remaining keys.old) (R.remaining rows.old) (S.remaining script.old))
         (W.contents writer.old) (W.contents writer.new)
         (V.saves store.old) (V.saves store.new) }
     // Before the run nothing is saved or printed; memory may be refused before or in it.
     ensures unbegun { ((store.new ≡ store.old) × (writer.new ≡ writer.old))
-        ⊎ RunsFiles result shows
+        ⊎ RunsFiles result shows rx_mtu
         (files_of (T.remaining table.old) (option_map N.remaining next.old)
         (K.remaining keys.old) (R.remaining rows.old) (S.remaining script.old))
         (W.contents writer.old) (W.contents writer.new)
@@ -94,7 +97,9 @@ pub fn run_script<T: Read, N: Read, K: Read, R: Read, S: Read, V: RowsStore, W: 
     let next = read_next(alloc, next)?;
     let keys = read_keys(alloc, keys)?;
     let rows = read_rows(alloc, rows)?;
-    run_files(alloc, table, next, keys, rows, script, store, shows, writer)
+    run_files(
+        alloc, table, next, keys, rows, script, store, shows, rx_mtu, writer,
+    )
 }
 
 fn run_files<S: Read, V: RowsStore, W: Write>(
@@ -106,13 +111,14 @@ fn run_files<S: Read, V: RowsStore, W: Write>(
     script: &mut S,
     store: &mut V,
     shows: Shows,
+    rx_mtu: RxMtu,
     writer: &mut W,
 ) -> Result<(), ShellFault>
-    ensures runs { IsPast OfScript result → RunsFile result shows table next keys rows
+    ensures runs { IsPast OfScript result → RunsFile result shows rx_mtu table next keys rows
         (S.remaining script.old) (W.contents writer.old) (W.contents writer.new)
         (V.saves store.old) (V.saves store.new) }
     ensures unbegun { ((store.new ≡ store.old) × (writer.new ≡ writer.old))
-        ⊎ RunsFile result shows table next keys rows
+        ⊎ RunsFile result shows rx_mtu table next keys rows
         (S.remaining script.old) (W.contents writer.old) (W.contents writer.new)
         (V.saves store.old) (V.saves store.new) }
     ensures script { (line : ℕ) → result ≡ Err (ShellFault.Script line)
@@ -124,7 +130,9 @@ fn run_files<S: Read, V: RowsStore, W: Write>(
 {
     let octets = read_all(alloc, script)?;
     let text = octets.as_slice();
-    run_text(alloc, table, next, keys, rows, text, store, shows, writer)
+    run_text(
+        alloc, table, next, keys, rows, text, store, shows, rx_mtu, writer,
+    )
 }
 
 fn run_text<V: RowsStore, W: Write>(
@@ -136,13 +144,14 @@ fn run_text<V: RowsStore, W: Write>(
     text: &[u8],
     store: &mut V,
     shows: Shows,
+    rx_mtu: RxMtu,
     writer: &mut W,
 ) -> Result<(), ShellFault>
-    ensures runs { IsPast OfScript result → RunsFile result shows table next keys rows
+    ensures runs { IsPast OfScript result → RunsFile result shows rx_mtu table next keys rows
         (Some text.now) (W.contents writer.old) (W.contents writer.new)
         (V.saves store.old) (V.saves store.new) }
     ensures unbegun { ((store.new ≡ store.old) × (writer.new ≡ writer.old))
-        ⊎ RunsFile result shows table next keys rows
+        ⊎ RunsFile result shows rx_mtu table next keys rows
         (Some text.now) (W.contents writer.old) (W.contents writer.new)
         (V.saves store.old) (V.saves store.new) }
     ensures script { (line : ℕ) → result ≡ Err (ShellFault.Script line)
@@ -151,7 +160,7 @@ fn run_text<V: RowsStore, W: Write>(
     ensures faults { IfErr result IsScriptRunFault }
 {
     let script = judged_script(alloc, text, next.is_some())?;
-    let mut stage = open_stage(alloc, table, next, keys, rows)?;
+    let mut stage = open_stage(alloc, table, next, keys, rows, rx_mtu)?;
     let shown = Shown {
         notices: shows.notices,
         lines: shown_text(text, shows.lines),

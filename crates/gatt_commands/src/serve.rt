@@ -8,6 +8,7 @@ ghost use Rattle.shell_files.specs.RowsFile.{rows_out_of_memory, rows_in, RowsAr
 ghost use Rattle.gatt_commands.specs.Serving.{fault_told_of, IsOpeningFault, IsOutcomeOf, IsServeFault, IsServedFault, SavesBy, ServesStream};
 ghost use Rattle.shell_files.specs.TableFile.{table_out_of_memory, table_in, TableIsRefusedAs};
 
+use crate::mtu::RxMtu;
 use crate::opening::open_host;
 use gatt_host::{Host, serve};
 use octet_io::{Reader, Sink, Source, Writer};
@@ -162,5 +163,5 @@ fn open_files<T: Read, K: Read, R: Read>(
     let table = read_table(alloc, table)?;
     let keys = read_keys(alloc, keys)?;
     let rows = read_rows(alloc, rows)?;
-    open_host(alloc, table, keys, rows)
+    open_host(alloc, table, keys, rows, RxMtu::usual())
 }

@@ -4,6 +4,7 @@ ghost use Rattle.std.specs.Prelude.{◌≡◌, IfErr, IfOk};
 ghost use Rattle.sim_controller.specs.Simulated.{simulated_at_start};
 ghost use Rattle.gatt_commands.specs.Runs.{IsStageOpened, simulated};
 
+use crate::mtu::RxMtu;
 use crate::opening::open_host;
 use att_table::Table;
 use gatt_host::Host;
@@ -41,12 +42,13 @@ pub(crate) fn open_stage(
     next: Option<Table>,
     keys: Keys,
     rows: Rows,
+    rx_mtu: RxMtu,
 ) -> Result<Stage, ShellFault>
-    ensures opened { IfOk result (IsStageOpened table next keys rows) }
+    ensures opened { IfOk result (IsStageOpened table next keys rows rx_mtu) }
     ensures faults { IfErr result (λ fault. fault ≡ ShellFault.Memory) }
 {
     let sim = open_sim(alloc)?;
-    let host = open_host(alloc, table, keys, rows)?;
+    let host = open_host(alloc, table, keys, rows, rx_mtu)?;
     Ok(Stage { host, sim, next })
 }
 

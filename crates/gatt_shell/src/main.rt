@@ -18,8 +18,8 @@ use compare_command::ComparePaths;
 use device_host::{OptionTexts, Stop};
 use expect_command::{ExpectPaths, ExpectationsPath};
 use gatt_commands::{
-    Address, KeysPath, NextPath, RowsPath, RunPaths, ScriptPath, ServePaths, ShellFault, Shows,
-    TablePath,
+    Address, KeysPath, NextPath, RowsPath, RunPaths, RxMtu, ScriptPath, ServePaths, ShellFault,
+    Shows, TablePath,
 };
 use itoa::Buffer;
 use locking::{Unlocked, lock_rows};
@@ -78,6 +78,13 @@ fn refusal_status(rt: &HostRuntime, refusal: &Refusal) -> u8
     refusal.status()
 }
 
+/// Returns the exit status of a command with a wrong option, after printing what it may be.
+fn wrong_status(rt: &HostRuntime, wrong: &str) -> u8 {
+    // If this fails, the error cannot be reported at all.
+    let _ = rt.eprintln(wrong);
+    Refusal::Misunderstood.status()
+}
+
 /// Returns the outcome of a command whose output was flushed. Its own fault comes first.
 pub(crate) fn outcome_of(ran: Result<(), ShellFault>, is_flushed: bool) -> Result<(), ShellFault>
     ensures fault { (fault : ShellFault) → ran ≡ Err fault → result ≡ Err fault }
@@ -120,11 +127,7 @@ fn show_as(rt: &HostRuntime, paths: ShowPaths<'_>, attributes: bool, width: Opti
     match columns_in(width) {
         Some(_) if attributes => run_show(rt, paths, View::Attributes),
         Some(columns) => run_show(rt, paths, View::Rights(usize::from(columns))),
-        None => {
-            // If this fails, the error cannot be reported at all.
-            let _ = rt.eprintln("--width: it is no number from 1 to 65535");
-            Refusal::Misunderstood.status()
-        }
+        None => wrong_status(rt, "--width: it is no number from 1 to 65535"),
     }
 }
 
@@ -258,11 +261,7 @@ fn stop_status(rt: &HostRuntime, stop: Stop) -> u8 {
         Stop::Fault(fault) => exit_status(rt, Err(fault)),
         Stop::File => gatt_commands::status(&ShellFault::Unwritten),
         Stop::Socket => gatt_commands::status(&ShellFault::Listen),
-        Stop::Words(wrong) => {
-            // If this fails, the error cannot be reported at all.
-            let _ = rt.eprintln(wrong);
-            Refusal::Misunderstood.status()
-        }
+        Stop::Words(wrong) => wrong_status(rt, wrong),
     }
 }
 
@@ -367,10 +366,14 @@ fn carry_out(rt: &HostRuntime, choice: &Choice<'_>) -> u8 {
             keys,
             rows,
             script,
+            rx_mtu,
             notices,
             echo,
             words,
         } => {
+            let Some(rx_mtu) = RxMtu::read(rx_mtu) else {
+                return wrong_status(rt, "--rx-mtu: a number from 23 to 517");
+            };
             let paths = RunPaths {
                 table: TablePath(table),
                 next: NextPath(next),
@@ -381,6 +384,7 @@ fn carry_out(rt: &HostRuntime, choice: &Choice<'_>) -> u8 {
                     notices,
                     lines: echo,
                 },
+                rx_mtu,
             };
             run_locked(rt, paths, words)
         }

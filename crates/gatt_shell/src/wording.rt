@@ -97,6 +97,7 @@ fn run_texts<W: Write>(
         &mut LazyFile::new(rt, paths.script.0),
         &mut RowsOut::new(RowsWriter::new(rt, paths.rows)),
         paths.shows,
+        paths.rx_mtu,
         writer,
     )
 }

@@ -7,6 +7,7 @@
 
 ghost use Rattle.std.specs.Prelude.{◌≡◌, ◌≤◌, [], false, length, take, true, None, Ok, Some};
 ghost use Rattle.gatt_commands.specs.Runs.{RunsFiles, files_of};
+ghost use Rattle.gatt_conn.specs.declared.conn.TheConstants.{RX_MTU};
 ghost use Rattle.show_command.specs.Show.{AreShown};
 ghost use Rattle.show_command.specs.declared.show.View.{View};
 ghost use Rattle.compare_command.specs.Compare.{AreCompared};
@@ -16,7 +17,7 @@ use crate::fields::add_rights_data;
 use crate::finish::finish;
 use att_words::{CopyFault, Handles, Worded};
 use compare_command::{CompareNames, compare_files};
-use gatt_commands::{Shows, run_script};
+use gatt_commands::{RxMtu, Shows, run_script};
 use gatt_subs::Rows;
 use shell_files::{
     RowsStore, ShellFault, read_key_file_at, read_table_at, tell_keys_fault, tell_table_fault,
@@ -144,7 +145,7 @@ pub extern "C" fn page_run(
     count: &mut usize,
 ) -> u32
     // This is what `run --echo --notices` prints of these texts.
-    ensures runs { result ≡ 0 → RunsFiles (Ok tt) all_shown
+    ensures runs { result ≡ 0 → RunsFiles (Ok tt) all_shown RX_MTU
         (files_of (Some table.now) None (Some keys.now) (Some []) (Some script.now))
         (Some []) (Some (take count.new out.new)) None None }
     ensures within { count.new ≤ length out.old }
@@ -165,6 +166,7 @@ pub extern "C" fn page_run(
         &mut script,
         &mut Unsaved,
         shows,
+        RxMtu::usual(),
         &mut text,
     );
     let mut place = Vec::new(alloc);

@@ -96,6 +96,7 @@ run_shape = shape_with (codes "run") (
     ∷ file_rule (codes "SCRIPT")
     ∷ option_rule (codes "rows")
     ∷ option_rule (codes "next")
+    ∷ option_rule (codes "rx-mtu")
     ∷ flag_rule (codes "notices")
     ∷ flag_rule (codes "echo")
     ∷ flag_rule (codes "words")
@@ -178,7 +179,7 @@ command_name (Show table keys rows attributes width) = codes "show"
 command_name (May table keys peer right handle authorized unencrypted) = codes "may"
 command_name (Compare old new keys new_keys) = codes "compare"
 command_name (Expect table keys expectations) = codes "expect"
-command_name (Run table next keys rows script notices echo words) = codes "run"
+command_name (Run table next keys rows script rx_mtu notices echo words) = codes "run"
 command_name (Words table) = codes "words"
 command_name (Serve table keys rows address) = codes "serve"
 command_name (Host words) = codes "host"
@@ -233,11 +234,12 @@ HasFilesOf arguments (Compare old new keys new_keys) =
 HasFilesOf arguments (Expect table keys expectations) =
     IsGiven (codes "TABLE") arguments table.now
     × AreMeant arguments (option_map (λ path. path.now) keys) expectations.now
-HasFilesOf arguments (Run table next keys rows script notices echo words) =
+HasFilesOf arguments (Run table next keys rows script rx_mtu notices echo words) =
     IsGiven (codes "TABLE") arguments table.now × IsGiven (codes "KEYS") arguments keys.now
     × IsGiven (codes "SCRIPT") arguments script.now
     × IsGivenIfAny (codes "rows") arguments (option_map (λ path. path.now) rows)
     × IsGivenIfAny (codes "next") arguments (option_map (λ path. path.now) next)
+    × IsGivenIfAny (codes "rx-mtu") arguments (option_map (λ word. word.now) rx_mtu)
     × IsSetIfGiven (codes "notices") arguments notices
     × IsSetIfGiven (codes "echo") arguments echo
     × IsSetIfGiven (codes "words") arguments words

@@ -45,6 +45,8 @@ pub const WIDTH: &str = "width";
 
 pub const NEXT: &str = "next";
 
+pub const RX_MTU: &str = "rx-mtu";
+
 pub const NOTICES: &str = "notices";
 
 pub const ECHO: &str = "echo";
@@ -216,7 +218,7 @@ const EXPECT_ARGUMENTS: [Argument; 3] = [
     },
 ];
 
-const RUN_ARGUMENTS: [Argument; 8] = [
+const RUN_ARGUMENTS: [Argument; 9] = [
     TABLE_FILE,
     KEY_FILE,
     Argument {
@@ -229,6 +231,11 @@ const RUN_ARGUMENTS: [Argument; 8] = [
         name: NEXT,
         takes: Takes::Value("FILE"),
         about: "The table file by which the line `replace` of a script replaces TABLE",
+    },
+    Argument {
+        name: RX_MTU,
+        takes: Takes::Value("N"),
+        about: "The ATT_MTU that the host can receive, from 23 to 517 [default: 247]",
     },
     Argument {
         name: NOTICES,

@@ -123,7 +123,8 @@ encrypts its link or disconnects. The application updates a value, authorizes a 
 time or replaces the table. After each line the program prints what was refused, what each client
 received, and which connection the host ended. With --notices it also prints the notices to the
 application, and with --echo the line itself first. With --words each PDU is followed by what
-it says. docs/SCRIPTS.md has all lines and their output.
+it says. With --rx-mtu the host can receive PDUs of N octets in place of 247. docs/SCRIPTS.md has
+all lines and their output.
 
 The rows file has the subscriptions of peers with keys. It is read first and written at the end. A
 missing one is empty. If the table, key or rows file is refused, `gatt_shell show` names the place.

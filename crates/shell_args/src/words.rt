@@ -77,6 +77,8 @@ pub enum Choice<'a> {
         /// The subscriptions file.
         rows: Option<&'a str>,
         script: &'a str,
+        /// The ATT_MTU that the host can receive.
+        rx_mtu: Option<&'a str>,
         /// Set to print the notices to the application.
         notices: bool,
         /// Set to print each line of the script.
@@ -226,6 +228,7 @@ fn running<'a>(matches: &ArgMatches<'a>) -> Option<Choice<'a>>
         keys: matches.get_str(arguments::KEYS)?,
         rows: matches.get_str(arguments::ROWS),
         script: matches.get_str(arguments::SCRIPT)?,
+        rx_mtu: matches.get_str(arguments::RX_MTU),
         notices: matches.get_flag(arguments::NOTICES),
         echo: matches.get_flag(arguments::ECHO),
         words: matches.get_flag(arguments::WORDS),

@@ -8,12 +8,12 @@ use Rattle.gatt_commands.proofs.run.run_files.Goals as goal
 
 pub returns-clause-runs : goal.returns-clause-runs
 returns-clause-runs g c = λ past.
-    runs_all c.run_text.result c.args.shows c.args.table c.args.next c.args.keys c.args.rows (g.S.Read.remaining c.args.script.now)
+    runs_all c.run_text.result c.args.shows c.args.rx_mtu c.args.table c.args.next c.args.keys c.args.rows (g.S.Read.remaining c.args.script.now)
     c.in_ok-octets.octets.items c.as_slice-text.result.now _ _ _ _ c.in_ok-octets.ensures.all c.as_slice-text.ensures.value (c.run_text.ensures.runs past)
 
 pub returns-clause-unbegun : goal.returns-clause-unbegun
 returns-clause-unbegun g c = or_more
-    (λ runs. runs_all c.run_text.result c.args.shows c.args.table c.args.next c.args.keys c.args.rows (g.S.Read.remaining c.args.script.now)
+    (λ runs. runs_all c.run_text.result c.args.shows c.args.rx_mtu c.args.table c.args.next c.args.keys c.args.rows (g.S.Read.remaining c.args.script.now)
     c.in_ok-octets.octets.items c.as_slice-text.result.now _ _ _ _ c.in_ok-octets.ensures.all c.as_slice-text.ensures.value runs)
     c.run_text.ensures.unbegun
 
