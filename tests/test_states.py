@@ -10,7 +10,7 @@ from parties import Device, text_of
 from parties.homes import Home, end, is_refused, read, write
 from parties.places import write_text
 from parties.tables import (
-    GUEST_NAME, KEYS, LONG, OWNER_NAME, TABLE, UUID, VALUE, VALUE_CONFIG, sealed, sealed_octets, state_text,
+    GUEST_NAME, KEYS, LONG, OWNER_NAME, SENSOR, TABLE, UUID, VALUE, VALUE_CONFIG, sealed, sealed_octets, state_text,
 )
 
 LINE = f"{OWNER_NAME} {VALUE_CONFIG} 1\n"
@@ -98,6 +98,29 @@ FAULTY = {
     "a large handle": (with_line(FIRST_VALUE, "65536 fff1 01\n"), FIRST_VALUE, ""),
     "a word too many": (with_line(FIRST_VALUE, f"{VALUE} fff1 01 02\n"), FIRST_VALUE, ""),
     "no values": (sealed("".join(LINES[: FIRST_VALUE - 2])), FIRST_VALUE - 1, ""),
+    "its last line alone": (sealed(""), None, ""),
+    "its first line alone": ("gihandop state 1\n", None, "it is cut"),
+    "more values behind it": (GOOD + "[values]\n", None, "text follows that line"),
+    "no line feed before the last line": (sealed(BODY[:-1]), None, ""),
+    "a checksum of capital letters": (BODY + "[end] " + GOOD[-65:].upper(), None, "sha256sum"),
+    "another format, and the checksum of this one": (GOOD.replace("state 1", "state 2"), None, "sha256sum"),
+    "a line without bytes": (sealed("\n"), 1, ""),
+    "a line before the first": (sealed("\n" + BODY), 1, ""),
+    "values in place of the table": (sealed("gihandop state 1\n[values]\n"), 2, ""),
+    "nothing behind its second line": (sealed("".join(LINES[:2])), 3, ""),
+    "a table without lines": (sealed("".join([*LINES[:2], *LINES[FIRST - 2 :]])), 3, ""),
+    "a line without bytes in the table": (with_line(FIRST - 1, "\n[subscriptions]\n"), FIRST - 1, ""),
+    "no subscriptions": (sealed("".join([*LINES[: FIRST - 2], *LINES[FIRST_VALUE - 2 :]])), FIRST - 1, ""),
+    "nothing behind the table": (sealed("".join(LINES[: FIRST - 2])), FIRST - 1, ""),
+    "nothing behind the line of subscriptions": (sealed("".join(LINES[: FIRST - 1])), FIRST, ""),
+    "a bad subscription behind a good one": (with_line(FIRST + 1, "0 4 1\n[values]\n"), FIRST + 1, ""),
+    "a subscription that is there": (with_line(FIRST + 1, LINE + "[values]\n"), FIRST + 1, "this line repeats an earlier one"),
+    "a value without bytes": (with_line(FIRST_VALUE, "\n"), FIRST_VALUE, ""),
+    "a bad value behind a good one": (with_line(FIRST_VALUE + 1, f"{LONG} {UUID}\n"), FIRST_VALUE + 1, ""),
+    "two spaces": (with_line(FIRST_VALUE, f"{VALUE} fff1  01\n"), FIRST_VALUE, ""),
+    "a handle with a sign": (with_line(FIRST_VALUE, f"+{VALUE} fff1 01\n"), FIRST_VALUE, ""),
+    "a type of three digits": (with_line(FIRST_VALUE, f"{VALUE} fff 01\n"), FIRST_VALUE, ""),
+    "values twice": (with_line(FIRST_VALUE, "[values]\n"), FIRST_VALUE, ""),
 }
 
 
@@ -107,6 +130,22 @@ def test_a_faulty_state(home, text, line, words):
     write_text(home.path, text)
     parts = [home.path, words] + ([f"line {line}:"] if line else [])
     is_refused("a faulty state", home, home.device(), parts)
+
+
+# Values that do not fit the table, as a handle, a type and octets: there is no such handle, it is of a declaration or
+# of a configuration, it has another type, or the value another length.
+UNFIT = [
+    "0 fff1 01", "14 fff1 01", "5 2800 f0ff", f"6 2803 0a0{VALUE}00f1ff", f"{VALUE} fff2 01", f"{VALUE} fff1 {9 * '01'}",
+    f"{VALUE} {UUID} 01", f"{VALUE_CONFIG} 2902 -", "3 2a05 000000", "3 2a05 0000000000",
+]
+
+
+def test_values_that_do_not_fit(home):
+    """Each is dropped by itself, and the others are restored."""
+    write_text(home.path, state_text(TABLE, [], [*UNFIT, f"{SENSOR} fff2 05"]))
+    device, controller = home.start("--save-updates")
+    assert [it.split()[2] for it in device.logged("value dropped")] == [f"{it.split()[0]}:" for it in UNFIT]
+    assert [read(controller, it) for it in (VALUE, SENSOR)] == ["00", "05"]
 
 
 def test_a_state_that_is_no_text(home):

@@ -1,8 +1,8 @@
 """Tries docs/TRACEABILITY.md: it has a clause or a test for each rule of docs/PROFILE.md, and they exist.
 A comment of a crate names each rule at a definition that states it, and no other rule.
 
-A clause is one of the contract of a function in the crate that is named before it, a test a function of
-that crate of tests or of a file in tests/, and a case one of docs/CONFORMANCE.md.
+A clause is one of the contract of a function in the crate that is named before it. A test is a function of that
+crate of tests or of a file in tests/, or a file of tests/scripts. A case is one of docs/CONFORMANCE.md.
 """
 
 import glob
@@ -15,7 +15,7 @@ from documents import ROOT, text_of
 
 pytestmark = pytest.mark.without_program
 
-NAMES = r"(?:`[\w:]+`(?:, )?)+"
+NAMES = r"(?:`[\w:/]+`(?:, )?)+"
 CASE = r"GATT/SR/\w+/B[VI]-\d\d-C"
 RULES = re.findall(r"\*\*(P-[A-Z]+-\d+)", text_of("docs/PROFILE.md"))
 ROWS = re.findall(r"(?m)^\| (P-[A-Z]+-\d+) \| (.*?) \| (.*) \|$", text_of("docs/TRACEABILITY.md"))
@@ -41,7 +41,7 @@ def named(cell):
         found = re.fullmatch(rf"(?:`(\w+)` )?({NAMES})(?:: ({NAMES}))?", part)
         assert found is not None, f"'{part}' names no functions"
         crate = found[1] or crate
-        for function in re.findall(r"[\w:]+", found[2]):
+        for function in re.findall(r"[\w:/]+", found[2]):
             yield crate, function, re.findall(r"\w+", found[3] or "")
 
 
@@ -79,6 +79,9 @@ def test_a_rule(rule, clauses, tests):
             assert is_there, f"{function} of {crate} has no clause {name}"
     for crate, function, _ in named(re.sub(r"GATT/[\w/-]+(?:, )?", "", tests)):
         module, _, name = function.rpartition("::")
+        if crate == "scripts":
+            assert os.path.isfile(f"{ROOT}/tests/scripts/{function}.txt"), f"there is no script {function}"
+            continue
         if crate == "tests":
             assert re.search(rf"(?m)^def {name}\(", text_of(f"tests/{module}.py")), f"there is no test {function}"
             continue
