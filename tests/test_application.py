@@ -4,12 +4,14 @@ import subprocess
 
 import pytest
 
-from parties import DISCONNECT, OWNER, PATIENCE, PROGRAM, STRANGER, look
+from parties import DISCONNECT, OWNER, PATIENCE, PROGRAM, ROOT, STRANGER, look, text_of
+from parties.homes import Home
 
 NO_HANDLE = "fault 1: there is no attribute with the handle"
 NO_CHARACTERISTIC = "fault 1: there is no such characteristic"
 TOO_LONG = "fault 3: the value is longer than its largest length, or a fixed one has another length"
 NO_CONNECTION = "fault 4: no connection with the handle serves"
+LONG = "12345678-9abc-def0-0123-456789abcdef"
 STRANGER_CAME = "+ connected 1 1 c0:00:00:00:00:0a"
 
 
@@ -37,6 +39,81 @@ def test_commands(door):
         assert application.ask(line) == answer, f"{line!r}"
     application.stream.sendall(b"value \xff\n")
     assert application.line() == "bad: the line is no text", "no text"
+
+
+# Questions for values of the door, and of the bell: by types, and by handle.
+OF_THE_DOOR = [
+    ("find 1800 2a00", "handle 3"), ("find 180f 2a19", "handle 6"), ("find fff0 fff1", "handle 10"),
+    ("find fff0 fff4", "handle 21"), ("find 1800 2a19", NO_CHARACTERISTIC), ("find fff0 2a00", NO_CHARACTERISTIC),
+    ("find 180f fff7", NO_CHARACTERISTIC), ("find 180f 2803", NO_CHARACTERISTIC),
+    ("find 180f 2902", NO_CHARACTERISTIC), ("find fff1 fff1", NO_CHARACTERISTIC),
+    ("find 2800 2a00", NO_CHARACTERISTIC), (f"find {LONG} {LONG}", NO_CHARACTERISTIC),
+    ("value 0", NO_HANDLE), ("value 1", "value 1 0018"), ("value 3", "value 3 4c6f636b"), ("value 6", "value 6 64"),
+    ("value 7", "value 7 -"), ("value 13", "value 13 31323334"), ("value 21", "value 21 -"), ("value 22", NO_HANDLE),
+    ("value 65535", NO_HANDLE),
+]
+OF_THE_BELL = [
+    ("find fff8 fff9", "handle 3"), ("find fffa fff9", NO_CHARACTERISTIC), (f"find fff8 {LONG}", "handle 6"),
+    (f"find {LONG} {LONG}", NO_CHARACTERISTIC), ("value 6", "value 6 07"), ("value 8", "value 8 faff"),
+    ("value 10", NO_HANDLE),
+]
+# Two services fff0 and one of a long type, with values and a descriptor of equal types.
+ALIKE = f"""\
+[[service]]
+uuid = "fff0"
+[[service.characteristic]]
+uuid = "fff1"
+value = "01"
+properties = ["read"]
+[[service.characteristic.descriptor]]
+uuid = "fff2"
+properties = ["read"]
+value = "02"
+[[service.characteristic]]
+uuid = "fff2"
+value = "03"
+properties = ["read"]
+[[service.characteristic]]
+uuid = "fff2"
+value = "04"
+properties = ["read"]
+[[service]]
+uuid = "fff0"
+[[service.characteristic]]
+uuid = "fff5"
+value = "05"
+properties = ["read"]
+[[service]]
+uuid = "{LONG}"
+secondary = true
+[[service.characteristic]]
+uuid = "fff5"
+value = "06"
+properties = ["read"]
+"""
+OF_ALIKE = [
+    ("find fff0 fff1 1", "handle 3"), ("find fff0 fff1 2", NO_CHARACTERISTIC), ("find fff0 fff2 1", "handle 6"),
+    ("find fff0 fff2 2", "handle 8"), ("find fff0 fff2 3", NO_CHARACTERISTIC),
+    ("find fff0 fff2 65535", NO_CHARACTERISTIC), ("find fff0 fff5 1", "handle 11"),
+    ("find fff0 fff5 2", NO_CHARACTERISTIC), (f"find {LONG} fff5", "handle 14"), ("value 4", "value 4 02"),
+    ("value 6", "value 6 03"), ("value 14", "value 14 06"),
+]
+
+
+@pytest.mark.parametrize(
+    ("table", "asked"),
+    [
+        (text_of(f"{ROOT}/examples/door.toml"), OF_THE_DOOR), (text_of(f"{ROOT}/examples/bell.toml"), OF_THE_BELL),
+        (ALIKE, OF_ALIKE),
+    ],
+    ids=["door", "bell", "alike"],
+)
+def test_values_by_types(folder, table, asked):
+    home = Home(folder, table)
+    home.device().said("ready")
+    application = home.application()
+    for line, answer in asked:
+        assert application.ask(line) == answer, line
 
 
 def test_a_long_value(door):

@@ -18,6 +18,7 @@ ltk = "00112233445566778899aabbccddeeff"
 size = 16
 authenticated = false
 """
+NO_ADDRESS = "it is not six pairs of hexadecimal digits joined by colons"
 KEYS = [
     ("", ""),
     (
@@ -181,7 +182,7 @@ more = 1""",
     ('[ffeeddccbbaa99887766554433221100]', "[hexadecimal digits]: there is no such key"),
     (ENTRY.replace("00:01", "00:02") + "\n[[key]]\nsize = 17", "key 3, address: the key is missing"),
     *(
-        (ENTRY.replace("c0:00:00:00:00:01", it), "key 2, address: it is not six pairs of hexadecimal digits joined by colons")
+        (ENTRY.replace("c0:00:00:00:00:01", it), f"key 2, address: {NO_ADDRESS}")
         for it in ("", "00:11:22:33:44:5", "00:11:22:33:44:55:", "00 11:22:33:44:55", "g0:00:00:00:00:01")
     ),
     (ENTRY.replace("00:01", "00:02") + "\n[[key]]\nsize = 16.5", "key 3, size: it has to be an integer"),

@@ -114,7 +114,9 @@ FAULTY = {
     "nothing behind the table": (sealed("".join(LINES[: FIRST - 2])), FIRST - 1, ""),
     "nothing behind the line of subscriptions": (sealed("".join(LINES[: FIRST - 1])), FIRST, ""),
     "a bad subscription behind a good one": (with_line(FIRST + 1, "0 4 1\n[values]\n"), FIRST + 1, ""),
-    "a subscription that is there": (with_line(FIRST + 1, LINE + "[values]\n"), FIRST + 1, "this line repeats an earlier one"),
+    "a subscription that is there": (
+        with_line(FIRST + 1, LINE + "[values]\n"), FIRST + 1, "this line repeats an earlier one",
+    ),
     "a value without bytes": (with_line(FIRST_VALUE, "\n"), FIRST_VALUE, ""),
     "a bad value behind a good one": (with_line(FIRST_VALUE + 1, f"{LONG} {UUID}\n"), FIRST_VALUE + 1, ""),
     "two spaces": (with_line(FIRST_VALUE, f"{VALUE} fff1  01\n"), FIRST_VALUE, ""),
@@ -135,8 +137,8 @@ def test_a_faulty_state(home, text, line, words):
 # Values that do not fit the table, as a handle, a type and octets: there is no such handle, it is of a declaration or
 # of a configuration, it has another type, or the value another length.
 UNFIT = [
-    "0 fff1 01", "14 fff1 01", "5 2800 f0ff", f"6 2803 0a0{VALUE}00f1ff", f"{VALUE} fff2 01", f"{VALUE} fff1 {9 * '01'}",
-    f"{VALUE} {UUID} 01", f"{VALUE_CONFIG} 2902 -", "3 2a05 000000", "3 2a05 0000000000",
+    "0 fff1 01", "14 fff1 01", "5 2800 f0ff", f"6 2803 0a0{VALUE}00f1ff", f"{VALUE} fff2 01",
+    f"{VALUE} fff1 {9 * '01'}", f"{VALUE} {UUID} 01", f"{VALUE_CONFIG} 2902 -", "3 2a05 000000", "3 2a05 0000000000",
 ]
 
 
@@ -146,6 +148,44 @@ def test_values_that_do_not_fit(home):
     device, controller = home.start("--save-updates")
     assert [it.split()[2] for it in device.logged("value dropped")] == [f"{it.split()[0]}:" for it in UNFIT]
     assert [read(controller, it) for it in (VALUE, SENSOR)] == ["00", "05"]
+
+
+DESCRIBED = """\
+# A table with a descriptor, and with a value that is written by command.
+[[service]]
+uuid = "fff0"
+[[service.characteristic]]
+uuid = "fff1"
+value = "00"
+properties = ["write"]
+[[service.characteristic]]
+uuid = "6e400002-b5a3-f393-e0a9-e50e24dcca9e"
+value = "31"
+max = 4
+properties = ["command", "notify"]
+[[service.characteristic]]
+uuid = "fff3"
+value = "05"
+fixed = true
+properties = ["read"]
+[[service.characteristic.descriptor]]
+uuid = "2901"
+value = "6f6e65"
+properties = ["read"]
+"""
+
+
+def test_saved_descriptors(folder):
+    """A start saves again what it may save: values by request and by command, or with all values any."""
+    home = Home(folder, DESCRIBED)
+    subscriptions = [f"{OWNER_NAME} 6 1", f"{GUEST_NAME} 6 1"]
+    values = ["3 fff1 01", f"5 {UUID} -", "8 fff3 06", "9 2901 74776f"]
+    write_text(home.path, state_text(DESCRIBED, subscriptions, values))
+    for words, saved, dropped in ((["--save-updates"], values, []), ([], values[:2], ["8:", "9:"])):
+        device, controller = home.start(*words)
+        assert [it.split()[2] for it in device.logged("value dropped")] == dropped
+        end(device, controller)
+        assert home.state() == state_text(DESCRIBED, subscriptions, saved)
 
 
 def test_a_state_that_is_no_text(home):

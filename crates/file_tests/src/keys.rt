@@ -1,9 +1,9 @@
-//! Addresses, and the answers to key requests.
+//! The keys for requests, with their octets.
 
 use att_policy::KeyFacts;
 use le_hci::{PUBLIC_ADDRESS, Peer, RANDOM_ADDRESS};
 use le_security::examples::{KEYS, SECURE_KEY};
-use le_security::{Key, Keys, read_address};
+use le_security::{Key, Keys};
 use std::alloc::Global;
 use std::process::Abort;
 
@@ -26,23 +26,6 @@ const WATCH: Peer = Peer {
     kind: RANDOM_ADDRESS,
     address: [0x02, 0x00, 0x00, 0x00, 0x00, 0xc0],
 };
-
-const ADDRESSES: &[(&[u8], Option<[u8; 6]>)] = &[
-    (b"00:11:22:33:44:5F", Some(*b"\x5f\x44\x33\x22\x11\x00")),
-    (b"c0:00:00:00:00:0a", Some(*b"\x0a\x00\x00\x00\x00\xc0")),
-    (b"", None),
-    (b"00:11:22:33:44:5", None),
-    (b"00:11:22:33:44:55:", None),
-    (b"00 11:22:33:44:55", None),
-    (b"g0:00:00:00:00:01", None),
-];
-
-#[test]
-fn addresses(rt: HostRuntime) {
-    for &(text, address) in ADDRESSES {
-        assert!(rt; read_address(text) == address, "{text:?}");
-    }
-}
 
 /// A peer, a random number and a diversifier.
 type Request = (Peer, [u8; 8], u16);

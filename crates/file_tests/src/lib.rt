@@ -4,8 +4,6 @@
 #[cfg(test)]
 mod cases;
 #[cfg(test)]
-mod changers;
-#[cfg(test)]
 mod config_rows;
 #[cfg(test)]
 mod keys;
@@ -14,18 +12,8 @@ mod links;
 #[cfg(test)]
 mod look_ups;
 #[cfg(test)]
-mod names;
-#[cfg(test)]
 mod rows;
-#[cfg(test)]
-mod script_acts;
 #[cfg(test)]
 mod states;
 #[cfg(test)]
 mod stores;
-#[cfg(test)]
-mod tables;
-#[cfg(test)]
-mod types;
-#[cfg(test)]
-mod values;
