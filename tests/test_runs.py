@@ -124,6 +124,22 @@ def test_rows(run, folder, rows, script, printed, written):
     assert text_of(f"{folder}/rows") == written
 
 
+def test_rows_of_a_replacement(run, folder):
+    """A client with a key is not connected at a replacement. Its row has a mark until it confirms the indication."""
+    words = ["run", "porch.toml", "keys.toml", "script", "--next", "porch_next.toml", "--rows", "rows"]
+    row = "1 c0:00:00:00:00:01 4 2\n"
+    rows = ""
+    for script, printed, written in (
+        (f"{GUEST}P < 1204000200\ndrop P\nreplace\n", "P > 13\n", f"{row}! 1 c0:00:00:00:00:01\n"),
+        (GUEST, "P > 1d030000000000\n", f"{row}! 1 c0:00:00:00:00:01\n"),
+        (f"{GUEST}P < 1e\n", "P > 1d030000000000\n", row),
+        (GUEST, "", row),
+    ):
+        assert run(words, script, rows=rows) == (0, printed, "")
+        rows = text_of(f"{folder}/rows")
+        assert rows == written
+
+
 # All files are bad at first, and then one after the other is corrected.
 BAD = {
     "table": ("service", "table: fault 1"),

@@ -1,5 +1,9 @@
-"""Tries `gatt_shell serve`: each octet of a controller and of the host, faults, and the rows that it saves."""
+"""Tries `gatt_shell serve`: each octet of a controller and of the host, faults, and the rows that it saves.
 
+The file cases/octets.txt has exchanges of octets. Each is played whole, and up to each line that the host answers.
+"""
+
+import re
 import socket
 import subprocess
 
@@ -102,3 +106,43 @@ def test_a_read_that_fails(serve):
         stream.setsockopt(socket.SOL_SOCKET, socket.SO_LINGER, b"\1\0\0\0\0\0\0\0")
 
     assert serve(go, UNORDERED)[1:] == (2, "host: fault 5\n", ORDERED)
+
+
+def spelled(text):
+    """Octets in hexadecimal, of which the last one is repeated: `61*3`."""
+    text, _, count = text.partition("*")
+    octets = octets_of(text)
+    return octets + octets[-1:] * (int(count or 1) - 1)
+
+
+def exchanges():
+    """The cases of cases/octets.txt: the lines that a case has from another one, and its own."""
+    found = {}
+    text = text_of(f"{ROOT}/tests/cases/octets.txt")
+    for name, body in re.findall(r"(?ms)^=== (.*?)\n(.*?)(?=^=== |\Z)", text):
+        lines = [it for it in body.splitlines() if it and it[0] != "#"]
+        first = found[lines.pop(0)[2:]] if lines[0][0] == "=" else []
+        found[name] = first + lines
+        yield pytest.param(first, lines, id=name)
+
+
+def split(lines):
+    """What the controller sends, what the host sends, and the fault that it ends with."""
+    sent, due, fault = b"", b"", ""
+    for line in lines:
+        if line[0] == "<":
+            sent += spelled(line[2:])
+        elif line[0] == ">":
+            due += spelled(line[2:])
+        else:
+            fault = f"host: {line}\n"
+    return sent, due, fault
+
+
+@pytest.mark.parametrize(("first", "lines"), exchanges())
+def test_octets(serve, first, lines):
+    ends = [at - 1 for at, line in enumerate(lines) if line[0] != "<" and lines[at - 1][0] == "<"]
+    for end in sorted({*ends, len(lines)}):
+        sent, due, fault = split(first + lines[:end])
+        received = serve(sending(sent.hex()), "", has_path=False)
+        assert received == (due, 2 if fault else 0, fault, ""), f"up to line {end} of the case"
