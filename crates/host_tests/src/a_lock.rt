@@ -1,20 +1,13 @@
 //! The example lock: its motor, its button and strangers.
 
-use crate::player::{Setting, ready};
-use crate::tables::File::Door;
-use crate::wire::{Written, asked, spelled};
+use crate::player::ready;
+use crate::wire::{Octets, Written, ask, spelled};
 use arrayvec::ArrayVec;
+use att_table::examples::DOOR;
 use gatt_host::Host;
 use lock::{Lock, Motor};
 use std::alloc::Global;
 use std::process::Abort;
-
-const SETTING: &Setting<'static> = &Setting {
-    table: Door,
-    slots: 2,
-    rx_mtu: 247,
-    packets: 4,
-};
 
 #[derive(Drop)]
 struct Turns(ArrayVec<bool, 8>);
@@ -76,9 +69,9 @@ fn step(rt: &impl Abort, lock: &mut Lock<Turns>, host: &mut Host, happens: Happe
     let mut written = Written::new();
     match happens {
         Happens::Sends(now, octets, wants) => {
-            let sent = spelled(rt, octets, 0);
+            let sent = spelled(rt, octets);
             let served = lock.serve(host, now, sent.as_slice(), &mut written).is_ok();
-            served && written.octets() == spelled(rt, wants, 0).as_slice()
+            served && written.octets() == spelled(rt, wants).as_slice()
         }
         Happens::Asks(now, pdu, wants) => asks(rt, lock, host, now, pdu, wants),
         Happens::Presses => lock.press(host, &mut written).is_ok(),
@@ -94,14 +87,15 @@ fn asks(
     wants: &str,
 ) -> bool {
     let mut written = Written::new();
-    let sent = asked(rt, 0x40, pdu);
+    let mut sent = Octets::new();
+    ask(rt, &mut sent, spelled(rt, pdu).as_slice());
     let served = lock.serve(host, now, sent.as_slice(), &mut written).is_ok();
-    let wanted = spelled(rt, wants, 0);
+    let wanted = spelled(rt, wants);
     served && written.octets().ends_with(wanted.as_slice())
 }
 
 fn plays(rt: &impl Abort, alloc: Global, day: &[Happens], turned: &[bool]) -> bool {
-    let mut host = ready(rt, alloc, SETTING);
+    let mut host = ready(rt, alloc, DOOR, 2);
     let mut lock = Lock::new(Turns(ArrayVec::new()));
     let mut all = true;
     for happens in day {

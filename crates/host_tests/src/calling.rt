@@ -1,30 +1,19 @@
 //! Calls in sequence, each with its packets.
 
-use crate::given::Given;
-use crate::player::{Setting, ready};
-use crate::tables::File::Bell;
-use crate::taken::go_on;
+use crate::player::ready;
 use crate::wire::{Written, spelled};
+use att_table::examples::BELL;
 use gatt_host::{App, AppFault, Fault, Host, HostFault, call, feed};
 use std::alloc::Global;
 use std::process::Abort;
 
-const SETTING: &Setting<'static> = &Setting {
-    table: Bell,
-    slots: 2,
-    rx_mtu: 247,
-    packets: 4,
-};
-
 /// A call, its result and its packets.
 type Case = (App<'static>, Result<(), Fault>, &'static str);
 
-/// A peer configures indications and confirms none.
-const SUBSCRIBED: &[Given] = &[
-    Given::Octets("043e130100400001010a00000000c018000000480000"),
-    Given::Octets("040e04010a2000"),
-    Given::Pdu(0x40, "1204000200"),
-];
+/// A client connects and configures indications. Its packet is completed.
+const SUBSCRIBED: &[u8] = b"\x04\x3E\x13\x01\x00\x40\x00\x01\x01\x0A\x00\x00\x00\x00\xC0\x18\
+    \x00\x00\x00\x48\x00\x00\x04\x0E\x04\x01\x0A\x20\x00\
+    \x02\x40\x20\x09\x00\x05\x00\x04\x00\x12\x04\x00\x02\x00\x04\x13\x05\x01\x40\x00\x01\x00";
 
 const IN_A_ROW: &[Case] = &[
     (
@@ -58,10 +47,8 @@ const BEHIND_ANOTHER: &[Case] = &[
 const STOPPED: &[Case] = &[(App::Tick(7), Err(Fault::Host(HostFault::Desync(0x07))), "")];
 
 fn subscribed(rt: &impl Abort, alloc: Global) -> Host {
-    let mut host = ready(rt, alloc, SETTING);
-    for taken in SUBSCRIBED {
-        go_on(rt, alloc, &mut host, *taken);
-    }
+    let mut host = ready(rt, alloc, BELL, 2);
+    assert!(rt; feed(&mut host, SUBSCRIBED, &mut Written::new()).is_ok());
     host
 }
 
@@ -72,7 +59,7 @@ fn make_each(rt: &impl Abort, mut host: Host, cases: &[Case]) {
             call(&mut host, made, &mut written) == answer,
             "answer {place}"
         );
-        let wanted = spelled(rt, octets, 0);
+        let wanted = spelled(rt, octets);
         assert!(rt; written.octets() == wanted.as_slice(), "written {place}");
     }
     drop(host);

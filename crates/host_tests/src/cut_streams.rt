@@ -1,18 +1,11 @@
 //! A stream cut at each place, and one that ends there.
 
-use crate::player::{Setting, feed_pieces, opened};
-use crate::tables::File::Door;
+use crate::player::{feed_pieces, opened};
 use crate::wire::{Octets, Written, spell};
+use att_table::examples::DOOR;
 use gatt_host::feed;
 use std::alloc::Global;
 use std::process::Abort;
-
-pub const SETTING: &Setting<'static> = &Setting {
-    table: Door,
-    slots: 2,
-    rx_mtu: 247,
-    packets: 4,
-};
 
 /// Packets of the controller and the answers: initialisation, a connection, and a Read in three
 /// fragments.
@@ -66,7 +59,7 @@ fn cut_everywhere(rt: &impl Abort, alloc: Global, told: &[u8], wanted: &[u8]) {
 }
 
 fn is_all(rt: &impl Abort, alloc: Global, pieces: (&[u8], &[u8]), wanted: &[u8]) -> bool {
-    let mut host = opened(rt, alloc, SETTING);
+    let mut host = opened(rt, alloc, DOOR, 2);
     let mut written = Written::new();
     let are_taken = feed(&mut host, pieces.0, &mut written).is_ok()
         && feed(&mut host, pieces.1, &mut written).is_ok();
@@ -85,7 +78,7 @@ fn end_everywhere(rt: &impl Abort, alloc: Global, told: &[u8]) {
 }
 
 fn feed_each(rt: &impl Abort, alloc: Global, told: &[u8], wanted: &[u8]) {
-    let mut host = opened(rt, alloc, SETTING);
+    let mut host = opened(rt, alloc, DOOR, 2);
     let mut written = Written::new();
     let are_taken = feed_pieces(&mut host, 1, told, &mut written);
     drop(host);

@@ -1,9 +1,10 @@
 //! A failing reader and a failing writer.
 
-use crate::cut_streams::{SETTING, all_told, due_after};
+use crate::cut_streams::{all_told, due_after};
 use crate::player::opened;
 use crate::wire::Written;
 use arrayvec::ArrayVec;
+use att_table::examples::DOOR;
 use gatt_host::{App, End, Host, HostFault, Input, PacketRef, drive, feed, serve};
 use octet_io::{Reader, SliceSource, Source, Writer};
 use std::alloc::Global;
@@ -119,7 +120,7 @@ fn is_whole_of_new(
     wanted: &[u8],
     reads: usize,
 ) -> Option<bool> {
-    let mut host = opened(rt, alloc, SETTING);
+    let mut host = opened(rt, alloc, DOOR, 2);
     let whole = is_whole(&mut host, told, wanted, reads);
     drop(host);
     whole
@@ -180,7 +181,7 @@ fn fills_by_new(
     room: usize,
     fails: bool,
 ) -> bool {
-    let mut host = opened(rt, alloc, SETTING);
+    let mut host = opened(rt, alloc, DOOR, 2);
     let is_filled = fills(&mut host, told, wanted, room, fails);
     drop(host);
     is_filled

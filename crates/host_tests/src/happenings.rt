@@ -3,22 +3,15 @@
 ghost use Rattle.std.specs.Prelude.{None};
 
 use crate::listening::Expects;
-use crate::player::{Setting, ready};
+use crate::player::ready;
 use crate::sides::{TwoSides, serve_both};
-use crate::tables::File::Bell;
 use crate::wire::spelled;
+use att_table::examples::BELL;
 use device_loop::{End, Happenings, Next, serve_happenings};
 use gatt_host::{App, AppFault, HostFault, Notice, Peer};
 use octet_io::{ArraySink, Sink};
 use std::alloc::Global;
 use std::process::Abort;
-
-const SETTING: &Setting<'static> = &Setting {
-    table: Bell,
-    slots: 1,
-    rx_mtu: 247,
-    packets: 4,
-};
 
 /// The expected deadline, the event, and the expected answer to a call.
 type Turn = (Option<u64>, Next<'static>, Option<Result<(), AppFault>>);
@@ -147,7 +140,7 @@ const CASES: &[Case] = &[
 
 fn serves<W: Sink>(rt: &impl Abort, alloc: Global, case: Case, out: &mut W) -> bool {
     let (turns, listed, end, asked, _, told) = case;
-    let mut host = ready(rt, alloc, SETTING);
+    let mut host = ready(rt, alloc, BELL, 1);
     let mut happenings = Listed {
         turns: listed,
         asked: 0,
@@ -169,7 +162,7 @@ fn as_listed(rt: HostRuntime) {
     for (place, &case) in CASES.iter().enumerate() {
         let mut written = ArraySink::<64>::new();
         assert!(rt; serves(&rt, rt.alloc(), case, &mut written), "{place}");
-        let wanted = spelled(&rt, case.4, 0);
+        let wanted = spelled(&rt, case.4);
         assert!(rt; written.octets() == wanted.as_slice(), "written {place}");
     }
 }
@@ -181,7 +174,7 @@ fn where_the_writer_fails(rt: HostRuntime) {
     let case = (100, DAY, Err(HostFault::Write), 5, "", told);
     let mut written = ArraySink::<14>::new();
     assert!(rt; serves(&rt, rt.alloc(), case, &mut written));
-    let wanted = spelled(&rt, "0240000500010004001302400008", 0);
+    let wanted = spelled(&rt, "0240000500010004001302400008");
     assert!(rt; written.octets() == wanted.as_slice());
 }
 
@@ -215,7 +208,7 @@ const SIDES: &[Sides] = &[
 
 fn serves_both<W: Sink>(rt: &impl Abort, alloc: Global, case: Sides, out: &mut W) -> bool {
     let (most, turns, end, octets, calls, refused, _) = case;
-    let mut host = ready(rt, alloc, SETTING);
+    let mut host = ready(rt, alloc, BELL, 1);
     let mut sides = TwoSides {
         octets: OCTETS,
         calls: CALLS,
@@ -238,7 +231,7 @@ fn two_sides(rt: HostRuntime) {
     for (place, &case) in SIDES.iter().enumerate() {
         let mut written = ArraySink::<64>::new();
         assert!(rt; serves_both(&rt, rt.alloc(), case, &mut written), "{place}");
-        let wanted = spelled(&rt, case.6, 0);
+        let wanted = spelled(&rt, case.6);
         assert!(rt; written.octets() == wanted.as_slice(), "written {place}");
     }
 }

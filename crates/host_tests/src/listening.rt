@@ -1,21 +1,14 @@
 //! A listener receives all notices, however the octets and calls arrive.
 
-use crate::player::{Setting, ready};
-use crate::tables::File::Door;
-use crate::wire::{Octets, Written, put_told, spell};
+use crate::player::ready;
+use crate::wire::{Octets, Written, ask, spell};
+use att_table::examples::DOOR;
 use gatt_host::{
-    App, End, Host, HostFault, Input, Listener, Notice, Peer, drive_to, feed, feed_to, serve_to,
+    App, End, Host, HostFault, Input, Listener, Notice, Peer, drive_to, feed_to, serve_to,
 };
 use octet_io::{ArraySink, SliceSource};
 use std::alloc::Global;
 use std::process::Abort;
-
-const SETTING: &Setting<'static> = &Setting {
-    table: Door,
-    slots: 2,
-    rx_mtu: 247,
-    packets: 4,
-};
 
 /// Expects a list of notices.
 #[derive(Drop)]
@@ -94,15 +87,14 @@ fn day(rt: &impl Abort) -> Octets {
         &[0x16, 0x15, 0x00, 0x01, 0x00, 0x63],
         &[0x18, 0x01],
     ] {
-        put_told(rt, &mut octets, 0x40, 0x04, pdu);
-        spell(rt, &mut octets, "0413050140000100");
+        ask(rt, &mut octets, pdu);
     }
     spell(rt, &mut octets, "04050400400013");
     octets
 }
 
 fn hears_pieces(rt: &impl Abort, alloc: Global, size: usize) -> bool {
-    let mut host = ready(rt, alloc, SETTING);
+    let mut host = ready(rt, alloc, DOOR, 2);
     let mut written = Written::new();
     let mut listener = Expects::new(TOLD);
     let fed = feed_pieces(
@@ -138,70 +130,6 @@ fn octets_in_pieces(rt: HostRuntime) {
     }
 }
 
-#[derive(Clone, Copy)]
-struct Step {
-    handed: usize,
-    /// Number of octets used.
-    taken: usize,
-    told: &'static [Notice<'static>],
-}
-
-/// The event has 22 octets, and the next packet 13.
-const STEPS: &[Step] = &[
-    Step {
-        handed: 21,
-        taken: 21,
-        told: &[],
-    },
-    Step {
-        handed: 14,
-        taken: 1,
-        told: &[CAME],
-    },
-    Step {
-        handed: 12,
-        taken: 12,
-        told: &[],
-    },
-    Step {
-        handed: 9,
-        taken: 1,
-        told: &[WROTE],
-    },
-];
-
-pub fn tells(host: &Host, wanted: &'static [Notice<'static>]) -> bool {
-    let mut listener = Expects::new(wanted);
-    for notice in host.notices() {
-        listener.hear(notice);
-    }
-    listener.is_met()
-}
-
-fn takes_steps(host: &mut Host, octets: &[u8], steps: &[Step]) -> bool {
-    let mut left = octets;
-    for step in steps {
-        let mut written = Written::new();
-        if feed(host, &[], &mut written).is_err() {
-            return false;
-        }
-        let handed = left.get(..step.handed).unwrap_or(&[]);
-        if host.take(handed) != Ok(step.taken) || !tells(host, step.told) {
-            return false;
-        }
-        left = left.get(step.taken..).unwrap_or(&[]);
-    }
-    true
-}
-
-#[test]
-fn up_to_the_end_of_a_packet(rt: HostRuntime) {
-    let mut host = ready(&rt, rt.alloc(), SETTING);
-    let taken = takes_steps(&mut host, day(&rt).as_slice(), STEPS);
-    drop(host);
-    assert!(rt; taken);
-}
-
 const CONNECTED: &[Notice<'static>] = &[CAME];
 
 const WRITTEN: &[Notice<'static>] = &[CAME, WROTE];
@@ -209,7 +137,7 @@ const WRITTEN: &[Notice<'static>] = &[CAME, WROTE];
 /// The notices before the fault are received.
 #[test]
 fn before_a_fault(rt: HostRuntime) {
-    let mut host = ready(&rt, rt.alloc(), SETTING);
+    let mut host = ready(&rt, rt.alloc(), DOOR, 2);
     let mut listener = Expects::new(CONNECTED);
     let mut octets = Octets::new();
     spell(
@@ -232,7 +160,7 @@ fn before_a_fault(rt: HostRuntime) {
 /// The answer to a Write is not written, but its notice is received.
 #[test]
 fn before_the_writer_fails(rt: HostRuntime) {
-    let mut host = ready(&rt, rt.alloc(), SETTING);
+    let mut host = ready(&rt, rt.alloc(), DOOR, 2);
     let mut listener = Expects::new(WRITTEN);
     let fed = feed_to(
         &mut host,
@@ -248,7 +176,7 @@ fn before_the_writer_fails(rt: HostRuntime) {
 /// A refused call has no notice.
 #[test]
 fn octets_and_calls(rt: HostRuntime) {
-    let mut host = ready(&rt, rt.alloc(), SETTING);
+    let mut host = ready(&rt, rt.alloc(), DOOR, 2);
     let mut listener = Expects::new(TOLD);
     let octets = day(&rt);
     let early = octets.as_slice().get(..30).unwrap_or(&[]);
@@ -268,7 +196,7 @@ fn octets_and_calls(rt: HostRuntime) {
 /// There are no notices after the end of a stream.
 #[test]
 fn a_stream(rt: HostRuntime) {
-    let mut host = ready(&rt, rt.alloc(), SETTING);
+    let mut host = ready(&rt, rt.alloc(), DOOR, 2);
     let mut listener = Expects::new(TOLD);
     let octets = day(&rt);
     let mut source = SliceSource::new(octets.as_slice());

@@ -1,12 +1,9 @@
 //! Opening a host.
 
-use crate::player::{Setting, opened};
-use crate::tables::File::Door;
-use crate::wire::Written;
 use arrayvec::ArrayVec;
 use att_table::Table;
 use att_table::examples::DOOR;
-use gatt_host::{Config, Host, OpenFault, feed};
+use gatt_host::{Config, Host, OpenFault};
 use gatt_subs::Rows;
 use le_security::Keys;
 use std::alloc::Global;
@@ -57,29 +54,4 @@ fn configurations(rt: HostRuntime) {
     for (place, case) in CASES.iter().enumerate() {
         assert!(rt; is_fault(&rt, rt.alloc(), case), "{place}");
     }
-}
-
-fn is_reset_first(host: &mut Host) -> bool {
-    let mut written = Written::new();
-    !host.drained()
-        && feed(host, &[], &mut written).is_ok()
-        && written.octets() == [0x01, 0x03, 0x0C, 0x00].as_slice()
-        && host.drained()
-        && feed(host, &[], &mut written).is_ok()
-        && written.octets().len() == 4
-}
-
-const SETTING: &Setting<'static> = &Setting {
-    table: Door,
-    slots: 2,
-    rx_mtu: 247,
-    packets: 4,
-};
-
-#[test]
-fn first_command(rt: HostRuntime) {
-    let mut host = opened(&rt, rt.alloc(), SETTING);
-    let is_first = is_reset_first(&mut host);
-    drop(host);
-    assert!(rt; is_first);
 }

@@ -1,191 +1,67 @@
-//! The deadline, the connections, and the parts of a host.
+//! When connections were last heard, and the values of a host that has stopped.
 
-use crate::given::Given;
 use crate::player::ready;
-use crate::tables::File::{Bell, Door};
-use crate::taken::{at, go_on};
 use crate::wire::Written;
 use att_table::Table;
-use gatt_host::{App, Connection, Host, Peer, feed};
+use att_table::examples::DOOR;
+use gatt_host::{App, Host, Input, drive, feed};
 use std::process::Abort;
 
-const COMES: Given = Given::Octets("043e130100400001010a00000000c018000000480000");
+const COMES: Input<'static> = Input::Bytes(
+    b"\x04\x3E\x13\x01\x00\x40\x00\x01\x01\x0A\x00\x00\x00\x00\xC0\x18\x00\x00\x00\x48\x00\x00",
+);
 
-const ANOTHER_COMES: Given = Given::Octets("043e130100410001010b00000000c018000000480000");
-
-const DEADLINES: &[(Given, Option<u64>)] = &[
-    (COMES, None),
-    (ANOTHER_COMES, None),
-    (Given::Pdu(0x40, "1204000200"), None),
-    (Given::Octets("0241200900050004001204000200"), None),
-    (Given::Call(App::Tick(5)), None),
-    (Given::Call(App::Update(3, &[0x01])), Some(30_005)),
-    (Given::Call(App::Tick(6)), Some(30_005)),
-    (Given::Pdu(0x40, "1e"), Some(30_005)),
-    (Given::Call(App::Update(3, &[0x02])), Some(30_005)),
-    (Given::Call(App::Tick(30_004)), Some(30_005)),
-    (Given::Call(App::Tick(30_005)), Some(30_006)),
-    (Given::Call(App::Disconnect(0x40)), None),
-];
-
-const AUTHORIZATIONS: &[(Given, Option<u64>)] = &[
-    (COMES, None),
-    (ANOTHER_COMES, None),
-    (Given::Call(App::Tick(5)), None),
-    // It has expired already.
-    (Given::Call(App::Authorize(0x40, 5)), None),
-    (Given::Call(App::Authorize(0x40, 90)), Some(90)),
-    (Given::Call(App::Authorize(0x41, 70)), Some(70)),
-    (Given::Call(App::Tick(69)), Some(70)),
-    (Given::Call(App::Tick(70)), Some(90)),
-    (Given::Call(App::Authorize(0x40, 0)), None),
-    (Given::Call(App::Authorize(0x40, u64::MAX)), Some(u64::MAX)),
-    // An indication is late before that time.
-    (Given::Pdu(0x40, "1204000200"), Some(u64::MAX)),
-    (Given::Call(App::Update(3, &[0x01])), Some(30_070)),
-    (Given::Call(App::Authorize(0x40, 80)), Some(80)),
-    (Given::Call(App::Tick(80)), Some(30_070)),
-    (Given::Pdu(0x40, "1e"), None),
-    (Given::Call(App::Authorize(0x40, 100)), Some(100)),
-    (Given::Call(App::Disconnect(0x40)), None),
-];
-
-#[test]
-fn deadlines_are_known(rt: HostRuntime) {
-    for cases in [DEADLINES, AUTHORIZATIONS] {
-        let mut host = ready(&rt, rt.alloc(), &at(Bell));
-        for (place, &(taken, deadline)) in cases.iter().enumerate() {
-            go_on(&rt, rt.alloc(), &mut host, taken);
-            assert!(rt; host.deadline() == deadline, "deadline {place}");
-        }
-        drop(host);
-    }
-}
-
-const STRANGER: Peer = Peer {
-    kind: 1,
-    address: [0x0A, 0x00, 0x00, 0x00, 0x00, 0xC0],
-};
-
-const ANOTHER: Peer = Peer {
-    kind: 1,
-    address: [0x0B, 0x00, 0x00, 0x00, 0x00, 0xC0],
-};
-
-const FIRST: Connection = Connection {
-    ordinal: 1,
-    slot: 0,
-    handle: 0x40,
-    peer: STRANGER,
-    mtu: 23,
-    key: None,
-    authorized_until: 0,
-    ending: false,
-    heard: 0,
-};
-
-const LARGER: Connection = Connection {
-    ordinal: 1,
-    slot: 0,
-    handle: 0x40,
-    peer: STRANGER,
-    mtu: 247,
-    key: None,
-    authorized_until: 0,
-    ending: false,
-    heard: 0,
-};
-
-const SECOND: Connection = Connection {
-    ordinal: 2,
-    slot: 1,
-    handle: 0x41,
-    peer: ANOTHER,
-    mtu: 23,
-    key: None,
-    authorized_until: 0,
-    ending: false,
-    heard: 0,
-};
-
-const AUTHORIZED: Connection = Connection {
-    ordinal: 2,
-    slot: 1,
-    handle: 0x41,
-    peer: ANOTHER,
-    mtu: 23,
-    key: None,
-    authorized_until: 7,
-    ending: false,
-    heard: 0,
-};
-
-const ENDED: Connection = Connection {
-    ordinal: 2,
-    slot: 1,
-    handle: 0x41,
-    peer: ANOTHER,
-    mtu: 23,
-    key: None,
-    authorized_until: 7,
-    ending: true,
-    heard: 0,
-};
-
-const CONNECTIONS: &[(Given, &[Connection])] = &[
-    (COMES, &[FIRST]),
-    (ANOTHER_COMES, &[FIRST, SECOND]),
-    (Given::Pdu(0x40, "02f700"), &[LARGER, SECOND]),
-    (Given::Call(App::Authorize(0x41, 7)), &[LARGER, AUTHORIZED]),
-    (Given::Call(App::Disconnect(0x41)), &[LARGER, ENDED]),
-    (Given::Octets("04050400400013"), &[ENDED]),
-    (Given::Octets("04050400410016"), &[]),
-];
+const ANOTHER_COMES: Input<'static> = Input::Bytes(
+    b"\x04\x3E\x13\x01\x00\x41\x00\x01\x01\x0B\x00\x00\x00\x00\xC0\x18\x00\x00\x00\x48\x00\x00",
+);
 
 /// Ordinal, slot, handle, and time of the last packet.
 type Heard = (u64, usize, u16, u64);
 
-const HEARD: &[(Given, &[Heard])] = &[
-    (Given::Call(App::Tick(5)), &[]),
+const HEARD: &[(Input<'static>, &[Heard])] = &[
+    (Input::Call(App::Tick(5)), &[]),
     (COMES, &[(1, 0, 0x40, 5)]),
-    (Given::Call(App::Tick(6)), &[(1, 0, 0x40, 5)]),
+    (Input::Call(App::Tick(6)), &[(1, 0, 0x40, 5)]),
     (ANOTHER_COMES, &[(1, 0, 0x40, 5), (2, 1, 0x41, 6)]),
     (
-        Given::Call(App::Tick(7)),
+        Input::Call(App::Tick(7)),
         &[(1, 0, 0x40, 5), (2, 1, 0x41, 6)],
     ),
     // A fragment, and an ignored broadcast packet.
     (
-        Given::Octets("024020010003"),
+        Input::Bytes(b"\x02\x40\x20\x01\x00\x03"),
         &[(1, 0, 0x40, 7), (2, 1, 0x41, 6)],
     ),
     (
-        Given::Call(App::Tick(8)),
+        Input::Call(App::Tick(8)),
         &[(1, 0, 0x40, 7), (2, 1, 0x41, 6)],
     ),
     (
-        Given::Octets("024160010003"),
+        Input::Bytes(b"\x02\x41\x60\x01\x00\x03"),
         &[(1, 0, 0x40, 7), (2, 1, 0x41, 8)],
     ),
     (
-        Given::Call(App::Tick(9)),
+        Input::Call(App::Tick(9)),
         &[(1, 0, 0x40, 7), (2, 1, 0x41, 8)],
     ),
     // No connection has the handle.
     (
-        Given::Octets("024220010003"),
+        Input::Bytes(b"\x02\x42\x20\x01\x00\x03"),
         &[(1, 0, 0x40, 7), (2, 1, 0x41, 8)],
     ),
-    (Given::Octets("04050400400013"), &[(2, 1, 0x41, 8)]),
+    (
+        Input::Bytes(b"\x04\x05\x04\x00\x40\x00\x13"),
+        &[(2, 1, 0x41, 8)],
+    ),
     // Another connection takes the slot, with a new ordinal.
     (COMES, &[(3, 0, 0x40, 9), (2, 1, 0x41, 8)]),
     // Packets of an ending connection do not count.
     (
-        Given::Call(App::Disconnect(0x41)),
+        Input::Call(App::Disconnect(0x41)),
         &[(3, 0, 0x40, 9), (2, 1, 0x41, 8)],
     ),
     (
-        Given::Octets("024120010003"),
+        Input::Bytes(b"\x02\x41\x20\x01\x00\x03"),
         &[(3, 0, 0x40, 9), (2, 1, 0x41, 8)],
     ),
 ];
@@ -207,37 +83,22 @@ fn are_heard(host: &Host, connections: &[Heard]) -> bool {
     seen.next().is_none()
 }
 
-fn are(host: &Host, connections: &[Connection]) -> bool {
-    let mut seen = host.connections();
-    for connection in connections {
-        if seen.next() != Some(*connection)
-            || host.connection(connection.handle) != Some(*connection)
-        {
-            return false;
-        }
-    }
-    seen.next().is_none() && host.connection(0x42).is_none()
-}
-
-#[test]
-fn connections_are_seen(rt: HostRuntime) {
-    let mut host = ready(&rt, rt.alloc(), &at(Door));
-    for (place, &(taken, connections)) in CONNECTIONS.iter().enumerate() {
-        go_on(&rt, rt.alloc(), &mut host, taken);
-        assert!(rt; are(&host, connections), "connections {place}");
-    }
-    drop(host);
-}
-
 #[test]
 fn packets_are_heard(rt: HostRuntime) {
-    let mut host = ready(&rt, rt.alloc(), &at(Door));
-    for (place, &(taken, connections)) in HEARD.iter().enumerate() {
-        go_on(&rt, rt.alloc(), &mut host, taken);
+    let mut host = ready(&rt, rt.alloc(), DOOR, 2);
+    for (place, &(input, connections)) in HEARD.iter().enumerate() {
+        assert!(rt;
+            drive(&mut host, &[input], &mut Written::new()) == Ok(0),
+            "{place}"
+        );
         assert!(rt; are_heard(&host, connections), "heard {place}");
     }
     drop(host);
 }
+
+/// A client connects, and writes a value.
+const WRITES: &[u8] = b"\x04\x3E\x13\x01\x00\x40\x00\x01\x01\x0A\x00\x00\x00\x00\xC0\x18\
+    \x00\x00\x00\x48\x00\x00\x02\x40\x20\x08\x00\x04\x00\x04\x00\x12\x15\x00\x61";
 
 fn is_written(table: &Table) -> bool {
     match table.get(21) {
@@ -248,9 +109,8 @@ fn is_written(table: &Table) -> bool {
 
 #[test]
 fn values_are_left_after_a_fault(rt: HostRuntime) {
-    let mut host = ready(&rt, rt.alloc(), &at(Door));
-    go_on(&rt, rt.alloc(), &mut host, COMES);
-    go_on(&rt, rt.alloc(), &mut host, Given::Pdu(0x40, "12150061"));
+    let mut host = ready(&rt, rt.alloc(), DOOR, 2);
+    assert!(rt; feed(&mut host, WRITES, &mut Written::new()).is_ok());
     assert!(rt; feed(&mut host, &[0x07], &mut Written::new()).is_err());
     let (table, keys, rows) = host.into_parts();
     assert!(rt; is_written(&table));

@@ -1,19 +1,12 @@
 //! A host between a reader and a writer.
 
-use crate::player::{Setting, opened};
-use crate::tables::File::Door;
+use crate::player::opened;
 use crate::wire::Written;
+use att_table::examples::DOOR;
 use gatt_host::{End, HostFault, serve};
 use octet_io::SliceSource;
 use std::alloc::Global;
 use std::process::Abort;
-
-const SETTING: &Setting<'static> = &Setting {
-    table: Door,
-    slots: 2,
-    rx_mtu: 247,
-    packets: 4,
-};
 
 const CASES: &[(u64, Result<End, HostFault>)] = &[
     (1_000, Ok(End { turns: 2 })),
@@ -23,7 +16,7 @@ const CASES: &[(u64, Result<End, HostFault>)] = &[
 
 /// Reset is written even without a turn.
 fn leads_to(rt: &impl Abort, alloc: Global, turns: u64, outcome: Result<End, HostFault>) -> bool {
-    let mut host = opened(rt, alloc, SETTING);
+    let mut host = opened(rt, alloc, DOOR, 2);
     let mut source = SliceSource::new(&[0x04, 0x0E]);
     let mut written = Written::new();
     let served = serve(&mut host, &mut source, &mut written, turns);
