@@ -25,7 +25,7 @@ pub(crate) fn note_keys<R: Files<File = File> + Clock + Eprint>(
     }
     for at in 0..keys.count() {
         if let Some(peer) = keys.peer(at)
-            && gatt_rights::is_private(peer)
+            && policy_rights::is_private(peer)
             && !is_before(&keys, at, peer)
         {
             note_private(alloc, log, peer);

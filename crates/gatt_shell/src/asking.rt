@@ -3,10 +3,8 @@
 ghost use Rattle.std.specs.Prelude.{◌≡◌, false, true};
 
 use crate::{exit_status, tell_at, unreadable};
-use compare_command::ComparePaths;
-use expect_command::{ExpectFault, ExpectPaths};
 use gatt_commands::{KeysPath, ShellFault};
-use may_command::{MayFault, MayPaths, MayWords};
+use policy_commands::{ComparePaths, ExpectFault, ExpectPaths, MayFault, MayPaths, MayWords};
 use shell_args::Refusal;
 use std::{io, str};
 
@@ -14,7 +12,7 @@ use std::{io, str};
 pub(crate) fn run_may(rt: &HostRuntime, paths: MayPaths<'_>, words: &MayWords<'_>) -> u8 {
     let mut place = Vec::new(rt.alloc());
     let writer = &mut io::writer(rt);
-    match may_command::ask_paths(rt.alloc(), rt, paths, words, writer, &mut place) {
+    match policy_commands::ask_paths(rt.alloc(), rt, paths, words, writer, &mut place) {
         Ok(is_granted) => answer_status(!is_granted),
         Err(MayFault::Word(wrong)) => {
             // If this fails, the error cannot be reported at all.
@@ -32,7 +30,7 @@ pub(crate) fn run_may(rt: &HostRuntime, paths: MayPaths<'_>, words: &MayWords<'_
 pub(crate) fn run_compare(rt: &HostRuntime, paths: ComparePaths<'_>) -> u8 {
     let mut place = Vec::new(rt.alloc());
     let writer = &mut io::writer(rt);
-    match compare_command::compare_paths(rt.alloc(), rt, paths, writer, &mut place) {
+    match policy_commands::compare_paths(rt.alloc(), rt, paths, writer, &mut place) {
         Ok(is_opened) => answer_status(is_opened),
         Err(fault) => {
             let paths = [
@@ -50,7 +48,7 @@ pub(crate) fn run_compare(rt: &HostRuntime, paths: ComparePaths<'_>) -> u8 {
 pub(crate) fn run_expect(rt: &HostRuntime, paths: ExpectPaths<'_>) -> u8 {
     let mut place = Vec::new(rt.alloc());
     let writer = &mut io::writer(rt);
-    match expect_command::expect_paths(rt.alloc(), rt, paths, writer, &mut place) {
+    match policy_commands::expect_paths(rt.alloc(), rt, paths, writer, &mut place) {
         Ok(holds) => answer_status(!holds),
         Err(ExpectFault::Expectations) => {
             // If this fails, the error cannot be reported at all.

@@ -14,18 +14,17 @@ ghost use Rattle.shell_files.specs.Check.{IsCheckFault};
 ghost use Rattle.shell_files.specs.Fault.{exit_status_of};
 
 use arrayvec::ArrayVec;
-use compare_command::ComparePaths;
 use device_host::{OptionTexts, Stop};
-use expect_command::{ExpectPaths, ExpectationsPath};
 use gatt_commands::{
     Address, KeysPath, NextPath, RowsPath, RunPaths, RxMtu, ScriptPath, ServePaths, ShellFault,
     Shows, TablePath,
 };
 use itoa::Buffer;
 use locking::{Unlocked, lock_rows};
-use may_command::{MayPaths, MayWords};
+use policy_commands::{
+    ComparePaths, ExpectPaths, ExpectationsPath, MayPaths, MayWords, ShowPaths, View,
+};
 use shell_args::{Choice, Refusal};
-use show_command::{ShowPaths, View};
 use std::fs::File;
 use std::io::{BufWriter, Read, Write};
 use std::process::ExitCode;
@@ -144,7 +143,7 @@ fn columns_in(width: Option<&str>) -> Option<u16> {
 fn run_show(rt: &HostRuntime, paths: ShowPaths<'_>, view: View) -> u8 {
     let mut place = Vec::new(rt.alloc());
     let writer = &mut io::writer(rt);
-    let ran = show_command::show_paths(rt.alloc(), rt, paths, view, writer, &mut place);
+    let ran = policy_commands::show_paths(rt.alloc(), rt, paths, view, writer, &mut place);
     if let Err(fault) = &ran
         && !place.is_empty()
     {

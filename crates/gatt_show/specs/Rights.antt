@@ -9,7 +9,7 @@ use Rattle.att_policy.specs.declared.guard.Properties.{Properties}
 use Rattle.att_policy.specs.declared.guard.TheConstants.Properties.{READ, WRITE_WITHOUT_RESPONSE, WRITE, NOTIFY, INDICATE}
 use Rattle.att_policy.specs.Need.{needs_encryption_of, needs_authentication_of}
 use Rattle.att_policy.specs.Policy.{has_property}
-use Rattle.gatt_rights.specs.Needs.{is_heard, is_written}
+use Rattle.policy_rights.specs.Needs.{is_heard, is_written}
 
 -- A present property is named after a space.
 abbrev pub word : Properties → Properties → Octets → Octets

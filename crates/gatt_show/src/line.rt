@@ -12,7 +12,7 @@ use crate::rights::add_rights;
 use crate::type_text::add_type;
 use att_numbers::attribute_type::{INCLUDE, PRIMARY_SERVICE, SECONDARY_SERVICE};
 use att_table::{Attr, Role, Table, is_service, type_octets};
-use gatt_rights::all_attributes;
+use policy_rights::all_attributes;
 use std::alloc::{AllocError, Global};
 use text_words::{add_left, add_number, add_octets, add_right_number};
 

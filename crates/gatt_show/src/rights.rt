@@ -3,12 +3,12 @@
 ghost use Rattle.std.specs.Prelude.{◌≡◌, ◌++◌, codes, if◌then◌else◌, IfOk, OnOk};
 ghost use Rattle.att_policy.specs.Need.{needs_authentication_of};
 ghost use Rattle.std.specs.Str.{bytes_eq};
-ghost use Rattle.gatt_rights.specs.Needs.{is_written};
+ghost use Rattle.policy_rights.specs.Needs.{is_written};
 ghost use Rattle.gatt_show.specs.Rights.{asked_size_words, both_texts, reading_text, heard_words, key_words, need_words, rights_text, size_words, word, writing_text, written_words};
 
 use att_policy::{Guard, Need, Properties};
 use bitflags::Flags;
-use gatt_rights::{is_heard, is_written};
+use policy_rights::{is_heard, is_written};
 use std::alloc::{AllocError, Global};
 use text_words::{add_number, add_octets};
 

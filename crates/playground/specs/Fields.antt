@@ -12,7 +12,7 @@ use Rattle.att_attributes.specs.Group.{is_service_type}
 use Rattle.att_table.specs.Table.{Contents}
 use Rattle.le_hci.specs.declared.peer.Peer.{Peer}
 use Rattle.le_security.specs.declared.entry.Entry.{Entry}
-use Rattle.gatt_rights.specs.Columns.{columns_among, peers_of_kind}
+use Rattle.policy_rights.specs.Columns.{columns_among, peers_of_kind}
 use Rattle.gatt_show.specs.Line.{length_text, told_value}
 use Rattle.gatt_show.specs.TypeText.{type_text}
 use Rattle.rights_text.specs.Cell.{cell_text}

@@ -8,21 +8,20 @@
 ghost use Rattle.std.specs.Prelude.{◌≡◌, ◌≤◌, [], false, length, take, true, None, Ok, Some};
 ghost use Rattle.gatt_commands.specs.Runs.{RunsFiles, files_of};
 ghost use Rattle.gatt_conn.specs.declared.conn.TheConstants.{RX_MTU};
-ghost use Rattle.show_command.specs.Show.{AreShown};
-ghost use Rattle.show_command.specs.declared.show.View.{View};
-ghost use Rattle.compare_command.specs.Compare.{AreCompared};
+ghost use Rattle.policy_commands.specs.Show.{AreShown};
+ghost use Rattle.policy_commands.specs.declared.show.View.{View};
+ghost use Rattle.policy_commands.specs.Compare.{AreCompared};
 ghost use Rattle.playground.specs.Shown.{HasRights, all_shown};
 
 use crate::fields::add_rights_data;
 use crate::finish::finish;
 use att_words::{CopyFault, Handles, Worded};
-use compare_command::{CompareNames, compare_files};
 use gatt_commands::{RxMtu, Shows, run_script};
 use gatt_subs::Rows;
+use policy_commands::{CompareNames, View, compare_files, show_files};
 use shell_files::{
     RowsStore, ShellFault, read_key_file_at, read_table_at, tell_keys_fault, tell_table_fault,
 };
-use show_command::{View, show_files};
 use std::alloc::Global;
 use std::io;
 use std::io::Write;

@@ -7,10 +7,10 @@ ghost use Rattle.playground.specs.Fields.{cell_data, column_data, line_data, nam
 
 use att_policy::KeyFacts;
 use att_table::{Attr, Role, Table, is_service, type_octets};
-use gatt_rights::{Right, all_attributes, columns_of, may_with, peers_of_kind};
 use gatt_show::{add_length, add_type, told_value};
 use le_hci::Peer;
 use le_security::Keys;
+use policy_rights::{Right, all_attributes, columns_of, may_with, peers_of_kind};
 use rights_text::{Column, Rights, add_key, add_peer_words, cell_of, named_columns};
 use std::alloc::{AllocError, Global};
 use text_words::{add_hex, add_number, add_octets};

@@ -11,14 +11,14 @@ use Rattle.att_policy.specs.declared.standing.Standing.{Standing}
 use Rattle.att_attributes.specs.declared.attr.Attr.{Attr}
 use Rattle.att_table.specs.Table.{Contents}
 use Rattle.le_security.specs.declared.entry.Entry.{Entry}
-use Rattle.gatt_rights.specs.declared.rights.Right.{Right}
-use Rattle.gatt_rights.specs.Columns.{same_column, same_facts}
-use Rattle.gatt_rights.specs.Held.{may_with}
-use Rattle.gatt_rights.specs.Kinds.{every_kind}
-use Rattle.gatt_rights.specs.Laws.{is_authorized_now}
-use Rattle.gatt_rights.specs.Rights.{may_of}
-use Rattle.gatt_rights.proofs.Sizes.{has_every_kind}
-use Rattle.gatt_rights.proofs.Standings.{depends_on_key_and_time}
+use Rattle.policy_rights.specs.declared.rights.Right.{Right}
+use Rattle.policy_rights.specs.Columns.{same_column, same_facts}
+use Rattle.policy_rights.specs.Held.{may_with}
+use Rattle.policy_rights.specs.Kinds.{every_kind}
+use Rattle.policy_rights.specs.Laws.{is_authorized_now}
+use Rattle.policy_rights.specs.Rights.{may_of}
+use Rattle.policy_rights.proofs.Sizes.{has_every_kind}
+use Rattle.policy_rights.proofs.Standings.{depends_on_key_and_time}
 use Rattle.rights_text.specs.Cell.{rights_where}
 use Rattle.rights_compare.specs.Before.{gave, had, has, held_of, partners_of, rights_of}
 use Rattle.rights_compare.specs.Gains.{gain_of, has_any_right, has_gain, is_gained, is_gained_once, opens, opens_at}

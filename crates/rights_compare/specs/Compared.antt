@@ -8,8 +8,8 @@ use Rattle.att_policy.specs.declared.standing.KeyFacts.{KeyFacts}
 use Rattle.att_table.specs.Changer.{changer_of}
 use Rattle.att_table.specs.Table.{Contents}
 use Rattle.le_security.specs.declared.entry.Entry.{Entry}
-use Rattle.gatt_rights.specs.Columns.{columns_among, with_columns}
-use Rattle.gatt_rights.specs.Kinds.{every_kind}
+use Rattle.policy_rights.specs.Columns.{columns_among, with_columns}
+use Rattle.policy_rights.specs.Kinds.{every_kind}
 use Rattle.rights_text.specs.Columns.{named_from}
 use Rattle.rights_text.specs.Legend.{legend_text}
 use Rattle.rights_text.specs.declared.columns.Column.{Column}

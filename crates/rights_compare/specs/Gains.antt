@@ -10,10 +10,10 @@ use Rattle.att_table.specs.Table.{Contents}
 use Rattle.le_hci.specs.declared.peer.Peer.{Peer}
 use Rattle.le_security.specs.Entry.{same_peer}
 use Rattle.le_security.specs.declared.entry.Entry.{Entry}
-use Rattle.gatt_rights.specs.declared.rights.Right.{Right}
-use Rattle.gatt_rights.specs.Columns.{same_column}
-use Rattle.gatt_rights.specs.Held.{is_used, may_with}
-use Rattle.gatt_rights.specs.Kinds.{every_kind}
+use Rattle.policy_rights.specs.declared.rights.Right.{Right}
+use Rattle.policy_rights.specs.Columns.{same_column}
+use Rattle.policy_rights.specs.Held.{is_used, may_with}
+use Rattle.policy_rights.specs.Kinds.{every_kind}
 use Rattle.rights_text.specs.Cell.{rights_where}
 use Rattle.rights_text.specs.declared.cell.Rights.{Rights}
 use Rattle.rights_compare.specs.Before.{before_of, has, rights_of}

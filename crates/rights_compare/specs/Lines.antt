@@ -11,9 +11,9 @@ use Rattle.att_attributes.specs.Attributes.{configuration_bits_at, is_configurat
 use Rattle.att_table.specs.ConfigRow.{has_its_meaning, is_supported}
 use Rattle.le_security.specs.declared.entry.Entry.{Entry}
 use Rattle.text_words.specs.Cells.{right}
-use Rattle.gatt_rights.specs.declared.rights.Right.{Right}
-use Rattle.gatt_rights.specs.Columns.{same_column}
-use Rattle.gatt_rights.specs.Held.{may_with}
+use Rattle.policy_rights.specs.declared.rights.Right.{Right}
+use Rattle.policy_rights.specs.Columns.{same_column}
+use Rattle.policy_rights.specs.Held.{may_with}
 use Rattle.gatt_show.specs.TypeText.{type_text}
 use Rattle.rights_text.specs.Cell.{cell_with}
 use Rattle.rights_text.specs.Kinds.{kinds_text}

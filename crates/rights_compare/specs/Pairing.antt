@@ -12,7 +12,7 @@ use Rattle.att_attributes.specs.Attributes.{attribute_at, attributes_in, is_valu
 use Rattle.att_attributes.specs.Group.{group_end_at, is_service_type}
 use Rattle.att_table.specs.Changer.{last_service}
 use Rattle.att_table.specs.Table.{Contents}
-use Rattle.gatt_rights.specs.Held.{is_used}
+use Rattle.policy_rights.specs.Held.{is_used}
 use Rattle.gatt_show.specs.Line.{told_value}
 use Rattle.rights_compare.specs.declared.pairing.Pair.{Pair}
 

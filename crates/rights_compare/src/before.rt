@@ -8,7 +8,7 @@ ghost use Rattle.rights_compare.specs.Before.{IsHeldFor, before_of, gave, had, h
 use crate::pairing::Pair;
 use att_policy::KeyFacts;
 use att_table::{Attr, Table};
-use gatt_rights::{Right, all_attributes, is_used, may_with};
+use policy_rights::{Right, all_attributes, is_used, may_with};
 use rights_text::Rights;
 use std::alloc::{AllocError, Global};
 

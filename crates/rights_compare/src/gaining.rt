@@ -9,9 +9,9 @@ use crate::before::{Held, has, renew, rights_of};
 use crate::pairing::Pair;
 use att_policy::KeyFacts;
 use att_table::{Attr, Table};
-use gatt_rights::{Right, all_attributes, is_same_column, is_used, may_with};
 use le_hci::Peer;
 use le_security::Keys;
+use policy_rights::{Right, all_attributes, is_same_column, is_used, may_with};
 use rights_text::Rights;
 use std::alloc::{AllocError, Global};
 

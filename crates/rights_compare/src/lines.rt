@@ -11,10 +11,10 @@ use crate::gaining::{Gain, gains_by_key, gains_of, has_gain, is_first, kinds_lik
 use crate::pairing::Pair;
 use att_policy::KeyFacts;
 use att_table::{Attr, Table, type_octets};
-use gatt_rights::has_column;
 use gatt_show::add_type;
 use le_hci::Peer;
 use le_security::Keys;
+use policy_rights::has_column;
 use rights_text::{Column, add_key, add_kinds, add_peer_words, cell_of};
 use std::alloc::{AllocError, Global};
 use text_words::{add_octets, add_right_number};

@@ -10,7 +10,7 @@ use crate::lines::{add_name, add_whose};
 use crate::pairing::{Pair, other_handle};
 use att_policy::KeyFacts;
 use att_table::{Attr, Role, Table};
-use gatt_rights::{Right, may_with};
+use policy_rights::{Right, may_with};
 use rights_text::Column;
 use std::alloc::{AllocError, Global};
 use text_words::{add_number, add_octets};

@@ -7,8 +7,8 @@ ghost use Rattle.att_table.specs.Changer.{last_service};
 ghost use Rattle.rights_compare.specs.Pairing.{end_of_group, group_at, has_role, is_alike, is_passing_before, is_loose, is_loose_before, is_service_of, loose_handle, other_alike, other_descriptor, other_service, other_value, pair_if_used, pairs_of, other_handle, service_before, service_with, sure_handle, value_before};
 
 use att_table::{Attr, Role, Table, is_service};
-use gatt_rights::{all_attributes, is_used};
 use gatt_show::told_value;
+use policy_rights::{all_attributes, is_used};
 use std::alloc::{AllocError, Global};
 
 /// A value or a descriptor, and the one of another table that corresponds to it.

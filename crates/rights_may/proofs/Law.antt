@@ -10,10 +10,10 @@ use Rattle.att_policy.specs.declared.guard.TheConstants.{INDICATION}
 use Rattle.att_policy.specs.Policy.{first_unmet_rule_of}
 use Rattle.att_attributes.specs.declared.attr.Attr.{Attr}
 use Rattle.att_attributes.specs.Attributes.{attribute_at, is_configuration_at, is_value}
-use Rattle.gatt_rights.specs.declared.rights.Right.{Right}
-use Rattle.gatt_rights.specs.Needs.{is_notified_or_indicated}
-use Rattle.gatt_rights.specs.Rights.{is_sent, is_sent_of, may_of, subscribes_at, subscribes_of}
-use Rattle.gatt_rights.proofs.Subscribing.{sent, subscribes}
+use Rattle.policy_rights.specs.declared.rights.Right.{Right}
+use Rattle.policy_rights.specs.Needs.{is_notified_or_indicated}
+use Rattle.policy_rights.specs.Rights.{is_sent, is_sent_of, may_of, subscribes_at, subscribes_of}
+use Rattle.policy_rights.proofs.Subscribing.{sent, subscribes}
 use Rattle.rights_may.specs.declared.verdict.TheConstants.{NOTIFICATION}
 use Rattle.rights_may.specs.declared.verdict.Verdict.TheVariants.{NoConfiguration, Silent}
 use Rattle.rights_may.specs.Verdict.{access_verdict, broken_by_write, has_bit, is_yes, missing, sending_answer, sending_verdict, sent_verdict, subscription_answer, subscription_verdict, verdict_of, write_verdict}

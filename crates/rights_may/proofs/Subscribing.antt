@@ -15,8 +15,8 @@ use Rattle.att_table.specs.Table.{value_at}
 use Rattle.att_writes.specs.Applied.{Stored, after_entries, unless_entry_refused}
 use Rattle.att_writes.specs.Entry.{Entry, whole_value}
 use Rattle.att_writes.specs.Fault.{unless_broken, value_fault}
-use Rattle.gatt_rights.specs.Needs.{is_notified_or_indicated}
-use Rattle.gatt_rights.proofs.Subscribing.{allowed_of, before, some_allowed}
+use Rattle.policy_rights.specs.Needs.{is_notified_or_indicated}
+use Rattle.policy_rights.proofs.Subscribing.{allowed_of, before, some_allowed}
 use Rattle.rights_may.specs.declared.verdict.Verdict.{Verdict}
 use Rattle.rights_may.specs.declared.verdict.Verdict.TheVariants.{NoConfiguration}
 use Rattle.rights_may.specs.Verdict.{broken_by_write, missing, subscription_answer, subscription_verdict, verdict_after, without_configuration, write_verdict}

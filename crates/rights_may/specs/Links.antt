@@ -5,8 +5,8 @@ use Rattle.att_policy.specs.declared.standing.Standing.{Standing}
 use Rattle.le_hci.specs.declared.peer.Peer.{Peer}
 use Rattle.le_security.specs.Keys.{is_known}
 use Rattle.le_security.specs.declared.entry.Entry.{Entry}
-use Rattle.gatt_rights.specs.Columns.{columns_among, has_key}
-use Rattle.gatt_rights.specs.Rights.{standing_with_key}
+use Rattle.policy_rights.specs.Columns.{columns_among, has_key}
+use Rattle.policy_rights.specs.Rights.{standing_with_key}
 
 -- A stranger has no key.
 abbrev pub keyed_links : List Entry → Option Peer → List (Option KeyFacts)

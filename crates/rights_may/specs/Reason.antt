@@ -15,7 +15,7 @@ use Rattle.att_policy.specs.declared.policy.Rule.{Rule}
 use Rattle.att_policy.specs.declared.policy.Rule.TheVariants.{HandleExists, Property, Encryption, Authentication, KeySize, SecureConnections, Authorization}
 use Rattle.att_attributes.specs.declared.attr.Attr.{Attr}
 use Rattle.att_attributes.specs.Attributes.{attribute_at, is_configuration_at}
-use Rattle.gatt_rights.specs.declared.rights.Right.{Right}
+use Rattle.policy_rights.specs.declared.rights.Right.{Right}
 use Rattle.rights_may.specs.declared.verdict.Verdict.{Verdict}
 use Rattle.rights_may.specs.declared.verdict.Verdict.TheVariants.{Yes, Refused, NoConfiguration, NoSubscription, Silent}
 

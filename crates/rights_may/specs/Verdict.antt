@@ -13,11 +13,11 @@ use Rattle.att_policy.specs.declared.standing.Standing.{Standing}
 use Rattle.att_attributes.specs.declared.attr.Attr.{Attr}
 use Rattle.att_attributes.specs.Attributes.{attribute_at, configuration_bits_at, guard_at, is_configuration_at, is_value}
 use Rattle.att_writes.specs.Applied.{Stored}
-use Rattle.gatt_rights.specs.declared.rights.Right.{Right}
+use Rattle.policy_rights.specs.declared.rights.Right.{Right}
 use Rattle.att_policy.specs.declared.guard.TheConstants.{INDICATION}
 use Rattle.rights_may.specs.declared.verdict.TheConstants.{NOTIFICATION}
-use Rattle.gatt_rights.specs.Needs.{is_notified_or_indicated}
-use Rattle.gatt_rights.specs.Rights.{subscribed}
+use Rattle.policy_rights.specs.Needs.{is_notified_or_indicated}
+use Rattle.policy_rights.specs.Rights.{subscribed}
 use Rattle.rights_may.specs.declared.verdict.Verdict.{Verdict}
 use Rattle.rights_may.specs.declared.verdict.Verdict.TheVariants.{Yes, Refused, NoConfiguration, NoSubscription, Silent}
 

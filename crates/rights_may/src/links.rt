@@ -1,13 +1,13 @@
 //! The links that a peer may have.
 
 ghost use Rattle.std.specs.Prelude.{◌≡◌, ◌++◌, filter, IfOk, OnOk};
-ghost use Rattle.gatt_rights.specs.Columns.{has_key};
+ghost use Rattle.policy_rights.specs.Columns.{has_key};
 ghost use Rattle.rights_may.specs.Links.{has_any_key, keyed_links, links_of, standing_on};
 
 use att_policy::{KeyFacts, Standing};
-use gatt_rights::{columns_of, has_key, standing_of};
 use le_hci::Peer;
 use le_security::Keys;
+use policy_rights::{columns_of, has_key, standing_of};
 use std::alloc::{AllocError, Global};
 
 /// Returns what may protect a link of a peer, or of a stranger: nothing, and each kind of its keys,

@@ -11,7 +11,7 @@ use crate::verdict::{Verdict, is_configuration};
 use att_numbers::error_code;
 use att_policy::{Access, Guard, Rule};
 use att_table::Table;
-use gatt_rights::Right;
+use policy_rights::Right;
 use std::alloc::AllocError;
 use text_words::{add_number, add_octets};
 

@@ -3,14 +3,14 @@
 ghost use Rattle.std.specs.Prelude.{◌≡◌};
 ghost use Rattle.att_policy.specs.Policy.{first_broken_of, first_unmet_rule_of};
 ghost use Rattle.att_attributes.specs.Attributes.{guard_at, is_configuration_at};
-ghost use Rattle.gatt_rights.specs.Rights.{may_of};
+ghost use Rattle.policy_rights.specs.Rights.{may_of};
 ghost use Rattle.rights_may.specs.Verdict.{access_verdict, broken_by_write, has_bit, is_yes, sending_verdict, sent_verdict, subscription_answer, subscription_verdict, verdict_of, write_verdict};
 ghost use Rattle.std.specs.Option.{option_copied};
 
 use att_numbers::error_code;
 use att_policy::{Access, Guard, INDICATION, Properties, Rule, Standing, first_broken};
 use att_table::{Attr, Role, Table};
-use gatt_rights::{Right, is_notified_or_indicated};
+use policy_rights::{Right, is_notified_or_indicated};
 
 /// The CCCD bit for notifications (Core 5.0, Vol 3 Part G, 3.3.3.3).
 const NOTIFICATION: u8 = 0x01;

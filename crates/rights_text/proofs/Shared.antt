@@ -9,9 +9,9 @@ use Rattle.std.proofs.lemmas.List.Elements.{All-nil, All-cons}
 use Rattle.att_numbers.specs.Types.{Handle}
 use Rattle.att_policy.specs.declared.standing.KeyFacts.{KeyFacts}
 use Rattle.att_attributes.specs.declared.attr.Attr.{Attr}
-use Rattle.gatt_rights.specs.declared.rights.Right.{Right}
-use Rattle.gatt_rights.specs.Columns.{same_column, same_facts}
-use Rattle.gatt_rights.specs.Held.{has_equal_rights, has_same_rights, is_equal_at, is_used, kinds_that_differ, may_with, with_kind, with_kinds}
+use Rattle.policy_rights.specs.declared.rights.Right.{Right}
+use Rattle.policy_rights.specs.Columns.{same_column, same_facts}
+use Rattle.policy_rights.specs.Held.{has_equal_rights, has_same_rights, is_equal_at, is_used, kinds_that_differ, may_with, with_kind, with_kinds}
 use Rattle.rights_text.specs.declared.cell.Rights.{Rights}
 use Rattle.rights_text.specs.declared.columns.Column.{Column}
 use Rattle.rights_text.specs.Cell.{always_of, cell_text, cell_with, is_once, once_of, rights_where}

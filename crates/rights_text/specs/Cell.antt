@@ -4,8 +4,8 @@ use Rattle.octet_io.specs.Number.{Octets}
 use Rattle.att_numbers.specs.Types.{Handle}
 use Rattle.att_policy.specs.declared.standing.KeyFacts.{KeyFacts}
 use Rattle.att_attributes.specs.declared.attr.Attr.{Attr}
-use Rattle.gatt_rights.specs.declared.rights.Right.{Right}
-use Rattle.gatt_rights.specs.Held.{may_with}
+use Rattle.policy_rights.specs.declared.rights.Right.{Right}
+use Rattle.policy_rights.specs.Held.{may_with}
 use Rattle.rights_text.specs.declared.cell.Rights.{Rights}
 
 abbrev pub letter_if : Bool → ℕ → Octets

@@ -3,7 +3,7 @@ use Rattle.std.specs.Prelude.{ℕ, ◌+◌, ◌==◌, if◌then◌else◌, List,
 use Rattle.std.specs.List.{flat_map}
 use Rattle.att_policy.specs.declared.standing.KeyFacts.{KeyFacts}
 use Rattle.att_attributes.specs.declared.attr.Attr.{Attr}
-use Rattle.gatt_rights.specs.Held.{has_equal_rights, kinds_that_differ}
+use Rattle.policy_rights.specs.Held.{has_equal_rights, kinds_that_differ}
 use Rattle.rights_text.specs.declared.columns.Column.{Column}
 
 -- A to Z, and then a to o: there are at most 41 kinds.

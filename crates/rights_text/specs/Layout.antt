@@ -3,7 +3,7 @@ use Rattle.std.specs.Prelude.{◌≡◌, ℕ, ◌+◌, ◌-◌, ◌/◌, Bool, i
 use Rattle.att_numbers.specs.AttributeType.{type_octets}
 use Rattle.att_attributes.specs.declared.attr.Attr.{Attr}
 use Rattle.att_table.specs.Table.{Contents}
-use Rattle.gatt_rights.specs.Held.{is_used}
+use Rattle.policy_rights.specs.Held.{is_used}
 use Rattle.gatt_show.specs.Line.{told_value}
 use Rattle.gatt_show.specs.TypeText.{type_text}
 use Rattle.rights_text.specs.declared.columns.Column.{Column}

@@ -7,7 +7,7 @@ use Rattle.att_policy.specs.declared.standing.KeyFacts.{KeyFacts}
 use Rattle.gatt_subs.specs.RowsText.{address_text}
 use Rattle.le_hci.specs.declared.peer.Peer.{Peer}
 use Rattle.le_security.specs.declared.entry.Entry.{Entry}
-use Rattle.gatt_rights.specs.Columns.{has_key, peers_of_kind}
+use Rattle.policy_rights.specs.Columns.{has_key, peers_of_kind}
 use Rattle.rights_text.specs.declared.columns.Column.{Column}
 
 abbrev pub words_if : Bool → Octets → Octets

@@ -5,8 +5,8 @@ use Rattle.std.specs.List.{flat_map}
 use Rattle.octet_io.specs.Number.{Octets}
 use Rattle.att_numbers.specs.Types.{Handle}
 use Rattle.att_policy.specs.declared.standing.KeyFacts.{KeyFacts}
-use Rattle.gatt_rights.specs.declared.finding.Finding.{Finding}
-use Rattle.gatt_rights.specs.declared.finding.Finding.TheVariants.{OpenWrite, ShortKey, EasyWrite, IdleReadRule, IdleWriteRule, ForgedAddress, NoSubscriber, LastingSubscription, EasySubscription, NoProperty, Unused, EmptyService, NoServiceChanged, IdleKey, NoKeyMatters, ShortestKey, PrivateAddress}
+use Rattle.policy_rights.specs.declared.finding.Finding.{Finding}
+use Rattle.policy_rights.specs.declared.finding.Finding.TheVariants.{OpenWrite, ShortKey, EasyWrite, IdleReadRule, IdleWriteRule, ForgedAddress, NoSubscriber, LastingSubscription, EasySubscription, NoProperty, Unused, EmptyService, NoServiceChanged, IdleKey, NoKeyMatters, ShortestKey, PrivateAddress}
 use Rattle.le_hci.specs.declared.peer.Peer.{Peer}
 use Rattle.text_words.specs.Cells.{right}
 use Rattle.rights_text.specs.Legend.{peer_words, strength_text}

@@ -3,8 +3,8 @@ use Rattle.std.specs.Prelude.{◌≡◌, Bool, true, All, List, Option}
 use Rattle.std.specs.List.{list_any}
 use Rattle.att_policy.specs.declared.standing.KeyFacts.{KeyFacts}
 use Rattle.att_attributes.specs.declared.attr.Attr.{Attr}
-use Rattle.gatt_rights.specs.Columns.{same_column}
-use Rattle.gatt_rights.specs.Held.{has_equal_rights, is_used}
+use Rattle.policy_rights.specs.Columns.{same_column}
+use Rattle.policy_rights.specs.Held.{has_equal_rights, is_used}
 use Rattle.rights_text.specs.declared.columns.Column.{Column}
 use Rattle.rights_text.specs.Cell.{cell_text}
 use Rattle.rights_text.specs.Columns.{matrix_columns, named_kinds}

@@ -3,8 +3,8 @@ use Rattle.std.specs.Prelude.{◌≡◌, ℕ, List, ◌∷◌, ◌++◌}
 use Rattle.octet_io.specs.Number.{Octets}
 use Rattle.att_table.specs.Table.{Contents}
 use Rattle.le_security.specs.declared.entry.Entry.{Entry}
-use Rattle.gatt_rights.specs.Columns.{columns_among}
-use Rattle.gatt_rights.specs.Findings.{findings_of}
+use Rattle.policy_rights.specs.Columns.{columns_among}
+use Rattle.policy_rights.specs.Findings.{findings_of}
 use Rattle.rights_text.specs.Columns.{matrix_columns, named_kinds}
 use Rattle.rights_text.specs.Layout.{HasLeastWidths}
 use Rattle.rights_text.specs.Legend.{legend_text}

@@ -1,12 +1,12 @@
 //! A cell of the matrix: the rights of a link by letters.
 
 ghost use Rattle.std.specs.Prelude.{◌≡◌, ◌++◌, ◌&&◌, IfOk, OnOk, false, not, true};
-ghost use Rattle.gatt_rights.specs.Held.{may_with};
+ghost use Rattle.policy_rights.specs.Held.{may_with};
 ghost use Rattle.rights_text.specs.Cell.{always_of, cell_text, cell_with, in_parentheses, is_once, letter_if, letters_of, once_of, or_dot};
 
 use att_policy::KeyFacts;
 use att_table::Table;
-use gatt_rights::{Right, may_with};
+use policy_rights::{Right, may_with};
 use std::alloc::{AllocError, Global};
 use text_words::add_octets;
 

@@ -6,7 +6,7 @@ ghost use Rattle.rights_text.specs.Columns.{kind_if_equal, kinds_of_column, matr
 
 use att_policy::KeyFacts;
 use att_table::Table;
-use gatt_rights::{has_equal_rights, kinds_that_differ};
+use policy_rights::{has_equal_rights, kinds_that_differ};
 use std::alloc::{AllocError, Global};
 
 /// A column: a name of one letter, and the key that encrypts a link, if one does.

@@ -6,10 +6,10 @@ ghost use Rattle.rights_text.specs.Legend.{address_type_word, also_text, flags_t
 
 use crate::columns::Column;
 use att_policy::KeyFacts;
-use gatt_rights::{has_key, peers_of_kind};
 use gatt_subs::address_text;
 use le_hci::{PUBLIC_ADDRESS, Peer};
 use le_security::Keys;
+use policy_rights::{has_key, peers_of_kind};
 use std::alloc::{AllocError, Global};
 use text_words::{add_number, add_octets};
 

@@ -7,8 +7,8 @@ ghost use Rattle.rights_text.specs.Legend.{strength_text};
 
 use crate::legend::{add_peer_words, add_strength};
 use att_policy::KeyFacts;
-use gatt_rights::Finding;
 use le_hci::Peer;
+use policy_rights::Finding;
 use std::alloc::AllocError;
 use text_words::{add_number, add_octets, add_right_number};
 

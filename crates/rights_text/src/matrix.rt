@@ -13,8 +13,8 @@ use crate::layout::Layout;
 use crate::value::{name_of, value_of};
 use att_numbers::attribute_type::SECONDARY_SERVICE;
 use att_table::{Attr, Role, Table, is_service};
-use gatt_rights::all_attributes;
 use gatt_show::{add_length, add_type, told_value};
+use policy_rights::all_attributes;
 use std::alloc::{AllocError, Global};
 use text_words::{add_left, add_octets, add_right, add_right_number};
 

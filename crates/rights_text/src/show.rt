@@ -1,7 +1,7 @@
 //! The rights of a table, as `show` prints them.
 
 ghost use Rattle.std.specs.Prelude.{◌≡◌, ◌++◌, OnOk};
-ghost use Rattle.gatt_rights.specs.Columns.{columns_among};
+ghost use Rattle.policy_rights.specs.Columns.{columns_among};
 ghost use Rattle.rights_text.specs.Shared.{NamesEachKind, SharesCells};
 ghost use Rattle.rights_text.specs.Shown.{ShowsRights, columns_of_table, explanation_text};
 
@@ -12,8 +12,8 @@ use crate::matrix::add_blocks;
 use crate::widths::{layout_of, most_columns};
 use att_policy::KeyFacts;
 use att_table::Table;
-use gatt_rights::{columns_of, findings};
 use le_security::Keys;
+use policy_rights::{columns_of, findings};
 use std::alloc::{AllocError, Global};
 use text_words::add_octets;
 

@@ -8,8 +8,8 @@ use crate::columns::Column;
 use crate::layout::Layout;
 use crate::value::value_of;
 use att_table::{Attr, Table, type_octets};
-use gatt_rights::{all_attributes, is_used};
 use gatt_show::{add_type, told_value};
+use policy_rights::{all_attributes, is_used};
 use std::alloc::{AllocError, Global};
 use text_words::WIDEST;
 

@@ -1,6 +1,6 @@
 use Rattle.std.proofs.Common.{refl}
 use Rattle.gatt_show.specs.Line.{attribute_line}
-use Rattle.gatt_rights.proofs.Added.{all_added, one_added}
+use Rattle.policy_rights.proofs.Added.{all_added, one_added}
 use Rattle.gatt_show.proofs.line.add_attributes.Goals as goal
 
 pub loop-attr-preserved : goal.loop-attr-preserved

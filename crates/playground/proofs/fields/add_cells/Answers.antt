@@ -1,6 +1,6 @@
 use Rattle.std.proofs.Common.{refl}
 use Rattle.playground.specs.Fields.{cell_data}
-use Rattle.gatt_rights.proofs.Added.{all_added, one_added}
+use Rattle.policy_rights.proofs.Added.{all_added, one_added}
 use Rattle.playground.proofs.fields.add_cells.Goals as goal
 
 pub loop-column-preserved : goal.loop-column-preserved

@@ -1,6 +1,6 @@
 use Rattle.std.proofs.Common.{refl}
 use Rattle.playground.specs.Fields.{column_data}
-use Rattle.gatt_rights.proofs.Added.{all_added, one_added}
+use Rattle.policy_rights.proofs.Added.{all_added, one_added}
 use Rattle.playground.proofs.fields.add_columns.Goals as goal
 
 pub loop-column-preserved : goal.loop-column-preserved

@@ -1,6 +1,6 @@
 use Rattle.std.proofs.Common.{refl}
 use Rattle.playground.specs.Fields.{line_data}
-use Rattle.gatt_rights.proofs.Added.{all_added, one_added}
+use Rattle.policy_rights.proofs.Added.{all_added, one_added}
 use Rattle.playground.proofs.fields.add_lines.Goals as goal
 
 pub loop-attr-preserved : goal.loop-attr-preserved

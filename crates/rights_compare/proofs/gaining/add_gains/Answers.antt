@@ -1,6 +1,6 @@
 use Rattle.std.proofs.Common.{refl}
 use Rattle.rights_compare.specs.Gains.{one_gain}
-use Rattle.gatt_rights.proofs.Added.{all_added, one_added}
+use Rattle.policy_rights.proofs.Added.{all_added, one_added}
 use Rattle.rights_compare.proofs.gaining.add_gains.Goals as goal
 
 pub loop-held-preserved : goal.loop-held-preserved

@@ -1,6 +1,6 @@
 use Rattle.std.proofs.Common.{refl}
 use Rattle.rights_compare.specs.Gains.{kind_if_same}
-use Rattle.gatt_rights.proofs.Added.{all_added, one_added}
+use Rattle.policy_rights.proofs.Added.{all_added, one_added}
 use Rattle.rights_compare.proofs.gaining.add_kinds_like.Goals as goal
 
 pub loop-other-preserved : goal.loop-other-preserved

@@ -1,6 +1,6 @@
 use Rattle.std.proofs.Common.{◌<◌, length, arith}
 use Rattle.rights_compare.specs.Gains.{kind_of_peer}
-use Rattle.gatt_rights.proofs.Added.{next_added}
+use Rattle.policy_rights.proofs.Added.{next_added}
 use Rattle.rights_compare.proofs.gaining.add_kinds_of_peer.Goals as goal
 
 pub loop-at-preserved : goal.loop-at-preserved

@@ -1,7 +1,7 @@
 use Rattle.std.proofs.Common.{◌<◌, ◌+◌, Bool, ◌||◌, length, drop, ap, sym, ◌∙◌, arith}
 use Rattle.std.specs.List.{list_any}
 use Rattle.rights_compare.specs.Gains.{gains_by_key}
-use Rattle.gatt_rights.proofs.Keyed.{next_test}
+use Rattle.policy_rights.proofs.Keyed.{next_test}
 use Rattle.rights_compare.proofs.gaining.gains_keys.Goals as goal
 
 pub returns-then-gains : goal.returns-then-gains

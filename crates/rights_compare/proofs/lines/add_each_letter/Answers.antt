@@ -1,6 +1,6 @@
 use Rattle.std.proofs.Common.{refl}
 use Rattle.rights_compare.specs.Lines.{letter_text}
-use Rattle.gatt_rights.proofs.Added.{all_added, one_added}
+use Rattle.policy_rights.proofs.Added.{all_added, one_added}
 use Rattle.rights_compare.proofs.lines.add_each_letter.Goals as goal
 
 pub loop-column-preserved : goal.loop-column-preserved

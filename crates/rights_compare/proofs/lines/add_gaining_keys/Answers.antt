@@ -1,6 +1,6 @@
 use Rattle.std.proofs.Common.{◌<◌, length, arith}
 use Rattle.rights_compare.specs.Lines.{gaining_key_line}
-use Rattle.gatt_rights.proofs.Added.{next_added}
+use Rattle.policy_rights.proofs.Added.{next_added}
 use Rattle.rights_compare.proofs.lines.add_gaining_keys.Goals as goal
 
 pub loop-at-preserved : goal.loop-at-preserved

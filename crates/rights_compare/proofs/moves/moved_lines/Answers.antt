@@ -1,6 +1,6 @@
 use Rattle.std.proofs.Common.{[], refl}
 use Rattle.rights_compare.specs.Lines.{moved_line}
-use Rattle.gatt_rights.proofs.Added.{all_added, one_added}
+use Rattle.policy_rights.proofs.Added.{all_added, one_added}
 use Rattle.rights_compare.proofs.moves.moved_lines.Goals as goal
 
 pub loop-pair-preserved : goal.loop-pair-preserved

@@ -1,6 +1,6 @@
 use Rattle.std.proofs.Common.{[], refl}
 use Rattle.rights_compare.specs.Lines.{lasting_line}
-use Rattle.gatt_rights.proofs.Added.{all_added, one_added}
+use Rattle.policy_rights.proofs.Added.{all_added, one_added}
 use Rattle.rights_compare.proofs.moves.still_sent_lines.Goals as goal
 
 pub loop-attr-preserved : goal.loop-attr-preserved

@@ -1,6 +1,6 @@
 use Rattle.std.proofs.Common.{refl}
 use Rattle.rights_compare.specs.Pairing.{pair_if_used}
-use Rattle.gatt_rights.proofs.Added.{all_added, one_added}
+use Rattle.policy_rights.proofs.Added.{all_added, one_added}
 use Rattle.rights_compare.proofs.pairing.add_pairs.Goals as goal
 
 pub loop-attr-preserved : goal.loop-attr-preserved

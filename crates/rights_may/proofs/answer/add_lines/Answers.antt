@@ -1,6 +1,6 @@
 use Rattle.std.proofs.Common.{refl}
 use Rattle.rights_may.specs.Answer.{link_line}
-use Rattle.gatt_rights.proofs.Added.{all_added, one_added}
+use Rattle.policy_rights.proofs.Added.{all_added, one_added}
 use Rattle.rights_may.proofs.answer.add_lines.Goals as goal
 
 pub loop-link-preserved : goal.loop-link-preserved

@@ -1,6 +1,6 @@
 use Rattle.std.proofs.Common.{◌≡◌, ◌++◌, drop}
 use Rattle.std.specs.Prelude.{filter}
-use Rattle.gatt_rights.specs.Columns.{has_key}
+use Rattle.policy_rights.specs.Columns.{has_key}
 use Rattle.rights_may.proofs.links.add_held.Given as goal
 
 -- what stands and what is left are all

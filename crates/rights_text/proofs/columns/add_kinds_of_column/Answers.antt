@@ -1,6 +1,6 @@
 use Rattle.std.proofs.Common.{refl}
 use Rattle.rights_text.specs.Columns.{kind_if_equal}
-use Rattle.gatt_rights.proofs.Added.{all_added, one_added}
+use Rattle.policy_rights.proofs.Added.{all_added, one_added}
 use Rattle.rights_text.proofs.columns.add_kinds_of_column.Goals as goal
 
 pub loop-kind-preserved : goal.loop-kind-preserved

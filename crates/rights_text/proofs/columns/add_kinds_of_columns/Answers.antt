@@ -1,6 +1,6 @@
 use Rattle.std.proofs.Common.{refl}
 use Rattle.rights_text.specs.Columns.{kinds_of_column}
-use Rattle.gatt_rights.proofs.Added.{all_added, one_added}
+use Rattle.policy_rights.proofs.Added.{all_added, one_added}
 use Rattle.rights_text.proofs.columns.add_kinds_of_columns.Goals as goal
 
 pub loop-column-preserved : goal.loop-column-preserved

@@ -1,6 +1,6 @@
 use Rattle.std.proofs.Common.{refl}
 use Rattle.rights_text.specs.Legend.{kind_lines}
-use Rattle.gatt_rights.proofs.Added.{all_added, one_added}
+use Rattle.policy_rights.proofs.Added.{all_added, one_added}
 use Rattle.rights_text.proofs.legend.add_all_kinds.Goals as goal
 
 pub loop-kind-preserved : goal.loop-kind-preserved

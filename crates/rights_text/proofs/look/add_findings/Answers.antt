@@ -1,6 +1,6 @@
 use Rattle.std.proofs.Common.{refl}
 use Rattle.rights_text.specs.Look.{finding_text}
-use Rattle.gatt_rights.proofs.Added.{all_added, one_added}
+use Rattle.policy_rights.proofs.Added.{all_added, one_added}
 use Rattle.rights_text.proofs.look.add_findings.Goals as goal
 
 pub loop-finding-preserved : goal.loop-finding-preserved

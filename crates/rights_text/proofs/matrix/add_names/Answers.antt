@@ -2,7 +2,7 @@ use Rattle.std.proofs.Common.{refl}
 use Rattle.std.proofs.Common.{[], ◌∷◌}
 use Rattle.text_words.specs.Cells.{right}
 use Rattle.rights_text.specs.declared.columns.Column.{Column}
-use Rattle.gatt_rights.proofs.Added.{all_added, one_added}
+use Rattle.policy_rights.proofs.Added.{all_added, one_added}
 use Rattle.rights_text.proofs.matrix.add_names.Goals as goal
 
 pub loop-column-preserved : goal.loop-column-preserved

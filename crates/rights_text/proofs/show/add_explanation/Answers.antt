@@ -1,9 +1,9 @@
 use Rattle.std.proofs.Common.{◌≡◌, ◌++◌, List, [], ◌∷◌, Option, ap, ◌∙◌}
 use Rattle.std.proofs.lemmas.Result.{on_ok_weaker}
 use Rattle.att_policy.specs.declared.standing.KeyFacts.{KeyFacts}
-use Rattle.gatt_rights.specs.declared.finding.Finding.{Finding}
-use Rattle.gatt_rights.specs.Columns.{columns_among}
-use Rattle.gatt_rights.specs.Findings.{findings_of}
+use Rattle.policy_rights.specs.declared.finding.Finding.{Finding}
+use Rattle.policy_rights.specs.Columns.{columns_among}
+use Rattle.policy_rights.specs.Findings.{findings_of}
 use Rattle.rights_text.specs.Columns.{named_kinds}
 use Rattle.rights_text.specs.Legend.{legend_text}
 use Rattle.rights_text.specs.Look.{look_text}

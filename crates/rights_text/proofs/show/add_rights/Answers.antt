@@ -1,7 +1,7 @@
 use Rattle.std.proofs.Common.{◌≡◌, List, Option, ap, subst, ◌∙◌}
 use Rattle.std.proofs.lemmas.Result.{on_ok_weaker}
 use Rattle.att_policy.specs.declared.standing.KeyFacts.{KeyFacts}
-use Rattle.gatt_rights.specs.Columns.{columns_among}
+use Rattle.policy_rights.specs.Columns.{columns_among}
 use Rattle.rights_text.specs.Columns.{matrix_columns}
 use Rattle.rights_text.specs.Layout.{HasLeastWidths}
 use Rattle.rights_text.specs.Matrix.{AddsBlocks}

@@ -1,7 +1,0 @@
-use Rattle.std.proofs.Common.{rules}
-use Rattle.expectations.proofs.Holding.{all_hold}
-use Rattle.expectations.proofs.difference.differences.Goals as goal
-
-pub returns-clause-holds : goal.returns-clause-holds
-returns-clause-holds c =
-    all_hold c.args.table.now c.args.expectations.now c.add_unnamed.new.differences.items (search rules)

@@ -1,0 +1,5 @@
+pub mod Compare
+pub mod Expect
+pub mod May
+pub mod MayWords
+pub mod Show
