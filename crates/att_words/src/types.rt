@@ -60,6 +60,6 @@ fn name_of_number(number: u16) -> Option<&'static str> {
         0x2801 => Some("Secondary Service"),
         0x2802 => Some("Include"),
         0x2803 => Some("Characteristic"),
-        _ => gatt_show::name_of(number),
+        _ => policy_words::name_of(number),
     }
 }

@@ -13,12 +13,12 @@ use Rattle.att_table.specs.Table.{Contents}
 use Rattle.le_hci.specs.declared.peer.Peer.{Peer}
 use Rattle.le_security.specs.declared.entry.Entry.{Entry}
 use Rattle.policy_rights.specs.Columns.{columns_among, peers_of_kind}
-use Rattle.gatt_show.specs.Line.{length_text, told_value}
-use Rattle.gatt_show.specs.TypeText.{type_text}
-use Rattle.rights_text.specs.Cell.{cell_text}
-use Rattle.rights_text.specs.Columns.{named_from}
-use Rattle.rights_text.specs.Legend.{key_text, peer_words}
-use Rattle.rights_text.specs.declared.columns.Column.{Column}
+use Rattle.policy_words.specs.Table.{length_text, told_value}
+use Rattle.policy_words.specs.TypeText.{type_text}
+use Rattle.policy_words.specs.Cell.{cell_text}
+use Rattle.policy_words.specs.Columns.{named_from}
+use Rattle.policy_words.specs.Legend.{key_text, peer_words}
+use Rattle.policy_words.specs.declared.columns.Column.{Column}
 
 -- A peer with a key of the kind of a column.
 unfoldable pub peer_data : Column → Peer → Octets

@@ -2,16 +2,18 @@
 
 ghost use Rattle.std.specs.Prelude.{◌≡◌, ◌++◌, ◌∷◌, IfOk, OnOk};
 ghost use Rattle.std.specs.List.{flat_map};
-ghost use Rattle.rights_text.specs.Cell.{always_of, cell_text, is_once, once_of};
+ghost use Rattle.policy_words.specs.Cell.{always_of, cell_text, is_once, once_of};
 ghost use Rattle.playground.specs.Fields.{cell_data, column_data, line_data, name_data, peer_data, rights_data, row_data, service_data};
 
 use att_policy::KeyFacts;
 use att_table::{Attr, Role, Table, is_service, type_octets};
-use gatt_show::{add_length, add_type, told_value};
 use le_hci::Peer;
 use le_security::Keys;
 use policy_rights::{Right, all_attributes, columns_of, may_with, peers_of_kind};
-use rights_text::{Column, Rights, add_key, add_peer_words, cell_of, named_columns};
+use policy_words::{
+    Column, Rights, add_key, add_length, add_peer_words, add_type, cell_of, named_columns,
+    told_value,
+};
 use std::alloc::{AllocError, Global};
 use text_words::{add_hex, add_number, add_octets};
 

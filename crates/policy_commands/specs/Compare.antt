@@ -4,8 +4,8 @@ use Rattle.std.specs.Io.KnownBytes.{Appends}
 use Rattle.att_table.specs.Table.{Contents}
 use Rattle.le_security.specs.declared.entry.Entry.{Entry}
 use Rattle.octet_io.specs.Number.{Octets}
-use Rattle.rights_compare.specs.Compared.{comparison_text}
-use Rattle.rights_compare.specs.Gains.{opens}
+use Rattle.policy_words.specs.compare.Compared.{comparison_text}
+use Rattle.policy_words.specs.compare.Gains.{opens}
 use Rattle.shell_files.specs.KeyFile.{keys_in}
 use Rattle.shell_files.specs.TableFile.{table_in}
 

@@ -11,8 +11,8 @@ use Rattle.policy_rights.specs.declared.rights.Right.{Right}
 use Rattle.shell_files.specs.Fault.{IsTableOrKeysFault}
 use Rattle.shell_files.specs.KeyFile.{keys_in}
 use Rattle.shell_files.specs.TableFile.{table_in}
-use Rattle.rights_may.specs.Answer.{answer_text, is_granted}
-use Rattle.rights_may.specs.declared.answer.Question.{Question}
+use Rattle.policy_words.specs.may.Answer.{answer_text, is_granted}
+use Rattle.policy_words.specs.declared.may.Question.{Question}
 use Rattle.policy_commands.specs.MayWords.{peer_named, right_of}
 use Rattle.policy_commands.specs.declared.may.MayFault.{MayFault}
 use Rattle.policy_commands.specs.declared.may.MayFault.TheVariants.{File, Word}

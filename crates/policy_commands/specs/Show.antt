@@ -2,10 +2,10 @@
 use Rattle.std.specs.Prelude.{◌≡◌, ◌++◌, List, [], Option, Some, None, Ok, IfSome}
 use Rattle.std.specs.Io.KnownBytes.{Appends}
 use Rattle.att_table.specs.Table.{Contents}
-use Rattle.gatt_show.specs.Line.{shown_table}
+use Rattle.policy_words.specs.Table.{shown_table}
 use Rattle.le_security.specs.declared.entry.Entry.{Entry}
 use Rattle.octet_io.specs.Number.{Octets}
-use Rattle.rights_text.specs.Shown.{ShowsRights}
+use Rattle.policy_words.specs.matrix.Shown.{ShowsRights}
 use Rattle.shell_files.specs.declared.fault.ShellFault.{ShellFault}
 use Rattle.shell_files.specs.declared.fault.ShellFault.TheVariants.{Table, Keys, Rows, Unreadable, Unwritten, Memory}
 use Rattle.shell_files.specs.KeyFile.{keys_in}

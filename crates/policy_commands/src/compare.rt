@@ -3,8 +3,8 @@
 ghost use Rattle.std.specs.Prelude.{◌≡◌, ◌≢◌, ◌⊎◌, [], IfErr, IfOk, IfSome, IsOk};
 ghost use Rattle.std.specs.Io.KnownBytes.{Appends, Keeps};
 ghost use Rattle.std.specs.Option.{option_map};
-ghost use Rattle.rights_compare.specs.Compared.{comparison_text};
-ghost use Rattle.rights_compare.specs.Gains.{opens};
+ghost use Rattle.policy_words.specs.compare.Compared.{comparison_text};
+ghost use Rattle.policy_words.specs.compare.Gains.{opens};
 ghost use Rattle.shell_files.specs.KeyFile.{keys_in, IsKeyFileFault};
 ghost use Rattle.shell_files.specs.TableFile.{table_in, IsTableFileFault};
 ghost use Rattle.policy_commands.specs.Compare.{AreCompared, HasComparedKeys, HasNewKeys};
@@ -12,7 +12,7 @@ ghost use Rattle.shell_files.specs.Fault.{IsTableOrKeysFault};
 
 use att_table::Table;
 use le_security::Keys;
-use rights_compare::{add_comparison, opens};
+use policy_words::{add_comparison, opens};
 use shell_files::{
     KeysPath, LazyFile, ShellFault, TablePath, judged_keys, print, read_key_file_at, read_table_at,
 };

@@ -11,7 +11,7 @@ ghost use Rattle.shell_files.specs.declared.fault.ShellFault.TheVariants.{Memory
 use crate::may_words::{Wrong, read_peer, read_right};
 use att_table::Table;
 use le_security::Keys;
-use rights_may::{Question, add_answer};
+use policy_words::{Question, add_answer};
 use shell_files::{
     KeysPath, LazyFile, ShellFault, TablePath, print, read_key_file_at, read_table_at,
 };

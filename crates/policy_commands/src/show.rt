@@ -114,8 +114,8 @@ fn add_view(
     ensures ok { OnOk result (IsShown view table.now keys.now text.old.items text.new.items) }
 {
     match view {
-        View::Attributes => gatt_show::add_table(alloc, text, table),
-        View::Rights(width) => rights_text::add_rights(alloc, text, table, keys, width),
+        View::Attributes => policy_words::add_table(alloc, text, table),
+        View::Rights(width) => policy_words::add_matrix(alloc, text, table, keys, width),
     }
 }
 

@@ -7,8 +7,8 @@ use Rattle.att_policy.specs.declared.standing.KeyFacts.{KeyFacts}
 use Rattle.att_attributes.specs.declared.attr.Attr.{Attr}
 use Rattle.policy_rights.specs.Columns.{same_column}
 use Rattle.policy_rights.specs.Held.{may_with}
-use Rattle.rights_text.specs.Kinds.{kinds_text}
-use Rattle.rights_text.specs.Legend.{words_if}
+use Rattle.policy_words.specs.Kinds.{kinds_text}
+use Rattle.policy_words.specs.Legend.{words_if}
 use Rattle.policy_expectations.specs.declared.difference.Differing.{Differing}
 use Rattle.policy_expectations.specs.declared.lines.Side.{Side}
 use Rattle.policy_expectations.specs.Differences.{differs}

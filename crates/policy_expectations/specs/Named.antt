@@ -12,7 +12,7 @@ use Rattle.att_attributes.specs.Attributes.{attribute_at, attributes_in, is_valu
 use Rattle.att_attributes.specs.Group.{group_end_at}
 use Rattle.att_table.specs.Changer.{last_service}
 use Rattle.att_table.specs.Table.{Contents}
-use Rattle.gatt_show.specs.Line.{told_value}
+use Rattle.policy_words.specs.Table.{told_value}
 use Rattle.policy_expectations.specs.declared.expectation.Expectation.{Expectation}
 
 abbrev pub attribute_if : Bool → Attr → List Attr

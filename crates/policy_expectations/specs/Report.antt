@@ -10,7 +10,7 @@ use Rattle.att_attributes.specs.declared.attr.Attr.{Attr}
 use Rattle.le_security.specs.declared.entry.Entry.{Entry}
 use Rattle.policy_rights.specs.Columns.{columns_among}
 use Rattle.policy_rights.specs.Kinds.{every_kind}
-use Rattle.gatt_show.specs.TypeText.{type_text}
+use Rattle.policy_words.specs.TypeText.{type_text}
 use Rattle.policy_expectations.specs.declared.difference.Difference.{Difference}
 use Rattle.policy_expectations.specs.declared.difference.Difference.TheVariants.{Use, Unnamed, NamesNothing}
 use Rattle.policy_expectations.specs.Lines.{differing_text}

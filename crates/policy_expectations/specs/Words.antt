@@ -7,8 +7,8 @@ use Rattle.att_numbers.specs.Types.{AttributeType, Handle}
 use Rattle.att_policy.specs.declared.guard.Need.{Need}
 use Rattle.policy_rights.specs.declared.rights.Right.{Right}
 use Rattle.text_words.specs.Cells.{right}
-use Rattle.gatt_show.specs.TypeText.{type_text}
-use Rattle.rights_text.specs.Legend.{words_if}
+use Rattle.policy_words.specs.TypeText.{type_text}
+use Rattle.policy_words.specs.Legend.{words_if}
 
 abbrev pub verdict_words : Bool → Octets
 verdict_words true = codes " may, but should not: "

@@ -9,7 +9,7 @@ use crate::words::{add_attribute, add_if, add_meant, add_right, add_verdict};
 use att_policy::KeyFacts;
 use att_table::Table;
 use policy_rights::{has_column, may_with};
-use rights_text::add_kinds;
+use policy_words::add_kinds;
 use std::alloc::{AllocError, Global};
 use text_words::add_octets;
 

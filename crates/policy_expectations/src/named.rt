@@ -8,8 +8,8 @@ ghost use Rattle.policy_expectations.specs.Named.{attribute_if, descriptors_of, 
 
 use crate::expectation::Expectation;
 use att_table::{Attr, Role, Table, is_service, type_octets};
-use gatt_show::told_value;
 use policy_rights::all_attributes;
+use policy_words::told_value;
 use std::alloc::{AllocError, Global};
 
 /// Adds the attributes that an expectation names, in order of handles.

@@ -11,9 +11,9 @@ use crate::lines::add_differing;
 use crate::words::add_attribute;
 use att_policy::KeyFacts;
 use att_table::{Table, type_octets};
-use gatt_show::add_type;
 use le_security::Keys;
 use policy_rights::{columns_of, every_kind};
+use policy_words::add_type;
 use std::alloc::{AllocError, Global};
 use text_words::{add_number, add_octets};
 

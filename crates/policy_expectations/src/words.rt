@@ -1,13 +1,13 @@
 //! The words of a difference: the attribute, the right, the verdict, and what is meant.
 
 ghost use Rattle.std.specs.Prelude.{◌≡◌, ◌++◌, OnOk};
-ghost use Rattle.rights_text.specs.Legend.{words_if};
+ghost use Rattle.policy_words.specs.Legend.{words_if};
 ghost use Rattle.policy_expectations.specs.Words.{attribute_name, meant_text, need_parts, parts_text, right_word, size_part, verdict_words};
 
 use att_policy::Need;
 use att_table::type_octets;
-use gatt_show::add_type;
 use policy_rights::Right;
+use policy_words::add_type;
 use std::alloc::{AllocError, Global};
 use text_words::{add_number, add_octets, add_right_number};
 

@@ -1,6 +1,6 @@
 use Rattle.std.proofs.lemmas.Result.{on_ok_weaker}
 use Rattle.policy_expectations.specs.Report.{unnamed_text}
-use Rattle.rights_text.proofs.Added.{joined}
+use Rattle.policy_words.proofs.Added.{joined}
 use Rattle.policy_expectations.proofs.report.add_unnamed.Goals as goal
 
 pub returns : goal.returns

@@ -1,6 +1,6 @@
 use Rattle.std.proofs.lemmas.Result.{on_ok_weaker}
 use Rattle.policy_expectations.specs.Words.{need_parts}
-use Rattle.rights_text.proofs.Added.{joined}
+use Rattle.policy_words.proofs.Added.{joined}
 use Rattle.policy_expectations.proofs.words.add_parts.Goals as goal
 
 pub returns : goal.returns

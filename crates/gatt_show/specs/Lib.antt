@@ -1,4 +1,0 @@
-pub mod Line
-pub mod Names
-pub mod Rights
-pub mod TypeText

@@ -1,0 +1,11 @@
+pub mod TypeNames
+pub mod TypeText
+pub mod Uses
+pub mod Table
+pub mod Cell
+pub mod Columns
+pub mod Kinds
+pub mod Legend
+pub mod matrix
+pub mod may
+pub mod compare

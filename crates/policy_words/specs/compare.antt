@@ -1,0 +1,7 @@
+pub mod Pairing
+pub mod Before
+pub mod Gains
+pub mod Lines
+pub mod Changed
+pub mod Compared
+pub mod Laws

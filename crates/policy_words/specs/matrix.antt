@@ -1,0 +1,5 @@
+pub mod Layout
+pub mod Rows
+pub mod Look
+pub mod Shown
+pub mod Shared

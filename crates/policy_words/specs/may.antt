@@ -1,0 +1,4 @@
+pub mod Verdict
+pub mod Links
+pub mod Reason
+pub mod Answer

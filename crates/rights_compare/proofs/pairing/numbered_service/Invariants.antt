@@ -1,9 +1,0 @@
-use Rattle.std.proofs.Common.{◌≡◌, drop}
-use Rattle.std.specs.Prelude.{filter, slice_get}
-use Rattle.rights_compare.specs.Pairing.{is_service_of}
-use Rattle.rights_compare.proofs.pairing.numbered_service.Given as goal
-
--- those that are left are counted on
-abbrev pub invariant-loop-attr : goal.invariant-loop-attr
-invariant-loop-attr l =
-    slice_get (filter (is_service_of l.table l.uuid) (drop l.attr-index l.attributes)) l.left ≡ slice_get (filter (is_service_of l.table l.uuid) l.attributes) l.fn.number

@@ -1,9 +1,0 @@
-use Rattle.std.proofs.Common.{ap, ◌∙◌}
-use Rattle.rights_may.specs.Verdict.{is_yes}
-use Rattle.rights_may.proofs.Law.{yes_exactly}
-use Rattle.rights_may.proofs.verdict.verdict_of.Goals as goal
-
-pub returns-clause-law : goal.returns-clause-law
-returns-clause-law c =
-    ap is_yes c.of_use.ensures
-    ∙ yes_exactly c.args.table.now.attributes c.args.standing.now c.args.handle c.args.right

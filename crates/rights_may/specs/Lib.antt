@@ -1,4 +1,0 @@
-pub mod Answer
-pub mod Links
-pub mod Reason
-pub mod Verdict

@@ -1,9 +1,0 @@
-pub mod Cell
-pub mod Columns
-pub mod Kinds
-pub mod Layout
-pub mod Legend
-pub mod Look
-pub mod Matrix
-pub mod Shared
-pub mod Shown
