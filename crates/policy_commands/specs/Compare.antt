@@ -8,11 +8,7 @@ use Rattle.policy_words.specs.compare.Compared.{comparison_text}
 use Rattle.policy_words.specs.compare.Gains.{opens}
 use Rattle.shell_files.specs.KeyFile.{keys_in}
 use Rattle.shell_files.specs.TableFile.{table_in}
-
--- The keys are those of the key file, if it is known; without one, of an empty file.
-abbrev pub HasComparedKeys : Option (Option Octets) → List Entry → Type 0
-HasComparedKeys None keys = keys_in [] ≡ Ok keys
-HasComparedKeys (Some key_file) keys = IfSome key_file (λ octets. keys_in octets ≡ Ok keys)
+use Rattle.policy_commands.specs.Keys.{HasKeys}
 
 -- The new keys are those of the new key file, if it is known; without one, the keys stay.
 abbrev pub HasNewKeys : Option (Option Octets) → List Entry → List Entry → Type 0
@@ -29,7 +25,7 @@ pub record AreCompared (old_file new_file : Option Octets)
   pub new : Contents
   pub has_new : IfSome new_file (λ octets. table_in octets ≡ Ok new)
   pub keys : List Entry
-  pub has_keys : HasComparedKeys key_file keys
+  pub has_keys : HasKeys key_file keys
   pub new_keys : List Entry
   pub has_new_keys : HasNewKeys new_key_file keys new_keys
   pub opened : is_opened ≡ opens new new_keys old keys

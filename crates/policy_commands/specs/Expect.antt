@@ -10,17 +10,12 @@ use Rattle.policy_expectations.specs.declared.difference.Difference.{Difference}
 use Rattle.policy_expectations.specs.declared.expectation.Expectation.{Expectation}
 use Rattle.le_security.specs.declared.entry.Entry.{Entry}
 use Rattle.octet_io.specs.Number.{Octets}
-use Rattle.shell_files.specs.KeyFile.{keys_in}
 use Rattle.shell_files.specs.TableFile.{table_in}
+use Rattle.policy_commands.specs.Keys.{HasKeys}
 
 abbrev pub is_none_of : List Difference → Bool
 is_none_of [] = true
 is_none_of (difference ∷ differences) = false
-
--- The keys are those of the key file, if it is known; without one, of an empty file.
-abbrev pub HasExpectedKeys : Option (Option Octets) → List Entry → Type 0
-HasExpectedKeys None keys = keys_in [] ≡ Ok keys
-HasExpectedKeys (Some key_file) keys = IfSome key_file (λ octets. keys_in octets ≡ Ok keys)
 
 -- The files, if they are known, are accepted. The differences of the table from the expectations
 -- are printed, and the result is true if there are none. It does not depend on the keys, which only
@@ -31,7 +26,7 @@ pub record IsCompared (holds : Bool) (table_file : Option Octets)
   pub table : Contents
   pub has_table : IfSome table_file (λ octets. table_in octets ≡ Ok table)
   pub keys : List Entry
-  pub has_keys : HasExpectedKeys key_file keys
+  pub has_keys : HasKeys key_file keys
   pub expectations : List Expectation
   pub has_expectations : IfSome expectations_file
       (λ octets. expectations_in octets ≡ Ok expectations)

@@ -1,5 +1,6 @@
+pub mod Keys
+pub mod Show
+pub mod MayWords
+pub mod May
 pub mod Compare
 pub mod Expect
-pub mod May
-pub mod MayWords
-pub mod Show

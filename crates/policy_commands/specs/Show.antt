@@ -8,15 +8,10 @@ use Rattle.octet_io.specs.Number.{Octets}
 use Rattle.policy_words.specs.matrix.Shown.{ShowsRights}
 use Rattle.shell_files.specs.declared.fault.ShellFault.{ShellFault}
 use Rattle.shell_files.specs.declared.fault.ShellFault.TheVariants.{Table, Keys, Rows, Unreadable, Unwritten, Memory}
-use Rattle.shell_files.specs.KeyFile.{keys_in}
 use Rattle.shell_files.specs.TableFile.{table_in}
+use Rattle.policy_commands.specs.Keys.{HasKeys}
 use Rattle.policy_commands.specs.declared.show.View.{View}
 use Rattle.policy_commands.specs.declared.show.View.TheVariants.{Rights, Attributes}
-
--- The keys are those of the key file, if it is known; without one, of an empty file.
-abbrev pub HasShownKeys : Option (Option Octets) → List Entry → Type 0
-HasShownKeys None keys = keys_in [] ≡ Ok keys
-HasShownKeys (Some key_file) keys = IfSome key_file (λ octets. keys_in octets ≡ Ok keys)
 
 -- A view of a table is added to a text.
 abbrev pub IsShown : View → Contents → List Entry → Octets → Octets → Type 0
@@ -29,7 +24,7 @@ pub record AreShown (view : View) (table_file : Option Octets)
   pub table : Contents
   pub has_table : IfSome table_file (λ octets. table_in octets ≡ Ok table)
   pub keys : List Entry
-  pub has_keys : HasShownKeys key_file keys
+  pub has_keys : HasKeys key_file keys
   pub text : Octets
   pub shown : IsShown view table keys [] text
   pub printed : Appends held holds text

@@ -7,9 +7,11 @@ ghost use Rattle.policy_words.specs.compare.Compared.{comparison_text};
 ghost use Rattle.policy_words.specs.compare.Gains.{opens};
 ghost use Rattle.shell_files.specs.KeyFile.{keys_in, IsKeyFileFault};
 ghost use Rattle.shell_files.specs.TableFile.{table_in, IsTableFileFault};
-ghost use Rattle.policy_commands.specs.Compare.{AreCompared, HasComparedKeys, HasNewKeys};
+ghost use Rattle.policy_commands.specs.Compare.{AreCompared, HasNewKeys};
+ghost use Rattle.policy_commands.specs.Keys.{HasKeys};
 ghost use Rattle.shell_files.specs.Fault.{IsTableOrKeysFault};
 
+use crate::keys::key_file;
 use att_table::Table;
 use le_security::Keys;
 use policy_words::{add_comparison, opens};
@@ -105,7 +107,7 @@ fn keys_before<K: Read>(
     keys: &mut Option<K>,
     place: &mut Vec<u8>,
 ) -> Result<Keys, ShellFault>
-    ensures keys { IfOk result (λ read. HasComparedKeys (option_map K.remaining keys.old) read) }
+    ensures keys { IfOk result (λ read. HasKeys (option_map K.remaining keys.old) read) }
     ensures faults { IfErr result IsKeyFileFault }
 {
     match keys {
@@ -206,8 +208,4 @@ fn name_of(path: Option<KeysPath<'_>>) -> &str {
         Some(KeysPath(path)) => path,
         None => "",
     }
-}
-
-fn key_file<'a, F: Files>(files: &'a F, path: Option<KeysPath<'a>>) -> Option<LazyFile<'a, F>> {
-    Some(LazyFile::new(files, path?.0))
 }

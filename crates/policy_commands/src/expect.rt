@@ -1,6 +1,6 @@
 //! The files of `expect`, checked one after the other, and the text printed for them.
 
-ghost use Rattle.std.specs.Prelude.{◌≡◌, ◌≢◌, ◌↔◌, ◌++◌, true, length, IfErr, IfOk, IfSome, IsOk, is_some};
+ghost use Rattle.std.specs.Prelude.{◌≡◌, ◌≢◌, ◌↔◌, ◌++◌, true, length, IfErr, IfOk, IfSome, IsOk};
 ghost use Rattle.std.specs.Io.KnownBytes.{Keeps};
 ghost use Rattle.std.specs.Option.{option_map};
 ghost use Rattle.policy_expectations.specs.Differences.{differences_of};
@@ -8,17 +8,17 @@ ghost use Rattle.policy_expectations.specs.File.{expectations_in};
 ghost use Rattle.policy_expectations.specs.Holding.{AllHold};
 ghost use Rattle.policy_expectations.specs.Report.{report_text};
 ghost use Rattle.shell_files.specs.declared.fault.ShellFault.TheVariants.{Memory};
-ghost use Rattle.policy_commands.specs.Expect.{HasExpectedKeys, IsCompared, is_none_of};
+ghost use Rattle.policy_commands.specs.Expect.{IsCompared, is_none_of};
 ghost use Rattle.policy_commands.specs.declared.expect.ExpectFault.TheVariants.{Shell};
 
+use crate::keys::{key_file, read_keys_at};
 use att_table::Table;
 use le_security::Keys;
 use policy_expectations::{
     Difference, Expectation, Refusal, add_report, differences, read_expectations,
 };
 use shell_files::{
-    KeysPath, LazyFile, ShellFault, TOML_OCTETS, TablePath, judged_keys, print, read_all,
-    read_key_file_at, read_table_at,
+    KeysPath, LazyFile, ShellFault, TOML_OCTETS, TablePath, print, read_all, read_table_at,
 };
 use std::alloc::{AllocError, Global};
 use std::fs::Files;
@@ -81,21 +81,6 @@ pub fn expect_files<T: Read, K: Read, E: Read, W: Write>(
     let holds = add_comparison(alloc, &mut text, &table, &keys, &expectations)?;
     print(text.as_slice(), writer)?;
     Ok(holds)
-}
-
-/// Reads the keys of a key file, or those of an empty one.
-fn read_keys_at<K: Read>(
-    alloc: Global,
-    keys: &mut Option<K>,
-    place: &mut Vec<u8>,
-) -> Result<Keys, ShellFault>
-    ensures keys { IfOk result (λ read. HasExpectedKeys (option_map K.remaining keys.old) read) }
-    ensures place { IsOk result → place.new ≡ place.old }
-{
-    match keys {
-        Some(reader) => read_key_file_at(alloc, reader, place),
-        None => judged_keys(alloc, b""),
-    }
 }
 
 /// Adds the differences. Returns true if there are none.
@@ -189,10 +174,4 @@ pub fn expect_paths<F: Files, W: Write>(
         writer,
         place,
     )
-}
-
-fn key_file<'a, F: Files>(files: &'a F, path: Option<KeysPath<'a>>) -> Option<LazyFile<'a, F>>
-    ensures { is_some result ≡ is_some path.entry }
-{
-    Some(LazyFile::new(files, path?.0))
 }

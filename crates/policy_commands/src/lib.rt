@@ -3,6 +3,7 @@
 
 mod compare;
 mod expect;
+mod keys;
 mod may;
 mod may_words;
 mod show;

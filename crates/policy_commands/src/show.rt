@@ -1,19 +1,20 @@
 //! The files of `show`, checked one after the other, and the text printed for them.
 
-ghost use Rattle.std.specs.Prelude.{◌≡◌, ◌≢◌, ℕ, IfErr, IfOk, IfSome, IsOk, OnOk, is_some};
+ghost use Rattle.std.specs.Prelude.{◌≡◌, ◌≢◌, ℕ, IfErr, IfOk, IfSome, IsOk, OnOk};
 ghost use Rattle.std.specs.Io.KnownBytes.{Keeps};
 ghost use Rattle.std.specs.Option.{option_map};
-ghost use Rattle.shell_files.specs.KeyFile.{keys_out_of_memory, keys_in, KeysAreRefusedAs, IsKeyFileFault};
+ghost use Rattle.shell_files.specs.KeyFile.{keys_out_of_memory, keys_in, KeysAreRefusedAs};
 ghost use Rattle.shell_files.specs.RowsFile.{rows_out_of_memory, rows_in, RowsAreRefusedAs};
-ghost use Rattle.policy_commands.specs.Show.{AreShown, HasShownKeys, IsShowFault, IsShown};
+ghost use Rattle.policy_commands.specs.Show.{AreShown, IsShowFault, IsShown};
 ghost use Rattle.shell_files.specs.TableFile.{table_out_of_memory, table_in, TableIsRefusedAs};
 ghost use Rattle.shell_files.specs.Turns.{IsPast, OfKeys, OfRows, OfTable};
 
+use crate::keys::{key_file, read_keys_at};
 use att_table::Table;
 use le_security::Keys;
 use shell_files::{
-    KeysPath, LazyFile, RowsPath, RowsReader, ShellFault, TablePath, judge_rows_at, judged_keys,
-    print, read_key_file_at, read_table_at,
+    KeysPath, LazyFile, RowsPath, RowsReader, ShellFault, TablePath, judge_rows_at, print,
+    read_table_at,
 };
 use std::alloc::{AllocError, Global};
 use std::fs::Files;
@@ -83,26 +84,6 @@ pub fn show_files<T: Read, K: Read, R: Read, W: Write>(
     print(text.as_slice(), writer)
 }
 
-/// Reads the keys of a key file, or those of an empty one.
-fn read_keys_at<K: Read>(
-    alloc: Global,
-    keys: &mut Option<K>,
-    place: &mut Vec<u8>,
-) -> Result<Keys, ShellFault>
-    ensures keys { IfOk result (λ read. HasShownKeys (option_map K.remaining keys.old) read) }
-    ensures refused { (number : ℕ) → result ≡ Err (ShellFault.Keys number)
-        → number ≢ keys_out_of_memory
-        → IfSome keys.old (λ file. IfSome (K.remaining file)
-        (λ octets. KeysAreRefusedAs number (keys_in octets))) }
-    ensures place { IsOk result → place.new ≡ place.old }
-    ensures faults { IfErr result IsKeyFileFault }
-{
-    match keys {
-        Some(reader) => read_key_file_at(alloc, reader, place),
-        None => judged_keys(alloc, b""),
-    }
-}
-
 /// Adds the rights of a table, or the list of its attributes.
 fn add_view(
     alloc: Global,
@@ -145,10 +126,4 @@ pub fn show_paths<F: Files, W: Write>(
     let mut keys = key_file(files, paths.keys);
     let mut rows = RowsReader::new(files, paths.rows);
     show_files(alloc, &mut table, &mut keys, &mut rows, view, writer, place)
-}
-
-fn key_file<'a, F: Files>(files: &'a F, path: Option<KeysPath<'a>>) -> Option<LazyFile<'a, F>>
-    ensures { is_some result ≡ is_some path.entry }
-{
-    Some(LazyFile::new(files, path?.0))
 }

@@ -9,10 +9,11 @@ use Rattle.policy_rights.specs.Columns.{same_column}
 use Rattle.policy_rights.specs.Held.{may_with}
 use Rattle.policy_words.specs.Kinds.{kinds_text}
 use Rattle.policy_words.specs.Legend.{words_if}
+use Rattle.policy_words.specs.TypeText.{handle_and_type}
 use Rattle.policy_expectations.specs.declared.difference.Differing.{Differing}
 use Rattle.policy_expectations.specs.declared.lines.Side.{Side}
 use Rattle.policy_expectations.specs.Differences.{differs}
-use Rattle.policy_expectations.specs.Words.{attribute_name, meant_text, right_word, verdict_words}
+use Rattle.policy_expectations.specs.Words.{meant_text, right_word, verdict_words}
 
 -- A link with this key differs if it is authorized or not, as the side says.
 abbrev pub differs_so : List Attr → Differing → Bool → Option KeyFacts → Bool
@@ -51,7 +52,7 @@ today_text columns kinds =
 unfoldable pub side_words : List (Option KeyFacts) → Differing → Side → List (Option KeyFacts)
     → Octets
 side_words columns found side kinds =
-    attribute_name found.handle found.kind ++ right_word found.right ++ kinds_text kinds
+    handle_and_type found.handle found.kind ++ right_word found.right ++ kinds_text kinds
     ++ today_text columns kinds
     ++ words_if side.is_authorized (codes ", once authorized,")
     ++ verdict_words side.is_permitted ++ meant_text found.meant ++ codes " is meant" ++ 10 ∷ []

@@ -10,15 +10,14 @@ use Rattle.att_attributes.specs.declared.attr.Attr.{Attr}
 use Rattle.le_security.specs.declared.entry.Entry.{Entry}
 use Rattle.policy_rights.specs.Columns.{columns_among}
 use Rattle.policy_rights.specs.Kinds.{every_kind}
-use Rattle.policy_words.specs.TypeText.{type_text}
+use Rattle.policy_words.specs.TypeText.{handle_and_type, type_text}
 use Rattle.policy_expectations.specs.declared.difference.Difference.{Difference}
 use Rattle.policy_expectations.specs.declared.difference.Difference.TheVariants.{Use, Unnamed, NamesNothing}
 use Rattle.policy_expectations.specs.Lines.{differing_text}
-use Rattle.policy_expectations.specs.Words.{attribute_name}
 
 unfoldable pub unnamed_text : Handle → AttributeType → Octets
 unnamed_text handle kind =
-    attribute_name handle kind ++ codes ": it can be used, but no expectation names it"
+    handle_and_type handle kind ++ codes ": it can be used, but no expectation names it"
 
 unfoldable pub names_nothing_text : ℕ → AttributeType → Octets
 names_nothing_text place kind =

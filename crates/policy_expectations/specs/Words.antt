@@ -2,12 +2,8 @@
 use Rattle.std.specs.Prelude.{ℕ, Bool, true, false, [], ◌∷◌, ◌++◌, codes, Option, Some, None}
 use Rattle.std.specs.Fmt.{decimal}
 use Rattle.octet_io.specs.Number.{Octets}
-use Rattle.att_numbers.specs.AttributeType.{type_octets}
-use Rattle.att_numbers.specs.Types.{AttributeType, Handle}
 use Rattle.att_policy.specs.declared.guard.Need.{Need}
 use Rattle.policy_rights.specs.declared.rights.Right.{Right}
-use Rattle.text_words.specs.Cells.{right}
-use Rattle.policy_words.specs.TypeText.{type_text}
 use Rattle.policy_words.specs.Legend.{words_if}
 
 abbrev pub verdict_words : Bool → Octets
@@ -43,7 +39,3 @@ right_word Right.Command = codes " command: "
 right_word Right.Notify = codes " notify: "
 right_word Right.Indicate = codes " indicate: "
 right_word Right.Subscribe = codes " subscribe: "
-
--- An attribute, by its handle and its type.
-abbrev pub attribute_name : Handle → AttributeType → Octets
-attribute_name handle kind = right 5 (decimal handle) ++ codes "  " ++ type_text (type_octets kind)

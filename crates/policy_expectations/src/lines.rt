@@ -5,11 +5,11 @@ ghost use Rattle.std.specs.List.{filter};
 ghost use Rattle.policy_expectations.specs.Lines.{differing_text, differs_so, is_on_side, is_today, kind_if, kinds_on, named_today, side_line, side_of, side_text, side_words, today_text};
 
 use crate::difference::{Differing, differs};
-use crate::words::{add_attribute, add_if, add_meant, add_right, add_verdict};
+use crate::words::{add_meant, add_right, add_verdict};
 use att_policy::KeyFacts;
 use att_table::Table;
 use policy_rights::{has_column, may_with};
-use policy_words::add_kinds;
+use policy_words::{add_handle_and_type, add_if, add_kinds};
 use std::alloc::{AllocError, Global};
 use text_words::add_octets;
 
@@ -180,7 +180,7 @@ fn add_words(
     ensures ok { OnOk result (text.new.items
         ≡ text.old.items ++ side_words columns.now found side kinds.now) }
 {
-    add_attribute(text, found.handle, found.kind)?;
+    add_handle_and_type(text, found.handle, found.kind)?;
     add_right(text, found.right)?;
     add_kinds(text, kinds)?;
     add_today(alloc, text, columns, kinds)?;

@@ -8,12 +8,11 @@ ghost use Rattle.policy_expectations.specs.Report.{all_hold_text, difference_tex
 
 use crate::difference::Difference;
 use crate::lines::add_differing;
-use crate::words::add_attribute;
 use att_policy::KeyFacts;
 use att_table::{Table, type_octets};
 use le_security::Keys;
 use policy_rights::{columns_of, every_kind};
-use policy_words::add_type;
+use policy_words::{add_handle_and_type, add_type};
 use std::alloc::{AllocError, Global};
 use text_words::{add_number, add_octets};
 
@@ -137,7 +136,7 @@ fn add_difference(
 fn add_unnamed(text: &mut Vec<u8>, handle: u16, kind: u128) -> Result<(), AllocError>
     ensures ok { OnOk result (text.new.items ≡ text.old.items ++ unnamed_text handle kind) }
 {
-    add_attribute(text, handle, kind)?;
+    add_handle_and_type(text, handle, kind)?;
     add_octets(text, b": it can be used, but no expectation names it")
 }
 

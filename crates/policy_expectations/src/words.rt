@@ -1,24 +1,13 @@
 //! The words of a difference: the attribute, the right, the verdict, and what is meant.
 
 ghost use Rattle.std.specs.Prelude.{◌≡◌, ◌++◌, OnOk};
-ghost use Rattle.policy_words.specs.Legend.{words_if};
-ghost use Rattle.policy_expectations.specs.Words.{attribute_name, meant_text, need_parts, parts_text, right_word, size_part, verdict_words};
+ghost use Rattle.policy_expectations.specs.Words.{meant_text, need_parts, parts_text, right_word, size_part, verdict_words};
 
 use att_policy::Need;
-use att_table::type_octets;
 use policy_rights::Right;
-use policy_words::add_type;
+use policy_words::add_if;
 use std::alloc::{AllocError, Global};
-use text_words::{add_number, add_octets, add_right_number};
-
-/// Adds the handle and the type of an attribute.
-pub(crate) fn add_attribute(text: &mut Vec<u8>, handle: u16, kind: u128) -> Result<(), AllocError>
-    ensures ok { OnOk result (text.new.items ≡ text.old.items ++ attribute_name handle kind) }
-{
-    add_right_number(text, u64::from(handle), 5)?;
-    add_octets(text, b"  ")?;
-    add_type(text, type_octets(kind).as_slice())
-}
+use text_words::{add_number, add_octets};
 
 /// Adds the word of a right.
 pub(crate) fn add_right(text: &mut Vec<u8>, right: Right) -> Result<(), AllocError>
@@ -108,16 +97,5 @@ fn add_size(text: &mut Vec<u8>, size: Option<u8>) -> Result<(), AllocError>
             add_number(text, u64::from(size))
         }
         None => Ok(()),
-    }
-}
-
-/// Adds words if a condition holds.
-pub(crate) fn add_if(text: &mut Vec<u8>, holds: bool, words: &[u8]) -> Result<(), AllocError>
-    ensures ok { OnOk result (text.new.items ≡ text.old.items ++ words_if holds words.now) }
-{
-    if holds {
-        add_octets(text, words)
-    } else {
-        Ok(())
     }
 }

@@ -18,7 +18,8 @@ use Rattle.att_attributes.specs.declared.attr.Attr.{Attr}
 use Rattle.att_attributes.specs.Attributes.{attribute_at, configuration_bits_at, guard_at, is_configuration_at, is_value}
 use Rattle.gatt_subs.specs.Hearing.{bits_for}
 use Rattle.policy_rights.specs.declared.rights.Right.{Right}
-use Rattle.policy_rights.specs.declared.rights.TheConstants.{NOTIFICATION, INDICATION}
+use Rattle.att_policy.specs.declared.guard.TheConstants.{INDICATION}
+use Rattle.policy_rights.specs.declared.rights.TheConstants.{NOTIFICATION}
 use Rattle.policy_rights.specs.Laws.{DependsOnKeyAndTime, SendsByRights, asks_for, is_authorized_now}
 use Rattle.policy_rights.specs.Rights.{is_sent, is_sent_of, standing_with_key, subscribes_of}
 use Rattle.policy_rights.proofs.Subscribing.{sent, tested}

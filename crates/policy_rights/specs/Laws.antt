@@ -8,7 +8,8 @@ use Rattle.att_policy.specs.declared.standing.Standing.{Standing}
 use Rattle.att_attributes.specs.declared.attr.Attr.{Attr}
 use Rattle.gatt_subs.specs.Hearing.{bits_for, may_hear_at}
 use Rattle.policy_rights.specs.declared.rights.Right.{Right}
-use Rattle.policy_rights.specs.declared.rights.TheConstants.{NOTIFICATION, INDICATION}
+use Rattle.att_policy.specs.declared.guard.TheConstants.{INDICATION}
+use Rattle.policy_rights.specs.declared.rights.TheConstants.{NOTIFICATION}
 use Rattle.policy_rights.specs.Columns.{same_column}
 use Rattle.policy_rights.specs.Held.{may_with}
 use Rattle.policy_rights.specs.Kinds.{every_kind}

@@ -14,7 +14,8 @@ use Rattle.att_writes.specs.Entry.{whole_value}
 use Rattle.gatt_subs.specs.Hearing.{bits_for, may_hear_at}
 use Rattle.policy_rights.specs.Needs.{is_notified_or_indicated}
 use Rattle.policy_rights.specs.declared.rights.Right.{Right}
-use Rattle.policy_rights.specs.declared.rights.TheConstants.{NOTIFICATION, INDICATION}
+use Rattle.att_policy.specs.declared.guard.TheConstants.{INDICATION}
+use Rattle.policy_rights.specs.declared.rights.TheConstants.{NOTIFICATION}
 
 -- The standing with such a key or none, authorized or not.
 abbrev pub standing_with_key : Option KeyFacts → Bool → Standing

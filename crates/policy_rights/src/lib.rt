@@ -13,4 +13,4 @@ pub use finding::{Finding, findings, is_private};
 pub use held::{has_equal_rights, is_used, kinds_that_differ, may_use, may_with};
 pub use kinds::every_kind;
 pub use needs::{is_heard, is_notified_or_indicated, is_written};
-pub use rights::{Right, all_attributes, may, standing_of};
+pub use rights::{NOTIFICATION, Right, all_attributes, may, standing_of};

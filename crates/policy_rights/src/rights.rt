@@ -8,7 +8,7 @@ ghost use Rattle.policy_rights.specs.Laws.{SendsByRights};
 ghost use Rattle.policy_rights.specs.Rights.{is_sent, is_sent_of, may_of, standing_with_key, subscribes_at, subscribes_of};
 
 use crate::needs::is_notified_or_indicated;
-use att_policy::{Access, Guard, KeyFacts, Standing, first_broken, may_hear};
+use att_policy::{Access, Guard, INDICATION, KeyFacts, Standing, first_broken, may_hear};
 use att_table::{Attr, Role, Table};
 
 /// A use of an attribute by a client.
@@ -28,10 +28,7 @@ pub enum Right {
 }
 
 /// The CCCD bit for notifications (Core 5.0, Vol 3 Part G, 3.3.3.3).
-const NOTIFICATION: u8 = 0x01;
-
-/// The CCCD bit for indications.
-const INDICATION: u8 = 0x02;
+pub const NOTIFICATION: u8 = 0x01;
 
 /// Returns the standing of a connection that is encrypted with a key, or not encrypted.
 pub fn standing_of(key: Option<KeyFacts>, is_authorized: bool) -> Standing

@@ -1,7 +1,11 @@
 -- Types as texts: four hexadecimal digits with a name, or a UUID of 128 bits.
-use Rattle.std.specs.Prelude.{[], ◌∷◌, ◌++◌, ◌==◌, if◌then◌else◌, map, slice_index, length, take, drop, Option, Some, None}
+use Rattle.std.specs.Prelude.{[], ◌∷◌, ◌++◌, ◌==◌, if◌then◌else◌, map, slice_index, length, take, drop, codes, Option, Some, None}
+use Rattle.std.specs.Fmt.{decimal}
 use Rattle.hex.specs.Hex.{encode_lower}
 use Rattle.octet_io.specs.Number.{Octets, from_two}
+use Rattle.att_numbers.specs.AttributeType.{type_octets}
+use Rattle.att_numbers.specs.Types.{AttributeType, Handle}
+use Rattle.text_words.specs.Cells.{right}
 use Rattle.policy_words.specs.TypeNames.{type_name}
 
 -- The name follows a space.
@@ -33,3 +37,7 @@ unfoldable pub type_text : Octets → Octets
 type_text (low ∷ high ∷ []) =
     encode_lower (high ∷ low ∷ []) ++ space_and_name (type_name (from_two low high))
 type_text octets = long_text octets
+
+-- An attribute, by its handle and its type.
+unfoldable pub handle_and_type : Handle → AttributeType → Octets
+handle_and_type handle kind = right 5 (decimal handle) ++ codes "  " ++ type_text (type_octets kind)

@@ -9,21 +9,20 @@ use Rattle.att_policy.specs.declared.guard.Properties.{Properties}
 use Rattle.att_policy.specs.declared.guard.TheConstants.Properties.{READ, WRITE_WITHOUT_RESPONSE, WRITE, NOTIFY, INDICATE}
 use Rattle.att_policy.specs.Need.{needs_encryption_of, needs_authentication_of}
 use Rattle.att_policy.specs.Policy.{has_property}
+use Rattle.policy_words.specs.Legend.{words_if}
 use Rattle.policy_rights.specs.Needs.{is_heard, is_written}
 
 -- A present property is named after a space.
-abbrev pub word : Properties → Properties → Octets → Octets
-word properties property text = if has_property properties property then text else []
-
 unfoldable pub heard_words : Properties → Octets
 heard_words properties =
-    word properties READ (codes " read") ++ word properties NOTIFY (codes " notify")
-    ++ word properties INDICATE (codes " indicate")
+    words_if (has_property properties READ) (codes " read")
+    ++ words_if (has_property properties NOTIFY) (codes " notify")
+    ++ words_if (has_property properties INDICATE) (codes " indicate")
 
 unfoldable pub written_words : Properties → Octets
 written_words properties =
-    word properties WRITE (codes " write") ++ word properties WRITE_WITHOUT_RESPONSE
-    (codes " command")
+    words_if (has_property properties WRITE) (codes " write")
+    ++ words_if (has_property properties WRITE_WITHOUT_RESPONSE) (codes " command")
 
 -- The needed key; keys of LE Secure Connections have 16 octets.
 abbrev pub size_words : ℕ → Octets

@@ -105,7 +105,8 @@ pub(crate) fn add_flags(text: &mut Vec<u8>, key: KeyFacts) -> Result<(), AllocEr
     add_if(text, key.secure, b", secure connections")
 }
 
-fn add_if(text: &mut Vec<u8>, holds: bool, words: &[u8]) -> Result<(), AllocError>
+/// Adds words if a condition holds. Errors: as `add_legend`.
+pub fn add_if(text: &mut Vec<u8>, holds: bool, words: &[u8]) -> Result<(), AllocError>
     ensures ok { OnOk result (text.new.items ≡ text.old.items ++ words_if holds words.now) }
 {
     if holds {

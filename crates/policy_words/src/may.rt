@@ -12,6 +12,7 @@ mod verdict;
 use crate::legend::add_key;
 use crate::may::links::{has_any_key, links_of, standing_on};
 use crate::may::reason::add_verdict;
+pub(crate) use crate::may::verdict::is_configuration;
 use crate::may::verdict::{Verdict, verdict_of};
 use att_policy::KeyFacts;
 use att_table::Table;

@@ -166,7 +166,12 @@ fn add_type_cell(alloc: Global, text: &mut Vec<u8>, kind: u128) -> Result<(), Al
     add_left(text, &cell, 40)
 }
 
-fn add_length_cell(alloc: Global, text: &mut Vec<u8>, attr: &Attr) -> Result<(), AllocError>
+/// Adds the lengths that a value may have, filled with spaces.
+pub(crate) fn add_length_cell(
+    alloc: Global,
+    text: &mut Vec<u8>,
+    attr: &Attr,
+) -> Result<(), AllocError>
     ensures ok { OnOk result (text.new.items
         ≡ text.old.items ++ left 5 (length_text attr.now.role attr.now)) }
 {

@@ -2,11 +2,12 @@
 
 ghost use Rattle.std.specs.Prelude.{◌≡◌, ◌++◌, OnOk};
 ghost use Rattle.std.specs.Option.{option_map};
-ghost use Rattle.policy_words.specs.TypeText.{long_text, space_and_name, type_text, uuid_text};
+ghost use Rattle.policy_words.specs.TypeText.{handle_and_type, long_text, space_and_name, type_text, uuid_text};
 
 use crate::type_names::name_of;
+use att_table::type_octets;
 use std::alloc::AllocError;
-use text_words::add_octets;
+use text_words::{add_octets, add_right_number};
 
 /// Adds a type, given as the octets of a value.
 ///
@@ -24,6 +25,16 @@ pub fn add_type(text: &mut Vec<u8>, octets: &[u8]) -> Result<(), AllocError>
         }
         _ => add_long(text, octets),
     }
+}
+
+/// Adds the handle and the type of an attribute. On `Err` memory was refused.
+#[tactic(auto, unfolding(crate::specs::TypeText::handle_and_type))]
+pub fn add_handle_and_type(text: &mut Vec<u8>, handle: u16, kind: u128) -> Result<(), AllocError>
+    ensures ok { OnOk result (text.new.items ≡ text.old.items ++ handle_and_type handle kind) }
+{
+    add_right_number(text, u64::from(handle), 5)?;
+    add_octets(text, b"  ")?;
+    add_type(text, type_octets(kind).as_slice())
 }
 
 fn add_long(text: &mut Vec<u8>, octets: &[u8]) -> Result<(), AllocError>

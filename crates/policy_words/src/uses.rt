@@ -4,8 +4,9 @@ ghost use Rattle.std.specs.Prelude.{◌≡◌, ◌++◌, codes, if◌then◌else
 ghost use Rattle.att_policy.specs.Need.{needs_authentication_of};
 ghost use Rattle.std.specs.Str.{bytes_eq};
 ghost use Rattle.policy_rights.specs.Needs.{is_written};
-ghost use Rattle.policy_words.specs.Uses.{asked_size_words, both_texts, reading_text, heard_words, key_words, need_words, uses_text, size_words, word, writing_text, written_words};
+ghost use Rattle.policy_words.specs.Uses.{asked_size_words, both_texts, reading_text, heard_words, key_words, need_words, uses_text, size_words, writing_text, written_words};
 
+use crate::legend::add_if;
 use att_policy::{Guard, Need, Properties};
 use bitflags::Flags;
 use policy_rights::{is_heard, is_written};
@@ -77,9 +78,13 @@ fn add_written(text: &mut Vec<u8>, guard: &Guard) -> Result<(), AllocError>
 pub fn add_heard_words(text: &mut Vec<u8>, properties: Properties) -> Result<(), AllocError>
     ensures ok { OnOk result (text.new.items ≡ text.old.items ++ heard_words properties) }
 {
-    add_word(text, properties, Properties::READ, b" read")?;
-    add_word(text, properties, Properties::NOTIFY, b" notify")?;
-    add_word(text, properties, Properties::INDICATE, b" indicate")
+    add_if(text, properties.contains(Properties::READ), b" read")?;
+    add_if(text, properties.contains(Properties::NOTIFY), b" notify")?;
+    add_if(
+        text,
+        properties.contains(Properties::INDICATE),
+        b" indicate",
+    )
 }
 
 /// Adds the properties by which a client writes a value. On `Err` memory was refused.
@@ -87,29 +92,9 @@ pub fn add_heard_words(text: &mut Vec<u8>, properties: Properties) -> Result<(),
 pub fn add_written_words(text: &mut Vec<u8>, properties: Properties) -> Result<(), AllocError>
     ensures ok { OnOk result (text.new.items ≡ text.old.items ++ written_words properties) }
 {
-    add_word(text, properties, Properties::WRITE, b" write")?;
-    add_word(
-        text,
-        properties,
-        Properties::WRITE_WITHOUT_RESPONSE,
-        b" command",
-    )
-}
-
-fn add_word(
-    text: &mut Vec<u8>,
-    properties: Properties,
-    property: Properties,
-    said: &[u8],
-) -> Result<(), AllocError>
-    ensures ok { OnOk result (text.new.items
-        ≡ text.old.items ++ word properties property said.now) }
-{
-    if properties.contains(property) {
-        add_octets(text, said)
-    } else {
-        Ok(())
-    }
+    add_if(text, properties.contains(Properties::WRITE), b" write")?;
+    let is_command = properties.contains(Properties::WRITE_WITHOUT_RESPONSE);
+    add_if(text, is_command, b" command")
 }
 
 fn need_words(alloc: Global, need: &Need) -> Result<Vec<u8>, AllocError>

@@ -14,7 +14,7 @@ use Rattle.att_attributes.specs.Attributes.{attribute_at, is_configuration}
 use Rattle.att_table.specs.Table.{Contents}
 use Rattle.policy_words.specs.Table.{length_text, told_value}
 use Rattle.policy_words.specs.Uses.{heard_words, need_words, written_words}
-use Rattle.policy_words.specs.compare.Lines.{handle_and_type}
+use Rattle.policy_words.specs.TypeText.{handle_and_type}
 use Rattle.policy_words.specs.compare.Pairing.{other_handle, service_before}
 use Rattle.policy_words.specs.declared.compare.pairing.Pair.{Pair}
 

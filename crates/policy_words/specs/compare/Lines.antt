@@ -3,18 +3,16 @@ use Rattle.std.specs.Prelude.{ℕ, ◌-◌, ◌==◌, ◌&&◌, ◌||◌, not, i
 use Rattle.std.specs.Fmt.{decimal}
 use Rattle.std.specs.List.{flat_map, list_any}
 use Rattle.octet_io.specs.Number.{Octets}
-use Rattle.att_numbers.specs.AttributeType.{type_octets}
 use Rattle.att_numbers.specs.Types.{AttributeType, Handle}
 use Rattle.att_policy.specs.declared.standing.KeyFacts.{KeyFacts}
 use Rattle.att_attributes.specs.declared.attr.Attr.{Attr}
 use Rattle.att_attributes.specs.Attributes.{configuration_bits_at, is_configuration, type_at}
 use Rattle.att_table.specs.ConfigRow.{has_its_meaning, is_supported}
 use Rattle.le_security.specs.declared.entry.Entry.{Entry}
-use Rattle.text_words.specs.Cells.{right}
 use Rattle.policy_rights.specs.declared.rights.Right.{Right}
 use Rattle.policy_rights.specs.Columns.{same_column}
 use Rattle.policy_rights.specs.Held.{may_with}
-use Rattle.policy_words.specs.TypeText.{type_text}
+use Rattle.policy_words.specs.TypeText.{handle_and_type}
 use Rattle.policy_words.specs.Cell.{cell_with}
 use Rattle.policy_words.specs.Kinds.{kinds_text}
 use Rattle.policy_words.specs.Legend.{key_text, peer_words}
@@ -22,11 +20,9 @@ use Rattle.policy_words.specs.declared.columns.Column.{Column}
 use Rattle.policy_words.specs.compare.Gains.{gains_by_key, has_gain, is_first, kinds_like, pair_gains}
 use Rattle.policy_words.specs.compare.Pairing.{other_handle}
 use Rattle.policy_words.specs.declared.compare.gaining.Gain.{Gain}
-use Rattle.policy_words.specs.declared.compare.moves.TheConstants.{NOTIFICATION, INDICATION}
+use Rattle.att_policy.specs.declared.guard.TheConstants.{INDICATION}
+use Rattle.policy_rights.specs.declared.rights.TheConstants.{NOTIFICATION}
 use Rattle.policy_words.specs.declared.compare.pairing.Pair.{Pair}
-
-unfoldable pub handle_and_type : Handle → AttributeType → Octets
-handle_and_type handle kind = right 5 (decimal handle) ++ codes "  " ++ type_text (type_octets kind)
 
 -- The names of the columns that are among some kinds of keys.
 abbrev pub letter_text : List (Option KeyFacts) → Column → Octets

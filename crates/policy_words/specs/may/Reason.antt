@@ -72,7 +72,9 @@ rule_text attributes handle access right Authorization =
     needed_text (place_word attributes handle access) (codes "authorized")
 
 unfoldable pub error_text : Code → Octets
-error_text code = option_map_or (λ name. name) (error_name code) [] ++ codes " (" ++ encode_lower (code ∷ []) ++ 41 ∷ []
+error_text code =
+    option_map_or (λ name. name) (error_name code) [] ++ codes " (" ++ encode_lower (code ∷ [])
+    ++ 41 ∷ []
 
 -- A missing attribute is named by the error code alone.
 abbrev pub separator : Rule → Octets

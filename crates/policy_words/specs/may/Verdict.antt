@@ -15,7 +15,7 @@ use Rattle.att_attributes.specs.Attributes.{attribute_at, configuration_bits_at,
 use Rattle.att_writes.specs.Applied.{Stored}
 use Rattle.policy_rights.specs.declared.rights.Right.{Right}
 use Rattle.att_policy.specs.declared.guard.TheConstants.{INDICATION}
-use Rattle.policy_words.specs.declared.may.verdict.TheConstants.{NOTIFICATION}
+use Rattle.policy_rights.specs.declared.rights.TheConstants.{NOTIFICATION}
 use Rattle.policy_rights.specs.Needs.{is_notified_or_indicated}
 use Rattle.policy_rights.specs.Rights.{subscribed}
 use Rattle.policy_words.specs.declared.may.verdict.Verdict.{Verdict}

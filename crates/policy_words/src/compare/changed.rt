@@ -7,9 +7,9 @@ ghost use Rattle.att_attributes.specs.Attributes.{attribute_at};
 ghost use Rattle.policy_words.specs.compare.Changed.{after_value, change_text, changed_lines, changes_from, configuration_text, facts_changes, first_text, service_kind_text, need_or_everybody, needs_changes, or_words, properties_text, sizes_text};
 ghost use Rattle.policy_words.specs.compare.Pairing.{other_handle};
 
-use crate::compare::lines::add_name;
 use crate::compare::pairing::{Pair, other_handle, service_before};
 use crate::table::{add_length, told_value};
+use crate::type_text::add_handle_and_type;
 use crate::uses::{add_heard_words, add_need, add_written_words};
 use att_numbers::attribute_type::SECONDARY_SERVICE;
 use att_policy::{Need, Properties};
@@ -148,7 +148,7 @@ fn add_change(
     if now == before {
         return Ok(());
     }
-    add_name(text, attr.handle, attr.kind)?;
+    add_handle_and_type(text, attr.handle, attr.kind)?;
     add_octets(text, b"  ")?;
     add_octets(text, label)?;
     add_octets(text, now)?;

@@ -4,7 +4,7 @@ ghost use Rattle.std.specs.Prelude.{◌≡◌, ◌++◌, IfOk, OnOk, [], slice_g
 ghost use Rattle.std.specs.List.{flat_map};
 ghost use Rattle.std.specs.Option.{option_map_or};
 ghost use Rattle.policy_words.specs.compare.Gains.{gains_of};
-ghost use Rattle.policy_words.specs.compare.Lines.{after_space, gain_line, gain_lines, gain_text, gaining_key_line, letter_text, letters_text, handle_and_type, pair_lines, whose_text};
+ghost use Rattle.policy_words.specs.compare.Lines.{after_space, gain_line, gain_lines, gain_text, gaining_key_line, letter_text, letters_text, pair_lines, whose_text};
 
 use crate::cell::cell_of;
 use crate::columns::Column;
@@ -13,24 +13,14 @@ use crate::compare::gaining::{Gain, gains_by_key, gains_of, has_gain, is_first, 
 use crate::compare::pairing::Pair;
 use crate::kinds::add_kinds;
 use crate::legend::{add_key, add_peer_words};
-use crate::type_text::add_type;
+use crate::type_text::add_handle_and_type;
 use att_policy::KeyFacts;
-use att_table::{Attr, Table, type_octets};
+use att_table::{Attr, Table};
 use le_hci::Peer;
 use le_security::Keys;
 use policy_rights::has_column;
 use std::alloc::{AllocError, Global};
-use text_words::{add_octets, add_right_number};
-
-/// Adds the handle and the type of an attribute.
-#[tactic(auto, unfolding(crate::specs::compare::Lines::handle_and_type))]
-pub(crate) fn add_name(text: &mut Vec<u8>, handle: u16, kind: u128) -> Result<(), AllocError>
-    ensures ok { OnOk result (text.new.items ≡ text.old.items ++ handle_and_type handle kind) }
-{
-    add_right_number(text, u64::from(handle), 5)?;
-    add_octets(text, b"  ")?;
-    add_type(text, type_octets(kind).as_slice())
-}
+use text_words::add_octets;
 
 /// Adds kinds of keys in words and the names of their columns, and ends the line.
 #[tactic(auto, unfolding(crate::specs::compare::Lines::whose_text))]
@@ -189,7 +179,7 @@ fn add_gain(
 {
     let kinds = kinds_like(alloc, gain, gains)?;
     let cell = cell_of(alloc, gain.always, gain.once)?;
-    add_name(text, attr.handle, attr.kind)?;
+    add_handle_and_type(text, attr.handle, attr.kind)?;
     add_octets(text, b"  ")?;
     add_octets(text, &cell)?;
     add_whose(alloc, text, columns, &kinds)

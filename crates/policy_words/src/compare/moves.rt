@@ -2,24 +2,20 @@
 
 ghost use Rattle.std.specs.Prelude.{◌≡◌, ◌++◌, IfOk, OnOk};
 ghost use Rattle.std.specs.List.{flat_map};
-ghost use Rattle.att_attributes.specs.Attributes.{is_configuration_at, type_at};
+ghost use Rattle.att_attributes.specs.Attributes.{type_at};
 ghost use Rattle.att_table.specs.ConfigRow.{has_its_meaning};
 ghost use Rattle.policy_words.specs.compare.Lines.{alone_line, alone_text, dropped_line, is_closed_to, is_kept, is_still_sent, keeps_bit, kind_if_lasting, lasting_kinds, lasting_line, lasting_text, lasts, lasts_with, moved_line, moved_text};
 
 use crate::columns::Column;
-use crate::compare::lines::{add_name, add_whose};
+use crate::compare::lines::add_whose;
 use crate::compare::pairing::{Pair, other_handle};
-use att_policy::KeyFacts;
+use crate::may::is_configuration;
+use crate::type_text::add_handle_and_type;
+use att_policy::{INDICATION, KeyFacts};
 use att_table::{Attr, Role, Table};
-use policy_rights::{Right, may_with};
+use policy_rights::{NOTIFICATION, Right, may_with};
 use std::alloc::{AllocError, Global};
 use text_words::{add_number, add_octets};
-
-/// The CCCD bit for notifications (Core 5.0, Vol 3 Part G, 3.3.3.3).
-const NOTIFICATION: u8 = 0x01;
-
-/// The CCCD bit for indications.
-const INDICATION: u8 = 0x02;
 
 /// Returns a line for each of these attributes that has another handle in the other table.
 pub(crate) fn moved_lines(
@@ -59,7 +55,7 @@ fn add_move(text: &mut Vec<u8>, attr: &Attr, there: Option<u16>) -> Result<(), A
     if handle == attr.handle {
         return Ok(());
     }
-    add_name(text, attr.handle, attr.kind)?;
+    add_handle_and_type(text, attr.handle, attr.kind)?;
     add_octets(text, b" was ")?;
     add_number(text, u64::from(handle))?;
     add_octets(text, b"\n")
@@ -100,7 +96,7 @@ fn add_if_alone(text: &mut Vec<u8>, attr: &Attr, there: Option<u16>) -> Result<(
     match there {
         Some(_) => Ok(()),
         None => {
-            add_name(text, attr.handle, attr.kind)?;
+            add_handle_and_type(text, attr.handle, attr.kind)?;
             add_octets(text, b"\n")
         }
     }
@@ -138,7 +134,7 @@ fn add_dropped_line(
         return Ok(());
     }
     let value = attr.handle.saturating_sub(1);
-    add_name(text, value, type_at(table, value))?;
+    add_handle_and_type(text, value, type_at(table, value))?;
     add_octets(text, b"\n")
 }
 
@@ -154,16 +150,6 @@ fn has_its_meaning(table: &Table, other: &Table, handle: u16) -> bool
 {
     let value = handle.saturating_sub(1);
     is_configuration(table, handle) && type_at(table, value) == type_at(other, value)
-}
-
-fn is_configuration(table: &Table, handle: u16) -> bool
-    ensures { result
-        ≡ is_configuration_at table.now.attributes handle }
-{
-    match table.get(handle) {
-        Some(attr) => attr.role == Role::Configuration,
-        None => false,
-    }
 }
 
 fn type_at(table: &Table, handle: u16) -> u128
@@ -231,7 +217,7 @@ fn add_if_lasting(
     match kinds {
         [] => Ok(()),
         _ => {
-            add_name(text, value, kind)?;
+            add_handle_and_type(text, value, kind)?;
             add_whose(alloc, text, columns, kinds)
         }
     }

@@ -3,7 +3,6 @@
 ghost use Rattle.std.specs.Prelude.{◌≡◌, ◌++◌, OnOk};
 ghost use Rattle.std.specs.List.{flat_map};
 ghost use Rattle.text_words.specs.Cells.{left, right};
-ghost use Rattle.policy_words.specs.Table.{length_text};
 ghost use Rattle.policy_words.specs.Cell.{cell_text};
 ghost use Rattle.policy_words.specs.matrix.Rows.{AddsBlocks, block_text, cells_text, header_text, heading_text, secondary_text, matrix_line, name_cells, cut_type_text, names_text, row_text, value_cells, short_value_text};
 
@@ -11,7 +10,7 @@ use crate::cell::{Asked, cell};
 use crate::columns::Column;
 use crate::matrix::layout::Layout;
 use crate::matrix::value::{name_of, value_of};
-use crate::table::{add_length, told_value};
+use crate::table::{add_length_cell, told_value};
 use crate::type_text::add_type;
 use att_numbers::attribute_type::SECONDARY_SERVICE;
 use att_table::{Attr, Role, Table, is_service};
@@ -194,15 +193,6 @@ fn add_name_cell(
 {
     let name = name_of(alloc, kind, layout.is_whole)?;
     add_left(text, &name, layout.name)
-}
-
-fn add_length_cell(alloc: Global, text: &mut Vec<u8>, attr: &Attr) -> Result<(), AllocError>
-    ensures ok { OnOk result (text.new.items
-        ≡ text.old.items ++ left 5 (length_text attr.now.role attr.now)) }
-{
-    let mut lengths = Vec::new(alloc);
-    add_length(&mut lengths, attr)?;
-    add_left(text, &lengths, 5)
 }
 
 fn add_value_cell(

@@ -1,7 +1,6 @@
 //! An answer in words: the rule by its key of the table file, and the error code by its name.
 
-ghost use Rattle.std.specs.Prelude.{◌≡◌, ◌++◌, ◌∷◌, [], codes, if◌then◌else◌, OnOk};
-ghost use Rattle.hex.specs.Hex.{encode_lower};
+ghost use Rattle.std.specs.Prelude.{◌≡◌, ◌++◌, codes, if◌then◌else◌, OnOk};
 ghost use Rattle.att_policy.specs.Need.{key_size_of};
 ghost use Rattle.att_policy.specs.Policy.{need_of};
 ghost use Rattle.att_attributes.specs.Attributes.{is_configuration_at};
@@ -13,7 +12,7 @@ use att_policy::{Access, Guard, Rule};
 use att_table::Table;
 use policy_rights::Right;
 use std::alloc::AllocError;
-use text_words::{add_number, add_octets};
+use text_words::{add_hex, add_number, add_octets};
 
 /// Adds an answer. On `Err` memory was refused and the text is invalid.
 #[tactic(auto, unfolding(crate::specs::may::Reason::verdict_text))]
@@ -227,14 +226,6 @@ fn add_error(text: &mut Vec<u8>, code: u8) -> Result<(), AllocError>
 {
     add_octets(text, error_code::name(code).unwrap_or("").as_bytes())?;
     add_octets(text, b" (")?;
-    add_hex(text, code)?;
+    add_hex(text, &[code])?;
     add_octets(text, b")")
-}
-
-fn add_hex(text: &mut Vec<u8>, octet: u8) -> Result<(), AllocError>
-    ensures ok { OnOk result (text.new.items ≡ text.old.items ++ encode_lower (octet ∷ [])) }
-{
-    let mut digits = [0; 2];
-    hex::encode_to_slice([octet], &mut digits).unwrap();
-    add_octets(text, &digits)
 }

@@ -10,10 +10,7 @@ ghost use Rattle.std.specs.Option.{option_copied};
 use att_numbers::error_code;
 use att_policy::{Access, Guard, INDICATION, Properties, Rule, Standing, first_broken};
 use att_table::{Attr, Role, Table};
-use policy_rights::{Right, is_notified_or_indicated};
-
-/// The CCCD bit for notifications (Core 5.0, Vol 3 Part G, 3.3.3.3).
-const NOTIFICATION: u8 = 0x01;
+use policy_rights::{NOTIFICATION, Right, is_notified_or_indicated};
 
 /// The server's answer to a use of an attribute.
 #[derive(Clone, Copy, PartialEq, Eq)]
