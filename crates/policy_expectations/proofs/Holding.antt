@@ -22,7 +22,7 @@ use Rattle.att_attributes.specs.Attributes.{attribute_at, configuration_bits_at,
 use Rattle.att_table.specs.Table.{Contents}
 use Rattle.policy_rights.specs.declared.rights.Right.{Right}
 use Rattle.policy_rights.specs.Columns.{same_column, same_facts}
-use Rattle.policy_rights.specs.Held.{may_be_sent, may_subscribe, may_use, may_with, may_write}
+use Rattle.policy_rights.specs.Held.{is_used, may_be_sent, may_subscribe, may_use, may_with, may_write}
 use Rattle.policy_rights.specs.Kinds.{every_kind, kinds_from}
 use Rattle.policy_rights.specs.Laws.{is_authorized_now}
 use Rattle.policy_rights.specs.Rights.{is_sent, is_sent_of, standing_with_key, subscribes_of}
@@ -34,7 +34,7 @@ use Rattle.policy_expectations.specs.declared.expectation.Expectation.{Expectati
 use Rattle.policy_expectations.specs.Differences.{all_named, attribute_differences, differences_of, differs, expectation_differences, expected_differences, is_among_named, is_unnamed, is_used_by_some_kind, kind_differs, named_differences, right_differs, unnamed_differences}
 use Rattle.policy_expectations.specs.Holding.{AllHold, HasKeySize, Holds, IsAsMeant, IsNamedIfUsed, IsUsedAsMeant}
 use Rattle.policy_expectations.specs.Meant.{is_meant, meant_for}
-use Rattle.policy_expectations.specs.Named.{is_descriptor, attributes_named_by}
+use Rattle.policy_expectations.specs.Named.{attributes_named_by}
 
 -- lists that are empty
 front_empty : {X : Type 0} (front back : List X) → front ++ back ≡ [] → front ≡ []
@@ -474,21 +474,21 @@ named_if_used attributes named attr is = λ can_use standing right possible may.
     let somebody : list_any (may_use attributes attr.handle) every_kind ≡ true =
     found (may_use attributes attr.handle) key every_kind (has_kind key possible) (used_by attributes key attr.handle right with) in
     named_then (is_used_by_some_kind attributes every_kind attr) (is_among_named named attr.handle)
-    (both_true (is_value attr.role || is_descriptor attr.role) (list_any (may_use attributes attr.handle) every_kind) can_use somebody) is
+    (both_true (is_used attr.role) (list_any (may_use attributes attr.handle) every_kind) can_use somebody) is
   where
     named_then : (used among : Bool) → used ≡ true → used && not among ≡ false → among ≡ true
     named_then true true is both = refl
     named_then true false is both = sym both
     named_then false among is both = absurd (cc is)
 
-not_may : (attributes named : List Attr) (attr : Attr) → is_among_named named attr.handle ≡ false → is_value attr.role || is_descriptor attr.role ≡ true
+not_may : (attributes named : List Attr) (attr : Attr) → is_among_named named attr.handle ≡ false → is_used attr.role ≡ true
     → IsNamedIfUsed attributes named attr → (key : Option KeyFacts) → IfSome key HasKeySize → (right : Right)
     → (may : Bool) → may_with attributes key true attr.handle right ≡ may → may ≡ false
 not_may attributes named attr absent can_use rule key possible right true is =
     sym (rule can_use (standing_with_key key true) right possible is) ∙ absent
 not_may attributes named attr absent can_use rule key possible right false is = refl
 
-nobody_uses : (attributes named : List Attr) (attr : Attr) → is_among_named named attr.handle ≡ false → is_value attr.role || is_descriptor attr.role ≡ true
+nobody_uses : (attributes named : List Attr) (attr : Attr) → is_among_named named attr.handle ≡ false → is_used attr.role ≡ true
     → IsNamedIfUsed attributes named attr → list_any (may_use attributes attr.handle) every_kind ≡ false
 nobody_uses attributes named attr absent can_use rule =
     none_of (may_use attributes attr.handle) every_kind have_sizes
@@ -496,7 +496,7 @@ nobody_uses attributes named attr absent can_use rule =
     (λ right. not_may attributes named attr absent can_use rule key possible right (may_with attributes key true attr.handle right) refl))
 
 not_unnamed : (attributes named : List Attr) (attr : Attr) → IsNamedIfUsed attributes named attr
-    → (can_use among : Bool) → is_value attr.role || is_descriptor attr.role ≡ can_use → is_among_named named attr.handle ≡ among
+    → (can_use among : Bool) → is_used attr.role ≡ can_use → is_among_named named attr.handle ≡ among
     → (can_use && list_any (may_use attributes attr.handle) every_kind) && not among ≡ false
 not_unnamed attributes named attr rule can_use true is there = and_false (can_use && list_any (may_use attributes attr.handle) every_kind)
 not_unnamed attributes named attr rule false false is there = refl
@@ -512,7 +512,7 @@ empty_of_named : (attributes named : List Attr) (attr : Attr) → IsNamedIfUsed 
     → unnamed_differences attributes every_kind named attr ≡ []
 empty_of_named attributes named attr rule =
     not_listed (is_unnamed attributes every_kind named attr) _
-    (not_unnamed attributes named attr rule (is_value attr.role || is_descriptor attr.role) (is_among_named named attr.handle) refl refl)
+    (not_unnamed attributes named attr rule (is_used attr.role) (is_among_named named attr.handle) refl refl)
 
 -- all of them
 all_hold_of : (table : Contents) (expectations : List Expectation) → differences_of table expectations ≡ [] → AllHold table expectations

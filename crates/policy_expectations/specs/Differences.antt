@@ -6,17 +6,16 @@ use Rattle.att_numbers.specs.Types.{Handle}
 use Rattle.att_policy.specs.declared.guard.Need.{Need}
 use Rattle.att_policy.specs.declared.standing.KeyFacts.{KeyFacts}
 use Rattle.att_attributes.specs.declared.attr.Attr.{Attr}
-use Rattle.att_attributes.specs.Attributes.{is_value}
 use Rattle.att_table.specs.Table.{Contents}
 use Rattle.policy_rights.specs.declared.rights.Right.{Right}
-use Rattle.policy_rights.specs.Held.{may_use, may_with}
+use Rattle.policy_rights.specs.Held.{is_used, may_use, may_with}
 use Rattle.policy_rights.specs.Kinds.{every_kind}
 use Rattle.policy_rights.specs.Rights.{standing_with_key}
 use Rattle.policy_expectations.specs.declared.difference.Difference.{Difference}
 use Rattle.policy_expectations.specs.declared.difference.Difference.TheVariants.{Use, Unnamed, NamesNothing}
 use Rattle.policy_expectations.specs.declared.expectation.Expectation.{Expectation}
 use Rattle.policy_expectations.specs.Meant.{is_meant, meant_for}
-use Rattle.policy_expectations.specs.Named.{is_descriptor, attributes_named_by}
+use Rattle.policy_expectations.specs.Named.{attributes_named_by}
 
 -- A link with this key or none, authorized or not, has a right that it is not meant to have, or has
 -- not one that it is meant to have.
@@ -77,8 +76,7 @@ expectation_differences table kinds expected =
 -- A value or a descriptor that somebody may use, but that no expectation names.
 abbrev pub is_used_by_some_kind : List Attr → List (Option KeyFacts) → Attr → Bool
 is_used_by_some_kind attributes kinds attr =
-    (is_value attr.role || is_descriptor attr.role)
-    && list_any (may_use attributes attr.handle) kinds
+    is_used attr.role && list_any (may_use attributes attr.handle) kinds
 
 abbrev pub is_among_named : List Attr → Handle → Bool
 is_among_named named handle = list_any (λ (attr : Attr). attr.handle == handle) named

@@ -1,19 +1,19 @@
 -- The meaning of an expectation for all connections (this profile's own).
-use Rattle.std.specs.Prelude.{◌≡◌, ◌≢◌, ◌≤◌, true, ◌||◌, List, [], Option, IfSome}
+use Rattle.std.specs.Prelude.{◌≡◌, ◌≢◌, ◌≤◌, true, List, [], Option, IfSome}
 use Rattle.std.specs.List.{All}
 use Rattle.att_numbers.specs.Types.{Handle}
 use Rattle.att_policy.specs.declared.guard.Need.{Need}
 use Rattle.att_policy.specs.declared.standing.KeyFacts.{KeyFacts}
 use Rattle.att_policy.specs.declared.standing.Standing.{Standing}
 use Rattle.att_attributes.specs.declared.attr.Attr.{Attr}
-use Rattle.att_attributes.specs.Attributes.{is_value}
 use Rattle.att_table.specs.Table.{Contents}
 use Rattle.policy_rights.specs.declared.rights.Right.{Right}
 use Rattle.policy_rights.specs.Rights.{may_of}
+use Rattle.policy_rights.specs.Held.{is_used}
 use Rattle.policy_expectations.specs.declared.expectation.Expectation.{Expectation}
 use Rattle.policy_expectations.specs.Differences.{all_named, is_among_named}
 use Rattle.policy_expectations.specs.Meant.{is_meant, meant_for}
-use Rattle.policy_expectations.specs.Named.{is_descriptor, attributes_named_by}
+use Rattle.policy_expectations.specs.Named.{attributes_named_by}
 
 -- A key has 7 to 16 octets (Core 5.0, Vol 3 Part H, 2.3.4).
 pub record HasKeySize (key : KeyFacts) : Type 0 where
@@ -41,7 +41,7 @@ pub record Holds (table : Contents) (expected : Expectation) : Type 0 where
 -- A value or a descriptor that a connection may use is named.
 abbrev pub IsNamedIfUsed : List Attr → List Attr → Attr → Type 0
 IsNamedIfUsed attributes named attr =
-    is_value attr.role || is_descriptor attr.role ≡ true
+    is_used attr.role ≡ true
     → (standing : Standing) (right : Right) → HasPossibleKey standing
     → may_of attributes standing attr.handle right ≡ true
     → is_among_named named attr.handle ≡ true

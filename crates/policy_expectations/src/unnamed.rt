@@ -10,8 +10,8 @@ use crate::difference::{Difference, add};
 use crate::expectation::Expectation;
 use crate::named::add_named;
 use att_policy::KeyFacts;
-use att_table::{Attr, Role, Table};
-use policy_rights::{all_attributes, may_use};
+use att_table::{Attr, Table};
+use policy_rights::{all_attributes, is_used, may_use};
 use std::alloc::{AllocError, Global};
 
 /// Adds the attributes that somebody may use, but that no expectation names.
@@ -92,8 +92,7 @@ fn is_unnamed(table: &Table, kinds: &[Option<KeyFacts>], named: &[Attr], attr: &
 fn is_used_by_some_kind(table: &Table, kinds: &[Option<KeyFacts>], attr: &Attr) -> bool
     ensures { result ≡ is_used_by_some_kind table.now.attributes kinds.now attr.now }
 {
-    (attr.role == Role::Value || attr.role == Role::Descriptor)
-        && anybody_may_use(table, kinds, attr.handle)
+    is_used(attr.role) && anybody_may_use(table, kinds, attr.handle)
 }
 
 fn anybody_may_use(table: &Table, kinds: &[Option<KeyFacts>], handle: u16) -> bool

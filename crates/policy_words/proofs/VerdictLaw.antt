@@ -14,7 +14,7 @@ use Rattle.policy_rights.specs.declared.rights.Right.{Right}
 use Rattle.policy_rights.specs.Needs.{is_notified_or_indicated}
 use Rattle.policy_rights.specs.Rights.{is_sent, is_sent_of, may_of, subscribes_at, subscribes_of}
 use Rattle.policy_rights.proofs.Subscribing.{sent, subscribes}
-use Rattle.policy_words.specs.declared.may.verdict.TheConstants.{NOTIFICATION}
+use Rattle.policy_rights.specs.declared.rights.TheConstants.{NOTIFICATION}
 use Rattle.policy_words.specs.declared.may.verdict.Verdict.TheVariants.{NoConfiguration, Silent}
 use Rattle.policy_words.specs.may.Verdict.{access_verdict, broken_by_write, has_bit, is_yes, missing, sending_answer, sending_verdict, sent_verdict, subscription_answer, subscription_verdict, verdict_of, write_verdict}
 use Rattle.policy_words.proofs.Subscribing.{subscription}

@@ -1,5 +1,5 @@
 -- The permitted uses of an attribute and their needs (this profile's own).
-use Rattle.std.specs.Prelude.{ℕ, ◌++◌, Bool, if◌then◌else◌, [], codes, Option, Some, None}
+use Rattle.std.specs.Prelude.{ℕ, ◌++◌, if◌then◌else◌, [], codes, Option, Some, None}
 use Rattle.std.specs.Fmt.{decimal}
 use Rattle.std.specs.Str.{bytes_eq}
 use Rattle.octet_io.specs.Number.{Octets}

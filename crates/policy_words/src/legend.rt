@@ -24,7 +24,7 @@ n be notified  i be indicated (if it has subscribed, whenever that was)
 /// `kinds` are all kinds of keys, each with the name of its column. On `Err` memory was refused and
 /// the text is invalid.
 #[tactic(auto, unfolding(crate::specs::Legend::legend_text))]
-pub fn add_legend(
+pub(crate) fn add_legend(
     alloc: Global,
     text: &mut Vec<u8>,
     keys: &Keys,
@@ -74,7 +74,7 @@ fn add_kind_lines(
     add_peers(text, keys, columns, kinds, kind.name, &peers)
 }
 
-/// Adds what protects a link: the facts of its key, or none. Errors: as `add_legend`.
+/// Adds what protects a link: the facts of its key, or none. On `Err` memory was refused.
 pub fn add_key(text: &mut Vec<u8>, key: Option<KeyFacts>) -> Result<(), AllocError>
     ensures ok { OnOk result (text.new.items ≡ text.old.items ++ key_text key) }
 {
@@ -105,7 +105,7 @@ pub(crate) fn add_flags(text: &mut Vec<u8>, key: KeyFacts) -> Result<(), AllocEr
     add_if(text, key.secure, b", secure connections")
 }
 
-/// Adds words if a condition holds. Errors: as `add_legend`.
+/// Adds words if a condition holds. Errors: as `add_key`.
 pub fn add_if(text: &mut Vec<u8>, holds: bool, words: &[u8]) -> Result<(), AllocError>
     ensures ok { OnOk result (text.new.items ≡ text.old.items ++ words_if holds words.now) }
 {
@@ -151,7 +151,7 @@ fn add_peer(
     add_octets(text, b"\n")
 }
 
-/// Adds the address of a peer with its type. Errors: as `add_legend`.
+/// Adds the address of a peer with its type. Errors: as `add_key`.
 pub fn add_peer_words(text: &mut Vec<u8>, peer: &Peer) -> Result<(), AllocError>
     ensures ok { OnOk result (text.new.items ≡ text.old.items ++ peer_words peer.now) }
 {

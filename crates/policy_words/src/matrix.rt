@@ -1,4 +1,4 @@
-//! The rights of a table, as `show` prints them.
+//! The matrix of the rights of a table, its legend and the findings, as `show` prints them.
 
 ghost use Rattle.std.specs.Prelude.{◌≡◌, ◌++◌, OnOk};
 ghost use Rattle.policy_rights.specs.Columns.{columns_among};

@@ -1,4 +1,4 @@
-//! The answer for each link of a peer.
+//! The answer of `may`: a line for each link of a peer.
 
 ghost use Rattle.std.specs.Prelude.{◌≡◌, ◌++◌, IfOk, OnOk};
 ghost use Rattle.std.specs.List.{flat_map, list_any};
@@ -13,7 +13,7 @@ use crate::legend::add_key;
 use crate::may::links::{has_any_key, links_of, standing_on};
 use crate::may::reason::add_verdict;
 pub(crate) use crate::may::verdict::is_configuration;
-use crate::may::verdict::{Verdict, verdict_of};
+pub use crate::may::verdict::{Verdict, verdict_of};
 use att_policy::KeyFacts;
 use att_table::Table;
 use le_hci::Peer;

@@ -7,7 +7,7 @@ ghost use Rattle.policy_words.specs.TypeNames.{name_among, type_name, names_view
 
 /// An assigned number of the Bluetooth SIG, and its name.
 #[derive(Clone, Copy)]
-pub struct Assigned {
+pub(crate) struct Assigned {
     pub number: u16,
     pub name: &'static str,
 }
@@ -39,7 +39,7 @@ fn first(names: &[Assigned], number: u16) -> Option<&Assigned>
     names.iter().find(|named| named.number == number)
 }
 
-pub const NAMES: [Assigned; 73] = [
+const NAMES: [Assigned; 73] = [
     Assigned {
         number: 0x1800,
         name: "Generic Access",

@@ -15,7 +15,7 @@ use text_words::{add_number, add_octets};
 
 /// Adds the permitted uses of a guarded attribute and their needs.
 #[tactic(auto, unfolding(crate::specs::Uses::uses_text))]
-pub fn add_uses(alloc: Global, text: &mut Vec<u8>, guard: &Guard) -> Result<(), AllocError>
+pub(crate) fn add_uses(alloc: Global, text: &mut Vec<u8>, guard: &Guard) -> Result<(), AllocError>
     ensures ok { OnOk result (text.new.items ≡ text.old.items ++ uses_text guard.now) }
 {
     if !is_heard(guard.properties) {
@@ -75,7 +75,7 @@ fn add_written(text: &mut Vec<u8>, guard: &Guard) -> Result<(), AllocError>
 
 /// Adds the properties by which a client receives a value. On `Err` memory was refused.
 #[tactic(auto, unfolding(crate::specs::Uses::heard_words))]
-pub fn add_heard_words(text: &mut Vec<u8>, properties: Properties) -> Result<(), AllocError>
+pub(crate) fn add_heard_words(text: &mut Vec<u8>, properties: Properties) -> Result<(), AllocError>
     ensures ok { OnOk result (text.new.items ≡ text.old.items ++ heard_words properties) }
 {
     add_if(text, properties.contains(Properties::READ), b" read")?;
@@ -89,7 +89,10 @@ pub fn add_heard_words(text: &mut Vec<u8>, properties: Properties) -> Result<(),
 
 /// Adds the properties by which a client writes a value. On `Err` memory was refused.
 #[tactic(auto, unfolding(crate::specs::Uses::written_words))]
-pub fn add_written_words(text: &mut Vec<u8>, properties: Properties) -> Result<(), AllocError>
+pub(crate) fn add_written_words(
+    text: &mut Vec<u8>,
+    properties: Properties,
+) -> Result<(), AllocError>
     ensures ok { OnOk result (text.new.items ≡ text.old.items ++ written_words properties) }
 {
     add_if(text, properties.contains(Properties::WRITE), b" write")?;
@@ -109,7 +112,7 @@ fn need_words(alloc: Global, need: &Need) -> Result<Vec<u8>, AllocError>
 ///
 /// On `Err` memory was refused.
 #[tactic(auto, unfolding(crate::specs::Uses::need_words))]
-pub fn add_need(text: &mut Vec<u8>, need: &Need) -> Result<(), AllocError>
+pub(crate) fn add_need(text: &mut Vec<u8>, need: &Need) -> Result<(), AllocError>
     ensures ok { OnOk result (text.new.items ≡ text.old.items ++ need_words need.now) }
 {
     if need.needs_encryption() {
@@ -154,7 +157,7 @@ fn add_asked_size(text: &mut Vec<u8>, size: Option<u8>) -> Result<(), AllocError
 }
 
 /// Adds the size of a key in octets.
-pub fn add_size(text: &mut Vec<u8>, size: u8) -> Result<(), AllocError>
+fn add_size(text: &mut Vec<u8>, size: u8) -> Result<(), AllocError>
     ensures ok { OnOk result (text.new.items ≡ text.old.items ++ size_words size) }
 {
     add_octets(text, b", key of ")?;

@@ -14,7 +14,7 @@ use std::alloc::{AllocError, Global};
 
 /// The rights that links with a kind of key surely had.
 #[derive(Clone, Copy)]
-pub struct Held {
+pub(crate) struct Held {
     pub key: Option<KeyFacts>,
     /// Without an authorization.
     pub always: Rights,

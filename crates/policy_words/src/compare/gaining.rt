@@ -17,7 +17,7 @@ use std::alloc::{AllocError, Global};
 
 /// The rights that links with a kind of key gain.
 #[derive(Clone, Copy)]
-pub struct Gain {
+pub(crate) struct Gain {
     pub key: Option<KeyFacts>,
     /// Without an authorization.
     pub always: Rights,

@@ -13,7 +13,7 @@ use std::alloc::{AllocError, Global};
 
 /// A value or a descriptor, and the one of another table that corresponds to it.
 #[derive(Clone, Copy)]
-pub struct Pair {
+pub(crate) struct Pair {
     pub attr: Attr,
     /// The handle in the other table; `None` if it is uncertain.
     pub there: Option<u16>,

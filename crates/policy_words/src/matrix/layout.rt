@@ -4,7 +4,7 @@ ghost use Rattle.std.specs.Prelude.{◌≤◌};
 
 /// The widths of the cells of a row: of names, of values, and of each column.
 #[derive(Clone, Copy)]
-pub struct Layout {
+pub(crate) struct Layout {
     pub name: usize,
     pub value: usize,
     pub cell: usize,

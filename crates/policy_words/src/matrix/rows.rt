@@ -1,4 +1,4 @@
-//! The rights of a table as a matrix.
+//! The rows of the matrix, in blocks of columns.
 
 ghost use Rattle.std.specs.Prelude.{◌≡◌, ◌++◌, OnOk};
 ghost use Rattle.std.specs.List.{flat_map};
@@ -9,7 +9,7 @@ ghost use Rattle.policy_words.specs.matrix.Rows.{AddsBlocks, block_text, cells_t
 use crate::cell::{Asked, cell};
 use crate::columns::Column;
 use crate::matrix::layout::Layout;
-use crate::matrix::value::{name_of, value_of};
+use crate::matrix::value::{cut_type, short_value};
 use crate::table::{add_length_cell, told_value};
 use crate::type_text::add_type;
 use att_numbers::attribute_type::SECONDARY_SERVICE;
@@ -191,7 +191,7 @@ fn add_name_cell(
     ensures ok { OnOk result (text.new.items
         ≡ text.old.items ++ left layout.name (cut_type_text layout.is_whole kind)) }
 {
-    let name = name_of(alloc, kind, layout.is_whole)?;
+    let name = cut_type(alloc, kind, layout.is_whole)?;
     add_left(text, &name, layout.name)
 }
 
@@ -204,7 +204,7 @@ fn add_value_cell(
     ensures ok { OnOk result (text.new.items
         ≡ text.old.items ++ left layout.value (short_value_text value.now)) }
 {
-    let shown = value_of(alloc, value)?;
+    let shown = short_value(alloc, value)?;
     add_left(text, &shown, layout.value)
 }
 

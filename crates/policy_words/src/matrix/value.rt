@@ -10,7 +10,7 @@ use std::alloc::{AllocError, Global};
 use text_words::{add_hex, add_octets};
 
 /// Returns the text of a type, whole or cut to 28 octets: a UUID of 128 bits in its middle.
-pub(crate) fn name_of(alloc: Global, kind: u128, is_whole: bool) -> Result<Vec<u8>, AllocError>
+pub(crate) fn cut_type(alloc: Global, kind: u128, is_whole: bool) -> Result<Vec<u8>, AllocError>
     ensures { IfOk result (λ name. name.items ≡ cut_type_text is_whole kind) }
 {
     let octets = type_octets(kind);
@@ -58,7 +58,7 @@ fn add_cut(text: &mut Vec<u8>, name: &[u8]) -> Result<(), AllocError>
 }
 
 /// Returns a value as a text or in hexadecimal, cut after 12 octets.
-pub(crate) fn value_of(alloc: Global, value: &[u8]) -> Result<Vec<u8>, AllocError>
+pub(crate) fn short_value(alloc: Global, value: &[u8]) -> Result<Vec<u8>, AllocError>
     ensures { IfOk result (λ text. text.items ≡ short_value_text value.now) }
 {
     let mut text = Vec::new(alloc);

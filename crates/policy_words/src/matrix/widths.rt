@@ -6,7 +6,7 @@ ghost use Rattle.policy_words.specs.matrix.Layout.{HasLeastWidths, cell_width, c
 use crate::cell::{Asked, cell};
 use crate::columns::Column;
 use crate::matrix::layout::Layout;
-use crate::matrix::value::value_of;
+use crate::matrix::value::short_value;
 use crate::table::told_value;
 use crate::type_text::add_type;
 use att_table::{Attr, Table, type_octets};
@@ -107,7 +107,7 @@ fn value_width(alloc: Global, table: &Table, attr: &Attr) -> Result<usize, Alloc
     if !is_used(attr.role) {
         return Ok(0);
     }
-    let value = value_of(alloc, told_value(table, attr.handle))?;
+    let value = short_value(alloc, told_value(table, attr.handle))?;
     Ok(value.len())
 }
 
