@@ -1,4 +1,4 @@
-//! The commands `show`, `may`, `compare` and `expect`: their files, checked in order, and their texts.
+//! The commands `show`, `may`, `compare` and `expect`: their files, checked in order, and texts.
 #![tactic(auto)]
 
 mod compare;
