@@ -1,6 +1,6 @@
 -- An answer in words: the rule by its key of the table file, and the error code by its name in the
 -- Core Specification (Core 5.2, Vol 3 Part F, 3.4.1.1, Table 3.3).
-use Rattle.std.specs.Prelude.{ℕ, if◌then◌else◌, List, [], ◌∷◌, ◌++◌, codes}
+use Rattle.std.specs.Prelude.{ℕ, if◌then◌else◌, List, [], ◌∷◌, ◌++◌, codes, unwrap_or}
 use Rattle.std.specs.Fmt.{decimal}
 use Rattle.std.specs.Option.{option_map_or}
 use Rattle.hex.specs.Hex.{encode_lower}
@@ -73,8 +73,7 @@ rule_text attributes handle access right Authorization =
 
 unfoldable pub error_text : Code → Octets
 error_text code =
-    option_map_or (λ name. name) (error_name code) [] ++ codes " (" ++ encode_lower (code ∷ [])
-    ++ 41 ∷ []
+    unwrap_or (error_name code) [] ++ codes " (" ++ encode_lower (code ∷ []) ++ 41 ∷ []
 
 -- A missing attribute is named by the error code alone.
 abbrev pub separator : Rule → Octets

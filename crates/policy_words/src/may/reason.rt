@@ -1,6 +1,7 @@
 //! An answer in words: the rule by its key of the table file, and the error code by its name.
 
-ghost use Rattle.std.specs.Prelude.{◌≡◌, ◌++◌, codes, if◌then◌else◌, OnOk};
+ghost use Rattle.std.specs.Prelude.{◌≡◌, ◌++◌, [], codes, if◌then◌else◌, OnOk, unwrap_or};
+ghost use Rattle.att_numbers.specs.ErrorCode.{error_name};
 ghost use Rattle.att_policy.specs.Need.{key_size_of};
 ghost use Rattle.att_policy.specs.Policy.{need_of};
 ghost use Rattle.att_attributes.specs.Attributes.{is_configuration_at};
@@ -224,8 +225,15 @@ fn add_size_text(text: &mut Vec<u8>, size: u8) -> Result<(), AllocError>
 fn add_error(text: &mut Vec<u8>, code: u8) -> Result<(), AllocError>
     ensures ok { OnOk result (text.new.items ≡ text.old.items ++ error_text code) }
 {
-    add_octets(text, error_code::name(code).unwrap_or("").as_bytes())?;
+    add_octets(text, name_of_error(code).as_bytes())?;
     add_octets(text, b" (")?;
     add_hex(text, &[code])?;
     add_octets(text, b")")
+}
+
+/// Returns the name of an error code; empty if it has none.
+fn name_of_error(code: u8) -> &'static str
+    ensures { result.now ≡ unwrap_or (error_name code) [] }
+{
+    error_code::name(code).unwrap_or("")
 }
