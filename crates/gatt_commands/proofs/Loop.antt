@@ -1,5 +1,5 @@
 -- Host and controller stay joined in whole runs.
-use Rattle.std.proofs.Common.{◌≡◌, List, [], ◌∷◌, ◌++◌, length, Option, refl, sym, ap, subst, inl, inr}
+use Rattle.std.proofs.Common.{◌≡◌, ℕ, List, [], ◌∷◌, ◌++◌, length, Option, refl, sym, ap, subst, inl, inr}
 use Rattle.std.specs.Prelude.{Bool}
 use Rattle.att_table.specs.Table.{Contents}
 use Rattle.gatt_host.proofs.meaning.Drained.{all_sent}

@@ -1,5 +1,5 @@
 -- The run of a script, line by line (this profile's own).
-use Rattle.std.specs.Prelude.{◌≡◌, ◌≢◌, ◌⊎◌, ◌++◌, Bool, true, false, is_some, List, [], ◌∷◌, length, Option, Result, Ok, Err, IfSome}
+use Rattle.std.specs.Prelude.{◌≡◌, ◌≢◌, ◌⊎◌, ℕ, ◌++◌, Bool, true, false, is_some, List, [], ◌∷◌, length, Option, Result, Ok, Err, IfSome}
 use Rattle.std.specs.Io.KnownBytes.{Appends, Keeps}
 use Rattle.att_table.specs.Table.{Contents}
 use Rattle.gatt_subs.specs.Rows.{Subscriptions}
