@@ -200,18 +200,25 @@ fn add_moves(
 {
     let pairs = pairs_of(alloc, table, other)?;
     let others = pairs_of(alloc, other, table)?;
-    let changed = lines_of_changes(alloc, table, other, &pairs, &others)?;
-    add_section(text, b"Changed:\n", b"", &changed)?;
+    add_changed_section(alloc, text, table, other, &pairs, &others)?;
     add_places(alloc, text, &pairs, &others)?;
-    let dropped = dropped_lines(alloc, other, table, all_attributes(other))?;
-    add_section(text, b"Subscriptions that are dropped:\n", b"", &dropped)?;
-    let lasting = still_sent_lines(alloc, other, table, kinds, columns, all_attributes(other))?;
-    add_section(
-        text,
-        b"Subscriptions that last although they are closed:\n",
-        b"",
-        &lasting,
-    )
+    add_dropped_section(alloc, text, table, other)?;
+    add_lasting_section(alloc, text, kinds, columns, table, other)
+}
+
+fn add_changed_section(
+    alloc: Global,
+    text: &mut Vec<u8>,
+    table: &Table,
+    other: &Table,
+    pairs: &[Pair],
+    others: &[Pair],
+) -> Result<(), AllocError>
+    ensures ok { OnOk result (text.new.items ≡ text.old.items ++ lines_under (codes "Changed:")
+        (lines_of_changes table.now other.now pairs.now others.now)) }
+{
+    let lines = lines_of_changes(alloc, table, other, pairs, others)?;
+    add_section(text, b"Changed:\n", b"", &lines)
 }
 
 #[tactic(auto, unfolding(crate::specs::compare::Compared::places_text))]
@@ -224,12 +231,72 @@ fn add_places(
     ensures ok { OnOk result
         (text.new.items ≡ text.old.items ++ places_text pairs.now others.now) }
 {
-    let moved = moved_lines(alloc, pairs, others)?;
-    add_section(text, b"Moved to another handle:\n", b"", &moved)?;
-    let added = alone_lines(alloc, pairs, others)?;
-    add_section(text, b"New:\n", b"", &added)?;
-    let gone = alone_lines(alloc, others, pairs)?;
-    add_section(text, b"Gone:\n", b"", &gone)
+    add_moved_section(alloc, text, pairs, others)?;
+    add_alone_section(alloc, text, b"New:\n", pairs, others)?;
+    add_alone_section(alloc, text, b"Gone:\n", others, pairs)
+}
+
+fn add_moved_section(
+    alloc: Global,
+    text: &mut Vec<u8>,
+    pairs: &[Pair],
+    others: &[Pair],
+) -> Result<(), AllocError>
+    ensures ok { OnOk result (text.new.items ≡ text.old.items
+        ++ lines_under (codes "Moved to another handle:") (moved_lines pairs.now others.now)) }
+{
+    let lines = moved_lines(alloc, pairs, others)?;
+    add_section(text, b"Moved to another handle:\n", b"", &lines)
+}
+
+/// Adds the attributes that the other table does not have, below a heading.
+fn add_alone_section(
+    alloc: Global,
+    text: &mut Vec<u8>,
+    heading: &[u8],
+    pairs: &[Pair],
+    others: &[Pair],
+) -> Result<(), AllocError>
+    ensures ok { OnOk result (text.new.items ≡ text.old.items
+        ++ section heading.now [] (alone_lines pairs.now others.now)) }
+{
+    let lines = alone_lines(alloc, pairs, others)?;
+    add_section(text, heading, b"", &lines)
+}
+
+fn add_dropped_section(
+    alloc: Global,
+    text: &mut Vec<u8>,
+    table: &Table,
+    other: &Table,
+) -> Result<(), AllocError>
+    ensures ok { OnOk result (text.new.items ≡ text.old.items
+        ++ lines_under (codes "Subscriptions that are dropped:")
+        (dropped_lines table.now other.now)) }
+{
+    let lines = dropped_lines(alloc, other, table, all_attributes(other))?;
+    add_section(text, b"Subscriptions that are dropped:\n", b"", &lines)
+}
+
+fn add_lasting_section(
+    alloc: Global,
+    text: &mut Vec<u8>,
+    kinds: &[Option<KeyFacts>],
+    columns: &[Column],
+    table: &Table,
+    other: &Table,
+) -> Result<(), AllocError>
+    ensures ok { OnOk result (text.new.items ≡ text.old.items
+        ++ lines_under (codes "Subscriptions that last although they are closed:")
+        (still_sent_lines kinds.now columns.now table.now other.now)) }
+{
+    let lines = still_sent_lines(alloc, other, table, kinds, columns, all_attributes(other))?;
+    add_section(
+        text,
+        b"Subscriptions that last although they are closed:\n",
+        b"",
+        &lines,
+    )
 }
 
 fn reached_text(table: &Table, other: &Table) -> &'static str
