@@ -9,7 +9,7 @@ returns c =
     record {
       ok = on_ok_weaker c.add_octets-2.result
           (λ added.
-          joined c.args.text.now.items _ _ (joined c.args.text.now.items _ _ (joined c.args.text.now.items _ _ (joined c.args.text.now.items _ _ (joined c.args.text.now.items _ _ (joined c.args.text.now.items _ _ (joined c.args.text.now.items _ _ (joined c.args.text.now.items _ _ c.in_ok-add_attribute.ensures.ok
+          joined c.args.text.now.items _ _ (joined c.args.text.now.items _ _ (joined c.args.text.now.items _ _ (joined c.args.text.now.items _ _ (joined c.args.text.now.items _ _ (joined c.args.text.now.items _ _ (joined c.args.text.now.items _ _ (joined c.args.text.now.items _ _ c.in_ok-add_handle_and_type.ensures.ok
           c.in_ok-add_right.ensures.ok)
           c.in_ok-add_kinds.ensures.ok)
           c.in_ok-add_today.ensures.ok)

@@ -9,6 +9,6 @@ returns c =
     record {
       ok = on_ok_weaker c.add_octets.result
           (λ added.
-          joined c.args.text.now.items _ _ c.in_ok-add_attribute.ensures.ok added)
+          joined c.args.text.now.items _ _ c.in_ok-add_handle_and_type.ensures.ok added)
           c.add_octets.ensures.ok;
     }
