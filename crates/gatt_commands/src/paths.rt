@@ -32,17 +32,16 @@ pub struct RunPaths<'a> {
     pub script: ScriptPath<'a>,
     /// The output besides the frames of clients.
     pub shows: Shows,
-    /// The largest PDU that the host receives.
-    pub rx_mtu: RxMtu,
 }
 
-/// Runs the script of the files at these paths.
+/// Runs the script of the files at these paths, by a host with this ATT_MTU.
 ///
 /// Opens each file only before its check.
 pub fn run_paths<F: Files, W: Write>(
     alloc: Global,
     files: &F,
     paths: RunPaths<'_>,
+    rx_mtu: RxMtu,
     writer: &mut W,
 ) -> Result<(), ShellFault>
     ensures { IfErr result IsRunCommandFault }
@@ -62,7 +61,7 @@ pub fn run_paths<F: Files, W: Write>(
         &mut script,
         &mut store,
         paths.shows,
-        paths.rx_mtu,
+        rx_mtu,
         writer,
     )
 }

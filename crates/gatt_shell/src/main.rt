@@ -210,10 +210,10 @@ fn unlocked_status(rt: &HostRuntime, unlocked: Unlocked) -> u8
 }
 
 /// Runs a script while no other program uses its subscriptions file, and returns the exit status.
-fn run_locked(rt: &HostRuntime, paths: RunPaths<'_>, words: bool) -> u8 {
+fn run_locked(rt: &HostRuntime, paths: RunPaths<'_>, rx_mtu: RxMtu, words: bool) -> u8 {
     match lock_rows(rt, paths.rows) {
         Ok(lock) => {
-            let status = exit_status(rt, run_script(rt, paths, words));
+            let status = exit_status(rt, run_script(rt, paths, rx_mtu, words));
             drop(lock);
             status
         }
@@ -236,14 +236,19 @@ fn serve_locked(rt: &HostRuntime, paths: ServePaths<'_>, address: Address<'_>) -
 }
 
 /// Runs a script and prints its output, also if it fails. No file is opened before its turn.
-fn run_script(rt: &HostRuntime, paths: RunPaths<'_>, words: bool) -> Result<(), ShellFault> {
+fn run_script(
+    rt: &HostRuntime,
+    paths: RunPaths<'_>,
+    rx_mtu: RxMtu,
+    words: bool,
+) -> Result<(), ShellFault> {
     if words {
-        return wording::run_script(rt, paths);
+        return wording::run_script(rt, paths, rx_mtu);
     }
     let Ok(mut writer) = BufWriter::new(rt.alloc(), io::writer(rt)) else {
         return Err(ShellFault::Memory);
     };
-    let ran = gatt_commands::run_paths(rt.alloc(), rt, paths, &mut writer);
+    let ran = gatt_commands::run_paths(rt.alloc(), rt, paths, rx_mtu, &mut writer);
     outcome_of(ran, writer.flush().is_ok())
 }
 
@@ -383,9 +388,8 @@ fn carry_out(rt: &HostRuntime, choice: &Choice<'_>) -> u8 {
                     notices,
                     lines: echo,
                 },
-                rx_mtu,
             };
-            run_locked(rt, paths, words)
+            run_locked(rt, paths, rx_mtu, words)
         }
         Choice::Words { table } => exit_status(rt, wording::add_words(rt, table.map(TablePath))),
         Choice::Serve {

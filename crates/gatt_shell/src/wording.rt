@@ -5,7 +5,8 @@ use att_table::Table;
 use att_table::examples::DOOR;
 use att_words::{CopyFault, Handles, Worded};
 use gatt_commands::{
-    KeysPath, LazyFile, RowsOut, RowsReader, RunPaths, ShellFault, TablePath, att_lines, read_table,
+    KeysPath, LazyFile, RowsOut, RowsReader, RunPaths, RxMtu, ShellFault, TablePath, att_lines,
+    read_table,
 };
 use shell_files::{RowsWriter, read_all, read_next};
 use std::io;
@@ -53,7 +54,11 @@ pub(crate) fn answer_lines(rt: &HostRuntime) -> Result<(), ShellFault> {
 /// Runs a script with words, as `run` does without.
 ///
 /// Reads the tables once: for the run, and for the names of handles that are the same in both.
-pub(crate) fn run_script(rt: &HostRuntime, paths: RunPaths<'_>) -> Result<(), ShellFault> {
+pub(crate) fn run_script(
+    rt: &HostRuntime,
+    paths: RunPaths<'_>,
+    rx_mtu: RxMtu,
+) -> Result<(), ShellFault> {
     let alloc = rt.alloc();
     let first = read_all(alloc, &mut LazyFile::new(rt, paths.table.0))?;
     let table = read_table(alloc, &mut first.as_slice())?;
@@ -66,7 +71,14 @@ pub(crate) fn run_script(rt: &HostRuntime, paths: RunPaths<'_>) -> Result<(), Sh
         return Err(ShellFault::Memory);
     };
     let mut worded = Worded::new(writer, Handles::of(&table, next.as_ref()));
-    let ran = run_texts(rt, paths, first.as_slice(), text_of(&second), &mut worded);
+    let ran = run_texts(
+        rt,
+        paths,
+        rx_mtu,
+        first.as_slice(),
+        text_of(&second),
+        &mut worded,
+    );
     outcome_of(ran, worded.flush().is_ok())
 }
 
@@ -82,6 +94,7 @@ fn text_of(file: &Option<Vec<u8>>) -> Option<&[u8]> {
 fn run_texts<W: Write>(
     rt: &HostRuntime,
     paths: RunPaths<'_>,
+    rx_mtu: RxMtu,
     table: &[u8],
     next: Option<&[u8]>,
     writer: &mut W,
@@ -97,7 +110,7 @@ fn run_texts<W: Write>(
         &mut LazyFile::new(rt, paths.script.0),
         &mut RowsOut::new(RowsWriter::new(rt, paths.rows)),
         paths.shows,
-        paths.rx_mtu,
+        rx_mtu,
         writer,
     )
 }
