@@ -21,9 +21,13 @@ THIS_MACHINE = "x86_64-unknown-linux-gnu"
 OUTPUTS = {"gatt_shell": ("gatt_shell", "bin/gatt_shell"), "gihandop_c": ("libgihandop_c.a", "lib/libgihandop_c.a")}
 # What a program for another target is linked with.
 LINKED = ("c/system.c", "c/heap.c")
+# What takes the module of a crate and writes it for another machine.
+WAY = ("tools/modules.py", "tools/rewriting.py")
 # The page in a browser, and what it is made of besides its crate.
 PAGE_CRATE, PAGE = "playground", f"{ROOT}/crates/playground/out/page.html"
-PAGE_PARTS = ("tools/page", "page/heap.c", "page/page.css", "page/page.html", "page/page.js")
+PAGE_PARTS = (*WAY, "tools/page", "page/heap.c", "page/page.css", "page/page.html", "page/page.js")
+# What the library for a microcontroller is made of besides gihandop_c.
+MCU_PARTS = (*WAY, "tools/mcu", "include/gihandop.h", "mcu/gihandop_pool.h", "mcu/heap.ll", "mcu/pool.c", "mcu/shell.c")
 # The wrong edits that tools/edits tries before a release, in a folder for each crate.
 EDITS = "tests/edits"
 # What tools/unproved and `tools/page --unproved` leave in all that they make.
@@ -101,9 +105,10 @@ def crates_below(top):
     return below
 
 
-def sum_of_sources(crate, target=None):
-    """Returns the sum of everything that a crate is proved from, as it is now."""
+def sum_of_sources(crate, target=None, parts=()):
+    """Returns the sum of everything that a crate is proved from, as it is now, and of further files."""
     paths = [it for it in ("crates.txt", "HANDLES") if os.path.exists(f"{ROOT}/{it}")]
+    paths += parts
     paths += LINKED if target and crate == "gatt_shell" else PAGE_PARTS if crate == PAGE_CRATE else []
     for name in crates_below(crate):
         for part in PARTS:
@@ -166,16 +171,17 @@ def forget(crate, target=None):
         os.remove(note_of(output(crate, target)))
 
 
-def note(crate, target, began, said, path=None):
+def note(crate, target, began, said, path=None, parts=()):
     """Writes the note of an output that was just proved: from the sources with the sum `began`, which was
-    taken before, and with the words `said` of the prover. Returns why there is no note, or nothing."""
+    taken before, and with the words `said` of the prover. `parts` are further files that it is made of.
+    Returns why there is no note, or nothing."""
     path = path or output(crate, target)
     lines = verdict_in(said)
     if not any(it.startswith("logic=proved ") for it in lines):
         return "the prover has printed no line logic=proved"
     if not kit():
         return "`rt version` prints nothing"
-    if sum_of_sources(crate, target) != began:
+    if sum_of_sources(crate, target, parts) != began:
         return "the sources have changed meanwhile"
     head = [f"sources {began}", f"output {sum_of(path)}", f"kit {kit()}", f"target {target or THIS_MACHINE}"]
     with open(f"{note_of(path)}.new", "w", encoding="utf-8") as file:
@@ -228,9 +234,9 @@ def values_of(path):
     return dict(it.partition(" ")[::2] for it in text_of(note_of(path)).splitlines())
 
 
-def check(crate, target=None, path=None):
+def check(crate, target=None, path=None, parts=()):
     """Returns the note of an output as its lines, if the output is the file that was proved, from the
-    sources as they are now and by the kit of now. Errors: Refusal."""
+    sources as they are now, with these further files, and by the kit of now. Errors: Refusal."""
     path = path or output(crate, target)
     name, beside, how = shown(path), shown(note_of(path)), hint(crate, target)
     if not os.path.isfile(path):
@@ -256,7 +262,7 @@ def check(crate, target=None, path=None):
         raise Refusal(1, f"the verdict in {beside} is of the logic {of_logic.get('sum')}, by {noted}, and the kit is {now}: {how}")
     if values.get("output") != sum_of(path):
         raise Refusal(1, f"{name} is not the file that was proved, whose sum {beside} has: {how}")
-    if values.get("sources") != sum_of_sources(crate, target):
+    if values.get("sources") != sum_of_sources(crate, target, parts):
         raise Refusal(1, f"the sources of {crate} are not those that were proved, whose sum {beside} has: {how}")
     return [f"sha256 {values['output']}", f"sources {values['sources']}", *said]
 
