@@ -1,0 +1,250 @@
+"""Tries the library of tools/mcu: on this PC, compiled for addresses of 32 bits, and on an emulated board.
+
+It is made without proofs: the kit makes its LLVM module once, unless GIHANDOP_MODULE has the path of one that
+tools/modules.py has read. Nothing here runs on a real board. The programs in C are those of the other tests, which
+know nothing of the pool: tests/c/pool_room.c gives it its memory.
+"""
+
+import os
+import re
+import shutil
+import sys
+import tempfile
+
+import pytest
+
+from parties.building import is_marked, once, ran, run
+from parties.compiling import PROGRAMS
+from parties.in_c import SCRIPTS, compare_day, compare_script
+from parties.places import ROOT, text_of, write_text
+from parties.releases import made_up_verdict
+
+sys.path.insert(0, f"{ROOT}/tools")
+import modules  # noqa: E402
+import verdicts  # noqa: E402
+
+mcu = modules.load("mcu")
+DAYS = 6
+# The programs of tests/c that end by themselves and need no thread and no memory of their own.
+ENDING = ["edges", "calls", "values", "serve"]
+C_FLAGS = ["-std=c11", "-Wall", "-Wextra", "-Werror", "-Iinclude", "-Itests/c", "-Imcu"]
+# The emulator of the board, which is the name of its package too.
+EMULATOR = "qemu-system-arm"
+
+
+def missing(*commands):
+    """Skips a test for the first command that is missing, with its package."""
+    for command, package in commands:
+        if shutil.which(command) is None:
+            pytest.skip(f"there is no {command}: apt-get install {package}")
+
+
+def module():
+    """The text of the module of gihandop_c, without proofs."""
+
+    def make(path):
+        with tempfile.TemporaryDirectory() as room:
+            text, _ = modules.take(mcu.CRATE, modules.load("unproved").HOLDER, room, False)
+        write_text(path, text)
+
+    if path := os.environ.get("GIHANDOP_MODULE"):
+        return text_of(path)
+    missing(("rt", "the kit of Rattle"))
+    return text_of(once("module.ll", make))
+
+
+def archive(name, size="-Os"):
+    """The path of the archive for a processor."""
+
+    def make(path):
+        processor = mcu.TESTED[name]
+        with tempfile.TemporaryDirectory() as room:
+            mcu.compile_for(processor, size, mcu.module_for(processor, module()), False, room, f"{room}/made.a")
+            shutil.copyfile(f"{room}/made.a", path)
+
+    return once(f"{name}{size}.a", make)
+
+
+def sources_of(name):
+    return [*PROGRAMS[name][0], "tests/c/pool_room.c"]
+
+
+@pytest.fixture(scope="module")
+def on_pc():
+    """Returns the words that run a program for addresses of 32 bits on this PC."""
+    missing(("gcc", "gcc"), ("rt", "the kit of Rattle"))
+    with tempfile.TemporaryDirectory() as room:
+        empty = write_text(f"{room}/empty.c", "#include <string.h>\nint main(void) { return 0; }\n")
+        if run(["gcc", "-m32", "-o", f"{room}/empty", empty]).returncode:
+            pytest.skip("gcc has no -m32: apt-get install gcc-multilib")
+
+    def words_of(name):
+        made = archive("i386")
+        words = ["gcc", "-m32", "-O1", "-g", *C_FLAGS, *sources_of(name), made, "-o"]
+        return [once(f"i386.{name}", lambda path: ran([*words, path], name))]
+
+    return words_of
+
+
+@pytest.fixture(scope="module")
+def on_board():
+    """Returns a function that runs a program on the emulated board, with words, and returns what it prints."""
+    processor = mcu.PROCESSORS["cortex-m4"]
+    missing((processor.compiler, processor.packages), (EMULATOR, EMULATOR), ("rt", "the kit of Rattle"))
+
+    def play(name, *words):
+        made = archive("cortex-m4")
+        command = [processor.compiler, *processor.own, "-O1", *C_FLAGS, "--specs=rdimon.specs", "-Wl,--no-warn-rwx-segments"]
+        command += ["-ffunction-sections", "-Wl,--gc-sections", "-T", "tests/c/board.ld", "tests/c/board.c"]
+        program = once(f"board.{name}", lambda path: ran([*command, *sources_of(name), made, "-o", path], name))
+        told = ",".join(f"arg={it}" for it in (name, *words))
+        return ran(
+            [EMULATOR, "-M", "mps2-an386", "-nographic", "-monitor", "none", "-serial", "none",
+             "-semihosting-config", f"enable=on,target=native,{told}", "-kernel", program], name, timeout=300,
+        )
+
+    return play
+
+
+@pytest.mark.long(60)
+@pytest.mark.parametrize("table, keys, script", SCRIPTS, ids=[it[2] for it in SCRIPTS])
+def test_script_on_a_pc(program, folder, on_pc, table, keys, script):
+    """A host with addresses of 32 bits does what a script of examples/ is to print."""
+    compare_script(folder, on_pc("obey"), table, keys, script)
+
+
+@pytest.mark.parametrize("number", range(DAYS))
+def test_day_on_a_pc(program, folder, on_pc, number):
+    """It does what a day of phones at random is to bring."""
+    compare_day(folder, on_pc("obey"), 100 + number)
+
+
+@pytest.mark.without_program
+@pytest.mark.parametrize("name", ENDING)
+def test_program_on_a_pc(on_pc, name):
+    """Each check of a program in C holds."""
+    assert re.search(r"[1-9]\d* checks, 0 failed", ran([*on_pc(name), *PROGRAMS[name][2]]))
+
+
+@pytest.mark.without_program
+@pytest.mark.parametrize("name", ENDING)
+def test_program_on_the_board(on_board, name):
+    assert re.search(r"[1-9]\d* checks, 0 failed", on_board(name, *PROGRAMS[name][2]))
+
+
+@pytest.mark.without_program
+def test_it_is_marked(on_pc):
+    """The archive says that it is not proved, and tools/verdicts.py refuses it."""
+    made = archive("i386")
+    assert is_marked(made)
+    with pytest.raises(verdicts.Refusal, match="compiled without proofs"):
+        verdicts.check(mcu.CRATE, None, made, verdicts.MCU_PARTS)
+
+
+@pytest.mark.without_program
+@pytest.mark.parametrize("seed", range(3))
+@pytest.mark.parametrize("bits", ["-m64", "-m32"])
+def test_pool(folder, bits, seed):
+    """The pool holds what is in its blocks, whatever is taken and given back."""
+    missing(("gcc", "gcc"))
+    flags = [bits, "-std=c11", "-O2", "-g", "-Wall", "-Wextra", "-Wpedantic", "-Werror", "-Imcu"]
+    sanitizers = ["-fsanitize=address,undefined", "-fno-sanitize-recover=all"]
+    compiled = run(["gcc", *flags, *sanitizers, "-o", f"{folder}/pool", "tests/c/pool.c", "mcu/pool.c"])
+    if compiled.returncode and bits == "-m32" and "-m64" not in compiled.stdout:
+        pytest.skip("gcc has no -m32: apt-get install gcc-multilib")
+    assert compiled.returncode == 0, compiled.stdout
+    assert re.fullmatch(r"\d+ checks, 0 failed\n", ran([f"{folder}/pool", str(seed)]))
+
+
+@pytest.mark.without_program
+def test_each_function_is_in_the_shell():
+    """mcu/shell.c defines each function of gihandop.h, by its declaration, and calls that of the library."""
+    shell, names = text_of(f"{ROOT}/mcu/shell.c"), mcu.exported()
+    assert len(names) == 19
+    header = re.sub(r"\s+", " ", text_of(f"{ROOT}/include/gihandop.h"))
+    for name in names:
+        declared = re.search(rf"uint32_t {name}\([^)]*\)", header)[0]
+        assert f"{declared} {{" in re.sub(r"\s+", " ", shell), name
+        assert name.replace("gh_", "gh64_", 1) in shell
+
+
+# Words of the command, and what it says.
+WRONG = [
+    ([], "one file to write is needed"),
+    (["a.a", "b.a"], "one file to write is needed"),
+    (["--cpu"], "--cpu needs one of cortex-m4, cortex-m33, rv32imac"),
+    (["--cpu", "z80", "a.a"], "--cpu needs one of cortex-m4, cortex-m33, rv32imac"),
+    (["-O3", "a.a"], "unknown option: -O3"),
+    (["--unproven", "a.a"], "unknown option: --unproven"),
+]
+
+
+@pytest.mark.without_program
+@pytest.mark.parametrize("words, text", WRONG)
+def test_wrong_words(words, text):
+    ended = run(["tools/mcu", *words])
+    assert (ended.returncode, ended.stdout.splitlines()[0]) == (64, f"tools/mcu: {text}")
+
+
+@pytest.mark.without_program
+def test_the_help():
+    ended = run(["tools/mcu", "--help"])
+    assert ended.returncode == 0
+    assert all(it in ended.stdout for it in mcu.PROCESSORS) and "i386" not in ended.stdout
+
+
+@pytest.mark.without_program
+@pytest.mark.parametrize("name, package", [("cortex-m4", "gcc-arm-none-eabi"), ("rv32imac", "gcc-riscv64-unknown-elf")])
+def test_a_missing_compiler(folder, name, package):
+    """Without the C compiler of the processor it says which package has it."""
+    words = [sys.executable, "-B", "tools/mcu", "--unproved", "--cpu", name, f"{folder}/a.a"]
+    ended = run(words, env={"PATH": folder})
+    assert ended.returncode == 69
+    assert f"is missing: apt-get install {package}" in ended.stdout
+    assert not os.path.exists(f"{folder}/a.a")
+
+
+def stand_in():
+    """A module with the functions of the library, which do nothing, and the words of a prover."""
+    functions = "".join(f"define i32 @{it}() #0 {{\nstart:\n  ret i32 0\n}}\n" for it in mcu.exported())
+    return f'target datalayout = "e"\ntarget triple = "x"\n{functions}attributes #0 = {{ nounwind }}\n', made_up_verdict()
+
+
+@pytest.mark.without_program
+def test_a_proved_one_has_a_note(on_pc, folder, monkeypatch):
+    """Beside a proved archive is a note of all that it was made from, which another archive does not have."""
+    monkeypatch.setattr(mcu, "take", lambda *_: stand_in())
+    made = f"{folder}/proved.a"
+    mcu.make("i386", "-Os", True, made)
+    check = lambda: verdicts.check(mcu.CRATE, None, made, verdicts.MCU_PARTS)
+    assert check()[0] == f"sha256 {verdicts.sum_of(made)}"
+    assert not is_marked(made)
+    note = text_of(f"{made}.verdict")
+    write_text(f"{made}.verdict", note.replace("sources ", "sources 0", 1))
+    with pytest.raises(verdicts.Refusal, match="are not those that were proved"):
+        check()
+    write_text(f"{made}.verdict", note)
+    with open(made, "ab") as file:
+        file.write(b"\n")
+    with pytest.raises(verdicts.Refusal, match="is not the file that was proved"):
+        check()
+    mcu.make("i386", "-Os", False, f"{folder}/other.a")
+    assert not os.path.exists(f"{folder}/other.a.verdict")
+
+
+@pytest.mark.without_program
+def test_a_module_without_a_function():
+    """A module of another library is refused."""
+    text = stand_in()[0].replace("@gh_tick(", "@gh_tock(")
+    with pytest.raises(modules.Failure, match="the module has no function gh_tick"):
+        mcu.module_for(mcu.TESTED["cortex-m4"], text)
+
+
+@pytest.mark.without_program
+def test_another_line(monkeypatch, folder, capsys, on_pc):
+    """A line that the rewriting does not know ends the tool, and nothing is written."""
+    text = stand_in()[0].replace("  ret i32 0\n", "  fence seq_cst\n  ret i32 0\n", 1)
+    monkeypatch.setattr(mcu, "take", lambda *_: (text, ""))
+    assert mcu.main(["--unproved", "--cpu", "i386", f"{folder}/a.a"]) == 70
+    assert "line 5 of the module has a form that is not known here: fence seq_cst" in capsys.readouterr().err
+    assert os.listdir(folder) == []
