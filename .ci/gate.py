@@ -37,7 +37,8 @@ TESTS = ["tests/pytest", "-q", "-r", "fEs", "-n", str(3 * len(os.sched_getaffini
 ARCHIVED = [f"test_{it}.py" for it in ("c_*", "install", "packages", "release", "rust*", "uninstall")]
 EMULATED = "test_aarch64.py"
 PAGED = "test_page.py"
-OTHERS = [f"--ignore-glob=*/{it}" for it in (*ARCHIVED, EMULATED, PAGED)]
+NARROW = "test_mcu.py"
+OTHERS = [f"--ignore-glob=*/{it}" for it in (*ARCHIVED, EMULATED, PAGED, NARROW)]
 # Those that need nothing that is proved.
 FIRST = [f"tests/test_{it}.py" for it in ("claims", "launcher", "limits_page", "links", "pages", "traces", "unproved")]
 # rt ci only notes an edit that does not apply or compile. It shows nothing.
@@ -148,6 +149,8 @@ def play():
             "aarch64", [*prove, "gihandop_c"], [*prove, "gatt_shell"], play_emulated,
             GATT_SHELL=PROGRAM, GIHANDOP_ARCHIVE=ARCHIVE,
         ).has_passed()
+    if shutil.which("arm-none-eabi-gcc"):
+        Part("microcontroller", [*TESTS, f"tests/{NARROW}"], GATT_SHELL=PROGRAM).has_passed()
     for part in Part.ended:
         part.play_again()
 
