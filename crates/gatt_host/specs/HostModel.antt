@@ -6,7 +6,7 @@ use Rattle.gatt_host.specs.declared.host_fault.HostFault.{HostFault}
 use Rattle.gatt_host.specs.declared.host_fault.HostFault.TheVariants as stop
 use Rattle.gatt_host.specs.GoingOut.{is_drained}
 use Rattle.gatt_host.specs.ServerState.{ServerState, open_slots}
-use Rattle.gatt_host.specs.Meaning.{Frames}
+use Rattle.gatt_host.specs.Meaning.{IncomingFrames}
 use Rattle.gatt_host.specs.RunRefinement.{ServerRefinesRun}
 use Rattle.gatt_laws.specs.machine.Input.{Item, Run, after_packet, run}
 use Rattle.gatt_laws.specs.machine.Packets.{Fault}
@@ -20,11 +20,11 @@ use Rattle.octet_io.specs.Number.{Octets}
 -- The host's state, incoming frames and stream, and the fault that stopped it, if any.
 pub record HostModel : Type 0 where
   pub server : ServerState
-  pub frames : Frames
+  pub frames : IncomingFrames
   pub stream : Deframing
   pub fault : Option HostFault
 
-abbrev pub going : ServerState → Frames → Deframing → HostModel
+abbrev pub going : ServerState → IncomingFrames → Deframing → HostModel
 going server frames stream =
     record { server = server; frames = frames; stream = stream; fault = None }
 
@@ -55,11 +55,12 @@ SameFault (Some why) (Some fault) = told_fault why ≡ fault
 
 -- A packet leads the host on in its run, or stops it for the same fault.
 pub record RefinesRunWithFault (run : Run) (sent : List Octets) (server : ServerState)
-    (frames : Frames) (fault : Option HostFault) : Type 0 where
+    (frames : IncomingFrames) (fault : Option HostFault) : Type 0 where
   pub refines : ServerRefinesRun run sent server frames
   pub same : SameFault run.intake.fault fault
 
-abbrev pub RefinesPacket : Packet → ServerState → Frames → ServerState → Frames → Option HostFault
+abbrev pub RefinesPacket : Packet → ServerState → IncomingFrames → ServerState → IncomingFrames
+    → Option HostFault
     → Type 0
 RefinesPacket packet old frames new after fault =
     (run : Run) (sent : List Octets) → run.intake.fault ≡ None
@@ -100,4 +101,4 @@ pub record IsReached (host : HostModel) : Type 0 where
 -- Some host that has not stopped has this state.
 abbrev pub IsStateOfOne : ServerState → Type 0
 IsStateOfOne server =
-    (frames : Frames) × (stream : Deframing) × IsReached (going server frames stream)
+    (frames : IncomingFrames) × (stream : Deframing) × IsReached (going server frames stream)

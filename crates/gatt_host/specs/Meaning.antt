@@ -1,11 +1,11 @@
 -- The meaning of packets and calls to a host.
 use Rattle.std.specs.Prelude.{◌≡◌, ℕ, List, set, get_or, None, IfSome}
-pub use Rattle.gatt_host.specs.declared.frames.Frames.{Frames}
 use Rattle.gatt_host.specs.ServerState.{ServerState, ServesRequest, after_ask_key, after_authorize, after_connection_complete, server_after_packets_completed, server_after_command_complete, after_disconnect, after_disconnection_complete, after_link, after_no_change, after_replacing, server_after_other_channel, server_after_tick, after_update, server_slot_at}
 use Rattle.gatt_laws.specs.machine.Context.{Context}
 use Rattle.gatt_laws.specs.machine.Event.{Own, Connected, Disconnected, KeyAsked, Encrypted, Refreshed, Asks, OtherChannel, Authorized, Ended, Happening, Of, Completed, Credit, Update, Tick, Replaced, Nothing}
 use Rattle.gatt_laws.specs.machine.Packets.{Recombination}
 use Rattle.host_connections.specs.Arrivals.{with_accepted}
+use Rattle.host_connections.specs.declared.arrivals.Arrivals.{Arrivals}
 use Rattle.host_connections.specs.OfTable.{AreOfTable}
 use Rattle.host_connections.specs.Slots.{Place, place_free, place_holding, place_serving}
 use Rattle.le_acl.specs.Fragment.{Fragment, Beginning, Continuation}
@@ -50,8 +50,16 @@ IsAfter (Tick time) old new = new ≡ server_after_tick time old
 IsAfter (Replaced table) old new = new ≡ after_replacing table old
 IsAfter Nothing old new = new ≡ after_no_change old
 
+abbrev pub Assemblies : Type 0
+Assemblies = List Assembly
+
+-- The incoming frames of the connections, slot by slot, and when each connection came.
+pub record IncomingFrames : Type 0 where
+  pub assembled : Assemblies
+  pub arrivals : Arrivals
+
 -- The incoming frames after an event: a new connection has no frame and is counted.
-abbrev pub frames_after : ℕ → Happening Place → Frames → Frames
+abbrev pub frames_after : ℕ → Happening Place → IncomingFrames → IncomingFrames
 frames_after time (Of place (Connected handle peer)) frames = record {
   assembled = set frames.assembled place no_assembly;
   arrivals = with_accepted place time frames.arrivals;
@@ -66,14 +74,11 @@ with_fragment assembly (Continuation octets) = with_continuation assembly octets
 abbrev pub once_heard : Assembly → Assembly
 once_heard assembly = record { unfinished = assembly.unfinished; frame = None }
 
-abbrev pub Assemblies : Type 0
-Assemblies = List Assembly
-
 -- The frame that a fragment completes, after those before it.
 abbrev pub recombination : Assembly → Recombination
 recombination earlier fragment = (with_fragment earlier fragment).frame
 
-abbrev pub recombinations_in : Frames → Place → Recombination
+abbrev pub recombinations_in : IncomingFrames → Place → Recombination
 recombinations_in frames place = recombination (get_or frames.assembled place no_assembly)
 
 -- All rows and pending indications are of the table.

@@ -3,7 +3,7 @@ use Rattle.std.specs.Prelude.{◌≡◌, ℕ, if◌then◌else◌, List, [], ◌
 use Rattle.gatt_host.specs.Answers.{stop_of}
 use Rattle.gatt_host.specs.declared.host_fault.HostFault.{HostFault}
 use Rattle.gatt_host.specs.ServerState.{ServerState}
-use Rattle.gatt_host.specs.Meaning.{Assemblies, Frames, context_in, frames_after, IsAfter, recombinations_in}
+use Rattle.gatt_host.specs.Meaning.{Assemblies, IncomingFrames, context_in, frames_after, IsAfter, recombinations_in}
 use Rattle.gatt_host.specs.Meaning.{once_heard, with_fragment}
 use Rattle.gatt_laws.specs.machine.Event.{Happening}
 use Rattle.gatt_laws.specs.machine.Packets.{Fault, data_event, event_or_bad}
@@ -23,7 +23,7 @@ use Rattle.le_hci.specs.Event.{Reported, event_of}
 use Rattle.octet_io.specs.Number.{Octets}
 
 -- The event of a packet, or the fault for which the host stops.
-abbrev pub packet_happening : ServerState → Frames → Packet → Result (Happening Place) Fault
+abbrev pub packet_happening : ServerState → IncomingFrames → Packet → Result (Happening Place) Fault
 packet_happening server frames packet =
     packet_meaning (context_in server) (recombinations_in frames) packet
 
@@ -42,7 +42,7 @@ abbrev pub arrivals_with : ℕ → Option Place → Arrivals → Arrivals
 arrivals_with time None arrivals = arrivals
 arrivals_with time (Some place) arrivals = with_heard place time arrivals
 
-abbrev pub frames_after_acl : ServerState → ℕ → ℕ → ℕ → Octets → Frames → Frames
+abbrev pub frames_after_acl : ServerState → ℕ → ℕ → ℕ → Octets → IncomingFrames → IncomingFrames
 frames_after_acl server handle boundary broadcast octets frames =
     let place = place_serving server.slots handle in
     record {
@@ -50,7 +50,7 @@ frames_after_acl server handle boundary broadcast octets frames =
       arrivals = arrivals_with server.time place frames.arrivals;
     }
 
-abbrev pub acl_happening : ServerState → ℕ → ℕ → ℕ → Octets → Frames → Happening Place
+abbrev pub acl_happening : ServerState → ℕ → ℕ → ℕ → Octets → IncomingFrames → Happening Place
 acl_happening server handle boundary broadcast octets frames =
     data_event (recombinations_in frames) (place_serving server.slots handle)
     (fragment_of boundary broadcast octets)
@@ -68,12 +68,13 @@ abbrev pub event_stop : Result Reported BadEvent → ServerState → Option Host
 event_stop read server = stop_of (event_or_bad (context_in server) read)
 
 -- Only an event that makes a connection changes the incoming frames.
-abbrev pub frames_after_event : ServerState → Result Reported BadEvent → Frames → Frames
+abbrev pub frames_after_event : ServerState → Result Reported BadEvent → IncomingFrames
+    → IncomingFrames
 frames_after_event server (Ok reported) frames =
     frames_after server.time (connection_event_if_ready (context_in server) reported) frames
 frames_after_event server (Err bad) frames = frames
 
-abbrev pub frames_after_packet : ServerState → Packet → Frames → Frames
+abbrev pub frames_after_packet : ServerState → Packet → IncomingFrames → IncomingFrames
 frames_after_packet server (AclPacket handle boundary broadcast octets) frames =
     frames_after_acl server handle boundary broadcast octets frames
 frames_after_packet server (EventPacket octets) frames =
@@ -81,21 +82,21 @@ frames_after_packet server (EventPacket octets) frames =
 frames_after_packet server ScoPacket frames = frames
 
 -- A packet that is too long is ignored.
-abbrev pub frames_after_any : ServerState → Packet → Frames → Frames
+abbrev pub frames_after_any : ServerState → Packet → IncomingFrames → IncomingFrames
 frames_after_any server packet frames =
     if is_long packet then frames else frames_after_packet server packet frames
 
 -- The incoming frames after octets in which at most one packet ends.
-abbrev pub frames_after_first : ServerState → List Packet → Frames → Frames
+abbrev pub frames_after_first : ServerState → List Packet → IncomingFrames → IncomingFrames
 frames_after_first server [] frames = frames
 frames_after_first server (packet ∷ packets) frames = frames_after_packet server packet frames
 
-abbrev pub frames_after_octets : ServerState → Deframing → Octets → Frames → Frames
+abbrev pub frames_after_octets : ServerState → Deframing → Octets → IncomingFrames → IncomingFrames
 frames_after_octets server stream octets frames =
     frames_after_first server (still stream octets).packets frames
 
-pub record TakesPacket (packet : Packet) (old : ServerState) (frames : Frames) (new : ServerState)
-    (after : Frames) : Type 0 where
+pub record TakesPacket (packet : Packet) (old : ServerState) (frames : IncomingFrames)
+    (new : ServerState) (after : IncomingFrames) : Type 0 where
   pub server : IsOkAnd (packet_happening old frames packet) (λ happening. IsAfter happening old new)
   pub frames_then : after ≡ frames_after_packet old packet frames
 

@@ -3,7 +3,7 @@ use Rattle.std.specs.Prelude.{◌≡◌, ℕ, ◌-◌, ◌^◌, ◌≤◌, min, 
 use Rattle.gatt_host.specs.Answers.{told_fault}
 use Rattle.gatt_host.specs.declared.host_fault.HostFault.{HostFault}
 use Rattle.gatt_host.specs.ServerState.{ServerState}
-use Rattle.gatt_host.specs.Meaning.{Frames, IsOfItsTable, once_heard}
+use Rattle.gatt_host.specs.Meaning.{IncomingFrames, IsOfItsTable, once_heard}
 use Rattle.gatt_host.specs.Packet.{packet_stop}
 use Rattle.gatt_host.specs.StateRefinement.{RefinesState, IsSound}
 use Rattle.gatt_laws.specs.machine.Event.{Ordinal}
@@ -38,8 +38,8 @@ pub record HasTimes (state : State) (heard : Heard) (times : List ℕ) : Type 0 
 
 -- The frame of each slot is assembled from its connection's fragments; a future connection has
 -- none. Each slot that may be opened has a frame.
-pub record IsPutTogether (state : State) (fragments : Fragments) (heard : Heard) (frames : Frames)
-    : Type 0 where
+pub record IsPutTogether (state : State) (fragments : Fragments) (heard : Heard)
+    (frames : IncomingFrames) : Type 0 where
   pub there : (place : ℕ) (ordinal : Ordinal) → slice_get state.slots place ≡ Some (Some ordinal)
       → get_or frames.assembled place no_assembly ≡ once_heard (assembly_after (fragments ordinal))
   pub fresh : (ordinal : Ordinal) → state.next ≤ ordinal → fragments ordinal ≡ []
@@ -49,7 +49,7 @@ pub record IsPutTogether (state : State) (fragments : Fragments) (heard : Heard)
 
 -- These packets have been sent, and the rest of the run's output is pending.
 pub record ServerRefinesRun (run : Run) (sent : List Octets) (server : ServerState)
-    (frames : Frames) : Type 0 where
+    (frames : IncomingFrames) : Type 0 where
   pub owed : List Octets
   pub all : run.sent ≡ sent ++ owed
   pub sound : IsSound run.intake.state
@@ -57,7 +57,7 @@ pub record ServerRefinesRun (run : Run) (sent : List Octets) (server : ServerSta
   pub together : IsPutTogether run.intake.state run.intake.fragments run.intake.heard frames
 
 -- All output of the run has been sent.
-pub record IsDrainedIn (run : Run) (server : ServerState) (frames : Frames) : Type 0 where
+pub record IsDrainedIn (run : Run) (server : ServerState) (frames : IncomingFrames) : Type 0 where
   pub sound : IsSound run.intake.state
   pub refines : RefinesState run.intake.state [] server
   pub together : IsPutTogether run.intake.state run.intake.fragments run.intake.heard frames
@@ -68,7 +68,8 @@ pub record StopsForFault (result : Fault) (fault : HostFault) : Type 0 where
 
 abbrev pub PacketStops : Type 0
 PacketStops =
-    (run : Run) (server : ServerState) (frames : Frames) (packet : Packet) (fault : HostFault)
+    (run : Run) (server : ServerState) (frames : IncomingFrames) (packet : Packet)
+    (fault : HostFault)
     → IsDrainedIn run server frames
     → packet_stop packet server ≡ Some fault
     → (why : Fault) × (packet_event run.intake.state run.intake.fragments packet ≡ Err why)
@@ -77,6 +78,6 @@ PacketStops =
 -- The host's rows and pending indications are of its table if those of the state are.
 abbrev pub HoldsWhatIsOfItsTable : Type 0
 HoldsWhatIsOfItsTable =
-    (run : Run) (server : ServerState) (frames : Frames) → IsDrainedIn run server frames
+    (run : Run) (server : ServerState) (frames : IncomingFrames) → IsDrainedIn run server frames
     → HasRowsOfItsTable run.intake.state → HasWaitingOfItsTable run.intake.state
     → IsOfItsTable server

@@ -2,7 +2,7 @@
 use Rattle.std.specs.Prelude.{◌≡◌, is_some, if◌then◌else◌, List, [], ◌∷◌, map, Option, Some, None, Result, Ok, Err}
 use Rattle.gatt_host.specs.declared.host_fault.HostFault.{HostFault}
 use Rattle.gatt_host.specs.ServerState.{ServerState, without_notices}
-use Rattle.gatt_host.specs.Meaning.{Frames}
+use Rattle.gatt_host.specs.Meaning.{IncomingFrames}
 use Rattle.host_api.specs.declared.notice.Notice.{Notice as Lent}
 use Rattle.gatt_host.specs.Notices.{HasTheValue, last_notices, notice_of}
 use Rattle.gatt_host.specs.RunRefinement.{ServerRefinesRun}
@@ -47,7 +47,7 @@ abbrev pub noticed_in : {E : Type 0} → State → Result Event E → List Notic
 noticed_in state (Ok event) = noticed state event
 noticed_in state (Err fault) = []
 
-abbrev pub TellsOfPacket : Packet → ServerState → Frames → ServerState → Type 0
+abbrev pub TellsOfPacket : Packet → ServerState → IncomingFrames → ServerState → Type 0
 TellsOfPacket packet old frames new =
     (run : Run) (sent : List Octets) → ServerRefinesRun run sent old frames
     → last_notices new

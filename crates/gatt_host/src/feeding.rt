@@ -5,7 +5,7 @@ ghost use Rattle.std.specs.Result.{result_err};
 ghost use Rattle.gatt_host.specs.Feeding.{octet_items, is_write_fault, Feeds, Processes, Settles};
 ghost use Rattle.gatt_host.specs.GoingOut.{is_drained};
 ghost use Rattle.gatt_host.specs.ServerState.{OwesPacketsAlone, open_slots};
-ghost use Rattle.gatt_host.specs.Meaning.{Frames};
+ghost use Rattle.gatt_host.specs.Meaning.{IncomingFrames};
 ghost use Rattle.gatt_host.specs.Listening.{Listens};
 ghost use Rattle.gatt_host.specs.Promises.{WritesApart, WritesByThePolicy};
 ghost use Rattle.gatt_host.specs.HostModel.{going, is_own_fault, fault_outcome, write_outcome, IsStateOfOne};
@@ -133,7 +133,7 @@ fn write_owed<W: Sink>(
     out: &mut W,
 ) -> Result<(), HostFault>
     requires { IsStateOfOne server.old }
-    ensures feeds { (frames : Frames) (stream : Deframing)
+    ensures feeds { (frames : IncomingFrames) (stream : Deframing)
         → Feeds [] (going server.old frames stream)
         (record (going server.new frames stream) { fault = result_err result }) (W.contents out.old)
         (W.contents out.new) (result_err result) }
@@ -154,7 +154,7 @@ fn write_owed<W: Sink>(
 #[inline(never)]
 fn write_in_order<W: Sink>(server: &mut Server, packet: &mut PacketBuf, out: &mut W) -> bool
     requires { IsStateOfOne server.old }
-    ensures feeds { (frames : Frames) (stream : Deframing)
+    ensures feeds { (frames : IncomingFrames) (stream : Deframing)
         → Feeds [] (going server.old frames stream)
         (record (going server.new frames stream) { fault = result_err (write_outcome result) })
         (W.contents out.old) (W.contents out.new) (result_err (write_outcome result)) }
@@ -176,7 +176,7 @@ fn write_packets<const COMMANDS: bool, W: Sink>(
 ) -> bool
     requires one { IsStateOfOne server.old }
     requires packets { COMMANDS ≡ false → OwesPacketsAlone server.old }
-    ensures feeds { (frames : Frames) (stream : Deframing)
+    ensures feeds { (frames : IncomingFrames) (stream : Deframing)
         → Feeds [] (going server.old frames stream)
         (record (going server.new frames stream) { fault = result_err (write_outcome result) })
         (W.contents out.old) (W.contents out.new) (result_err (write_outcome result)) }

@@ -57,9 +57,12 @@ impl Host {
             Ok(slots) => slots,
             Err(fault) => return Err(fault),
         };
+        let Ok(frames) = Frames::new(alloc, config.slots) else {
+            return Err(OpenFault::OutOfMemory);
+        };
         Ok(Host {
             server: held_at_first(table, keys, rows, slots, config),
-            frames: Frames::new(),
+            frames,
             stream: Deframer::new(),
             fault: None,
             packet: PacketBuf::new(),

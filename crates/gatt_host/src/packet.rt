@@ -1,7 +1,7 @@
 //! Packets from the controller as events of the host state.
 
 ghost use Rattle.std.specs.Bool.{OnTrue};
-ghost use Rattle.std.specs.Prelude.{◌≡◌, ◌<◌, false, true, length, IsSome, IsOk, IfErr, Ok, Some, OnErr};
+ghost use Rattle.std.specs.Prelude.{◌≡◌, ◌<◌, ◌≤◌, false, true, length, IsSome, IsOk, IfErr, Ok, Some, OnErr};
 ghost use Rattle.std.specs.Result.{result_err, result_map_both};
 ghost use Rattle.std.specs.Option.{option_and_then, option_map_or};
 ghost use Rattle.gatt_laws.specs.machine.Packets.{fragment_event, frame_event, of_frame};
@@ -33,6 +33,7 @@ use le_l2cap::{Frame, Skip, read_frame};
 
 impl Server {
     pub(crate) fn event(&mut self, frames: &mut Frames, octets: &[u8]) -> Result<(), HostFault>
+        requires enough { length self.old.slots ≤ length frames.old.assembled }
         requires of_table { IsOfItsTable self.old }
         ensures taken { IsOk result → TakesEvent (event_of octets.now) self.old self.new }
         ensures frames { frames.new
@@ -52,6 +53,7 @@ impl Server {
     /// Handles an event other than Number Of Completed Packets. A host ignores most kinds.
     #[inline(never)]
     fn take_other_event(&mut self, frames: &mut Frames, octets: &[u8]) -> Result<(), HostFault>
+        requires enough { length self.old.slots ≤ length frames.old.assembled }
         requires of_table { IsOfItsTable self.old }
         ensures taken { IsOk result → TakesEvent (event_of octets.now) self.old self.new }
         ensures frames { frames.new
@@ -69,6 +71,7 @@ impl Server {
 
     #[inline(never)]
     fn take_rare_event(&mut self, frames: &mut Frames, octets: &[u8]) -> Result<(), HostFault>
+        requires enough { length self.old.slots ≤ length frames.old.assembled }
         requires of_table { IsOfItsTable self.old }
         ensures taken { IsOk result → TakesEvent (event_of octets.now) self.old self.new }
         ensures frames { frames.new
@@ -90,6 +93,7 @@ impl Server {
 
     #[inline(always)]
     fn take_event(&mut self, frames: &mut Frames, octets: &[u8]) -> Result<(), HostFault>
+        requires enough { length self.old.slots ≤ length frames.old.assembled }
         requires of_table { IsOfItsTable self.old }
         ensures taken { IsOk result → TakesEvent (event_of octets.now) self.old self.new }
         ensures frames { frames.new
@@ -107,6 +111,7 @@ impl Server {
 
     #[inline(always)]
     fn take_reported(&mut self, frames: &mut Frames, event: &Event<'_>) -> Result<(), HostFault>
+        requires enough { length self.old.slots ≤ length frames.old.assembled }
         requires of_table { IsOfItsTable self.old }
         ensures taken { IsOk result → TakesEvent (Ok (report_of event.now)) self.old self.new }
         ensures frames { frames.new
@@ -196,6 +201,7 @@ pub(crate) fn acl(
     bc: u8,
     octets: &[u8],
 )
+    requires enough { length server.old.slots ≤ length frames.old.assembled }
     requires of_table { IsOfItsTable server.old }
     ensures after { IsAfter
         (acl_happening server.old handle pb bc octets.now frames.old) server.old server.new }
@@ -293,6 +299,7 @@ pub(crate) fn packet(
     frames: &mut Frames,
     packet: PacketRef<'_>,
 ) -> Result<(), HostFault>
+    requires enough { length server.old.slots ≤ length frames.old.assembled }
     requires of_table { IsOfItsTable server.old }
     requires drained { is_drained server.old.controller (open_slots server.old) ≡ true }
     ensures refines { RefinesPacket (packet_of_ref packet.entry) server.old frames.old server.new
@@ -314,6 +321,7 @@ fn take_packet(
     frames: &mut Frames,
     packet: PacketRef<'_>,
 ) -> Result<(), HostFault>
+    requires enough { length server.old.slots ≤ length frames.old.assembled }
     requires of_table { IsOfItsTable server.old }
     ensures taken { IsOk result
         → TakesPacket (packet_of_ref packet.entry) server.old frames.old server.new frames.new }

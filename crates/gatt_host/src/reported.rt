@@ -1,6 +1,6 @@
 //! Reports of the controller as events of connections.
 
-ghost use Rattle.std.specs.Prelude.{◌≡◌, ◌==◌, ◌<◌, true, if◌then◌else◌, Some};
+ghost use Rattle.std.specs.Prelude.{◌≡◌, ◌==◌, ◌<◌, ◌≤◌, true, if◌then◌else◌, length, Some};
 ghost use Rattle.gatt_laws.specs.machine.Controller as laws;
 ghost use Rattle.gatt_laws.specs.machine.Event.{Disconnected, KeyAsked, Encrypted, Refreshed, Nothing};
 ghost use Rattle.gatt_laws.specs.machine.Packets.{connection_complete_event, connection_event, connection_event_if_ready, own_event};
@@ -17,6 +17,7 @@ impl Server {
     /// Handles a report, which is ignored until the controller is initialised.
     #[inline(always)]
     pub(crate) fn reported(&mut self, frames: &mut Frames, event: &Event<'_>)
+        requires enough { length self.old.slots ≤ length frames.old.assembled }
         requires of_table { IsOfItsTable self.old }
         ensures after { IsAfter
             (connection_event_if_ready (context_in self.old) (report_of event.now))
@@ -33,6 +34,7 @@ impl Server {
 
     #[inline(always)]
     fn connection_reported(&mut self, frames: &mut Frames, event: &Event<'_>)
+        requires enough { length self.old.slots ≤ length frames.old.assembled }
         requires ready { laws.is_ready self.old.controller ≡ true }
         requires of_table { IsOfItsTable self.old }
         ensures after { IsAfter
@@ -118,7 +120,8 @@ impl Server {
     /// slot is free.
     #[tactic(auto, using(crate::proofs::commands::Readies::ready_told))]
     fn connected(&mut self, frames: &mut Frames, status: u8, handle: u16, role: u8, peer: Peer)
-        requires { laws.is_ready self.old.controller ≡ true }
+        requires enough { length self.old.slots ≤ length frames.old.assembled }
+        requires ready { laws.is_ready self.old.controller ≡ true }
         ensures after { IsAfter
             (connection_complete_event (context_in self.old) status handle role peer) self.old
             self.new }

@@ -54,6 +54,7 @@ fn take_in(
     stream: &mut Deframer,
     octets: &[u8],
 ) -> Result<usize, HostFault>
+    requires enough { length server.old.slots ≤ length frames.old.assembled }
     requires of_table { IsOfItsTable server.old }
     requires drained { is_drained server.old.controller (open_slots server.old) ≡ true }
     ensures refines { Refines (items_taken octets.now result) []

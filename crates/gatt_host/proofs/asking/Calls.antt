@@ -14,7 +14,7 @@ use Rattle.gatt_host.proofs.owing.Nexts.{clash}
 use Rattle.gatt_host.proofs.refinement.Names.{knows_the_same}
 use Rattle.gatt_host.specs.Asked.{call_happening, replacement_happening}
 use Rattle.gatt_host.specs.ServerState.{ServerState}
-use Rattle.gatt_host.specs.Meaning.{Frames, context_in, frames_after, IsAfter}
+use Rattle.gatt_host.specs.Meaning.{IncomingFrames, context_in, frames_after, IsAfter}
 use Rattle.gatt_host.specs.Notices.{last_notices}
 use Rattle.gatt_host.specs.RunRefinement.{IsDrainedIn, IsPutTogether, ServerRefinesRun}
 use Rattle.gatt_host.specs.StateRefinement.{place_of_connection}
@@ -42,7 +42,7 @@ LeavesFrames (Ok happening) = is_coming happening ≡ false
 LeavesFrames (Err refused) = Unit
 
 -- so nothing that is put together is changed
-frames-left : (time : ℕ) (happening : Happening Place) (frames : Frames) → is_coming happening ≡ false → frames ≡ frames_after time happening frames
+frames-left : (time : ℕ) (happening : Happening Place) (frames : IncomingFrames) → is_coming happening ≡ false → frames ≡ frames_after time happening frames
 frames-left time (Of place (Connected handle peer)) frames comes = absurd (clash (sym comes))
 frames-left time happening frames comes = refl
 
@@ -99,12 +99,12 @@ replacement-leaves context table =
     [ true ↦ refl | false ↦ tt ]
 
 -- where what is asked leads a host, and what is told of it
-pub record Led (run : Run) (new : ServerState) (frames : Frames) (result : Result Event Refused) :
+pub record Led (run : Run) (new : ServerState) (frames : IncomingFrames) (result : Result Event Refused) :
     Type 0 where
   pub refines : ServerRefinesRun (after_result run result) run.sent new frames
   pub told : last_notices new ≡ noticed_in run.intake.state result
 
-module _ (run : Run) (server new : ServerState) (frames : Frames) (is : IsDrainedIn run server frames)
+module _ (run : Run) (server new : ServerState) (frames : IncomingFrames) (is : IsDrainedIn run server frames)
   where
     abbrev state : State
     state = run.intake.state
@@ -157,7 +157,7 @@ same-error : (names : Ordinal → Place) (result : Result Event Refused) (refuse
 same-error names (Ok event) refused is = cc is
 same-error names (Err why) refused is = let same : why ≡ refused = cc is in ap Err same
 
-module _ (run : Run) (server : ServerState) (frames : Frames) (is : IsDrainedIn run server frames)
+module _ (run : Run) (server : ServerState) (frames : IncomingFrames) (is : IsDrainedIn run server frames)
   where
     abbrev before : State
     before = run.intake.state

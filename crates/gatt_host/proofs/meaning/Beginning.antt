@@ -2,7 +2,7 @@
 use Rattle.std.proofs.Common.{◌≡◌, ℕ, ◌≤◌, List, [], length, slice_get, Option, Some, refl, sym, ap, subst}
 use Rattle.gatt_host.proofs.refinement.AtTheStart.{stands_at_the_start, is_always_sound}
 use Rattle.gatt_host.specs.ServerState.{ServerState}
-use Rattle.gatt_host.specs.Meaning.{Frames}
+use Rattle.gatt_host.specs.Meaning.{IncomingFrames}
 use Rattle.gatt_host.specs.RunRefinement.{ServerRefinesRun}
 use Rattle.gatt_host.specs.StateRefinement.{IsOpenedAs}
 use Rattle.host_api.specs.declared.TheConstants.{MAX_SLOTS}
@@ -15,7 +15,7 @@ use Rattle.host_connections.specs.declared.arrivals.Arrivals.{Arrivals}
 none-there : (place : ℕ) (ordinal : Ordinal) (slots : List (Option Ordinal)) → slots ≡ [] → slice_get slots place ≡ Some (Some ordinal) → ⊥
 none-there place ordinal slots none there = cc (none, there)
 
-pub stands_in_at_the_start : (start : Start) (server : ServerState) (frames : Frames) → IsOpenedAs start server → start.slots ≤ length frames.assembled
+pub stands_in_at_the_start : (start : Start) (server : ServerState) (frames : IncomingFrames) → IsOpenedAs start server → start.slots ≤ length frames.assembled
     → frames.arrivals ≡ no_arrivals → start.slots ≤ MAX_SLOTS
     → ServerRefinesRun (run_at_start start) [] server frames
 unfolding run

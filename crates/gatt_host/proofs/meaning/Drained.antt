@@ -3,13 +3,13 @@ use Rattle.std.proofs.Common.{◌≡◌, true, List, [], ◌++◌, ap, subst, �
 use Rattle.gatt_host.proofs.owing.Owing.{drained_is_done}
 use Rattle.gatt_host.specs.GoingOut.{is_drained}
 use Rattle.gatt_host.specs.ServerState.{ServerState, open_slots}
-use Rattle.gatt_host.specs.Meaning.{Frames}
+use Rattle.gatt_host.specs.Meaning.{IncomingFrames}
 use Rattle.gatt_host.specs.RunRefinement.{ServerRefinesRun, IsDrainedIn}
 use Rattle.gatt_host.specs.StateRefinement.{RefinesState}
 use Rattle.gatt_laws.specs.machine.Input.{Run}
 use Rattle.octet_io.specs.Number.{Octets}
 
-module _ (run : Run) (sent : List Octets) (server : ServerState) (frames : Frames) (is : ServerRefinesRun run sent server frames)
+module _ (run : Run) (sent : List Octets) (server : ServerState) (frames : IncomingFrames) (is : ServerRefinesRun run sent server frames)
     (drained : is_drained server.controller (open_slots server) ≡ true) where
   none-owed : is.owed ≡ []
   none-owed = (drained_is_done run.intake.state is.owed server.controller (open_slots server) is.refines.owing drained).none

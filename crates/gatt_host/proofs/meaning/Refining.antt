@@ -14,7 +14,7 @@ use Rattle.gatt_host.proofs.refinement.OneSlot.{apart}
 use Rattle.gatt_host.specs.Answers.{stop_of}
 use Rattle.gatt_host.specs.declared.host_fault.HostFault.{HostFault}
 use Rattle.gatt_host.specs.ServerState.{ServerState}
-use Rattle.gatt_host.specs.Meaning.{Assemblies, Frames, context_in, frames_after, IsAfter, recombinations_in}
+use Rattle.gatt_host.specs.Meaning.{Assemblies, IncomingFrames, context_in, frames_after, IsAfter, recombinations_in}
 use Rattle.gatt_host.specs.Notices.{last_notices}
 use Rattle.gatt_host.specs.Packet.{TakesPacket, frames_after_acl, frames_after_event}
 use Rattle.gatt_host.specs.Packet.{arrivals_with, assembled_with, frames_after_packet, packet_happening, packet_stop}
@@ -69,7 +69,7 @@ heard_coming time heard event = heard
 
 -- An event leads on, with what is put together.
 module _ (state : State) (server : ServerState) (sound : IsSound state) (refines : RefinesState state [] server)
-    (fragments : Fragments) (heard : Heard) (frames : Frames)
+    (fragments : Fragments) (heard : Heard) (frames : IncomingFrames)
     (is : IsPutTogether state fragments heard frames) where
   abbrev JoinsAt : Event → Type 0
   JoinsAt event =
@@ -93,13 +93,13 @@ module _ (state : State) (server : ServerState) (sound : IsSound state) (refines
 
 -- where an event leads a host, and what is told of it
 pub record EventLed (state : State) (event : Event) (fragments : Fragments) (heard : Heard)
-    (new : ServerState) (after : Frames) : Type 0 where
+    (new : ServerState) (after : IncomingFrames) : Type 0 where
   pub sound : IsSound (step state event)
   pub refines : RefinesState (step state event) (out state event) new
   pub together : IsPutTogether (step state event) fragments heard after
   pub told : last_notices new ≡ noticed state event
 
-pub event_led : (state : State) (server new : ServerState) (fragments : Fragments) (heard : Heard) (frames after : Frames)
+pub event_led : (state : State) (server new : ServerState) (fragments : Fragments) (heard : Heard) (frames after : IncomingFrames)
     (event : Event) → IsSound state → RefinesState state [] server
     → IsPutTogether state fragments heard frames → IsMeant IsAny state event
     → IsAfter (renamed (place_of_connection state) event) server new
@@ -113,7 +113,7 @@ event_led state server new fragments heard frames after event sound refines toge
       sound = stays_sound state event (possible_where_meant IsAny state event meant) sound;
       refines = leads.refines;
       together =
-          subst (λ (after : Frames). IsPutTogether (step state event) fragments (heard_coming server.time heard event) after)
+          subst (λ (after : IncomingFrames). IsPutTogether (step state event) fragments (heard_coming server.time heard event) after)
           (sym then_frames)
           (joined state server sound refines fragments heard frames together event meant);
       told = leads.told;
@@ -147,7 +147,7 @@ module _ {C : Type 0} (Holds : Happening C → Type 0) (nothing : Holds Nothing)
   of-data recombinations (Some connection) (Some fragment) = of-octets connection (recombinations connection fragment)
 
 data-frames : (time : ℕ) (recombinations : Place → Recombination) (found : Option Place)
-    (fragment : Option Fragment) (frames : Frames)
+    (fragment : Option Fragment) (frames : IncomingFrames)
     → frames ≡ frames_after time (data_event recombinations found fragment) frames
 data-frames time recombinations found fragment frames =
     of-data (λ (happening : Happening Place). frames ≡ frames_after time happening frames) refl (λ place pdu. refl) (λ place channel payload. refl)
@@ -161,20 +161,20 @@ data-heard time heard recombinations found fragment =
 
 -- What an event leaves of the frames.
 answered-frames : (time allowed opcode : ℕ) (status : Option ℕ) (following : Result (Option Init) Fault)
-    (happening : Happening Place) (frames : Frames)
+    (happening : Happening Place) (frames : IncomingFrames)
     → answered allowed opcode status following ≡ Ok happening
     → frames ≡ frames_after time happening frames
 answered-frames time allowed opcode status (Ok following) happening frames is =
     ap (λ (happening : Happening Place). frames_after time happening frames) (ok-is is)
 answered-frames time allowed opcode status (Err fault) happening frames is = cc is
 
-either-way : (time : ℕ) (ready : Bool) (frames : Frames)
+either-way : (time : ℕ) (ready : Bool) (frames : IncomingFrames)
     → frames_after time (if ready then Nothing else Nothing) frames ≡ frames
 either-way time true frames = refl
 either-way time false frames = refl
 
 event-frames : (server : ServerState) (read : Result Reported BadEvent) (happening : Happening Place)
-    (frames : Frames) → event_or_bad (context_in server) read ≡ Ok happening
+    (frames : IncomingFrames) → event_or_bad (context_in server) read ≡ Ok happening
     → frames_after_event server read frames ≡ frames_after server.time happening frames
 event-frames server (Err bad) happening frames is = cc is
 event-frames server (Ok (event.CommandComplete allowed opcode returned)) happening frames is =
@@ -219,7 +219,7 @@ still-fresh state fragments (Some own) place (Some fragment) ordinal sound finds
     ∙ none
 
 -- the frames with what a packet brings, before what happens by it
-abbrev pub frames_joined : ServerState → Packet → Frames → Frames
+abbrev pub frames_joined : ServerState → Packet → IncomingFrames → IncomingFrames
 frames_joined server (AclPacket handle boundary broadcast octets) frames =
     frames_after_acl server handle boundary broadcast octets frames
 frames_joined server (EventPacket octets) frames = frames
@@ -248,12 +248,12 @@ packet-heard state fragments time heard (EventPacket octets) event is = event-he
 packet-heard state fragments time heard ScoPacket event is = ap (λ (event : Event). heard_coming time heard event) (sym (ok-is is))
     ∙ ap (λ (event : Event). with_heard time heard (connection_heard state ScoPacket event)) (ok-is is)
 
-packet-frames : (server : ServerState) (frames : Frames) (packet : Packet) (happening : Happening Place)
+packet-frames : (server : ServerState) (frames : IncomingFrames) (packet : Packet) (happening : Happening Place)
     → packet_happening server frames packet ≡ Ok happening
     → frames_after_packet server packet frames
     ≡ frames_after server.time happening (frames_joined server packet frames)
 packet-frames server frames (AclPacket handle boundary broadcast octets) happening is =
-    let joined : Frames = frames_after_acl server handle boundary broadcast octets frames in
+    let joined : IncomingFrames = frames_after_acl server handle boundary broadcast octets frames in
     data-frames server.time (recombinations_in frames) (place_serving server.slots handle)
     (fragment_of boundary broadcast octets) joined
     ∙ ap (λ (happening : Happening Place). frames_after server.time happening joined) (ok-is is)
@@ -262,7 +262,7 @@ packet-frames server frames (EventPacket octets) happening is =
 packet-frames server frames ScoPacket happening is =
     ap (λ (happening : Happening Place). frames_after server.time happening frames) (ok-is is)
 
-module _ (run : Run) (server : ServerState) (frames : Frames) (is : IsDrainedIn run server frames)
+module _ (run : Run) (server : ServerState) (frames : IncomingFrames) (is : IsDrainedIn run server frames)
   where
     abbrev state : State
     state = run.intake.state
@@ -308,7 +308,7 @@ module _ (run : Run) (server : ServerState) (frames : Frames) (is : IsDrainedIn 
     packet-joined (EventPacket octets) = is.together
     packet-joined ScoPacket = is.together
 
-    module _ (new : ServerState) (after : Frames) (packet : Packet) where
+    module _ (new : ServerState) (after : IncomingFrames) (packet : Packet) where
       -- where a packet leads, and what is told of it
       pub record PacketLed (result : Result Event Fault) : Type 0 where
         pub refines : ServerRefinesRun (packet_taken run packet result) run.sent new after
@@ -364,7 +364,7 @@ stops-where names (Ok event) fault is = cc is
 stops-where names (Err why) fault is = (why, refl, record { same = some-is is })
 
 -- only an event of the controller stops it
-packet-stop : (server : ServerState) (frames : Frames) (packet : Packet)
+packet-stop : (server : ServerState) (frames : IncomingFrames) (packet : Packet)
     → packet_stop packet server ≡ stop_of (packet_happening server frames packet)
 packet-stop server frames (AclPacket handle boundary broadcast octets) = refl
 packet-stop server frames (EventPacket octets) = refl

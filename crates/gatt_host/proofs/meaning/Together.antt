@@ -3,13 +3,13 @@ use Rattle.std.proofs.Common.{◌≡◌, ◌≢◌, ◌⊎◌, inl, inr, ℕ, ze
 use Rattle.std.specs.Prelude.{is_some, is_none, replicate, ◌==◌, ◌||◌, if◌then◌else◌}
 use Rattle.std.specs.Option.{option_map}
 use Rattle.std.proofs.lemmas.Bool.{eq-eqb, ne_eqb, or_right}
-use Rattle.std.proofs.lemmas.List.{get_or-set_same, get_or-set_other, length-set}
+use Rattle.std.proofs.lemmas.List.{get_or-set_same, get_or-set_other, length-replicate, length-set}
 use Rattle.gatt_host.proofs.meaning.Staying.{rooms_stay}
 use Rattle.gatt_host.proofs.owing.Nexts.{clash}
 use Rattle.gatt_host.proofs.refinement.ForAll.{each_length}
 use Rattle.gatt_host.proofs.refinement.Holding.{Holds, has_slot_there, holds, some-is, were_open}
 use Rattle.gatt_host.specs.ServerState.{ServerState}
-use Rattle.gatt_host.specs.Meaning.{Frames, frames_after, once_heard}
+use Rattle.gatt_host.specs.Meaning.{IncomingFrames, frames_after, once_heard}
 use Rattle.gatt_host.specs.Owing.{all_given, slot_state_handed}
 use Rattle.gatt_host.specs.RunRefinement.{IsPutTogether, accepted_before}
 use Rattle.gatt_host.specs.StateRefinement.{IsSound, RefinesState, place_among, slots_with_buffers}
@@ -30,6 +30,7 @@ use Rattle.le_hci.specs.declared.init.Init.{Init}
 use Rattle.le_hci.specs.declared.init.Init.TheVariants.{Ready}
 use Rattle.le_hci.specs.declared.peer.Peer.{Peer}
 use Rattle.octet_io.proofs.Choices.{or_false_left, or_false_right}
+use Rattle.octet_io.specs.Number.{Octets}
 
 -- no more slots are opened than a host was opened with
 within : (slots : ℕ) (buffers : Option Buffers) → slots_with_buffers slots buffers ≤ slots
@@ -51,6 +52,17 @@ few_slots state server sound refines = by (is_ready state.controller) refl
     by false early =
         let none : length state.slots ≡ 0 = ap (λ (slots : Slots). length slots) (sound.settled.early early) in
         omega (arith, none)
+
+-- a host has no more slots than it was opened with
+pub slots_within : (state : State) (owed : List Octets) (server : ServerState) → RefinesState state owed server → length server.slots ≤ state.shared.slots
+slots_within state owed server refines = by (is_ready state.controller) refl
+  where
+    by : (ready : Bool) → is_ready state.controller ≡ ready → length server.slots ≤ state.shared.slots
+    by true ready = omega (arith, refines.ready ready, within state.shared.slots state.shared.buffers)
+    by false early =
+        let free : length server.slots ≡ state.shared.slots =
+        ap (λ (slots : List (Option SlotState)). length slots) (refines.free early) ∙ length-replicate {A = Option SlotState} state.shared.slots None in
+        omega (arith, free)
 
 -- an event with which a connection comes
 abbrev pub is_coming_own : Own → Bool
@@ -101,7 +113,7 @@ keeps_or_frees state (Credit allowed opcode status (Some init)) other =
 keeps_or_frees state (Credit allowed opcode status None) other = record { there = λ place ordinal is. is; next = refl }
 keeps_or_frees state event other = record { there = λ place ordinal is. is; next = refl }
 
-pub together_then : (state : State) (event : Event) (fragments : Fragments) (heard : Heard) (frames : Frames) → is_coming event ≡ false
+pub together_then : (state : State) (event : Event) (fragments : Fragments) (heard : Heard) (frames : IncomingFrames) → is_coming event ≡ false
     → IsPutTogether state fragments heard frames → IsPutTogether (step state event) fragments heard frames
 together_then state event fragments heard frames other is =
     let keeps : KeepsOrFrees state (step state event) = keeps_or_frees state event other in
@@ -188,7 +200,7 @@ counted-as : (next : Ordinal) → accepted_before (next + 1) ≡ counted_on next
 counted-as next = omega arith
 
 -- a connection comes, begins with nothing, has the next ordinal and is heard
-pub together_coming : (state : State) (server : ServerState) (fragments : Fragments) (heard : Heard) (frames : Frames) (time handle : ℕ) (peer : Peer)
+pub together_coming : (state : State) (server : ServerState) (fragments : Fragments) (heard : Heard) (frames : IncomingFrames) (time handle : ℕ) (peer : Peer)
     → IsSound state → RefinesState state [] server → has_free state.slots ≡ true → IsPutTogether state fragments heard frames
     → IsPutTogether (step state (Of state.next (Connected handle peer))) fragments (with_heard time heard (Some state.next))
     (frames_after time (Of (first_free state.slots) (Connected handle peer)) frames)

@@ -12,7 +12,7 @@ use Rattle.gatt_host.specs.Asked.{call_happening, refusal_in_result, replacement
 use Rattle.host_api.specs.declared.app.AppFault.{AppFault}
 use Rattle.gatt_host.specs.declared.host_fault.HostFault.{HostFault}
 use Rattle.gatt_host.specs.ServerState.{ServerState, after_replacing, without_notices}
-use Rattle.gatt_host.specs.Meaning.{Frames, IsAfter}
+use Rattle.gatt_host.specs.Meaning.{IncomingFrames, IsAfter}
 use Rattle.gatt_host.specs.Notices.{last_notices}
 use Rattle.gatt_host.specs.RunRefinement.{IsDrainedIn, ServerRefinesRun}
 use Rattle.gatt_host.specs.Telling.{noticed_in}
@@ -35,12 +35,12 @@ module _ (old new : HostModel) (keeps : KeepsTheRest old new) where
   stands-then : {E : Type 0} (run : Run) (sent : List Octets) (result : Result Event E) → RefinesRun run sent old
       → ServerRefinesRun (after_result run result) sent new.server old.frames → RefinesRun (after_result run result) sent new
   stands-then run sent (Ok event) is refines = record {
-    refines = subst (λ (frames : Frames). ServerRefinesRun (after_event run event) sent new.server frames) (sym keeps.frames) refines;
+    refines = subst (λ (frames : IncomingFrames). ServerRefinesRun (after_event run event) sent new.server frames) (sym keeps.frames) refines;
     same = subst (λ (fault : Option HostFault). SameFault run.intake.fault fault) (sym keeps.fault) is.same;
     stream = subst (λ (stream : Deframing). HoldsStream run stream) (sym keeps.stream) is.stream;
   }
   stands-then run sent (Err refused) is refines = record {
-    refines = subst (λ (frames : Frames). ServerRefinesRun run sent new.server frames) (sym keeps.frames) refines;
+    refines = subst (λ (frames : IncomingFrames). ServerRefinesRun run sent new.server frames) (sym keeps.frames) refines;
     same = subst (λ (fault : Option HostFault). SameFault run.intake.fault fault) (sym keeps.fault) is.same;
     stream = subst (λ (stream : Deframing). HoldsStream run stream) (sym keeps.stream) is.stream;
   }

@@ -1,8 +1,9 @@
 -- A host that takes in one item stands where its run goes on.
-use Rattle.std.proofs.Common.{◌≡◌, List, [], ◌∷◌, ◌++◌, Option, Some, None, refl, sym, ap, subst, ◌∙◌, append_assoc, append-nil}
+use Rattle.std.proofs.Common.{◌≡◌, ◌≤◌, List, [], ◌∷◌, ◌++◌, length, Option, Some, None, refl, sym, ap, subst, ◌∙◌, append_assoc, append-nil, arith}
 use Rattle.std.specs.Prelude.{true, is_some, ◌||◌}
 use Rattle.gatt_host.proofs.asking.OfItsTable.{holds_what_is_of_its_table}
 use Rattle.gatt_host.proofs.meaning.Drained.{drained_in}
+use Rattle.gatt_host.proofs.meaning.Together.{slots_within}
 use Rattle.gatt_host.specs.declared.host_fault.HostFault.{HostFault}
 use Rattle.gatt_host.specs.GoingOut.{is_drained}
 use Rattle.gatt_host.specs.ServerState.{open_slots}
@@ -70,6 +71,16 @@ is_of_its_table host reached drained =
     let at_run : Run = run reached.start reached.input in
     holds_what_is_of_its_table at_run host.server host.frames (drained_in at_run reached.sent host.server host.frames reached.refines.refines drained)
     (always_has_rows_of_its_table reached.start reached.input reached.rows) (always_has_waiting_of_its_table reached.start reached.input reached.rows)
+
+-- each slot has a frame
+pub frames_suffice : (host : HostModel) → IsReached host → length host.server.slots ≤ length host.frames.assembled
+frames_suffice host reached =
+    let at_run : Run = run reached.start reached.input in
+    omega (
+      arith,
+      slots_within at_run.intake.state reached.refines.refines.owed host.server reached.refines.refines.refines,
+      reached.refines.refines.together.enough,
+    )
 
 -- nothing is to go out, where all is out and no fault stands
 pub drained_where : (host : HostModel) → host.fault ≡ None → all_out host ≡ true → is_drained host.server.controller (open_slots host.server) ≡ true

@@ -7,7 +7,7 @@ use Rattle.gatt_host.specs.declared.host_fault.HostFault.{HostFault}
 use Rattle.gatt_host.specs.declared.host_fault.HostFault.TheVariants as stop
 use Rattle.gatt_host.specs.Feeding.{octet_items}
 use Rattle.gatt_host.specs.ServerState.{ServerState}
-use Rattle.gatt_host.specs.Meaning.{Frames}
+use Rattle.gatt_host.specs.Meaning.{IncomingFrames}
 use Rattle.gatt_host.specs.RunRefinement.{ServerRefinesRun}
 use Rattle.gatt_host.specs.HostModel.{is_own_fault, HoldsStream, Refines, RefinesPacket, SameFault, RefinesRun, RefinesRunWithFault, HostModel}
 use Rattle.gatt_laws.proofs.runs.Inputs.{items_append}
@@ -38,7 +38,7 @@ takes-all items old new none takes start input sent is =
     (takes (run start input) sent (no_fault (run start input) sent old none is) (leaves_less_than_a_packet start input) is))
 
 -- what is unfinished does not matter to where a host stands
-stands-alike : (one other : Run) (sent : List Octets) (server : ServerState) (frames : Frames) → with_nothing_unfinished one ≡ with_nothing_unfinished other
+stands-alike : (one other : Run) (sent : List Octets) (server : ServerState) (frames : IncomingFrames) → with_nothing_unfinished one ≡ with_nothing_unfinished other
     → ServerRefinesRun other sent server frames → ServerRefinesRun one sent server frames
 stands-alike one other sent server frames alike is =
     let other_whole : ServerRefinesRun (with_nothing_unfinished other) sent server frames =

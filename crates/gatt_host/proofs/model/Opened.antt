@@ -1,8 +1,8 @@
 -- A host that has just been opened stands at the start of its run.
-use Rattle.std.proofs.Common.{◌≡◌, ℕ, ◌≤◌, Bool, true, false, if◌then◌else◌, List, [], ◌∷◌, length, replicate, filter, Option, Some, None, refl, sym, ap, subst, arith}
+use Rattle.std.proofs.Common.{◌≡◌, ℕ, ◌≤◌, Bool, true, false, if◌then◌else◌, List, [], ◌∷◌, length, replicate, filter, Option, Some, None, refl, sym, ap, subst, ◌∙◌, arith}
 use Rattle.std.specs.Prelude.{unwrap_or, ◌&&◌, Result, Err}
 use Rattle.std.specs.Option.{option_map, option_map_or}
-use Rattle.std.proofs.lemmas.List.{length-map}
+use Rattle.std.proofs.lemmas.List.{length-map, length-replicate}
 use Rattle.std.proofs.lemmas.List.Elements.{All-nil}
 use Rattle.att_numbers.specs.Types.{Handle, Row}
 use Rattle.att_attributes.specs.declared.attr.Attr.{Attr}
@@ -14,6 +14,7 @@ use Rattle.gatt_host.proofs.meaning.Beginning.{stands_in_at_the_start}
 use Rattle.gatt_host.proofs.refinement.AtTheStart.{fitted_known}
 use Rattle.gatt_host.specs.declared.config.Config.{Config}
 use Rattle.gatt_host.specs.declared.host_fault.HostFault.{HostFault}
+use Rattle.gatt_host.specs.Meaning.{Assemblies}
 use Rattle.gatt_host.specs.ServerState.{ServerState}
 use Rattle.gatt_host.specs.Opening.{held_at_first, is_configured, start_of}
 use Rattle.gatt_host.specs.StateRefinement.{IsOpenedAs}
@@ -24,6 +25,7 @@ use Rattle.gatt_subs.proofs.Supported.{supported_configuration}
 use Rattle.gatt_subs.specs.declared.bond.Bond.{Bond}
 use Rattle.gatt_subs.specs.Fit.{fitted_bond, fitted_rows, peers_of, with_entries, HasFittedBonds, IsListed}
 use Rattle.gatt_subs.specs.Rows.{Subscriptions, bond_of, row_read}
+use Rattle.le_acl.specs.Reassembler.{no_assembly}
 use Rattle.le_h4.proofs.Dividing.{past_none}
 use Rattle.le_h4.specs.Deframer.{Deframing, deframing_at_start, still}
 use Rattle.le_h4.specs.Division.{division}
@@ -95,12 +97,13 @@ module _ (table : Contents) (keys : List Entry) (old new : Subscriptions) (confi
   few configured = grind (arith, configured)
 
   pub stands_when_opened : (host : HostModel) → is_configured config ≡ true → host.server ≡ held_at_first table keys new (replicate config.slots None) config
-      → length host.frames.assembled ≡ MAX_SLOTS → host.frames.arrivals ≡ no_arrivals
+      → host.frames.assembled ≡ replicate config.slots no_assembly → host.frames.arrivals ≡ no_arrivals
       → host.stream ≡ deframing_at_start → host.fault ≡ None → RefinesRun (run (start_of table keys old config) []) [] host
   unfolding run
   stands_when_opened host configured server frames arrivals stream fault = record {
     refines =
-        let shared : config.slots ≤ length host.frames.assembled = subst (λ (count : ℕ). config.slots ≤ count) (sym frames) (few configured) in
+        let as-many : length host.frames.assembled ≡ config.slots = ap (λ (all : Assemblies). length all) frames ∙ length-replicate config.slots no_assembly in
+        let shared : config.slots ≤ length host.frames.assembled = omega (arith, as-many) in
         stands_in_at_the_start (start_of table keys old config) host.server host.frames
         (subst (λ (server : ServerState). IsOpenedAs (start_of table keys old config) server) (sym server) opened-as) shared arrivals (few configured);
     same = subst (λ (fault : Option HostFault). SameFault None fault) (sym fault) tt;

@@ -6,7 +6,7 @@ use Rattle.std.specs.Option.{option_map}
 use Rattle.gatt_host.proofs.owing.Owing.{is_drained_where_nothing_goes_out, rest_is_owed}
 use Rattle.gatt_host.specs.GoingOut.{command_next, init_command, is_drained, slots_commanded, slots_then, with_first}
 use Rattle.gatt_host.specs.ServerState.{ServerState, after_out, next_packet_out, open_slots}
-use Rattle.gatt_host.specs.Meaning.{Frames}
+use Rattle.gatt_host.specs.Meaning.{IncomingFrames}
 use Rattle.gatt_host.specs.Owing.{IsOwing, OwesTheRest}
 use Rattle.gatt_host.specs.RunRefinement.{ServerRefinesRun}
 use Rattle.gatt_host.specs.StateRefinement.{RefinesState}
@@ -127,7 +127,7 @@ module _ (old new : HostModel) (octets : Octets) (next : next_packet_out old.ser
       } in
       subst (λ (items : List Item). RefinesRun (run start items) (sent ++ octets ∷ []) new) (sym (append-nil input))
       (record {
-        refines = subst (λ (slot_state : Frames). ServerRefinesRun at_run (sent ++ octets ∷ []) new.server slot_state) (sym frames)
+        refines = subst (λ (slot_state : IncomingFrames). ServerRefinesRun at_run (sent ++ octets ∷ []) new.server slot_state) (sym frames)
             (subst (λ (slot_state : ServerState). ServerRefinesRun at_run (sent ++ octets ∷ []) slot_state old.frames) (sym is_after) server);
         same = subst (λ (why : Option HostFault). SameFault at_run.intake.fault why) (sym fault) is.same;
         stream = subst (λ (slot_state : Deframing). HoldsStream at_run slot_state) (sym stream) is.stream;

@@ -11,7 +11,7 @@ use Rattle.gatt_host.specs.declared.host_fault.HostFault.TheVariants as stop
 use Rattle.gatt_host.specs.Feeding.{Feeds}
 use Rattle.gatt_host.specs.GoingOut.{is_drained}
 use Rattle.gatt_host.specs.ServerState.{ServerState, after_out, next_packet_out, open_slots}
-use Rattle.gatt_host.specs.Meaning.{Frames}
+use Rattle.gatt_host.specs.Meaning.{IncomingFrames}
 use Rattle.gatt_host.specs.HostModel.{IsStateOfOne, IsReached, Refines, HostModel, going}
 use Rattle.gatt_laws.specs.machine.Input.{Item}
 use Rattle.le_h4.specs.Deframer.{Deframing}
@@ -19,7 +19,7 @@ use Rattle.octet_io.specs.Number.{Octets}
 
 -- a packet goes out
 module _ (server new : ServerState) (octets : Octets) (next : next_packet_out server ≡ Some octets) (is_after : new ≡ after_out server) where
-  pub leads_going : (frames : Frames) (stream : Deframing) → Refines [] (octets ∷ []) (going server frames stream) (going new frames stream)
+  pub leads_going : (frames : IncomingFrames) (stream : Deframing) → Refines [] (octets ∷ []) (going server frames stream) (going new frames stream)
   leads_going frames stream = goes_out (going server frames stream) (going new frames stream) octets next is_after refl refl refl
 
   pub held_then : IsStateOfOne server → IsStateOfOne new

@@ -11,7 +11,7 @@ use Rattle.gatt_host.specs.Answers.{stop_of, told_fault}
 use Rattle.gatt_host.specs.declared.host_fault.HostFault.{HostFault}
 use Rattle.gatt_host.specs.GoingOut.{is_drained}
 use Rattle.gatt_host.specs.ServerState.{ServerState, open_slots, without_notices}
-use Rattle.gatt_host.specs.Meaning.{Frames, context_in}
+use Rattle.gatt_host.specs.Meaning.{IncomingFrames, context_in}
 use Rattle.gatt_host.specs.Packet.{TakesPacket, packet_stop}
 use Rattle.gatt_host.specs.RunRefinement.{ServerRefinesRun}
 use Rattle.gatt_host.specs.Telling.{TellsOfPacket}
@@ -26,7 +26,7 @@ use Rattle.le_hci.specs.Event.{event_of}
 use Rattle.octet_io.specs.Number.{Octets}
 
 -- where all is out, what stands in the run of what is gone stands in that of all that is
-stands-all : (run after : Run) (sent : List Octets) (server new : ServerState) (frames then_frames : Frames) → ServerRefinesRun run sent server frames
+stands-all : (run after : Run) (sent : List Octets) (server new : ServerState) (frames then_frames : IncomingFrames) → ServerRefinesRun run sent server frames
     → is_drained server.controller (open_slots server) ≡ true → ServerRefinesRun after run.sent new then_frames → ServerRefinesRun after sent new then_frames
 stands-all run after sent server new frames then_frames is drained refines =
     subst (λ (packets : List Octets). ServerRefinesRun after packets new then_frames) (all_sent run sent server frames is drained) refines
@@ -35,7 +35,7 @@ same-none : (why : Option Fault) → why ≡ None → SameFault why None
 same-none None none = tt
 same-none (Some why) none = cc none
 
-pub packet_leads : (packet : Packet) (old new : ServerState) (frames after : Frames) → is_drained old.controller (open_slots old) ≡ true
+pub packet_leads : (packet : Packet) (old new : ServerState) (frames after : IncomingFrames) → is_drained old.controller (open_slots old) ≡ true
     → TakesPacket packet old frames new after → RefinesPacket packet old frames new after None
 packet_leads packet old new frames after drained takes run sent none is =
     let led = packet_led run old frames (drained_in run sent old frames is drained) new after packet takes in
@@ -45,13 +45,13 @@ packet_leads packet old new frames after drained takes run sent none is =
     }
 
 -- and what is told of it is what the run has
-pub packet_told : (packet : Packet) (old new : ServerState) (frames after : Frames) → is_drained old.controller (open_slots old) ≡ true
+pub packet_told : (packet : Packet) (old new : ServerState) (frames after : IncomingFrames) → is_drained old.controller (open_slots old) ≡ true
     → TakesPacket packet old frames new after → TellsOfPacket packet old frames new
 packet_told packet old new frames after drained takes run sent is =
     (packet_led run old frames (drained_in run sent old frames is drained) new after packet takes).told
 
 -- or the host stops, and keeps what it has
-why-stopped : (run : Run) (sent : List Octets) (server : ServerState) (frames : Frames) (packet : Packet) (why : Fault) (fault : HostFault)
+why-stopped : (run : Run) (sent : List Octets) (server : ServerState) (frames : IncomingFrames) (packet : Packet) (why : Fault) (fault : HostFault)
     → packet_event run.intake.state run.intake.fragments packet ≡ Err why → told_fault why ≡ fault → ServerRefinesRun run sent server frames
     → RefinesRunWithFault (after_packet run packet) sent server frames (Some fault)
 why-stopped run sent server frames packet why fault means same is =
@@ -61,12 +61,12 @@ why-stopped run sent server frames packet why fault means same is =
       same = same;
     })
 
-pub packet_stopped : (packet : Packet) (old new : ServerState) (frames after : Frames) (fault : HostFault) → is_drained old.controller (open_slots old) ≡ true
+pub packet_stopped : (packet : Packet) (old new : ServerState) (frames after : IncomingFrames) (fault : HostFault) → is_drained old.controller (open_slots old) ≡ true
     → packet_stop packet old ≡ Some fault → new ≡ old → after ≡ frames → RefinesPacket packet old frames new after (Some fault)
 packet_stopped packet old new frames after fault drained stops same same_frames run sent none is =
     let why = packet_stops run old frames packet fault (drained_in run sent old frames is drained) stops in
     subst (λ (server : ServerState). RefinesRunWithFault (after_packet run packet) sent server after (Some fault)) (sym same)
-    (subst (λ (then_frames : Frames). RefinesRunWithFault (after_packet run packet) sent old then_frames (Some fault)) (sym same_frames)
+    (subst (λ (then_frames : IncomingFrames). RefinesRunWithFault (after_packet run packet) sent old then_frames (Some fault)) (sym same_frames)
     (why-stopped run sent old frames packet why.0 fault why.1 why.2.same is))
 
 -- a packet that is handed in whole
@@ -96,7 +96,7 @@ passes_long packet old new long none same =
     (subst (λ (host : HostModel). RefinesRun run sent host) (sym same) (stands_at_in_silence run sent old is)))
 
 -- by the result
-pub packet_leads_or_stops : (packet : Packet) (old new : ServerState) (frames after : Frames) (result : Result Unit HostFault)
+pub packet_leads_or_stops : (packet : Packet) (old new : ServerState) (frames after : IncomingFrames) (result : Result Unit HostFault)
     → is_drained old.controller (open_slots old) ≡ true
     → (IsOk result → TakesPacket packet old frames new after) → IfErr result (λ fault. packet_stop packet old ≡ Some fault)
     → OnErr result (new ≡ old) → OnErr result (after ≡ frames) → RefinesPacket packet old frames new after (result_err result)

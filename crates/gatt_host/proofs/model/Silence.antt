@@ -2,14 +2,14 @@
 use Rattle.std.proofs.Common.{List}
 use Rattle.gatt_host.proofs.refinement.Holding.{stands_without_notices}
 use Rattle.gatt_host.specs.ServerState.{ServerState, without_notices}
-use Rattle.gatt_host.specs.Meaning.{Frames}
+use Rattle.gatt_host.specs.Meaning.{IncomingFrames}
 use Rattle.gatt_host.specs.RunRefinement.{ServerRefinesRun}
 use Rattle.gatt_host.specs.HostModel.{RefinesRun, HostModel}
 use Rattle.gatt_laws.specs.machine.Input.{Run}
 use Rattle.octet_io.specs.Number.{Octets}
 
 -- nothing that a host stands by is changed where nothing is told
-pub stands_in_silence : (run : Run) (sent : List Octets) (server : ServerState) (frames : Frames) → ServerRefinesRun run sent server frames
+pub stands_in_silence : (run : Run) (sent : List Octets) (server : ServerState) (frames : IncomingFrames) → ServerRefinesRun run sent server frames
     → ServerRefinesRun run sent (without_notices server) frames
 stands_in_silence run sent server frames is = record {
   owed = is.owed;

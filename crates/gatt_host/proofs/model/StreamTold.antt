@@ -8,7 +8,7 @@ use Rattle.gatt_host.proofs.model.Told.{result_told}
 use Rattle.gatt_host.specs.declared.host_fault.HostFault.{HostFault}
 use Rattle.gatt_host.specs.Feeding.{IsUpToAPacket, TakesUpToAPacket, octet_items}
 use Rattle.gatt_host.specs.ServerState.{ServerState}
-use Rattle.gatt_host.specs.Meaning.{Frames}
+use Rattle.gatt_host.specs.Meaning.{IncomingFrames}
 use Rattle.gatt_host.specs.Notices.{last_notices}
 use Rattle.gatt_host.specs.Packet.{frames_after_first, frames_after_octets}
 use Rattle.gatt_host.specs.RunRefinement.{ServerRefinesRun}
@@ -40,7 +40,7 @@ ends_none old new octets none divided last = record {
 }
 
 -- so what is held of what comes is that of these packets
-pub frames_ended : (server : ServerState) (frames : Frames) (packets : List Packet) (old new : Deframing) (octets : Octets) → EndsIn packets old new octets
+pub frames_ended : (server : ServerState) (frames : IncomingFrames) (packets : List Packet) (old new : Deframing) (octets : Octets) → EndsIn packets old new octets
     → frames_after_first server packets frames ≡ frames_after_octets server old octets frames
 frames_ended server frames packets old new octets ends =
     ap (λ (packets : List Packet). frames_after_first server packets frames)
@@ -122,7 +122,7 @@ takes_up_to packets old new all used ends up_to start input sent is none =
     (sym (divided-into packets old new (take used all) ends (run start input) sent (no_fault (run start input) sent old none is) is)) up_to
 
 -- a packet that is not too long
-pub packet_told : (packet : Packet) (old : ServerState) (frames : Frames) (new : ServerState) → TellsOfPacket packet old frames new
+pub packet_told : (packet : Packet) (old : ServerState) (frames : IncomingFrames) (new : ServerState) → TellsOfPacket packet old frames new
     → (run : Run) (sent : List Octets) → run.intake.fault ≡ None → ServerRefinesRun run sent old frames → AreKept (packet ∷ [])
     → last_notices new ≡ notices_in run (map APacket (packet ∷ []))
 packet_told packet old frames new tells run sent none is slot_state =

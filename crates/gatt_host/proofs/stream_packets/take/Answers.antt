@@ -1,11 +1,14 @@
 use Rattle.std.proofs.Common.{◌≡◌, true, [], None, Some, Ok, Err, refl, sym, subst}
-use Rattle.gatt_host.proofs.model.Items.{drained_where, leads_from, reached_by, is_of_its_table}
+use Rattle.gatt_host.proofs.model.Items.{drained_where, frames_suffice, leads_from, reached_by, is_of_its_table}
 use Rattle.gatt_host.proofs.model.StreamTold.{tells_from, up_to_from}
 use Rattle.gatt_host.specs.contracts.host.Host.{the_view}
 use Rattle.gatt_host.specs.Feeding.{TakesUpToAPacket, items_taken}
 use Rattle.gatt_host.specs.Telling.{TellsOfAll}
 use Rattle.gatt_host.specs.HostModel.{Refines, HostModel, all_out}
 use Rattle.gatt_host.proofs.stream_packets.take.Goals as goal
+
+pub take_in-requires-clause-enough : goal.take_in-requires-clause-enough
+take_in-requires-clause-enough c = frames_suffice (the_view c.host.inside) c.host.invariant
 
 pub take_in-requires-clause-of_table : goal.take_in-requires-clause-of_table
 take_in-requires-clause-of_table c =

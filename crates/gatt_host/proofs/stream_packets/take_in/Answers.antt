@@ -1,9 +1,9 @@
-use Rattle.std.proofs.Common.{◌≡◌, ◌∙◌, ℕ, ap, Result, Err, List, [], ◌∷◌, ◌++◌, None, Some, drop, refl, sym, subst, take, take-append-drop}
+use Rattle.std.proofs.Common.{◌≡◌, ◌∙◌, ℕ, ap, Result, Err, List, [], ◌∷◌, ◌++◌, Option, None, Some, drop, refl, sym, subst, take, take-append-drop}
 use Rattle.std.proofs.lemmas.Result.{err_from_is_err_and}
 use Rattle.std.specs.Prelude.{not}
 use Rattle.std.specs.Result.{result_err}
 use Rattle.std.proofs.lemmas.Bool.{not-true}
-use Rattle.gatt_host.proofs.stream_packets.take_in.Goals.{then-is_none+in-Ok+else-not-fed, else-is_none}
+use Rattle.gatt_host.proofs.stream_packets.take_in.Goals.{After-packet, then-is_none+in-Ok+else-not-fed, else-is_none}
 use Rattle.gatt_host.proofs.model.Octets.{octets_bring_whole, octets_pass, octets_stop_whole}
 use Rattle.gatt_host.proofs.model.Silence.{stands_at_in_silence}
 use Rattle.gatt_host.proofs.model.StreamTold.{ends_none, frames_ended, is_none_marked, octets_told, packet_told, stopped_told, takes_up_to}
@@ -15,10 +15,35 @@ use Rattle.gatt_host.specs.Notices.{last_notices}
 use Rattle.gatt_host.specs.Telling.{TellsOfAll}
 use Rattle.gatt_host.specs.HostModel.{Refines, RefinesRun, HostModel}
 use Rattle.gatt_laws.specs.machine.Input.{Item, run}
-use Rattle.le_h4.specs.declared.packet.WholePacket.{WholePacket}
-use Rattle.le_h4.specs.Packet.{packet_of_ref}
+use Rattle.le_h4.specs.Packet.{Packet, packet_of_ref}
 use Rattle.octet_io.specs.Number.{Octets}
 use Rattle.gatt_host.proofs.stream_packets.take_in.Goals as goal
+
+-- what is known once a packet is whole
+abbrev old-at : After-packet → HostModel
+old-at c = record { server = c.args.server.now; frames = c.args.frames.now; stream = c.args.stream.now; fault = None }
+
+abbrev new-at : After-packet → Option HostFault → HostModel
+new-at c fault = record { server = c.packet.new.server; frames = c.packet.new.frames; stream = c.if-is_none.stream; fault = fault }
+
+abbrev packet-at : After-packet → Packet
+packet-at c = packet_of_ref c.lent_or_marked-whole.result.packet
+
+abbrev used-at : After-packet → ℕ
+used-at c = c.lent_or_marked-whole.result.used
+
+ends-at : (c : After-packet) → EndsPacket c.args.stream.now c.args.octets.now c.if-is_none.stream (used-at c) (packet-at c)
+ends-at c = elim c.if-is_none.branch [
+  | then-is_none+in-Ok+else-not-fed w ↦
+      packet_marked c.whole_packet-lent.result c.args.stream.now c.if-is_none.stream c.args.octets.now c.lent_or_marked-whole.result
+      w.feed.new.self w.in-Ok.fed.used c.if-is_none.used
+      (c.is_none.ensures ∙ ap not w.if-is_none.true) w.stream-is w.in-Ok.ensures.divided w.in-Ok.ensures.unfinished
+      c.lent_or_marked-whole.ensures.marked c.lent_or_marked-whole.ensures.marked_used w.used-is
+  | else-is_none w ↦
+      packet_lent c.whole_packet-lent.result c.args.stream.now c.if-is_none.stream c.args.octets.now c.lent_or_marked-whole.result
+      (c.is_none.ensures ∙ ap not w.if-is_none.false) w.stream-is c.whole_packet-lent.ensures.divided c.whole_packet-lent.ensures.unfinished
+      c.lent_or_marked-whole.ensures.lent c.lent_or_marked-whole.ensures.lent_used
+]
 
 pub returns-in-Err-clause-refines : goal.returns-in-Err-clause-refines
 returns-in-Err-clause-refines c =
@@ -26,6 +51,12 @@ returns-in-Err-clause-refines c =
     subst (λ (fault : HostFault). Refines (octet_items c.args.octets.now) [] old (record old { stream = c.feed.new.self; fault = Some fault }))
     (sym c.lost_fault.ensures)
     (lost_leads old c.args.octets.now c.feed.new.self c.in-Err.fault refl c.in-Err.ensures.desync c.in-Err.ensures.desynced)
+
+pub returns-in-Err-clause-told : goal.returns-in-Err-clause-told
+returns-in-Err-clause-told c =
+    let old : HostModel = record { server = c.args.server.now; frames = c.args.frames.now; stream = c.args.stream.now; fault = None } in
+    lost_silent old (record old { stream = c.feed.new.self; fault = Some c.lost_fault.result }) c.args.octets.now c.in-Err.fault c.lost_fault.result refl
+    c.in-Err.ensures.desync
 
 pub returns-then-not-fed-clause-refines : goal.returns-then-not-fed-clause-refines
 returns-then-not-fed-clause-refines c = λ start input sent is.
@@ -59,115 +90,6 @@ returns-then-not-fed-clause-up_to c =
     (ends_none c.args.stream.now c.feed.new.self (take c.in-Ok.fed.used c.args.octets.now) none c.in-Ok.ensures.divided c.in-Ok.ensures.unfinished)
     (c.in-Ok.ensures.used_all (is_none_marked c.feed.new.self.marked none))
 
-pub returns-in_err-packet-clause-refines : goal.returns-in_err-packet-clause-refines
-returns-in_err-packet-clause-refines c =
-    let host : WholePacket = c.lent_or_marked-whole.result in
-    let used : ℕ = host.used in
-    let octets : Octets = c.args.octets.now in
-    let fault = c.in_err-packet.field-0.0 in
-    let old : HostModel = record { server = c.args.server.now; frames = c.args.frames.now; stream = c.args.stream.now; fault = None } in
-    let new : HostModel = record { server = c.packet.new.server; frames = c.packet.new.frames; stream = c.if-is_none.stream; fault = Some fault } in
-    let ends : EndsPacket c.args.stream.now octets c.if-is_none.stream used (packet_of_ref host.packet) =
-    elim c.if-is_none.branch [
-      | then-is_none+in-Ok+else-not-fed w ↦
-          packet_marked c.whole_packet-lent.result c.args.stream.now c.if-is_none.stream octets host w.feed.new.self w.in-Ok.fed.used c.if-is_none.used
-          (c.is_none.ensures ∙ ap not w.if-is_none.true) w.stream-is w.in-Ok.ensures.divided w.in-Ok.ensures.unfinished
-          c.lent_or_marked-whole.ensures.marked c.lent_or_marked-whole.ensures.marked_used w.used-is
-      | else-is_none w ↦
-          packet_lent c.whole_packet-lent.result c.args.stream.now c.if-is_none.stream octets host
-          (c.is_none.ensures ∙ ap not w.if-is_none.false) w.stream-is c.whole_packet-lent.ensures.divided c.whole_packet-lent.ensures.unfinished
-          c.lent_or_marked-whole.ensures.lent c.lent_or_marked-whole.ensures.lent_used
-    ] in
-    let stopped = err_from_is_err_and c.from_residual.result c.from_residual.ensures.1 in
-    subst (λ (result : Result ℕ HostFault). Refines (items_taken octets result) [] old (record new { fault = result_err result }))
-    (sym (stopped.1 ∙ ap (λ (why : HostFault). Err why) stopped.2))
-    (subst (λ (all : Octets). Refines (octet_items all) [] old new) (take-append-drop used octets)
-    (octets_stop_whole old new (take used octets) (drop used octets) (packet_of_ref host.packet) fault refl ends.divided
-    c.in_err-packet.ensures.refines refl c.in_err-packet.ensures.not_own))
-
-pub returns-clause-refines : goal.returns-clause-refines
-returns-clause-refines c =
-    let host : WholePacket = c.lent_or_marked-whole.result in
-    let used : ℕ = host.used in
-    let octets : Octets = c.args.octets.now in
-    let old : HostModel = record { server = c.args.server.now; frames = c.args.frames.now; stream = c.args.stream.now; fault = None } in
-    let new : HostModel = record { server = c.packet.new.server; frames = c.packet.new.frames; stream = c.if-is_none.stream; fault = None } in
-    let ends : EndsPacket c.args.stream.now octets c.if-is_none.stream used (packet_of_ref host.packet) =
-    elim c.if-is_none.branch [
-      | then-is_none+in-Ok+else-not-fed w ↦
-          packet_marked c.whole_packet-lent.result c.args.stream.now c.if-is_none.stream octets host w.feed.new.self w.in-Ok.fed.used c.if-is_none.used
-          (c.is_none.ensures ∙ ap not w.if-is_none.true) w.stream-is w.in-Ok.ensures.divided w.in-Ok.ensures.unfinished
-          c.lent_or_marked-whole.ensures.marked c.lent_or_marked-whole.ensures.marked_used w.used-is
-      | else-is_none w ↦
-          packet_lent c.whole_packet-lent.result c.args.stream.now c.if-is_none.stream octets host
-          (c.is_none.ensures ∙ ap not w.if-is_none.false) w.stream-is c.whole_packet-lent.ensures.divided c.whole_packet-lent.ensures.unfinished
-          c.lent_or_marked-whole.ensures.lent c.lent_or_marked-whole.ensures.lent_used
-    ] in
-    octets_bring_whole old new (take used octets) (packet_of_ref host.packet) refl ends.divided ends.last c.in_ok-packet.ensures.refines
-
-pub returns-clause-told : goal.returns-clause-told
-returns-clause-told c =
-    let host : WholePacket = c.lent_or_marked-whole.result in
-    let used : ℕ = host.used in
-    let octets : Octets = c.args.octets.now in
-    let old : HostModel = record { server = c.args.server.now; frames = c.args.frames.now; stream = c.args.stream.now; fault = None } in
-    let new : HostModel = record { server = c.packet.new.server; frames = c.packet.new.frames; stream = c.if-is_none.stream; fault = None } in
-    let ends : EndsPacket c.args.stream.now octets c.if-is_none.stream used (packet_of_ref host.packet) =
-    elim c.if-is_none.branch [
-      | then-is_none+in-Ok+else-not-fed w ↦
-          packet_marked c.whole_packet-lent.result c.args.stream.now c.if-is_none.stream octets host w.feed.new.self w.in-Ok.fed.used c.if-is_none.used
-          (c.is_none.ensures ∙ ap not w.if-is_none.true) w.stream-is w.in-Ok.ensures.divided w.in-Ok.ensures.unfinished
-          c.lent_or_marked-whole.ensures.marked c.lent_or_marked-whole.ensures.marked_used w.used-is
-      | else-is_none w ↦
-          packet_lent c.whole_packet-lent.result c.args.stream.now c.if-is_none.stream octets host
-          (c.is_none.ensures ∙ ap not w.if-is_none.false) w.stream-is c.whole_packet-lent.ensures.divided c.whole_packet-lent.ensures.unfinished
-          c.lent_or_marked-whole.ensures.lent c.lent_or_marked-whole.ensures.lent_used
-    ] in
-    octets_told (packet_of_ref host.packet ∷ []) old new (take used octets) (record { divided = ends.divided; last = ends.last }) refl
-    (packet_told (packet_of_ref host.packet) old.server old.frames new.server (c.in_ok-packet.ensures.told refl))
-
-pub returns-clause-up_to : goal.returns-clause-up_to
-returns-clause-up_to c =
-    let host : WholePacket = c.lent_or_marked-whole.result in
-    let used : ℕ = host.used in
-    let octets : Octets = c.args.octets.now in
-    let old : HostModel = record { server = c.args.server.now; frames = c.args.frames.now; stream = c.args.stream.now; fault = None } in
-    let new : HostModel = record { server = c.packet.new.server; frames = c.packet.new.frames; stream = c.if-is_none.stream; fault = None } in
-    let ends : EndsPacket c.args.stream.now octets c.if-is_none.stream used (packet_of_ref host.packet) =
-    elim c.if-is_none.branch [
-      | then-is_none+in-Ok+else-not-fed w ↦
-          packet_marked c.whole_packet-lent.result c.args.stream.now c.if-is_none.stream octets host w.feed.new.self w.in-Ok.fed.used c.if-is_none.used
-          (c.is_none.ensures ∙ ap not w.if-is_none.true) w.stream-is w.in-Ok.ensures.divided w.in-Ok.ensures.unfinished
-          c.lent_or_marked-whole.ensures.marked c.lent_or_marked-whole.ensures.marked_used w.used-is
-      | else-is_none w ↦
-          packet_lent c.whole_packet-lent.result c.args.stream.now c.if-is_none.stream octets host
-          (c.is_none.ensures ∙ ap not w.if-is_none.false) w.stream-is c.whole_packet-lent.ensures.divided c.whole_packet-lent.ensures.unfinished
-          c.lent_or_marked-whole.ensures.lent c.lent_or_marked-whole.ensures.lent_used
-    ] in
-    takes_up_to (packet_of_ref host.packet ∷ []) old new octets used (record { divided = ends.divided; last = ends.last }) refl
-
-pub returns-clause-frames : goal.returns-clause-frames
-returns-clause-frames c =
-    let host : WholePacket = c.lent_or_marked-whole.result in
-    let used : ℕ = host.used in
-    let octets : Octets = c.args.octets.now in
-    let old : HostModel = record { server = c.args.server.now; frames = c.args.frames.now; stream = c.args.stream.now; fault = None } in
-    let new : HostModel = record { server = c.packet.new.server; frames = c.packet.new.frames; stream = c.if-is_none.stream; fault = None } in
-    let ends : EndsPacket c.args.stream.now octets c.if-is_none.stream used (packet_of_ref host.packet) =
-    elim c.if-is_none.branch [
-      | then-is_none+in-Ok+else-not-fed w ↦
-          packet_marked c.whole_packet-lent.result c.args.stream.now c.if-is_none.stream octets host w.feed.new.self w.in-Ok.fed.used c.if-is_none.used
-          (c.is_none.ensures ∙ ap not w.if-is_none.true) w.stream-is w.in-Ok.ensures.divided w.in-Ok.ensures.unfinished
-          c.lent_or_marked-whole.ensures.marked c.lent_or_marked-whole.ensures.marked_used w.used-is
-      | else-is_none w ↦
-          packet_lent c.whole_packet-lent.result c.args.stream.now c.if-is_none.stream octets host
-          (c.is_none.ensures ∙ ap not w.if-is_none.false) w.stream-is c.whole_packet-lent.ensures.divided c.whole_packet-lent.ensures.unfinished
-          c.lent_or_marked-whole.ensures.lent c.lent_or_marked-whole.ensures.lent_used
-    ] in
-    c.in_ok-packet.ensures.frames
-    ∙ frames_ended old.server old.frames (packet_of_ref host.packet ∷ []) old.stream new.stream (take used octets)
-    (record { divided = ends.divided; last = ends.last })
-
 pub returns-then-not-fed-clause-frames : goal.returns-then-not-fed-clause-frames
 returns-then-not-fed-clause-frames c =
     let none : c.feed.new.self.marked ≡ None =
@@ -176,34 +98,58 @@ returns-then-not-fed-clause-frames c =
     frames_ended c.args.server.now c.args.frames.now [] c.args.stream.now c.feed.new.self octets
     (ends_none c.args.stream.now c.feed.new.self octets none c.in-Ok.ensures.divided c.in-Ok.ensures.unfinished)
 
-pub returns-in-Err-clause-told : goal.returns-in-Err-clause-told
-returns-in-Err-clause-told c =
-    let old : HostModel = record { server = c.args.server.now; frames = c.args.frames.now; stream = c.args.stream.now; fault = None } in
-    lost_silent old (record old { stream = c.feed.new.self; fault = Some c.lost_fault.result }) c.args.octets.now c.in-Err.fault c.lost_fault.result refl
-    c.in-Err.ensures.desync
+pub returns-clause-refines : goal.returns-clause-refines
+returns-clause-refines c =
+    let at = (goal.at.returns-clause-refines c).After-packet in
+    let ends = ends-at at in
+    octets_bring_whole (old-at at) (new-at at None) (take (used-at at) c.args.octets.now) (packet-at at) refl ends.divided ends.last
+    c.in_ok-packet.ensures.refines
+
+pub returns-clause-told : goal.returns-clause-told
+returns-clause-told c =
+    let at = (goal.at.returns-clause-told c).After-packet in
+    let ends = ends-at at in
+    octets_told (packet-at at ∷ []) (old-at at) (new-at at None) (take (used-at at) c.args.octets.now)
+    (record { divided = ends.divided; last = ends.last }) refl
+    (packet_told (packet-at at) c.args.server.now c.args.frames.now c.packet.new.server (c.in_ok-packet.ensures.told refl))
+
+pub returns-clause-up_to : goal.returns-clause-up_to
+returns-clause-up_to c =
+    let at = (goal.at.returns-clause-up_to c).After-packet in
+    let ends = ends-at at in
+    takes_up_to (packet-at at ∷ []) (old-at at) (new-at at None) c.args.octets.now (used-at at)
+    (record { divided = ends.divided; last = ends.last }) refl
+
+pub returns-clause-frames : goal.returns-clause-frames
+returns-clause-frames c =
+    let at = (goal.at.returns-clause-frames c).After-packet in
+    let ends = ends-at at in
+    c.in_ok-packet.ensures.frames
+    ∙ frames_ended c.args.server.now c.args.frames.now (packet-at at ∷ []) c.args.stream.now c.if-is_none.stream (take (used-at at) c.args.octets.now)
+    (record { divided = ends.divided; last = ends.last })
+
+pub returns-in_err-packet-clause-refines : goal.returns-in_err-packet-clause-refines
+returns-in_err-packet-clause-refines c =
+    let at = (goal.at.returns-in_err-packet-clause-refines c).After-packet in
+    let octets : Octets = c.args.octets.now in
+    let fault = c.in_err-packet.field-0.0 in
+    let new = new-at at (Some fault) in
+    let stopped = err_from_is_err_and c.from_residual.result c.from_residual.ensures.1 in
+    subst (λ (result : Result ℕ HostFault). Refines (items_taken octets result) [] (old-at at) (record new { fault = result_err result }))
+    (sym (stopped.1 ∙ ap (λ (why : HostFault). Err why) stopped.2))
+    (subst (λ (all : Octets). Refines (octet_items all) [] (old-at at) new) (take-append-drop (used-at at) octets)
+    (octets_stop_whole (old-at at) new (take (used-at at) octets) (drop (used-at at) octets) (packet-at at) fault refl (ends-at at).divided
+    c.in_err-packet.ensures.refines refl c.in_err-packet.ensures.not_own))
 
 pub returns-in_err-packet-clause-told : goal.returns-in_err-packet-clause-told
 returns-in_err-packet-clause-told c =
-    let host : WholePacket = c.lent_or_marked-whole.result in
-    let used : ℕ = host.used in
+    let at = (goal.at.returns-in_err-packet-clause-told c).After-packet in
     let octets : Octets = c.args.octets.now in
     let fault = c.in_err-packet.field-0.0 in
-    let old : HostModel = record { server = c.args.server.now; frames = c.args.frames.now; stream = c.args.stream.now; fault = None } in
-    let new : HostModel = record { server = c.packet.new.server; frames = c.packet.new.frames; stream = c.if-is_none.stream; fault = Some fault } in
-    let ends : EndsPacket c.args.stream.now octets c.if-is_none.stream used (packet_of_ref host.packet) =
-    elim c.if-is_none.branch [
-      | then-is_none+in-Ok+else-not-fed w ↦
-          packet_marked c.whole_packet-lent.result c.args.stream.now c.if-is_none.stream octets host w.feed.new.self w.in-Ok.fed.used c.if-is_none.used
-          (c.is_none.ensures ∙ ap not w.if-is_none.true) w.stream-is w.in-Ok.ensures.divided w.in-Ok.ensures.unfinished
-          c.lent_or_marked-whole.ensures.marked c.lent_or_marked-whole.ensures.marked_used w.used-is
-      | else-is_none w ↦
-          packet_lent c.whole_packet-lent.result c.args.stream.now c.if-is_none.stream octets host
-          (c.is_none.ensures ∙ ap not w.if-is_none.false) w.stream-is c.whole_packet-lent.ensures.divided c.whole_packet-lent.ensures.unfinished
-          c.lent_or_marked-whole.ensures.lent c.lent_or_marked-whole.ensures.lent_used
-    ] in
+    let new = new-at at (Some fault) in
     let stopped = err_from_is_err_and c.from_residual.result c.from_residual.ensures.1 in
-    subst (λ (result : Result ℕ HostFault). TellsOfAll (items_taken octets result) old (record new { fault = result_err result }))
+    subst (λ (result : Result ℕ HostFault). TellsOfAll (items_taken octets result) (old-at at) (record new { fault = result_err result }))
     (sym (stopped.1 ∙ ap (λ (why : HostFault). Err why) stopped.2))
-    (subst (λ (all : Octets). TellsOfAll (octet_items all) old new) (take-append-drop used octets)
-    (stopped_told old new (take used octets) (drop used octets) (packet_of_ref host.packet) fault ends.divided
+    (subst (λ (all : Octets). TellsOfAll (octet_items all) (old-at at) new) (take-append-drop (used-at at) octets)
+    (stopped_told (old-at at) new (take (used-at at) octets) (drop (used-at at) octets) (packet-at at) fault (ends-at at).divided
     c.in_err-packet.ensures.refines refl c.in_err-packet.ensures.not_own))

@@ -9,13 +9,13 @@ use Rattle.host_connections.specs.Slots.{SlotStates}
 
 pub returns-clause-opened : goal.returns-clause-opened
 returns-clause-opened c =
-    let host : HostModel = record { server = c.held_at_first.result; frames = c.new.result; stream = c.new-2.result; fault = None } in
+    let host : HostModel = record { server = c.held_at_first.result; frames = c.in-Ok-new.frames; stream = c.new-2.result; fault = None } in
     stands_when_opened c.args.table c.args.keys c.args.rows c.free_slots.new.rows c.args.config (c.in-Ok.ensures.bonds (refl {a = true}))
     (c.in-Ok.ensures.rows (refl {a = true})) host
     (c.in-Ok.ensures.configured (refl {a = true}))
     (c.held_at_first.ensures ∙ ap (λ (slots : SlotStates). held_at_first c.args.table c.args.keys c.free_slots.new.rows slots c.args.config)
     c.in-Ok.ensures.slots)
-    c.new.ensures.assembled c.new.ensures.arrivals c.new-2.ensures.at_start (λ i. None)
+    c.in-Ok-new.ensures.assembled c.in-Ok-new.ensures.arrivals c.new-2.ensures.at_start (λ i. None)
 
 pub invariant_of-result : goal.invariant_of-result
 invariant_of-result c = reached_when_opened c.args.table c.args.keys c.args.rows c.args.config _ (returns-clause-opened c)

@@ -1,6 +1,6 @@
 use Rattle.std.proofs.Common.{◌≡◌, true, ◌∷◌, [], None, refl, sym, subst, ◌∙◌}
 use Rattle.std.specs.Prelude.{IsOk}
-use Rattle.gatt_host.proofs.model.Items.{drained_where, none_unless, reached_by, is_of_its_table}
+use Rattle.gatt_host.proofs.model.Items.{drained_where, frames_suffice, none_unless, reached_by, is_of_its_table}
 use Rattle.gatt_host.proofs.model.Packets.{passes_long, takes_packet}
 use Rattle.gatt_host.proofs.model.Told.{long_told, not_long, ok_where, told_in_run}
 use Rattle.gatt_host.proofs.model.Stands.{past_none, past_stop}
@@ -11,6 +11,9 @@ use Rattle.gatt_laws.specs.machine.Input.{APacket, run}
 use Rattle.gatt_laws.specs.machine.Packets.{packet_event}
 use Rattle.le_h4.specs.Packet.{packet_of_ref}
 use Rattle.gatt_host.proofs.host.Host.packet.Goals as goal
+
+pub packet-taken-requires-clause-enough : goal.packet-taken-requires-clause-enough
+packet-taken-requires-clause-enough c = frames_suffice (the_view c.self.inside) c.self.invariant
 
 pub packet-taken-requires-clause-of_table : goal.packet-taken-requires-clause-of_table
 packet-taken-requires-clause-of_table c =
