@@ -20,7 +20,7 @@ use saved_values::restore_lines;
 use std::alloc::Global;
 use std::str;
 
-/// Opens a host, or returns the status of the first fault of the first faulty text.
+/// Opens a host on the heap, or returns the status of the first fault of the first faulty text.
 ///
 /// Writes the number of values that do not fit the table to `left_out`, or 0 on an error.
 pub(crate) fn open(
@@ -31,9 +31,9 @@ pub(crate) fn open(
     values: &[u8],
     config: &HostConfig,
     left_out: &mut usize,
-) -> Result<Opened, u32>
-    ensures opened { IfOk result
-        (IsOpenedWith table.now keys.now rows.now values.now config.now left_out.new) }
+) -> Result<Box<Opened, Global>, u32>
+    ensures opened { IfOk result (λ opened. IsOpenedWith table.now keys.now rows.now values.now
+        config.now left_out.new opened.value) }
     ensures none { IfErr result (λ _. left_out.new ≡ 0) }
     ensures accepted { IsOk result
         → open_status table.now keys.now rows.now values.now config.now ≡ DONE }
@@ -46,14 +46,9 @@ pub(crate) fn open(
     let keys = read_keys(alloc, keys)?;
     let rows = read_rows(alloc, rows)?;
     let count = restore_values(&mut served, values)?;
-    let host = open_with(alloc, served, keys, rows, config)?;
+    let opened = open_with(alloc, served, initial, keys, rows, config)?;
     *left_out = count;
-    Ok(Opened {
-        host,
-        initial,
-        told: 0,
-        drained: false,
-    })
+    Ok(opened)
 }
 
 /// Reads a table file into two tables.
@@ -86,17 +81,20 @@ fn restore_values(table: &mut Table, octets: &[u8]) -> Result<usize, u32>
     }
 }
 
+/// Opens a host, and moves it to the heap at once: it takes some kilobytes.
 #[tactic(auto, using(crate::proofs::Refusals::config_refused, crate::proofs::Refusals::config_unreadable))]
 fn open_with(
     alloc: Global,
     table: Table,
+    initial: Table,
     keys: Keys,
     rows: Rows,
     config: &HostConfig,
-) -> Result<Host, u32>
-    ensures opened { IfOk result (λ host.
-        RefinesRun (run (start_of table keys rows (config_given config.now)) []) [] host) }
-    ensures going { IfOk result (λ host. host.fault ≡ None) }
+) -> Result<Box<Opened, Global>, u32>
+    ensures opened { IfOk result (λ opened. RefinesRun
+        (run (start_of table keys rows (config_given config.now)) []) [] opened.value.host) }
+    ensures going { IfOk result (λ opened. opened.value.host.fault ≡ None) }
+    ensures initial { IfOk result (λ opened. opened.value.initial ≡ initial) }
     ensures accepted { IsOk result → config_status config.now ≡ DONE }
     ensures refused { IfErr result (λ status. 0 < status) }
     ensures status { IfErr result (λ status. IsNotOfMemory status
@@ -105,10 +103,20 @@ fn open_with(
     let Some(given) = to_config(config) else {
         return Err(status::BAD_CONFIG);
     };
-    match Host::open(alloc, table, keys, rows, given) {
-        Ok(host) => Ok(host),
-        Err(OpenFault::BadConfig) => Err(status::BAD_CONFIG),
-        Err(OpenFault::OutOfMemory) => Err(status::OUT_OF_MEMORY),
+    let host = match Host::open(alloc, table, keys, rows, given) {
+        Ok(host) => host,
+        Err(OpenFault::BadConfig) => return Err(status::BAD_CONFIG),
+        Err(OpenFault::OutOfMemory) => return Err(status::OUT_OF_MEMORY),
+    };
+    let opened = Opened {
+        host,
+        initial,
+        told: 0,
+        drained: false,
+    };
+    match Box::new(alloc, opened) {
+        Ok(opened) => Ok(opened),
+        Err(_) => Err(status::OUT_OF_MEMORY),
     }
 }
 

@@ -46,16 +46,13 @@ pub extern "C" fn gh_open(
         host.put(open);
         return status::ALREADY_OPEN;
     }
-    let opened = match opening::open(alloc, table, keys, rows, values, config, left_out) {
-        Ok(opened) => opened,
-        Err(status) => return status,
-    };
-    let Ok(boxed) = Box::new(alloc, opened) else {
-        *left_out = 0;
-        return status::OUT_OF_MEMORY;
-    };
-    host.put(boxed);
-    status::DONE
+    match opening::open(alloc, table, keys, rows, values, config, left_out) {
+        Ok(opened) => {
+            host.put(opened);
+            status::DONE
+        }
+        Err(status) => status,
+    }
 }
 
 /// Closes a host, and frees its memory.
