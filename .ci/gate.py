@@ -43,6 +43,9 @@ OTHERS = [f"--ignore-glob=*/{it}" for it in (*ARCHIVED, EMULATED, PAGED, NARROW)
 FIRST = [f"tests/test_{it}.py" for it in ("claims", "launcher", "limits_page", "links", "pages", "traces", "unproved")]
 # rt ci only notes an edit that does not apply or compile. It shows nothing.
 BAD = re.compile(r"BAD EDIT|^FAILED|^failed:|^ERROR|^note: .* is not proved", re.MULTILINE)
+# What a check takes at most, in bytes: 3.4 GB were seen, of device_session. The kit reckons with several times as much
+# and proves no more than two large crates side by side, whatever the machine has.
+MOST_OF_A_CHECK = 5 * 10**9
 # If more tests of a part fail, the machine is not the reason.
 MOST_AGAIN = 9
 # What a part that passed prints of itself.
@@ -112,11 +115,19 @@ class Part:
         return not any(it.result == "failed" for it in Part.ended)
 
 
+def side_by_side():
+    """Returns the variable with the number of crates that rt ci proves side by side, or none if memory is short."""
+    with open("/proc/meminfo", encoding="utf-8") as file:
+        free = 1024 * int(re.search(r"MemAvailable:\s+(\d+)", file.read())[1])
+    number = min(len(os.sched_getaffinity(0)), free // MOST_OF_A_CHECK)
+    return {"RT_JOBS": str(number)} if number > 1 and "RT_JOBS" not in os.environ else {}
+
+
 def play():
     """Runs the parts. Those that begin once all is proved run side by side."""
     if not Part("documents", [*TESTS, *FIRST]).has_passed():
         return
-    gate, proofs = verdicts.Gate(), Part("proofs and edits", ["rt", "ci"], is_live=True)
+    gate, proofs = verdicts.Gate(), Part("proofs and edits", ["rt", "ci"], is_live=True, **side_by_side())
     if not proofs.has_passed():
         return
     if why := gate.note(proofs.output):
