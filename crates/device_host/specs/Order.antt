@@ -11,13 +11,12 @@ use Rattle.gatt_host.specs.HostModel.{HostModel}
 use Rattle.app_lines.specs.declared.names.Named.{Named}
 use Rattle.app_lines.specs.Told.{told_line, value_line, words_line}
 use Rattle.app_lines.specs.declared.told.Told.TheVariants.{Saved, Serving}
-use Rattle.device_session.specs.Application.{after_welcome, IsFlushed}
-use Rattle.device_session.specs.ApplicationValue.{Application}
+use Rattle.device_session.specs.Application.{IsFlushed}
 use Rattle.device_session.specs.Asking.{Asking, closing_now, replied, stays_open}
 use Rattle.device_session.specs.Missed.{Missed}
 use Rattle.device_session.specs.Notices.{Heard, is_nothing}
 use Rattle.device_session.specs.Pending.{Line}
-use Rattle.device_session.specs.Place.{has_read_all, is_new, is_there}
+use Rattle.device_session.specs.Seats.{Seats, after_welcome, has_read_all, is_new, is_there}
 use Rattle.device_session.specs.Telling.{AreLinesTold, AreNoted, IsLast, IsReplied, IsSaidOrEnded, IsSavedTold, IsTold, IsUnsavedTold}
 use Rattle.device_session.specs.declared.pending.Subject.TheVariants.{Value}
 use Rattle.device_host.specs.declared.device.Takes.{Takes}
@@ -43,14 +42,14 @@ takes_line other = false
 
 -- All that a session sends from.
 pub record Outputs : Type 0 where
-  pub application : Application
+  pub seats : Seats
   pub missed : Missed
   pub pending : List Line
   pub asking : Asking
   pub updated : Octets
 
 -- The words of a failed save, if there are any.
-abbrev pub IsFailureTold : Option Octets → Application → Application → Type 0
+abbrev pub IsFailureTold : Option Octets → Seats → Seats → Type 0
 IsFailureTold (Some words) before after =
     IsTold (Some (words_line (codes "+ unsaved: ") words)) before after
 IsFailureTold None before after = after ≡ before
@@ -60,7 +59,7 @@ failure_of (Some keeping) = option_map (λ words. words.bytes.items) keeping.fai
 failure_of None = None
 
 -- An application is notified that saving fails, or succeeds again.
-abbrev pub IsSavingTold : News → Option Octets → Application → Application → Type 0
+abbrev pub IsSavingTold : News → Option Octets → Seats → Seats → Type 0
 IsSavingTold news.Nothing failure before after = after ≡ before
 IsSavingTold news.Fails failure before after = IsFailureTold failure before after
 IsSavingTold news.SavesAgain failure before after =
@@ -72,15 +71,15 @@ news_of None = news.Nothing
 
 -- The controller is initialised, and then saving fails or succeeds again.
 pub record IsNewsTold (initialised : Bool) (keeping : Option Keeping)
-    (before after : Application) : Type 0 where
-  pub informed : Application
+    (before after : Seats) : Type 0 where
+  pub informed : Seats
   pub first : initialised ≡ true → IsTold (Some (told_line Serving)) before informed
   pub none : initialised ≡ false → informed ≡ before
   pub saving : IsSavingTold (news_of keeping) (failure_of keeping) informed after
 
 -- The lines that waited for a save are sent after it, each once, in order.
-pub record IsRelease (saved : Bool) (lines : List Line) (before : Application) (missed : Missed)
-    (after : Application) (last : Missed) (left : List Line) : Type 0 where
+pub record IsRelease (saved : Bool) (lines : List Line) (before : Seats) (missed : Missed)
+    (after : Seats) (last : Missed) (left : List Line) : Type 0 where
   pub sent : saved ≡ true → AreLinesTold lines before missed after last
   pub none_left : saved ≡ true → left ≡ []
   pub waits : saved ≡ false → after ≡ before
@@ -90,7 +89,7 @@ pub record IsRelease (saved : Bool) (lines : List Line) (before : Application) (
 -- The text of the subscriptions, unless memory was refused for it. Nothing is sent if no link has
 -- become secure.
 pub record AreSubscriptionsTold (secured : List ℕ) (named : List Named) (host : HostModel)
-    (before after : Application) : Type 0 where
+    (before after : Seats) : Type 0 where
   pub text : Option Octets
   pub subscriptions :
       IfSome text
@@ -100,9 +99,9 @@ pub record AreSubscriptionsTold (secured : List ℕ) (named : List Named) (host 
 
 -- The lines of the notices are sent, or wait for a save.
 pub record AreNoticesTold (saved : Bool) (heard : Heard) (named : List Named) (host : HostModel)
-    (before : Application) (missed : Missed) (waiting : List Line)
-    (after : Application) (last : Missed) (left : List Line) : Type 0 where
-  pub notified : Application
+    (before : Seats) (missed : Missed) (waiting : List Line)
+    (after : Seats) (last : Missed) (left : List Line) : Type 0 where
+  pub notified : Seats
   pub if_saved :
       saved ≡ true
       → IsSavedTold heard.is_refused heard.text heard.changes heard.written before missed
@@ -115,8 +114,8 @@ pub record AreNoticesTold (saved : Bool) (heard : Heard) (named : List Named) (h
   pub subscriptions : AreSubscriptionsTold heard.secured named host notified after
 
 pub record AreHeard (saved : Bool) (heard : Heard) (named : List Named) (host : HostModel)
-    (before : Application) (missed : Missed) (waiting : List Line)
-    (after : Application) (last : Missed) (left : List Line) : Type 0 where
+    (before : Seats) (missed : Missed) (waiting : List Line)
+    (after : Seats) (last : Missed) (left : List Line) : Type 0 where
   pub notices :
       is_nothing heard ≡ false
       → AreNoticesTold saved heard named host before missed waiting after last left
@@ -126,20 +125,20 @@ pub record AreHeard (saved : Bool) (heard : Heard) (named : List Named) (host : 
 
 -- The state is sent, unless memory was refused for it, and then that saving fails, if it does.
 pub record IsStateTold (started : ℕ) (serving : Bool) (named : List Named) (host : HostModel)
-    (failure : Option Octets) (before after : Application) : Type 0 where
+    (failure : Option Octets) (before after : Seats) : Type 0 where
   pub text : Option Octets
-  pub said : Application
+  pub said : Seats
   pub state : IfSome text (λ text. text ≡ state_lines started serving named host)
   pub first : IsSaidOrEnded text (after_welcome before) said
   pub failing : IsFailureTold failure said after
 
 -- Only a new application is sent the state.
 pub record IsWelcomed (started : ℕ) (serving : Bool) (named : List Named) (host : HostModel)
-    (failure : Option Octets) (before after : Application) : Type 0 where
+    (failure : Option Octets) (before after : Seats) : Type 0 where
   pub new :
-      is_new before.place ≡ true
+      is_new before ≡ true
       → IsStateTold started serving named host failure before after
-  pub others : is_new before.place ≡ false → after ≡ before
+  pub others : is_new before ≡ false → after ≡ before
 
 -- The line of a value that the application missed.
 abbrev pub IsMissedLine : HostModel → Octets → Type 0
@@ -149,10 +148,10 @@ IsMissedLine host line =
     × (line ≡ value_line (codes "+ missed") handle value)
 
 -- Some values that it missed are sent, each in a line.
-unfoldable pub AreMissedTold : HostModel → List Octets → Application → Application → Type 0
+unfoldable pub AreMissedTold : HostModel → List Octets → Seats → Seats → Type 0
 AreMissedTold host [] before after = after ≡ before
 AreMissedTold host (line ∷ lines) before after =
-    (next : Application) × IsMissedLine host line × IsTold (Some line) before next
+    (next : Seats) × IsMissedLine host line × IsTold (Some line) before next
     × AreMissedTold host lines next after
 
 -- An application is sent the news, then the lines that waited for the save, then the answers, the
@@ -161,18 +160,18 @@ AreMissedTold host (line ∷ lines) before after =
 pub record IsTurnTold (saved initialised serving : Bool) (started : ℕ) (keeping : Option Keeping)
     (heard : Heard) (named : List Named) (host : HostModel) (before after : Outputs) : Type 0
   where
-    pub informed : Application
-    pub released : Application
-    pub answered : Application
-    pub notified : Application
-    pub welcomed : Application
-    pub reminded : Application
+    pub informed : Seats
+    pub released : Seats
+    pub answered : Seats
+    pub notified : Seats
+    pub welcomed : Seats
+    pub reminded : Seats
     pub noted : Missed
     pub known : Missed
     pub left : Missed
     pub waiting : List Line
     pub missed : List Octets
-    pub news : IsNewsTold initialised keeping before.application informed
+    pub news : IsNewsTold initialised keeping before.seats informed
     pub releases :
         IsRelease saved before.pending informed before.missed released noted waiting
     pub answers :
@@ -182,10 +181,10 @@ pub record IsTurnTold (saved initialised serving : Bool) (started : ℕ) (keepin
         AreHeard saved heard named host answered noted waiting notified known after.pending
     pub state : IsWelcomed started serving named host (failure_of keeping) notified welcomed
     pub reminders : AreMissedTold host missed welcomed reminded
-    pub writes : IsFlushed reminded after.application
-    pub stays : is_there after.application.place ≡ true → after.missed ≡ left
+    pub writes : IsFlushed reminded after.seats
+    pub stays : is_there after.seats ≡ true → after.missed ≡ left
     pub ends :
-        is_there after.application.place ≡ false
-        → IsLast (has_read_all after.application.place) left after.missed
+        is_there after.seats ≡ false
+        → IsLast (has_read_all after.seats) left after.missed
     pub asking : after.asking ≡ replied before.asking
     pub updated : after.updated ≡ []

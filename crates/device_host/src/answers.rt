@@ -5,7 +5,7 @@ ghost use Rattle.std.specs.List.{flat_map};
 ghost use Rattle.gatt_host.specs.Connections.{connections_in};
 ghost use Rattle.app_lines.specs.Answers.{done};
 ghost use Rattle.app_lines.specs.Told.{lines_of_connection};
-ghost use Rattle.device_session.specs.Application.{after_end, is_visitor};
+ghost use Rattle.device_session.specs.Seats.{after_end, is_visitor};
 ghost use Rattle.device_session.specs.Asking.{answer_in, IsAnswerKept};
 ghost use Rattle.device_session.specs.Questions.{question_in, question_of};
 ghost use Rattle.device_host.specs.Answers.{answer_of, answer_to, connection_named, subscriptions_answer, IsLineAnswered};
@@ -35,8 +35,8 @@ pub(crate) fn note_event<R: Files<File = File> + Clock + Eprint>(
     hearing: &mut Hearing,
 )
     // Nothing is sent to the application before the save.
-    ensures application { SendsNothing device.old.session.application
-        device.new.session.application }
+    ensures application { SendsNothing device.old.session.seats
+        device.new.session.seats }
     // A line is answered by what the host then says, and `stop` later.
     ensures answer { IsLineAnswered
         (question_in device.old.session.asking.unanswered device.old.session.asking.line)
@@ -96,7 +96,7 @@ fn updated_handle<R>(session: &Session<'_, R>) -> Option<u16>
 
 /// Notes a value that the last line has updated. The application is notified if it did not do so.
 fn note_update<R: Clock + Eprint>(session: &mut Session<'_, R>, host: &Host)
-    ensures application { IsSameOrEnded session.old.application session.new.application }
+    ensures application { IsSameOrEnded session.old.seats session.new.seats }
     ensures asking { session.new.asking ≡ session.old.asking }
     ensures names { session.new.names ≡ session.old.names }
     ensures pending { session.new.pending.lines.items ≡ without_updated (updated_by
@@ -104,10 +104,10 @@ fn note_update<R: Clock + Eprint>(session: &mut Session<'_, R>, host: &Host)
         (answer_in session.old.asking.unanswered)) session.old.pending.lines.items }
     // The application is notified of an update of its visitor, unless memory was refused for it.
     ensures updated { (session.new.updated.items ≡ with_text (line_if_visited
-        (is_visitor session.old.application.askers.asker) (updated_by
+        (is_visitor session.old.seats.askers.asker) (updated_by
         (question_in session.old.asking.unanswered session.old.asking.line)
         (answer_in session.old.asking.unanswered)) host.now) session.old.updated.items)
-        ⊎ (session.new.application ≡ after_end session.old.application) }
+        ⊎ (session.new.seats ≡ after_end session.old.seats) }
 {
     let Some(handle) = updated_handle(session) else {
         return;
@@ -126,7 +126,7 @@ fn answer_line<R>(alloc: Global, session: &mut Session<'_, R>, host: &Host)
         (question_in session.old.asking.unanswered session.old.asking.line)
         (answer_in session.old.asking.unanswered)
         session.old.names.named host.now)) session.old.asking session.new.asking }
-    ensures application { session.new.application ≡ session.old.application }
+    ensures application { session.new.seats ≡ session.old.seats }
     ensures pending { session.new.pending ≡ session.old.pending }
 {
     let text = answer_text(

@@ -1,7 +1,7 @@
 //! The events of a host: those of its controller, its application and the clock.
 
 ghost use Rattle.std.specs.Prelude.{◌≡◌, length, true, None, Some};
-ghost use Rattle.device_session.specs.Asking.{application_if, asked_if, goes_on};
+ghost use Rattle.device_session.specs.Asking.{asked_if, goes_on, seats_if};
 ghost use Rattle.device_host.specs.Order.{takes_line, takes_nothing};
 ghost use Rattle.device_host.specs.Work.{IsNextByClock};
 
@@ -86,18 +86,18 @@ fn next_of<'b, R: System>(
     ensures history { device.new.history ≡ device.old.history }
     // While the changes before are to be saved, no line is read.
     ensures unread { takes_nothing device.old.takes ≡ true
-        → device.new.session.application ≡ device.old.session.application }
+        → device.new.session.seats ≡ device.old.session.seats }
     ensures unasked { takes_nothing device.old.takes ≡ true
         → device.new.session.asking ≡ device.old.session.asking }
     // Only the sender of the last line is read before the save.
     ensures line { takes_line device.old.takes ≡ true → device.new.session.asking
         ≡ asked_if (goes_on device.old.session.turns device.old.session.asking)
-        device.old.session.application device.old.session.asking
+        device.old.session.seats device.old.session.asking
         device.old.session.names.named
         device.old.session.turns.time (length buffer.old) }
-    ensures read { takes_line device.old.takes ≡ true → device.new.session.application
-        ≡ application_if (goes_on device.old.session.turns device.old.session.asking)
-        device.old.session.application device.old.session.application }
+    ensures read { takes_line device.old.takes ≡ true → device.new.session.seats
+        ≡ seats_if (goes_on device.old.session.turns device.old.session.asking)
+        device.old.session.seats device.old.session.seats }
 {
     match device.takes {
         Takes::Nothing => Next::Octets(&[]),

@@ -180,7 +180,7 @@ impl Keeping {
     ) -> bool
         ensures saved { result ≡ is_all_saved self.new.changes }
         // The application, its place and its output stay as they are.
-        ensures application { session.new.application ≡ session.old.application }
+        ensures application { session.new.seats ≡ session.old.seats }
         // The clock is read after a save, before the host gets anything.
         ensures turns { IsSaveTurned self.old.changes session.old.turns session.new.turns }
     {
@@ -197,7 +197,7 @@ impl Keeping {
         host: &Host,
         session: &mut Session<'_, R>,
     ) -> Option<&str>
-        ensures application { session.new.application ≡ session.old.application }
+        ensures application { session.new.seats ≡ session.old.seats }
         ensures turns { session.new.turns
             ≡ worked_if (not (is_all_saved self.old.changes)) session.old.turns }
     {
@@ -218,7 +218,7 @@ impl Keeping {
         host: &Host,
         session: &mut Session<'_, R>,
     )
-        ensures application { session.new.application ≡ session.old.application }
+        ensures application { session.new.seats ≡ session.old.seats }
         ensures turns { session.new.turns ≡ after_work session.old.turns }
     {
         session.begin_work();
@@ -234,7 +234,7 @@ impl Keeping {
     pub(crate) fn tell_news<R: Clock + Eprint>(&mut self, session: &mut Session<'_, R>)
         ensures news { IsSavingTold self.old.news
             (option_map (λ words. words.bytes.items) self.old.failure)
-            session.old.application session.new.application }
+            session.old.seats session.new.seats }
         ensures failure { self.new.failure ≡ self.old.failure }
         ensures missed { session.new.missed ≡ session.old.missed }
         ensures pending { session.new.pending ≡ session.old.pending }
@@ -254,7 +254,7 @@ impl Keeping {
     /// Notifies the application if the last save failed.
     pub(crate) fn tell_failure<R: Clock + Eprint>(&self, session: &mut Session<'_, R>)
         ensures failure { IsFailureTold (option_map (λ words. words.bytes.items) self.now.failure)
-            session.old.application session.new.application }
+            session.old.seats session.new.seats }
         ensures missed { session.new.missed ≡ session.old.missed }
         ensures pending { session.new.pending ≡ session.old.pending }
         ensures updated { session.new.updated ≡ session.old.updated }

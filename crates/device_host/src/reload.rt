@@ -42,8 +42,8 @@ pub(crate) fn begin_reload<R: Files<File = File> + Clock + Eprint>(
     device: &mut Device<'_, R>,
     host: &Host,
 )
-    ensures application { IsSameOrHeld device.old.session.application
-        device.new.session.application }
+    ensures application { IsSameOrHeld device.old.session.seats
+        device.new.session.seats }
     // The line is answered at once, or once the host is opened again.
     ensures asking { IsAnsweredOrPutOff device.old.session.asking device.new.session.asking }
     // It is put off exactly if the device then reloads.
@@ -83,7 +83,7 @@ fn read_in_work<R: Files<File = File> + Clock + Eprint>(
 ) -> Result<Option<KeyFile>, Option<String>>
     // The clock is read before the host gets anything.
     ensures turns { device.new.session.turns ≡ after_work device.old.session.turns }
-    ensures application { device.new.session.application ≡ device.old.session.application }
+    ensures application { device.new.session.seats ≡ device.old.session.seats }
     ensures asking { device.new.session.asking ≡ device.old.session.asking }
     ensures pending { device.new.session.pending ≡ device.old.session.pending }
     ensures course { device.new.course ≡ device.old.course }
@@ -226,7 +226,7 @@ fn exchange_keys<R: Files<File = File> + Clock + Eprint>(
 
 /// Prepares the answer to the line `reload`, and logs a refusal.
 fn answer_reload<R: Clock + Eprint>(device: &mut Device<'_, R>, answer: &Answer)
-    ensures application { device.new.session.application ≡ device.old.session.application }
+    ensures application { device.new.session.seats ≡ device.old.session.seats }
     ensures asking { IsSomehowAnswered device.old.session.asking device.new.session.asking }
     ensures pending { device.new.session.pending ≡ device.old.session.pending }
     ensures course { device.new.course ≡ device.old.course }

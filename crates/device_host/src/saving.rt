@@ -26,7 +26,7 @@ pub(crate) fn save<R: Files<File = File> + Clock + Eprint>(
     ensures saved { is_saved result ≡ option_map_or (λ keeping. is_all_saved keeping.changes)
         device.new.keeping true }
     // The application, its place and its output stay as they are.
-    ensures application { device.new.session.application ≡ device.old.session.application }
+    ensures application { device.new.session.seats ≡ device.old.session.seats }
     // If a save was made, the clock is read before the host gets anything.
     ensures turns { IsTurnSaved device.old.keeping device.old.session.turns
         device.new.session.turns }

@@ -25,8 +25,8 @@ const RESET: [u8; 4] = [0x01, 0x03, 0x0C, 0x00];
 
 /// Begins to stop a device: its connections end first, and no more lines are read.
 pub(crate) fn begin_stop<R: Clock + Eprint>(device: &mut Device<'_, R>)
-    ensures application { device.new.session.application
-        ≡ held device.old.session.application }
+    ensures application { device.new.session.seats
+        ≡ held device.old.session.seats }
     ensures asking { device.new.session.asking ≡ after_delay device.old.session.asking }
     ensures pending { device.new.session.pending ≡ device.old.session.pending }
 {

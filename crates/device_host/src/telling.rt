@@ -44,14 +44,14 @@ pub(crate) fn tell<R: Clock + Eprint>(
         device.old.keeping
         hearing.old.heard device.old.session.names.named host.now
         (record {
-          application = device.old.session.application;
+          seats = device.old.session.seats;
           missed = device.old.session.missed;
           pending = device.old.session.pending.lines.items;
           asking = device.old.session.asking;
           updated = device.old.session.updated.items;
         })
         (record {
-          application = device.new.session.application;
+          seats = device.new.session.seats;
           missed = device.new.session.missed;
           pending = device.new.session.pending.lines.items;
           asking = device.new.session.asking;
@@ -75,7 +75,7 @@ fn tell_state_of_saving<R: Clock + Eprint>(device: &mut Device<'_, R>, host: &Ho
     ensures news { IsNewsTold
         (is_initialised_first (is_ready host.now.server.controller)
         device.old.session.controller.controller)
-        device.old.keeping device.old.session.application device.new.session.application }
+        device.old.keeping device.old.session.seats device.new.session.seats }
     ensures failure { failure_of device.new.keeping ≡ failure_of device.old.keeping }
     ensures missed { device.new.session.missed ≡ device.old.session.missed }
     ensures pending { device.new.session.pending ≡ device.old.session.pending }
@@ -93,7 +93,7 @@ fn tell_state_of_saving<R: Clock + Eprint>(device: &mut Device<'_, R>, host: &Ho
 /// Sends the lines that waited for a save, if it has succeeded.
 fn tell_pending<R: Clock + Eprint>(session: &mut Session<'_, R>, is_saved: bool)
     ensures released { IsRelease is_saved session.old.pending.lines.items
-        session.old.application session.old.missed session.new.application session.new.missed
+        session.old.seats session.old.missed session.new.seats session.new.missed
         session.new.pending.lines.items }
     ensures updated { session.new.updated ≡ session.old.updated }
     ensures names { session.new.names ≡ session.old.names }
@@ -115,8 +115,8 @@ fn tell_heard<R: Clock + Eprint>(
     ensures heard { hearing.new.received ≡ hearing.old.received }
     ensures once { is_nothing hearing.new.heard ≡ true }
     ensures notices { AreHeard is_saved hearing.old.heard device.old.session.names.named host.now
-        device.old.session.application device.old.session.missed
-        device.old.session.pending.lines.items device.new.session.application
+        device.old.session.seats device.old.session.missed
+        device.old.session.pending.lines.items device.new.session.seats
         device.new.session.missed device.new.session.pending.lines.items }
     ensures keeping { device.new.keeping ≡ device.old.keeping }
     ensures updated { device.new.session.updated ≡ device.old.session.updated }
@@ -139,7 +139,7 @@ fn tell_subscriptions<R: Clock + Eprint>(
     heard: &Heard,
 )
     ensures subscriptions { AreSubscriptionsTold heard.now.secured session.old.names.named host.now
-        session.old.application session.new.application }
+        session.old.seats session.new.seats }
     ensures missed { session.new.missed ≡ session.old.missed }
     ensures pending { session.new.pending ≡ session.old.pending }
     ensures updated { session.new.updated ≡ session.old.updated }
@@ -173,7 +173,7 @@ fn welcome<R: Clock + Eprint>(device: &mut Device<'_, R>, host: &Host)
     ensures state { IsWelcomed device.old.started
         (is_served_initialised device.old.session.controller.controller)
         device.old.session.names.named host.now (failure_of device.old.keeping)
-        device.old.session.application device.new.session.application }
+        device.old.session.seats device.new.session.seats }
     ensures missed { device.new.session.missed ≡ device.old.session.missed }
     ensures pending { device.new.session.pending ≡ device.old.session.pending }
     ensures updated { device.new.session.updated ≡ device.old.session.updated }
@@ -215,7 +215,7 @@ fn state_text<R>(
 /// Sends the application the values that it missed, as far as it accepts lines.
 fn tell_missed<R: Clock + Eprint>(session: &mut Session<'_, R>, host: &Host)
     ensures missed { (lines : List Octets)
-        × AreMissedTold host.now lines session.old.application session.new.application }
+        × AreMissedTold host.now lines session.old.seats session.new.seats }
     ensures pending { session.new.pending ≡ session.old.pending }
     ensures updated { session.new.updated ≡ session.old.updated }
     ensures names { session.new.names ≡ session.old.names }
@@ -233,7 +233,7 @@ fn tell_missed<R: Clock + Eprint>(session: &mut Session<'_, R>, host: &Host)
 /// accepts no line now.
 fn tell_next_missed<R: Clock + Eprint>(session: &mut Session<'_, R>, host: &Host) -> bool
     ensures missed { (lines : List Octets)
-        × AreMissedTold host.now lines session.old.application session.new.application }
+        × AreMissedTold host.now lines session.old.seats session.new.seats }
     ensures pending { session.new.pending ≡ session.old.pending }
     ensures updated { session.new.updated ≡ session.old.updated }
     ensures names { session.new.names ≡ session.old.names }
@@ -258,7 +258,7 @@ fn tell_next_missed<R: Clock + Eprint>(session: &mut Session<'_, R>, host: &Host
 
 fn look_for_strangers<R>(session: &mut Session<'_, R>, host: &Host)
     ensures controller { session.new.controller.controller ≡ session.old.controller.controller }
-    ensures application { session.new.application ≡ session.old.application }
+    ensures application { session.new.seats ≡ session.old.seats }
     ensures missed { session.new.missed ≡ session.old.missed }
     ensures pending { session.new.pending ≡ session.old.pending }
     ensures updated { session.new.updated ≡ session.old.updated }

@@ -1,6 +1,6 @@
 -- No buffer passes its limit.
 use Rattle.std.proofs.Common.{◌≡◌, ℕ, ◌+◌, ◌-◌, ◌≤◌, Bool, true, false, List, [], ◌∷◌, length, Option, Some, None, refl, arith}
-use Rattle.std.specs.Prelude.{◌||◌, if◌then◌else◌, fold, is_some, IfSome}
+use Rattle.std.specs.Prelude.{if◌then◌else◌, fold, IfSome}
 use Rattle.std.specs.List.{position_or_len}
 use Rattle.std.specs.Option.{option_map}
 use Rattle.std.proofs.lemmas.Bool.{leb-true}
@@ -12,27 +12,26 @@ use Rattle.app_lines.specs.declared.inbox.Found.TheVariants.{Line, Nothing, TooL
 use Rattle.app_lines.specs.declared.inbox.TheConstants.{ROOM}
 use Rattle.device_session.specs.declared.askers.Asker.{Asker}
 use Rattle.device_session.specs.declared.askers.Asker.TheVariants as asker
+use Rattle.device_session.specs.declared.holder.Holder.{Holder}
 use Rattle.device_session.specs.declared.incoming.Incoming.{Incoming}
 use Rattle.device_session.specs.declared.outgoing.Outgoing.{Outgoing}
 use Rattle.device_session.specs.declared.outgoing.Outgoing.TheVariants.{Open, Deaf}
-use Rattle.device_session.specs.declared.place.Place.{Place}
-use Rattle.device_session.specs.declared.place.Place.TheVariants.{Free, Taken, Given, Promised}
+use Rattle.device_session.specs.declared.seat.Next.{Next}
+use Rattle.device_session.specs.declared.seat.Seat.{Seat}
+use Rattle.device_session.specs.declared.seat.Seat.TheVariants.{Free, Taken}
 use Rattle.device_session.specs.declared.visitor.Visit.{Visit}
 use Rattle.device_session.specs.declared.visitor.Visit.TheVariants.{Stays, Reads, Asks, Comes, Leaves}
-use Rattle.device_session.specs.Application.{chosen_in, after_visit, has_next_line, nobody, seating, visited, watched_by, with_taken, written_if_full}
-use Rattle.device_session.specs.ApplicationValue.{Application}
-use Rattle.device_session.specs.Holder.{has_line, is_found, may_read}
+use Rattle.device_session.specs.declared.visitor.Visitor.{Visitor}
+use Rattle.device_session.specs.Holder.{after_holder_read, deafened, has_line, if_holder, is_gone, offered, queued, read, sent, watched_at, welcomed, with_arrival}
+use Rattle.device_session.specs.Incoming.{IsShort, Reading, after_reading, has_failed, is_found}
 use Rattle.device_session.specs.Incoming.Arrival.{Ready, Taken as Took}
-use Rattle.device_session.specs.Laws.{ArePossible, Bounds, Event, IsBounded, IsBoundedHolder, IsBoundedInput, IsBoundedOutput, IsBoundedPlace, IsBoundedVisit, IsPossibleEvent, after_event}
-use Rattle.device_session.specs.Laws.Event.{Knocks, Attends, Fills, Watches, Flushes, Readies, Tells, Answers, Chooses, Asks as Takes, Welcomes, Ends, Holds, Releases}
+use Rattle.device_session.specs.Incoming.Reading.{Brings, Waits, Ends as Finishes, Fails, Repeats}
+use Rattle.device_session.specs.Laws.{ArePossible, Bounds, Event, IsBounded, IsBoundedHolder, IsBoundedInput, IsBoundedOutput, IsBoundedSeat, IsBoundedVisitor, IsPossibleEvent, after_event}
+use Rattle.device_session.specs.Laws.Event.{Knocks, Comes as Connects, Arrives, Readies, Sends, Offers, Refuses, Attends, Fills, Watches, Tells, Answers, Chooses, Asks as Takes, Welcomes, Ends, Holds, Releases}
 use Rattle.device_session.specs.Outgoing.{after_sent, fits, watched, with_text}
-use Rattle.device_session.specs.Place.{ended, filled_in, fits_in, given, has_next, is_free, is_full_in, is_giving, is_gone, is_slow_in, left_by, on_holding, watched_in, with_next}
-use Rattle.device_session.specs.Seats.{Holding, IsShort, Reading, Visiting, Writing, after_reading, has_failed, holder_read, read, queued, visitor_arrival, welcomed, with_arrival, written}
-use Rattle.device_session.specs.Seats.Reading.{Brings, Waits, Ends as Finishes, Fails, Repeats}
-use Rattle.device_session.specs.Seats.Writing.{Nothing as Unmoved, Accepts, Refuses}
-use Rattle.device_session.specs.Visitor.{visit_of, visitor_at}
+use Rattle.device_session.specs.Seats.{Seats, accepts, after_visit, chosen_in, counted_down, ended, fits_by, given, has_next, has_next_line, is_full_in, is_given, is_slow_in, left_by, left_seat, next_after, nobody, on_holder, read_or_left, seat_for, seating, visit_in, with_taken}
+use Rattle.device_session.specs.Visitor.{if_visitor, visitor_arrival, visitor_at, visitor_read}
 use Rattle.device_session.proofs.Feeds.{short}
-use Rattle.device_session.proofs.Visits.{reads_without_a_line}
 
 -- inputs
 rest-fits : (found : Found) (octets : Octets) → length octets ≤ ROOM → length (rest_after found octets) ≤ ROOM
@@ -72,198 +71,198 @@ failed-fits outgoing true fits = tt
 failed-fits outgoing false fits = fits
 
 -- an application
-abbrev Keeps : (Holding → Holding) → Type 0
-Keeps change = (holding : Holding) → IsBoundedHolder holding.holder → IsBoundedHolder (change holding).holder
-
-written-fits : (writing : Writing) → Keeps (written writing)
-written-fits Unmoved holding fits = fits
-written-fits (Accepts count) holding fits = (fits.0, sent-fits holding.holder.outgoing count fits.1)
-written-fits Refuses holding fits = (fits.0, tt)
+abbrev Keeps : (Holder → Holder) → Type 0
+Keeps change = (holder : Holder) → IsBoundedHolder holder → IsBoundedHolder (change holder)
 
 reads-fit : (reading : Reading) → IsShort reading → Keeps (read reading)
-reads-fit reading few holding fits = test (has_line holding.holder) refl
+reads-fit reading few holder fits = test (has_line holder) refl
   where
-    test : (line : Bool) → has_line holding.holder ≡ line
-        → IsBoundedHolder (if line then holding.holder else holder_read reading holding.holder)
+    test : (line : Bool) → has_line holder ≡ line → IsBoundedHolder (if line then holder else after_holder_read reading holder)
     test true is = fits
     test false is = (
-      read-fits holding.holder.incoming reading (not-found (found_in holding.holder.incoming.inbox) is) few fits.0,
-      failed-fits holding.holder.outgoing (has_failed reading) fits.1,
+      read-fits holder.incoming reading (not-found (found_in holder.incoming.inbox) is) few fits.0,
+      failed-fits holder.outgoing (has_failed reading) fits.1,
     )
 
-on : (change : Holding → Holding) → Keeps change → (place : Place) → IsBoundedPlace place → IsBoundedPlace (on_holding change place)
+if-id : (id : ℕ) (change : Holder → Holder) → Keeps change → Keeps (if_holder id change)
+if-id id change keeps holder fits = test _
+  where
+    test : (is : Bool) → IsBoundedHolder (if is then change holder else holder)
+    test true = keeps holder fits
+    test false = fits
+
+on : (change : Holder → Holder) → Keeps change → (seat : Seat) → IsBoundedSeat seat → IsBoundedSeat (on_holder change seat)
 on change keeps (Free all_read) fits = tt
-on change keeps (Taken holding) fits = keeps holding fits
-on change keeps (Given holding next last_reads) fits = (keeps holding fits.0, fits.1)
-on change keeps (Promised next) fits = fits
+on change keeps (Taken holder) fits = keeps holder fits
 
-ends : (place : Place) → IsBoundedPlace place → IsBoundedPlace (ended place)
-ends (Free all_read) fits = tt
-ends (Taken holding) fits = tt
-ends (Given holding next last_reads) fits = fits.1
-ends (Promised next) fits = fits
+ends : (seat : Seat) → IsBoundedSeat (ended seat)
+ends (Free all_read) = tt
+ends (Taken holder) = tt
 
-gives : (place : Place) → IsBoundedPlace place → IsBoundedPlace (given place)
-gives (Free all_read) fits = tt
-gives (Taken holding) fits = fits
-gives (Given holding next last_reads) fits = (fits.1, (refl, omega arith))
-gives (Promised next) fits = (fits, (refl, omega arith))
+coming : (seat : Seat) (visitor : Visitor) → IsBoundedVisitor visitor → IsBoundedSeat seat → IsBoundedSeat (seat_for seat visitor)
+coming (Free all_read) visitor visit fits = (visit, (refl, omega arith))
+coming (Taken holder) visitor visit fits = fits
 
-coming : (place : Place) (visiting : Visiting) → IsBoundedVisit visiting → IsBoundedPlace place → IsBoundedPlace (with_next place visiting)
-coming (Free all_read) visiting visit fits = (visit, (refl, omega arith))
-coming (Taken holding) visiting visit fits = (fits, visit)
-coming (Given holding next last_reads) visiting visit fits = fits
-coming (Promised next) visiting visit fits = fits
+waiting : (seat : Seat) (visitor : Visitor) → IsBoundedVisitor visitor
+    → IfSome (next_after seat visitor) (λ next. IsBoundedVisitor next.visitor)
+waiting (Free all_read) visitor visit = tt
+waiting (Taken holder) visitor visit = visit
 
-fills : (reading : Reading) → IsShort reading → (place : Place) → IsBoundedPlace place → IsBoundedPlace (filled_in reading place)
-fills reading few (Free all_read) fits = tt
-fills reading few (Taken holding) fits = taken (is_gone (Taken holding)) (may_read holding.holder)
+leaves : (seat : Seat) (next : Option Next) → IsBoundedSeat seat → IsBoundedSeat (left_seat seat next)
+leaves (Free all_read) next fits = tt
+leaves (Taken holder) (Some next) fits = fits
+leaves (Taken holder) None fits = gone (is_gone holder)
   where
-    taken : (gone readable : Bool)
-        → IsBoundedPlace (if gone then left_by holding else if readable then Taken (read reading holding) else Taken holding)
-    taken true readable = tt
-    taken false true = reads-fit reading few holding fits
-    taken false false = fits
-fills reading few (Given holding next last_reads) fits = replaced (has_line holding.holder)
-  where
-    replaced : (line : Bool)
-        → IsBoundedPlace (if line then Given holding next last_reads else Given (read reading holding) next (last_reads - 1))
-    replaced true = fits
-    replaced false = (reads-fit reading few holding fits.0, fits.1)
-fills reading few (Promised next) fits = fits
+    gone : (is : Bool) → IsBoundedSeat (if is then left_by holder else Taken holder)
+    gone true = tt
+    gone false = fits
 
-tells : (text : Octets) (place : Place) → fits_in place text ≡ true → IsBoundedPlace place → IsBoundedPlace (on_holding (queued text) place)
+counts : (seat : Seat) (next : Option Next) → IfSome next (λ next. IsBoundedVisitor next.visitor)
+    → IfSome (counted_down seat next) (λ next. IsBoundedVisitor next.visitor)
+counts (Free all_read) next fits = fits
+counts (Taken holder) None fits = tt
+counts (Taken holder) (Some next) fits = line (has_line holder)
+  where
+    line : (is : Bool)
+        → IfSome (if is then Some next else Some (record next { last_reads = next.last_reads - 1 })) (λ next. IsBoundedVisitor next.visitor)
+    line true = fits
+    line false = fits
+
+tells : (text : Octets) (seat : Seat) → fits_by seat text ≡ true → IsBoundedSeat seat → IsBoundedSeat (on_holder (queued text) seat)
 tells text (Free all_read) is fits = tt
-tells text (Taken holding) is fits = (fits.0, text-fits holding.holder.outgoing text is fits.1)
-tells text (Given holding next last_reads) is fits = ((fits.0.0, text-fits holding.holder.outgoing text is fits.0.1), fits.1)
-tells text (Promised next) is fits = fits
-
-watches : (now : ℕ) (writing : Writing) (place : Place) → IsBoundedPlace place → IsBoundedPlace (watched_by now (written_if_full place writing))
-watches now writing (Free all_read) fits = tt
-watches now writing (Taken holding) fits = full (is_full_in (Taken holding))
-  where
-    slow : (after : Holding) → IsBoundedHolder after.holder → (is : Bool)
-        → IsBoundedPlace (if is then ended (Taken after) else watched_in now (Taken after))
-    slow after bounded true = tt
-    slow after bounded false = (bounded.0, watched-fits after.holder.outgoing now bounded.1)
-
-    full : (is : Bool) → IsBoundedPlace (watched_by now (if is then on_holding (written writing) (Taken holding) else Taken holding))
-    full true = slow (written writing holding) (written-fits writing holding fits) (is_slow_in (Taken (written writing holding)) now)
-    full false = slow holding fits (is_slow_in (Taken holding) now)
-watches now writing (Given holding next last_reads) fits = full (is_full_in (Given holding next last_reads))
-  where
-    slow : (after : Holding) → IsBoundedHolder after.holder → (is : Bool)
-        → IsBoundedPlace (if is then ended (Given after next last_reads) else watched_in now (Given after next last_reads))
-    slow after bounded true = fits.1
-    slow after bounded false = ((bounded.0, watched-fits after.holder.outgoing now bounded.1), fits.1)
-
-    full : (is : Bool)
-        → IsBoundedPlace
-        (watched_by now (if is then on_holding (written writing) (Given holding next last_reads) else Given holding next last_reads))
-    full true =
-        slow (written writing holding) (written-fits writing holding fits.0) (is_slow_in (Given (written writing holding) next last_reads) now)
-    full false = slow holding fits.0 (is_slow_in (Given holding next last_reads) now)
-watches now writing (Promised next) fits = fits
+tells text (Taken holder) is fits = (fits.0, text-fits holder.outgoing text is fits.1)
 
 -- a visitor
-knocks : (now : ℕ) (came : Option ℕ) (visiting : Option Visiting) (stays : Bool) → IfSome visiting IsBoundedVisit
-    → IfSome (if stays then visiting else option_map (λ slow. record { visitor = visitor_at now; slow = slow }) came) IsBoundedVisit
-knocks now came visiting true fits = fits
-knocks now None visiting false fits = tt
-knocks now (Some slow) visiting false fits = omega arith
+visitor-on : (change : Visitor → Visitor) → ((visitor : Visitor) → IsBoundedVisitor visitor → IsBoundedVisitor (change visitor))
+    → (visitor : Option Visitor) → IfSome visitor IsBoundedVisitor → IfSome (option_map change visitor) IsBoundedVisitor
+visitor-on change keeps (Some visitor) fits = keeps visitor fits
+visitor-on change keeps None fits = tt
 
-taken-fits : (visiting : Option Visiting) → IfSome visiting IsBoundedVisit → IfSome (option_map (visitor_arrival Took) visiting) IsBoundedVisit
-taken-fits (Some visiting) fits = rest-fits (found_in visiting.visitor.incoming.inbox) visiting.visitor.incoming.inbox fits
-taken-fits None fits = tt
+visitor-reads : (reading : Reading) → IsShort reading → (visitor : Visitor) → IsBoundedVisitor visitor
+    → IsBoundedVisitor (visitor_read reading visitor)
+visitor-reads reading few visitor fits = test (is_found (found_in visitor.incoming.inbox)) refl
+  where
+    test : (line : Bool) → is_found (found_in visitor.incoming.inbox) ≡ line
+        → IsBoundedInput (if line then visitor.incoming else after_reading visitor.incoming reading)
+    test true is = fits
+    test false is = read-fits visitor.incoming reading (not-found (found_in visitor.incoming.inbox) is) few fits
 
-ready-fits : (visiting : Option Visiting) → IfSome visiting IsBoundedVisit → IfSome (option_map (visitor_arrival Ready) visiting) IsBoundedVisit
-ready-fits (Some visiting) fits = fits
-ready-fits None fits = tt
+if-visitor-id : (id : ℕ) (change : Visitor → Visitor)
+    → ((visitor : Visitor) → IsBoundedVisitor visitor → IsBoundedVisitor (change visitor)) → (visitor : Visitor)
+    → IsBoundedVisitor visitor → IsBoundedVisitor (if_visitor id change visitor)
+if-visitor-id id change keeps visitor fits = test _
+  where
+    test : (is : Bool) → IsBoundedVisitor (if is then change visitor else visitor)
+    test true = keeps visitor fits
+    test false = fits
 
-module _ (application : Application) (fits : IsBounded application) where
-  -- what waits at the place changes, the visitor does not
-  placed : (place : Place) → IsBoundedPlace place → IsBounded (record application { place = place })
-  placed place bounded = record { place = bounded; visiting = fits.visiting }
+module _ (seats : Seats) (fits : IsBounded seats) where
+  -- the seat changes, and nobody comes
+  placed : (seat : Seat) → IsBoundedSeat seat → IsBounded (record seats { seat = seat })
+  placed seat bounded = record { seat = bounded; next = fits.next; visitor = fits.visitor }
 
-  comes : (next : Bool) (visiting : Option Visiting) → IfSome visiting IsBoundedVisit → IsBounded (if next then application else seating visiting application)
-  comes true visiting visit = fits
-  comes false (Some visiting) visit = record { place = coming application.place visiting visit fits.place; visiting = tt }
-  comes false None visit = fits
+  visited : (visitor : Option Visitor) → IfSome visitor IsBoundedVisitor → IsBounded (record seats { visitor = visitor })
+  visited visitor bounded = record { seat = fits.seat; next = fits.next; visitor = bounded }
 
-  visits : (visiting : Visiting) (visit : Visit) (reading : Reading) → IsShort reading → IsBoundedVisit visiting
-      → (visit ≡ Reads → found_in visiting.visitor.incoming.inbox ≡ Nothing) → IsBounded (after_visit visit visiting reading application)
-  visits visiting Comes reading few known none = comes (has_next application.place) application.visiting fits.visiting
-  visits visiting Leaves reading few known none = record { place = fits.place; visiting = tt }
-  visits visiting Reads reading few known none =
-      record { place = fits.place; visiting = read-fits visiting.visitor.incoming reading (none refl) few known }
-  visits visiting Stays reading few known none = fits
-  visits visiting Asks reading few known none = fits
+  claims : (next : Bool) (visitor : Option Visitor) → IfSome visitor IsBoundedVisitor → IsBounded (if next then seats else seating visitor seats)
+  claims true visitor visit = fits
+  claims false (Some visitor) visit = record {
+    seat = coming seats.seat visitor visit fits.seat;
+    next = waiting seats.seat visitor visit;
+    visitor = tt;
+  }
+  claims false None visit = fits
 
-  attends : (now : ℕ) (reading : Reading) → IsShort reading → (held : Bool) (visiting : Option Visiting) → IfSome visiting IsBoundedVisit
-      → IsBounded (if held then application else visited visiting now reading application)
-  attends now reading few true visiting known = fits
-  attends now reading few false None known = fits
-  attends now reading few false (Some visiting) known =
-      visits visiting (visit_of visiting.visitor now (is_free application.place)) reading few known
-      (reads_without_a_line visiting.visitor now (is_free application.place))
+  visits : (visit : Visit) → IsBounded (after_visit visit seats)
+  visits Comes = claims (has_next seats) seats.visitor fits.visitor
+  visits Leaves = visited None tt
+  visits Reads = fits
+  visits Stays = fits
+  visits Asks = fits
 
-  takes : (line : Bool) (who : Asker) → IsBounded (if line then with_taken who application else application)
+  connects : (id : ℕ) (remote : Bool) (now : ℕ) (free : Bool)
+      → IsBounded (if free then record seats { visitor = Some (visitor_at id remote now) } else seats)
+  connects id remote now true = visited (Some (visitor_at id remote now)) (omega arith)
+  connects id remote now false = fits
+
+  gives : (next : Option Next) → IfSome next (λ next. IsBoundedVisitor next.visitor) → IsBounded (given next seats)
+  gives (Some next) waits = record { seat = (waits, (refl, omega arith)); next = tt; visitor = fits.visitor }
+  gives None waits = fits
+
+  fill-fits : (held giving full : Bool)
+      → IsBounded (if held then seats else if giving then given seats.next seats else if full then seats else read_or_left seats)
+  fill-fits true giving full = fits
+  fill-fits false true full = gives seats.next fits.next
+  fill-fits false false true = fits
+  fill-fits false false false = record {
+    seat = leaves seats.seat seats.next fits.seat;
+    next = counts seats.seat seats.next fits.next;
+    visitor = fits.visitor;
+  }
+
+  watches : (now : ℕ) (slow : Bool) → IsBoundedSeat (if slow then ended seats.seat else on_holder (watched_at now) seats.seat)
+  watches now true = ends seats.seat
+  watches now false =
+      (on (watched_at now) (λ holder bounded. (bounded.0, watched-fits holder.outgoing now bounded.1)) seats.seat fits.seat)
+
+  chooses : (now : ℕ) (held : Bool) → IsBounded (if held then seats else record seats { askers = chosen_in seats now })
+  chooses now true = fits
+  chooses now false = record { seat = fits.seat; next = fits.next; visitor = fits.visitor }
+
+  takes : (line : Bool) (who : Asker) → IsBounded (if line then with_taken who seats else seats)
   takes false who = fits
   takes true asker.Application =
-      placed (on_holding (with_arrival Took) application.place)
+      placed (on_holder (with_arrival Took) seats.seat)
       (on (with_arrival Took)
-      (λ holding bounded. (rest-fits (found_in holding.holder.incoming.inbox) holding.holder.incoming.inbox bounded.0, bounded.1))
-      application.place fits.place)
-  takes true asker.Visitor = record { place = fits.place; visiting = taken-fits application.visiting fits.visiting }
+      (λ holder bounded. (rest-fits (found_in holder.incoming.inbox) holder.incoming.inbox bounded.0, bounded.1)) seats.seat fits.seat)
+  takes true asker.Visitor =
+      visited (option_map (visitor_arrival Took) seats.visitor)
+      (visitor-on (visitor_arrival Took)
+      (λ visitor bounded. rest-fits (found_in visitor.incoming.inbox) visitor.incoming.inbox bounded) seats.visitor fits.visitor)
 
-  fill-fits : (reading : Reading) → IsShort reading → (held giving full : Bool)
-      → IsBounded
-      (if held then application
-      else if giving then record application { place = given application.place }
-      else if full then application
-      else record application { place = filled_in reading application.place })
-  fill-fits reading few true giving full = fits
-  fill-fits reading few false true full = placed (given application.place) (gives application.place fits.place)
-  fill-fits reading few false false true = fits
-  fill-fits reading few false false false = placed (filled_in reading application.place) (fills reading few application.place fits.place)
+  event-keeps : (event : Event) → IsPossibleEvent seats event → IsBounded (after_event seats event)
+  event-keeps Knocks possible = record { seat = fits.seat; next = fits.next; visitor = fits.visitor }
+  event-keeps (Connects id remote now) possible = connects id remote now (accepts seats)
+  event-keeps (Arrives id reading) few = record {
+    seat = on (if_holder id (read reading)) (if-id id (read reading) (reads-fit reading few)) seats.seat fits.seat;
+    next = fits.next;
+    visitor = visitor-on (if_visitor id (visitor_read reading)) (if-visitor-id id (visitor_read reading) (visitor-reads reading few))
+        seats.visitor fits.visitor;
+  }
+  event-keeps Readies possible = record {
+    seat = on (with_arrival Ready) (λ holder bounded. bounded) seats.seat fits.seat;
+    next = fits.next;
+    visitor = visitor-on (visitor_arrival Ready) (λ visitor bounded. bounded) seats.visitor fits.visitor;
+  }
+  event-keeps (Sends id count) possible =
+      placed (on_holder (if_holder id (sent count)) seats.seat)
+      (on (if_holder id (sent count))
+      (if-id id (sent count) (λ holder bounded. (bounded.0, sent-fits holder.outgoing count bounded.1))) seats.seat fits.seat)
+  event-keeps (Offers id) possible =
+      placed (on_holder (if_holder id offered) seats.seat)
+      (on (if_holder id offered) (if-id id offered (λ holder bounded. bounded)) seats.seat fits.seat)
+  event-keeps (Refuses id) possible =
+      placed (on_holder (if_holder id deafened) seats.seat)
+      (on (if_holder id deafened) (if-id id deafened (λ holder bounded. (bounded.0, tt))) seats.seat fits.seat)
+  event-keeps (Attends now) possible = visits (visit_in seats now)
+  event-keeps Fills possible = fill-fits seats.is_held (is_given seats.seat seats.next) (is_full_in seats)
+  event-keeps (Watches now) possible = placed _ (watches now (is_slow_in seats now))
+  event-keeps (Tells text true) is = placed _ (tells text seats.seat is fits.seat)
+  event-keeps (Tells text false) possible = placed _ (ends seats.seat)
+  event-keeps (Answers true) possible = record { seat = fits.seat; next = fits.next; visitor = fits.visitor }
+  event-keeps (Answers false) possible = visited None tt
+  event-keeps (Chooses now) possible = chooses now seats.is_held
+  event-keeps Takes possible = takes (has_next_line seats) seats.askers.asker
+  event-keeps Welcomes possible = placed _ (on welcomed (λ holder bounded. bounded) seats.seat fits.seat)
+  event-keeps Ends possible = placed _ (ends seats.seat)
+  event-keeps Holds possible = record { seat = fits.seat; next = fits.next; visitor = fits.visitor }
+  event-keeps Releases possible = record { seat = fits.seat; next = fits.next; visitor = fits.visitor }
 
-  chooses : (now : ℕ) (held : Bool) → IsBounded (if held then application else record application { askers = chosen_in application now })
-  chooses now true = fits
-  chooses now false = record { place = fits.place; visiting = fits.visiting }
-
-  event-keeps : (event : Event) → IsPossibleEvent application event → IsBounded (after_event application event)
-  event-keeps (Knocks now came) possible =
-      record {
-        place = fits.place;
-        visiting = knocks now came application.visiting (application.is_held || is_some application.visiting) fits.visiting;
-      }
-  event-keeps (Attends now reading) few = attends now reading few application.is_held application.visiting fits.visiting
-  event-keeps (Fills reading) few = fill-fits reading few application.is_held (is_giving application.place) (is_full_in application.place)
-  event-keeps (Watches now writing) possible = placed _ (watches now writing application.place fits.place)
-  event-keeps (Flushes writing) possible = placed _ (on (written writing) (written-fits writing) application.place fits.place)
-  event-keeps (Readies writing) possible =
-      record {
-        place = on (written writing) (written-fits writing) (on_holding (with_arrival Ready) application.place)
-            (on (with_arrival Ready) (λ holding bounded. bounded) application.place fits.place);
-        visiting = ready-fits application.visiting fits.visiting;
-      }
-  event-keeps (Tells text true) is = placed _ (tells text application.place is fits.place)
-  event-keeps (Tells text false) possible = placed _ (ends application.place fits.place)
-  event-keeps (Answers true) possible = fits
-  event-keeps (Answers false) possible = record { place = fits.place; visiting = tt }
-  event-keeps (Chooses now) possible = chooses now application.is_held
-  event-keeps Takes possible = takes (has_next_line application) application.askers.asker
-  event-keeps Welcomes possible = placed _ (on welcomed (λ holding bounded. bounded) application.place fits.place)
-  event-keeps Ends possible = placed _ (ends application.place fits.place)
-  event-keeps Holds possible = record { place = fits.place; visiting = fits.visiting }
-  event-keeps Releases possible = record { place = fits.place; visiting = fits.visiting }
-
-all-keep : (application : Application) (events : List Event) → ArePossible application events → IsBounded application
-    → IsBounded (fold after_event application events)
+all-keep : (seats : Seats) (events : List Event) → ArePossible seats events → IsBounded seats → IsBounded (fold after_event seats events)
 unfolding ArePossible
-all-keep application [] possible fits = fits
-all-keep application (event ∷ events) possible fits =
-    all-keep (after_event application event) events possible.1 (event-keeps application fits event possible.0)
+all-keep seats [] possible fits = fits
+all-keep seats (event ∷ events) possible fits =
+    all-keep (after_event seats event) events possible.1 (event-keeps seats fits event possible.0)
 
 pub bounds : Bounds
-bounds events possible = all-keep nobody events possible (record { place = tt; visiting = tt })
+bounds events possible = all-keep nobody events possible (record { seat = tt; next = tt; visitor = tt })

@@ -1,149 +1,162 @@
 -- Each visitor is one that connected and has sent this.
 use Rattle.std.proofs.Common.{◌≡◌, ℕ, Bool, true, false, List, [], ◌∷◌, ◌++◌, Option, Some, None, refl, sym, ap, subst, ◌∙◌}
-use Rattle.std.specs.Prelude.{◌||◌, if◌then◌else◌, fold, is_some}
-use Rattle.std.specs.Option.{option_map}
+use Rattle.std.specs.Prelude.{if◌then◌else◌, fold}
+use Rattle.std.specs.Option.{option_map, option_map_or}
 use Rattle.std.proofs.lemmas.List.Sums.{fold-append}
+use Rattle.app_lines.specs.Inbox.{found_in}
 use Rattle.device_session.specs.declared.askers.Asker.{Asker}
 use Rattle.device_session.specs.declared.askers.Asker.TheVariants as asker
+use Rattle.device_session.specs.declared.seat.Next.{Next}
 use Rattle.device_session.specs.declared.visitor.Visit.{Visit}
 use Rattle.device_session.specs.declared.visitor.Visit.TheVariants.{Stays, Reads, Asks, Comes, Leaves}
 use Rattle.device_session.specs.declared.visitor.Visitor.{Visitor}
-use Rattle.device_session.specs.Application.{chosen_in, after_visit, has_next_line, nobody, seating, visited, with_taken}
-use Rattle.device_session.specs.ApplicationValue.{Application}
-use Rattle.device_session.specs.Incoming.{Arrival, Received, after_arrival, fresh, received, with_arrival}
+use Rattle.device_session.specs.Incoming.{Arrival, Reading, Received, after_arrival, after_reading, fresh, is_found, received, with_arrival}
 use Rattle.device_session.specs.Incoming.Arrival.{Came, Later, Over, Ready, Taken}
-use Rattle.device_session.specs.Laws.{ComesRightly, Event, after_event, application_after}
-use Rattle.device_session.specs.Laws.Event.{Knocks, Attends, Fills, Watches, Flushes, Readies, Tells, Answers, Chooses, Asks as Takes, Welcomes, Ends, Holds, Releases}
-use Rattle.device_session.specs.Place.{filled_in, given, has_next, is_free, is_full_in, is_giving}
-use Rattle.device_session.specs.Seats.{Reading, Visiting, visitor_arrival, visitor_read}
-use Rattle.device_session.specs.Seats.Reading.{Brings, Waits, Ends as Over-read, Fails, Repeats}
-use Rattle.device_session.specs.Visitor.{visit_of, visitor_at, visitor_after}
+use Rattle.device_session.specs.Incoming.Reading.{Brings, Waits, Ends as Finishes, Fails, Repeats}
+use Rattle.device_session.specs.Laws.{ComesRightly, Event, after_event, seats_after}
+use Rattle.device_session.specs.Laws.Event.{Knocks, Comes as Connects, Arrives, Readies, Sends, Offers, Refuses, Attends, Fills, Watches, Tells, Answers, Chooses, Asks as Takes, Welcomes, Ends, Holds, Releases}
+use Rattle.device_session.specs.Seats.{Seats, accepts, after_visit, chosen_in, given, has_next, has_next_line, is_free, is_full_in, is_given, nobody, read_or_left, seating, visit_in, with_taken}
+use Rattle.device_session.specs.Visitor.{if_visitor, visit_of, visitor_after, visitor_arrival, visitor_at, visitor_read}
 use Rattle.device_session.proofs.Succession.{comes_as}
 use Rattle.device_session.proofs.Visits.{claims_rightly}
 
-abbrev HasSent : Visiting → Type 0
-HasSent visiting = (born : ℕ) × (arrivals : List Arrival) × (visiting.visitor ≡ visitor_after born arrivals)
+abbrev HasSent : Visitor → Type 0
+HasSent visitor =
+    (id : ℕ) × (remote : Bool) × (born : ℕ) × (arrivals : List Arrival) × (visitor ≡ visitor_after id remote born arrivals)
 
-abbrev IsKnown : Option Visiting → Type 0
-IsKnown (Some visiting) = HasSent visiting
+abbrev IsKnown : Option Visitor → Type 0
+IsKnown (Some visitor) = HasSent visitor
 IsKnown None = Unit {0}
 
-one-more : (born : ℕ) (arrivals : List Arrival) (arrival : Arrival)
-    → record (visitor_after born arrivals) { incoming = after_arrival (received arrivals).incoming arrival } ≡ visitor_after born (arrivals ++ arrival ∷ [])
-one-more born arrivals arrival =
-    ap (λ (all : Received). record (visitor_after born arrivals) { incoming = all.incoming })
+one-more : (id : ℕ) (remote : Bool) (born : ℕ) (arrivals : List Arrival) (arrival : Arrival)
+    → record (visitor_at id remote born) { incoming = after_arrival (received arrivals).incoming arrival }
+    ≡ visitor_after id remote born (arrivals ++ arrival ∷ [])
+one-more id remote born arrivals arrival =
+    ap (λ (all : Received). record (visitor_at id remote born) { incoming = all.incoming })
     (sym (fold-append with_arrival (record { incoming = fresh; came = []; lines = [] }) arrivals (arrival ∷ [])))
 
-sends : (arrival : Arrival) (visiting : Visiting) → HasSent visiting → HasSent (visitor_arrival arrival visiting)
-sends arrival visiting sent = (
-  sent.0,
-  sent.1 ++ arrival ∷ [],
-  ap (λ (visitor : Visitor). record visitor { incoming = after_arrival visitor.incoming arrival }) sent.2 ∙ one-more sent.0 sent.1 arrival,
-)
+sends : (arrival : Arrival) (visitor : Visitor) → HasSent visitor → HasSent (visitor_arrival arrival visitor)
+sends arrival visitor (id, remote, born, arrivals, sent) =
+    (id, remote, born, arrivals ++ arrival ∷ [], ap (visitor_arrival arrival) sent ∙ one-more id remote born arrivals arrival)
 
-is-read : (reading : Reading) (visiting : Visiting) → HasSent visiting → HasSent (visitor_read reading visiting)
-is-read (Brings octets) visiting sent = sends (Came octets) visiting sent
-is-read Waits visiting sent = sends Later visiting sent
-is-read Over-read visiting sent = sends Over visiting sent
-is-read Fails visiting sent = sends Over visiting sent
-is-read Repeats visiting sent = sent
-
-arrives : (arrival : Arrival) (visiting : Option Visiting) → IsKnown visiting → IsKnown (option_map (visitor_arrival arrival) visiting)
-arrives arrival (Some visiting) known = sends arrival visiting known
-arrives arrival None known = tt
-
-knocks : (now : ℕ) (came : Option ℕ) (visiting : Option Visiting) (stays : Bool) → IsKnown visiting
-    → IsKnown (if stays then visiting else option_map (λ slow. record { visitor = visitor_at now; slow = slow }) came)
-knocks now came visiting true known = known
-knocks now None visiting false known = tt
-knocks now (Some slow) visiting false known = (now, [], refl)
-
-comes : (application : Application) (next : Bool) (visiting : Option Visiting) → IsKnown application.visiting
-    → IsKnown (if next then application else seating visiting application).visiting
-comes application true visiting known = known
-comes application false (Some visiting) known = tt
-comes application false None known = known
-
-visits : (application : Application) (visiting : Visiting) (visit : Visit) (reading : Reading) → HasSent visiting → IsKnown application.visiting
-    → IsKnown (after_visit visit visiting reading application).visiting
-visits application visiting Comes reading sent known = comes application (has_next application.place) application.visiting known
-visits application visiting Leaves reading sent known = tt
-visits application visiting Reads reading sent known = is-read reading visiting sent
-visits application visiting Stays reading sent known = known
-visits application visiting Asks reading sent known = known
-
-attends : (application : Application) (now : ℕ) (reading : Reading) (held : Bool) (visiting : Option Visiting) → IsKnown visiting
-    → IsKnown application.visiting → IsKnown (if held then application else visited visiting now reading application).visiting
-attends application now reading true visiting known is = is
-attends application now reading false None known is = is
-attends application now reading false (Some visiting) known is =
-    visits application visiting (visit_of visiting.visitor now (is_free application.place)) reading known is
-
-same-of : (application one two : Application) (test : Bool) → one.visiting ≡ application.visiting → two.visiting ≡ application.visiting
-    → IsKnown application.visiting → IsKnown (if test then one else two).visiting
-same-of application one two true first second known = subst IsKnown (sym first) known
-same-of application one two false first second known = subst IsKnown (sym second) known
-
-takes : (application : Application) (line : Bool) (who : Asker) → IsKnown application.visiting
-    → IsKnown (if line then with_taken who application else application).visiting
-takes application false who known = known
-takes application true asker.Application known = known
-takes application true asker.Visitor known = arrives Taken application.visiting known
-
-event-keeps : (application : Application) (event : Event) → IsKnown application.visiting → IsKnown (after_event application event).visiting
-event-keeps application (Knocks now came) known =
-    knocks now came application.visiting (application.is_held || is_some application.visiting) known
-event-keeps application (Attends now reading) known =
-    attends application now reading application.is_held application.visiting known known
-event-keeps application (Fills reading) known =
-    filled application.is_held (is_giving application.place) (is_full_in application.place)
+is-read : (reading : Reading) (visitor : Visitor) → HasSent visitor → HasSent (visitor_read reading visitor)
+is-read reading visitor sent = test (is_found (found_in visitor.incoming.inbox)) reading
   where
-    filled : (held giving full : Bool)
-        → IsKnown
-        (if held then application
-        else if giving then record application { place = given application.place }
-        else if full then application
-        else record application { place = filled_in reading application.place }).visiting
-    filled true giving full = known
-    filled false true full = known
-    filled false false true = known
-    filled false false false = known
-event-keeps application (Watches now writing) known = known
-event-keeps application (Flushes writing) known = known
-event-keeps application (Readies writing) known = arrives Ready application.visiting known
-event-keeps application (Tells text true) known = known
-event-keeps application (Tells text false) known = known
-event-keeps application (Answers true) known = known
-event-keeps application (Answers false) known = tt
-event-keeps application (Chooses now) known = chosen application.is_held
+    test : (line : Bool) (reading : Reading)
+        → HasSent (record visitor { incoming = if line then visitor.incoming else after_reading visitor.incoming reading })
+    test true reading = sent
+    test false (Brings octets) = sends (Came octets) visitor sent
+    test false Waits = sends Later visitor sent
+    test false Finishes = sends Over visitor sent
+    test false Fails = sends Over visitor sent
+    test false Repeats = sent
+
+-- a change of a visitor
+on : (change : Visitor → Visitor) → ((visitor : Visitor) → HasSent visitor → HasSent (change visitor)) → (visitor : Option Visitor)
+    → IsKnown visitor → IsKnown (option_map change visitor)
+on change keeps (Some visitor) known = keeps visitor known
+on change keeps None known = tt
+
+if-id : (id : ℕ) (change : Visitor → Visitor) → ((visitor : Visitor) → HasSent visitor → HasSent (change visitor)) → (visitor : Visitor)
+    → HasSent visitor → HasSent (if_visitor id change visitor)
+if-id id change keeps visitor sent = test _
   where
-    chosen : (held : Bool) → IsKnown (if held then application else record application { askers = chosen_in application now }).visiting
-    chosen true = known
-    chosen false = known
-event-keeps application Takes known = takes application (has_next_line application) application.askers.asker known
-event-keeps application Welcomes known = known
-event-keeps application Ends known = known
-event-keeps application Holds known = known
-event-keeps application Releases known = known
+    test : (is : Bool) → HasSent (if is then change visitor else visitor)
+    test true = keeps visitor sent
+    test false = sent
 
-all-keep : (application : Application) (events : List Event) → IsKnown application.visiting → IsKnown (fold after_event application events).visiting
-all-keep application [] known = known
-all-keep application (event ∷ events) known = all-keep (after_event application event) events (event-keeps application event known)
+module _ (seats : Seats) (known : IsKnown seats.visitor) where
+  claims : (next : Bool) (visitor : Option Visitor) → IsKnown (if next then seats else seating visitor seats).visitor
+  claims true visitor = known
+  claims false (Some visitor) = tt
+  claims false None = known
 
-is-known : (visiting : Option Visiting) (one : Visiting) → visiting ≡ Some one → IsKnown visiting → HasSent one
-is-known visiting one is known = subst IsKnown is known
+  visits : (visit : Visit) → IsKnown (after_visit visit seats).visitor
+  visits Comes = claims (has_next seats) seats.visitor
+  visits Leaves = tt
+  visits Reads = known
+  visits Stays = known
+  visits Asks = known
+
+  connects : (id : ℕ) (remote : Bool) (now : ℕ) (free : Bool)
+      → IsKnown (if free then record seats { visitor = Some (visitor_at id remote now) } else seats).visitor
+  connects id remote now true = (id, remote, now, [], refl)
+  connects id remote now false = known
+
+  gives : (next : Option Next) → IsKnown (given next seats).visitor
+  gives (Some next) = known
+  gives None = known
+
+  fills : (held giving full : Bool)
+      → IsKnown (if held then seats else if giving then given seats.next seats else if full then seats else read_or_left seats).visitor
+  fills true giving full = known
+  fills false true full = gives seats.next
+  fills false false true = known
+  fills false false false = known
+
+  chooses : (now : ℕ) (held : Bool) → IsKnown (if held then seats else record seats { askers = chosen_in seats now }).visitor
+  chooses now true = known
+  chooses now false = known
+
+  takes : (line : Bool) (who : Asker) → IsKnown (if line then with_taken who seats else seats).visitor
+  takes false who = known
+  takes true asker.Application = known
+  takes true asker.Visitor = on (visitor_arrival Taken) (sends Taken) seats.visitor known
+
+  event-keeps : (event : Event) → IsKnown (after_event seats event).visitor
+  event-keeps Knocks = known
+  event-keeps (Connects id remote now) = connects id remote now (accepts seats)
+  event-keeps (Arrives id reading) =
+      on (if_visitor id (visitor_read reading)) (if-id id (visitor_read reading) (is-read reading)) seats.visitor known
+  event-keeps Readies = on (visitor_arrival Ready) (sends Ready) seats.visitor known
+  event-keeps (Sends id count) = known
+  event-keeps (Offers id) = known
+  event-keeps (Refuses id) = known
+  event-keeps (Attends now) = visits (visit_in seats now)
+  event-keeps Fills = fills seats.is_held (is_given seats.seat seats.next) (is_full_in seats)
+  event-keeps (Watches now) = known
+  event-keeps (Tells text true) = known
+  event-keeps (Tells text false) = known
+  event-keeps (Answers true) = known
+  event-keeps (Answers false) = tt
+  event-keeps (Chooses now) = chooses now seats.is_held
+  event-keeps Takes = takes (has_next_line seats) seats.askers.asker
+  event-keeps Welcomes = known
+  event-keeps Ends = known
+  event-keeps Holds = known
+  event-keeps Releases = known
+
+all-keep : (seats : Seats) (events : List Event) → IsKnown seats.visitor → IsKnown (fold after_event seats events).visitor
+all-keep seats [] known = known
+all-keep seats (event ∷ events) known = all-keep (after_event seats event) events (event-keeps seats known event)
+
+is-known : (visitor : Option Visitor) (one : Visitor) → visitor ≡ Some one → IsKnown visitor → HasSent one
+is-known visitor one is known = subst IsKnown is known
+
+-- the action of a visitor that is there
+visit-of : (seats : Seats) (now : ℕ) (one : Visitor) → seats.visitor ≡ Some one → visit_in seats now ≡ Comes
+    → visit_of one now (is_free seats) ≡ Comes
+visit-of seats now one is comes =
+    at seats.is_held
+    (sym (ap (λ (visitor : Option Visitor). if seats.is_held then Stays else option_map_or (λ visitor. visit_of visitor now (is_free seats)) visitor Stays) is)
+    ∙ comes)
+  where
+    at : (held : Bool) → (if held then Stays else visit_of one now (is_free seats)) ≡ Comes → visit_of one now (is_free seats) ≡ Comes
+    at true is = cc is
+    at false is = is
 
 pub comes_rightly : ComesRightly
 comes_rightly events now is =
-    let application : Application = application_after events in
-    let found = comes_as application now Repeats is in
-    let one : Visiting = found.2.0 in
-    let sent : HasSent one = is-known application.visiting one found.2.1 (all-keep nobody events tt) in (
-      one,
+    let seats : Seats = seats_after events in
+    let found = comes_as seats now is in
+    let one : Visitor = found.2.0 in
+    let sent : HasSent one = is-known seats.visitor one found.2.1 (all-keep nobody events tt) in (
       sent.0,
       sent.1,
-      found.2.1,
       sent.2,
-      claims_rightly sent.0 sent.1 now (is_free application.place)
-          (ap (λ (visitor : Visitor). visit_of visitor now (is_free application.place)) (sym sent.2) ∙ found.2.2),
+      sent.3,
+      found.2.1 ∙ ap (λ (visitor : Visitor). Some visitor) sent.4,
+      claims_rightly sent.0 sent.1 sent.2 sent.3 now (is_free seats)
+          (ap (λ (visitor : Visitor). visit_of visitor now (is_free seats)) (sym sent.4)
+          ∙ visit-of seats now one found.2.1 found.0),
     )

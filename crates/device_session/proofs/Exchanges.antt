@@ -12,7 +12,7 @@ use Rattle.device_session.specs.declared.asking.Unanswered.{Unanswered}
 use Rattle.device_session.specs.declared.asking.Unanswered.TheVariants.{Nothing, Line, TooLong, Later}
 use Rattle.device_session.specs.Asking.{AnswersEachLine, Asking, ContinuesLines, EndsWithClosing, Exchange, Step, all_joined, are_few, at_start, called_with, closing_now, count_of, exchange_after, is_unanswered, is_waiting, joined, may_begin, may_continue, stays_open, taken_if, takes_line, with_line_taken, with_step, without_answers, without_closing}
 use Rattle.device_session.specs.Asking.Step.{Begins, Continues, Called, Delays, Answers, Replies}
-use Rattle.device_session.specs.Holder.{is_found}
+use Rattle.device_session.specs.Incoming.{is_found}
 
 -- the last line closes its connection after its answer, which waits or is still to come
 pub record Holds (lines answered : ℕ) (waits : Bool) (answers : Option (Option Octets)) (texts : List (Option Octets)) (closing last : Closing) : Type 0 where

@@ -1,7 +1,6 @@
 pub mod Claiming
 pub mod Due
 pub mod Feeds
-pub mod Knocks
 pub mod Bounded
 pub mod Lasting
 pub mod Lines

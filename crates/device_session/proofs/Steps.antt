@@ -5,8 +5,7 @@ use Rattle.octet_io.specs.Number.{Octets}
 use Rattle.gatt_laws.specs.machine.Calls.{Call}
 use Rattle.app_lines.specs.declared.names.Named.{Named}
 use Rattle.host_api.specs.declared.app.AppFault.{AppFault}
-use Rattle.device_session.specs.Application.{line_from, next_line_in}
-use Rattle.device_session.specs.ApplicationValue.{Application}
+use Rattle.device_session.specs.Seats.{Seats, line_from, next_line_in}
 use Rattle.device_session.specs.Asking.{Answers, Asking, Begins, Called, Continues, Delays, Exchange, Replies, Step, after_call, after_delay, after_step, asked_if, asked_next, at_start, call_by, may_begin, may_continue, nothing_asked, refused_by, replied, with_step, IsAnswerKept, IsReached}
 
 by_step : (before after : Asking) (step : Step) → IsReached before → after ≡ after_step before step → IsReached after
@@ -30,38 +29,38 @@ refused : (before after : Asking) (call : Result (Option Call) AppFault) → IsR
 refused before after (Ok call) known now = unchanged before after known now
 refused before after (Err fault) known now = by_step before after (Called (Err fault)) known now
 
-module _ (before after : Asking) (application : Application) (named : List Named) (time room : ℕ) (known : IsReached before) where
+module _ (before after : Asking) (seats : Seats) (named : List Named) (time room : ℕ) (known : IsReached before) where
   abbrev next : Asking
-  next = asked_next application before
+  next = asked_next seats before
 
   abbrev call : Result (Option Call) AppFault
   call = call_by next named time room
 
-  begun : (may : Bool) → may_begin before ≡ may → after ≡ asked_if may application before named time room → IsReached after
+  begun : (may : Bool) → may_begin before ≡ may → after ≡ asked_if may seats before named time room → IsReached after
   begun true is now =
       refused next after call
-      (by_step before next (Begins (next_line_in application) (line_from application before.line)) known
+      (by_step before next (Begins (next_line_in seats) (line_from seats before.line)) known
       (ap (λ (may : Bool). if may then next else before) (sym is)))
       now
   begun false is now = unchanged before after known now
 
-  continued : (may : Bool) → may_continue before ≡ may → after ≡ asked_if may application before named time room → IsReached after
+  continued : (may : Bool) → may_continue before ≡ may → after ≡ asked_if may seats before named time room → IsReached after
   continued true is now =
       refused next after call
-      (by_step before next (Continues (next_line_in application) (line_from application before.line)) known
+      (by_step before next (Continues (next_line_in seats) (line_from seats before.line)) known
       (ap (λ (may : Bool). if may then next else before) (sym is)))
       now
   continued false is now = unchanged before after known now
 
-pub by_beginning : (before after : Asking) (application : Application) (named : List Named) (time room : ℕ) → IsReached before
-    → after ≡ asked_if (may_begin before) application before named time room → IsReached after
-by_beginning before after application named time room known now =
-    begun before after application named time room known (may_begin before) refl now
+pub by_beginning : (before after : Asking) (seats : Seats) (named : List Named) (time room : ℕ) → IsReached before
+    → after ≡ asked_if (may_begin before) seats before named time room → IsReached after
+by_beginning before after seats named time room known now =
+    begun before after seats named time room known (may_begin before) refl now
 
-pub by_continuing : (before after : Asking) (application : Application) (named : List Named) (time room : ℕ) → IsReached before
-    → after ≡ asked_if (may_continue before) application before named time room → IsReached after
-by_continuing before after application named time room known now =
-    continued before after application named time room known (may_continue before) refl now
+pub by_continuing : (before after : Asking) (seats : Seats) (named : List Named) (time room : ℕ) → IsReached before
+    → after ≡ asked_if (may_continue before) seats before named time room → IsReached after
+by_continuing before after seats named time room known now =
+    continued before after seats named time room known (may_continue before) refl now
 
 pub by_call : (before after : Asking) (answer : Result (Unit {0}) AppFault) → IsReached before → after ≡ after_call answer before → IsReached after
 by_call before after answer known now = by_step before after (Called answer) known now

@@ -1,142 +1,129 @@
--- Who gets the place.
+-- Who gets the seat.
 use Rattle.std.proofs.Common.{◌≡◌, inl, inr, ℕ, ◌-◌, Bool, true, false, [], ◌∷◌, Option, Some, None, refl, sym, ap, subst, ◌∙◌, arith}
-use Rattle.std.specs.Prelude.{◌&&◌, if◌then◌else◌, not}
-use Rattle.std.specs.Option.{option_map_or}
-use Rattle.octet_io.specs.Number.{Octets}
+use Rattle.std.specs.Prelude.{◌&&◌, if◌then◌else◌, is_some, not}
 use Rattle.device_session.specs.declared.askers.Asker.{Asker}
 use Rattle.device_session.specs.declared.askers.Asker.TheVariants as asker
-use Rattle.device_session.specs.declared.place.Place.{Place}
-use Rattle.device_session.specs.declared.place.Place.TheVariants.{Free, Taken, Given, Promised}
+use Rattle.device_session.specs.declared.holder.Holder.{Holder}
+use Rattle.device_session.specs.declared.seat.Next.{Next}
+use Rattle.device_session.specs.declared.seat.Seat.{Seat}
+use Rattle.device_session.specs.declared.seat.Seat.TheVariants.{Free, Taken}
 use Rattle.device_session.specs.declared.visitor.Visit.{Visit}
 use Rattle.device_session.specs.declared.visitor.Visit.TheVariants.{Stays, Reads, Asks, Comes, Leaves}
-use Rattle.device_session.specs.Application.{after_attending, chosen_in, after_visit, comes, has_next_line, is_coming, seating, visited, watched_by, with_taken, written_if_full}
-use Rattle.device_session.specs.ApplicationValue.{Application}
-use Rattle.device_session.specs.Holder.{has_line, may_read}
+use Rattle.device_session.specs.declared.visitor.Visitor.{Visitor}
+use Rattle.device_session.specs.Holder.{deafened, has_line, if_holder, is_gone, after_holder_read, offered, queued, read, sent, watched_at, welcomed, with_arrival}
+use Rattle.device_session.specs.Incoming.{Reading, arrivals_of}
 use Rattle.device_session.specs.Incoming.Arrival.{Ready, Taken as Took}
-use Rattle.device_session.specs.Laws.{ComesAlone, GoesOn, IsSame, ServesInTurn}
-use Rattle.device_session.specs.Laws.Event.{Knocks, Attends, Fills, Watches, Flushes, Readies, Tells, Answers, Chooses, Asks as Takes, Welcomes, Ends, Holds, Releases}
-use Rattle.device_session.specs.Place.{ended, filled_in, given, has_next, is_free, is_full_in, is_giving, is_gone, is_slow_in, left_by, on_holding, watched_in, with_next}
-use Rattle.device_session.specs.Seats.{Holding, Reading, Visiting, Writing, arrivals_of, holder_read, read, queued, watched_at, welcomed, with_arrival, written}
-use Rattle.device_session.specs.Seats.Writing.{Nothing, Accepts, Refuses}
-use Rattle.device_session.specs.Visitor.{visit_of}
+use Rattle.device_session.specs.Laws.{ComesAlone, GoesOn, IsSame, ServesInTurn, StaysOrLeaves, WaitsOn}
+use Rattle.device_session.specs.Laws.Event.{Knocks, Comes as Connects, Arrives, Readies, Sends, Offers, Refuses, Attends, Fills, Watches, Tells, Answers, Chooses, Asks as Takes, Welcomes, Ends, Holds, Releases}
+use Rattle.device_session.specs.Seats.{Seats, accepts, after_attending, after_claim, after_end, after_visit, chosen_in, comes, counted_down, ended, given, has_next, has_next_line, is_coming, is_full_in, is_given, is_slow_in, left_by, left_seat, may_come, on_holder, read_or_left, seated, seating, visit_in, with_seat, with_taken}
+use Rattle.device_session.specs.Visitor.{visitor_at}
 
--- the application stays
-pub stays : (place : Place) → GoesOn place place
-stays (Free all_read) = refl
-stays (Taken holding) = inl (holding, refl, ([], refl, refl))
-stays (Given holding next last_reads) = inl (holding, last_reads, refl, omega arith, omega arith, ([], refl, refl))
-stays (Promised next) = inl refl
+same-holder : (holder : Holder) → IsSame holder holder
+same-holder holder = record { id = refl; slow = refl; arrivals = []; sends_more = refl }
 
-changes : (change : Holding → Holding) → ((holding : Holding) → IsSame holding (change holding)) → (place : Place)
-    → GoesOn place (on_holding change place)
-changes change same (Free all_read) = refl
-changes change same (Taken holding) = inl (change holding, refl, same holding)
-changes change same (Given holding next last_reads) = inl (change holding, last_reads, refl, omega arith, omega arith, same holding)
-changes change same (Promised next) = inl refl
+seat-stays : (seat : Seat) → StaysOrLeaves seat seat
+seat-stays (Free all_read) = refl
+seat-stays (Taken holder) = inl (holder, refl, same-holder holder)
 
-writes : (writing : Writing) (holding : Holding) → IsSame holding (written writing holding)
-writes Nothing holding = ([], refl, refl)
-writes (Accepts count) holding = ([], refl, refl)
-writes Refuses holding = (Ready ∷ [], refl, refl)
+next-stays : (next : Option Next) → WaitsOn next next
+next-stays None = refl
+next-stays (Some next) = (next.last_reads, refl, omega arith, omega arith)
 
-readies : (writing : Writing) (holding : Holding) → IsSame holding (written writing (with_arrival Ready holding))
-readies Nothing holding = (Ready ∷ [], refl, refl)
-readies (Accepts count) holding = (Ready ∷ [], refl, refl)
-readies Refuses holding = (Ready ∷ Ready ∷ [], refl, refl)
+-- the application stays, and so does the next one
+stays : (seats : Seats) → GoesOn seats seats
+stays seats = inl (record { seat = seat-stays seats.seat; next = next-stays seats.next })
 
-reads : (reading : Reading) (holding : Holding) (line : Bool)
-    → IsSame holding (record holding { holder = if line then holding.holder else holder_read reading holding.holder })
-reads reading holding true = ([], refl, refl)
-reads reading holding false = (arrivals_of reading, refl, refl)
+-- it changes at most
+abbrev Keeps : (Holder → Holder) → Type 0
+Keeps change = (holder : Holder) → IsSame holder (change holder)
 
-ready-writes : (writing : Writing) (place : Place) → GoesOn place (on_holding (written writing) (on_holding (with_arrival Ready) place))
-ready-writes writing (Free all_read) = refl
-ready-writes writing (Taken holding) = inl (written writing (with_arrival Ready holding), refl, readies writing holding)
-ready-writes writing (Given holding next last_reads) =
-    inl (written writing (with_arrival Ready holding), last_reads, refl, omega arith, omega arith, readies writing holding)
-ready-writes writing (Promised next) = inl refl
+on : (change : Holder → Holder) → Keeps change → (seat : Seat) → StaysOrLeaves seat (on_holder change seat)
+on change keeps (Free all_read) = refl
+on change keeps (Taken holder) = inl (change holder, refl, keeps holder)
 
-ends : (place : Place) → GoesOn place (ended place)
-ends (Free all_read) = refl
-ends (Taken holding) = inr (false, refl)
-ends (Given holding next last_reads) = inr (inl refl)
-ends (Promised next) = inl refl
+changes : (change : Holder → Holder) → Keeps change → (seats after : Seats) → after.seat ≡ on_holder change seats.seat
+    → after.next ≡ seats.next → GoesOn seats after
+changes change keeps seats after seat next = inl (record {
+  seat = subst (StaysOrLeaves seats.seat) (sym seat) (on change keeps seats.seat);
+  next = subst (WaitsOn seats.next) (sym next) (next-stays seats.next);
+})
 
-gives : (place : Place) → is_giving place ≡ true → GoesOn place (given place)
-gives (Free all_read) is = refl
-gives (Taken holding) is = stays (Taken holding)
-gives (Given holding next last_reads) is = inr (inr (is, refl))
-gives (Promised next) is = inr refl
-
-fills : (reading : Reading) (place : Place) → GoesOn place (filled_in reading place)
-fills reading (Free all_read) = refl
-fills reading (Taken holding) = taken (is_gone (Taken holding)) (may_read holding.holder)
+if-id : (id : ℕ) (change : Holder → Holder) → Keeps change → Keeps (if_holder id change)
+if-id id change keeps holder = test _
   where
-    taken : (gone readable : Bool)
-        → GoesOn (Taken holding) (if gone then left_by holding else if readable then Taken (read reading holding) else Taken holding)
-    taken true readable = inr (_, refl)
-    taken false true = inl (read reading holding, refl, reads reading holding (has_line holding.holder))
-    taken false false = stays (Taken holding)
-fills reading (Given holding next last_reads) = replaced (has_line holding.holder)
-  where
-    replaced : (line : Bool)
-        → GoesOn (Given holding next last_reads)
-        (if line then Given holding next last_reads else Given (read reading holding) next (last_reads - 1))
-    replaced true = stays (Given holding next last_reads)
-    replaced false =
-        inl (read reading holding, last_reads - 1, refl, omega arith, omega arith, reads reading holding (has_line holding.holder))
-fills reading (Promised next) = inl refl
+    test : (is : Bool) → IsSame holder (if is then change holder else holder)
+    test true = keeps holder
+    test false = same-holder holder
 
-watches : (now : ℕ) (writing : Writing) (place : Place) → GoesOn place (watched_by now (written_if_full place writing))
-watches now writing (Free all_read) = refl
-watches now writing (Taken holding) = full (is_full_in (Taken holding))
-  where
-    slow : (after : Holding) → IsSame holding after → (slow : Bool)
-        → GoesOn (Taken holding) (if slow then ended (Taken after) else watched_in now (Taken after))
-    slow after same true = inr (false, refl)
-    slow after same false = inl (watched_at now after, refl, same)
+deafens : Keeps deafened
+deafens holder = record { id = refl; slow = refl; arrivals = Ready ∷ []; sends_more = refl }
 
-    full : (full : Bool) → GoesOn (Taken holding) (watched_by now (if full then on_holding (written writing) (Taken holding) else Taken holding))
-    full true = slow (written writing holding) (writes writing holding) (is_slow_in (Taken (written writing holding)) now)
-    full false = slow holding ([], refl, refl) (is_slow_in (Taken holding) now)
-watches now writing (Given holding next last_reads) = full (is_full_in (Given holding next last_reads))
+reads : (reading : Reading) → Keeps (read reading)
+reads reading holder = test (has_line holder)
   where
-    slow : (after : Holding) → IsSame holding after → (slow : Bool)
-        → GoesOn (Given holding next last_reads)
-        (if slow then ended (Given after next last_reads) else watched_in now (Given after next last_reads))
-    slow after same true = inr (inl refl)
-    slow after same false = inl (watched_at now after, last_reads, refl, omega arith, omega arith, same)
+    test : (line : Bool) → IsSame holder (if line then holder else after_holder_read reading holder)
+    test true = same-holder holder
+    test false = record { id = refl; slow = refl; arrivals = arrivals_of reading; sends_more = refl }
 
-    full : (full : Bool)
-        → GoesOn (Given holding next last_reads)
-        (watched_by now (if full then on_holding (written writing) (Given holding next last_reads) else Given holding next last_reads))
-    full true =
-        slow (written writing holding) (writes writing holding) (is_slow_in (Given (written writing holding) next last_reads) now)
-    full false = slow holding ([], refl, refl) (is_slow_in (Given holding next last_reads) now)
-watches now writing (Promised next) = inl refl
+leaves : (seat : Seat) → StaysOrLeaves seat (ended seat)
+leaves (Free all_read) = refl
+leaves (Taken holder) = inr (false, refl)
+
+ends : (seats : Seats) → GoesOn seats (after_end seats)
+ends seats = inl (record { seat = leaves seats.seat; next = next-stays seats.next })
+
+gives : (seats : Seats) (next : Option Next) → seats.next ≡ next → is_given seats.seat next ≡ true → GoesOn seats (given next seats)
+gives seats None waits is = stays seats
+gives seats (Some next) waits is = inr (record {
+  one = next;
+  waits = waits;
+  over = ap (is_given seats.seat) waits ∙ is;
+  seat = refl;
+  next = refl;
+})
+
+fills : (seats : Seats) → GoesOn seats (read_or_left seats)
+fills seats = inl (record { seat = left seats.seat seats.next; next = counted seats.seat seats.next })
+  where
+    left : (seat : Seat) (next : Option Next) → StaysOrLeaves seat (left_seat seat next)
+    left (Free all_read) next = refl
+    left (Taken holder) (Some next) = seat-stays (Taken holder)
+    left (Taken holder) None = gone (is_gone holder)
+      where
+        gone : (is : Bool) → StaysOrLeaves (Taken holder) (if is then left_by holder else Taken holder)
+        gone true = inr (_, refl)
+        gone false = seat-stays (Taken holder)
+
+    counted : (seat : Seat) (next : Option Next) → WaitsOn next (counted_down seat next)
+    counted (Free all_read) next = next-stays next
+    counted (Taken holder) None = refl
+    counted (Taken holder) (Some next) = line (has_line holder)
+      where
+        line : (is : Bool) → WaitsOn (Some next) (if is then Some next else Some (record next { last_reads = next.last_reads - 1 }))
+        line true = next-stays (Some next)
+        line false = (next.last_reads - 1, refl, omega arith, omega arith)
 
 -- a visit
-module _ (application : Application) (now : ℕ) (reading : Reading) where
-  visit-stays : (visiting : Visiting) (visit : Visit) (next : Bool) → has_next application.place ≡ next → not next && is_coming visit ≡ false
-      → (after_visit visit visiting reading application).place ≡ application.place
-  visit-stays visiting Comes true is off = ap (λ next. (if next then application else seating application.visiting application).place) is
-  visit-stays visiting Comes false is off = cc off
-  visit-stays visiting Stays next is off = refl
-  visit-stays visiting Reads next is off = refl
-  visit-stays visiting Asks next is off = refl
-  visit-stays visiting Leaves next is off = refl
+module _ (seats : Seats) (now : ℕ) where
+  claims : (coming : Bool) → coming && may_come seats ≡ false → coming ≡ true → after_claim seats ≡ seats
+  claims coming off is = by (has_next seats) seats.visitor refl refl (sym (ap (λ (coming : Bool). coming && may_come seats) is) ∙ off)
+    where
+      by : (next : Bool) (visitor : Option Visitor) → has_next seats ≡ next → seats.visitor ≡ visitor
+          → not (has_next seats) && is_some seats.visitor ≡ false → after_claim seats ≡ seats
+      by true visitor is-next is-visitor off = ap (λ (next : Bool). if next then seats else seating seats.visitor seats) is-next
+      by false None is-next is-visitor off =
+          ap (λ (next : Bool). if next then seats else seating seats.visitor seats) is-next
+          ∙ ap (λ (visitor : Option Visitor). seating visitor seats) is-visitor
+      by false (Some visitor) is-next is-visitor off =
+          cc (sym (ap (λ (next : Bool). not next && is_some seats.visitor) is-next
+          ∙ ap (λ (visitor : Option Visitor). is_some visitor) is-visitor) ∙ off)
 
-  nobody-comes : (held : Bool) (visiting : Option Visiting) (next : Bool) → has_next application.place ≡ next
-      → not held && not next
-      && option_map_or (λ (visiting : Visiting). is_coming (visit_of visiting.visitor now (is_free application.place))) visiting false ≡ false
-      → (if held then application else visited visiting now reading application).place ≡ application.place
-  nobody-comes true visiting next is off = refl
-  nobody-comes false None next is off = refl
-  nobody-comes false (Some visiting) next is off =
-      visit-stays visiting (visit_of visiting.visitor now (is_free application.place)) next is off
-
-  pub displaces_nobody : comes application now ≡ false → (after_attending application now reading).place ≡ application.place
-  displaces_nobody off = nobody-comes application.is_held application.visiting (has_next application.place) refl off
+  visits : (visit : Visit) → is_coming visit && may_come seats ≡ false → GoesOn seats (after_visit visit seats)
+  visits Comes off = subst (GoesOn seats) (sym (claims true off refl)) (stays seats)
+  visits Leaves off = inl (record { seat = seat-stays seats.seat; next = next-stays seats.next })
+  visits Stays off = stays seats
+  visits Reads off = stays seats
+  visits Asks off = stays seats
 
   -- one that comes
   comes-only : (visit : Visit) → is_coming visit ≡ true → visit ≡ Comes
@@ -146,108 +133,121 @@ module _ (application : Application) (now : ℕ) (reading : Reading) where
   comes-only Asks is = cc is
   comes-only Leaves is = cc is
 
-  comes-of : (held next : Bool) (visiting : Option Visiting)
-      → not held && not next
-      && option_map_or (λ (visiting : Visiting). is_coming (visit_of visiting.visitor now (is_free application.place))) visiting false ≡ true
-      → (held ≡ false) × (next ≡ false)
-      × ((one : Visiting) × (visiting ≡ Some one) × (visit_of one.visitor now (is_free application.place) ≡ Comes))
-  comes-of true next visiting is = cc is
-  comes-of false true visiting is = cc is
-  comes-of false false None is = cc is
-  comes-of false false (Some visiting) is =
-      (refl, refl, (visiting, refl, comes-only (visit_of visiting.visitor now (is_free application.place)) is))
+  both : (one two : Bool) → one && two ≡ true → (one ≡ true) × (two ≡ true)
+  both true true is = (refl, refl)
+  both true false is = cc is
+  both false two is = cc is
 
-  pub comes_as : comes application now ≡ true
-      → (application.is_held ≡ false) × (has_next application.place ≡ false)
-      × ((one : Visiting) × (application.visiting ≡ Some one) × (visit_of one.visitor now (is_free application.place) ≡ Comes))
-  comes_as is = comes-of application.is_held (has_next application.place) application.visiting is
+  not-true : (next : Bool) → not next ≡ true → next ≡ false
+  not-true false is = refl
+  not-true true is = cc is
 
-  pub comes_to : comes application now ≡ true
-      → (visiting : Visiting) × (application.visiting ≡ Some visiting) × (has_next application.place ≡ false)
-      × (visit_of visiting.visitor now (is_free application.place) ≡ Comes)
-      × (after_attending application now reading ≡ record application { place = with_next application.place visiting; visiting = None })
+  some : (visitor : Option Visitor) → is_some visitor ≡ true → (one : Visitor) × (visitor ≡ Some one)
+  some (Some one) is = (one, refl)
+  some None is = cc is
+
+  pub comes_as : comes seats now ≡ true
+      → (visit_in seats now ≡ Comes) × (has_next seats ≡ false) × ((one : Visitor) × (seats.visitor ≡ Some one))
+  comes_as is =
+      let tests = both (is_coming (visit_in seats now)) (may_come seats) is in
+      let may = both (not (has_next seats)) (is_some seats.visitor) tests.1 in
+      (comes-only (visit_in seats now) tests.0, not-true (has_next seats) may.0, some seats.visitor may.1)
+
+  pub comes_to : comes seats now ≡ true
+      → (one : Visitor) × (seats.visitor ≡ Some one) × (has_next seats ≡ false) × (visit_in seats now ≡ Comes)
+      × (after_attending now seats ≡ seated one seats)
   comes_to is =
-      let found = comes_as is in
-      let one : Visiting = found.2.0 in (
-        one,
+      let found = comes_as is in (
+        found.2.0,
         found.2.1,
         found.1,
-        found.2.2,
-        ap (λ held. if held then application else visited application.visiting now reading application) found.0
-            ∙ ap (λ visiting. visited visiting now reading application) found.2.1
-            ∙ ap (λ visit. after_visit visit one reading application) found.2.2
-            ∙ ap (λ next. if next then application else seating application.visiting application) found.1
-            ∙ ap (λ visiting. seating visiting application) found.2.1,
+        found.0,
+        ap (λ (visit : Visit). after_visit visit seats) found.0
+            ∙ ap (λ (next : Bool). if next then seats else seating seats.visitor seats) found.1
+            ∙ ap (λ (visitor : Option Visitor). seating visitor seats) found.2.1,
       )
 
-chosen : (application : Application) (held : Bool) (askers : _)
-    → (if held then application else record application { askers = askers }).place ≡ application.place
-chosen application true askers = refl
-chosen application false askers = refl
+chosen : (seats : Seats) (held : Bool) (askers : _) → GoesOn seats (if held then seats else record seats { askers = askers })
+chosen seats true askers = stays seats
+chosen seats false askers = inl (record { seat = seat-stays seats.seat; next = next-stays seats.next })
 
-takes : (application : Application) (line : Bool) (who : Asker)
-    → GoesOn application.place (if line then with_taken who application else application).place
-takes application false who = stays application.place
-takes application true asker.Application = changes (with_arrival Took) (λ holding. (Took ∷ [], refl, refl)) application.place
-takes application true asker.Visitor = stays application.place
+takes : (seats : Seats) (line : Bool) (who : Asker) → GoesOn seats (if line then with_taken who seats else seats)
+takes seats false who = stays seats
+takes seats true asker.Application =
+    changes (with_arrival Took) (λ holder. record { id = refl; slow = refl; arrivals = Took ∷ []; sends_more = refl }) seats _ refl refl
+takes seats true asker.Visitor = inl (record { seat = seat-stays seats.seat; next = next-stays seats.next })
 
-tells : (place : Place) (text : Octets) (fits : Bool) → GoesOn place (if fits then on_holding (queued text) place else ended place)
-tells place text true = changes (queued text) (λ holding. ([], refl, refl)) place
-tells place text false = ends place
+comes-in : (seats : Seats) (visitor : Visitor) (free : Bool) → GoesOn seats (if free then record seats { visitor = Some visitor } else seats)
+comes-in seats visitor true = inl (record { seat = seat-stays seats.seat; next = next-stays seats.next })
+comes-in seats visitor false = stays seats
+
+keeps-output : (change : Holder → Holder) → ((holder : Holder) → (change holder).incoming ≡ holder.incoming)
+    → ((holder : Holder) → (change holder).id ≡ holder.id) → ((holder : Holder) → (change holder).slow ≡ holder.slow) → Keeps change
+keeps-output change incoming id slow holder = record { id = id holder; slow = slow holder; arrivals = []; sends_more = incoming holder }
+
+watches : (now : ℕ) (seats : Seats) (slow : Bool)
+    → GoesOn seats (with_seat (if slow then ended seats.seat else on_holder (watched_at now) seats.seat) seats)
+watches now seats true = ends seats
+watches now seats false = changes (watched_at now) (keeps-output (watched_at now) (λ holder. refl) (λ holder. refl) (λ holder. refl)) seats _ refl refl
+
+fill : (seats : Seats) (held giving full : Bool) → is_given seats.seat seats.next ≡ giving
+    → GoesOn seats (if held then seats else if giving then given seats.next seats else if full then seats else read_or_left seats)
+fill seats true giving full is = stays seats
+fill seats false true full is = gives seats seats.next refl is
+fill seats false false true is = stays seats
+fill seats false false false is = fills seats
 
 pub serves_in_turn : ServesInTurn
-serves_in_turn application (Knocks now came) off = stays application.place
-serves_in_turn application (Attends now reading) off =
-    subst (λ (after : Place). GoesOn application.place after) (sym (displaces_nobody application now reading off)) (stays application.place)
-serves_in_turn application (Fills reading) off =
-    filled application.is_held (is_giving application.place) (is_full_in application.place) refl
-  where
-    filled : (held giving full : Bool) → is_giving application.place ≡ giving
-        → GoesOn application.place
-        (if held then application
-        else if giving then record application { place = given application.place }
-        else if full then application
-        else record application { place = filled_in reading application.place }).place
-    filled true giving full is = stays application.place
-    filled false true full is = gives application.place is
-    filled false false true is = stays application.place
-    filled false false false is = fills reading application.place
-serves_in_turn application (Watches now writing) off = watches now writing application.place
-serves_in_turn application (Flushes writing) off = changes (written writing) (writes writing) application.place
-serves_in_turn application (Readies writing) off = ready-writes writing application.place
-serves_in_turn application (Tells text true) off = tells application.place text true
-serves_in_turn application (Tells text false) off = tells application.place text false
-serves_in_turn application (Answers accepted) off = stays application.place
-serves_in_turn application (Chooses now) off =
-    subst (λ (after : Place). GoesOn application.place after)
-    (sym (chosen application application.is_held (chosen_in application now))) (stays application.place)
-serves_in_turn application Takes off = takes application (has_next_line application) application.askers.asker
-serves_in_turn application Welcomes off = changes welcomed (λ holding. ([], refl, refl)) application.place
-serves_in_turn application Ends off = ends application.place
-serves_in_turn application Holds off = stays application.place
-serves_in_turn application Releases off = stays application.place
+serves_in_turn seats Knocks off = inl (record { seat = seat-stays seats.seat; next = next-stays seats.next })
+serves_in_turn seats (Connects id remote now) off = comes-in seats (visitor_at id remote now) (accepts seats)
+serves_in_turn seats (Arrives id reading) off = changes (if_holder id (read reading)) (if-id id (read reading) (reads reading)) seats _ refl refl
+serves_in_turn seats Readies off =
+    changes (with_arrival Ready) (λ holder. record { id = refl; slow = refl; arrivals = Ready ∷ []; sends_more = refl }) seats _ refl refl
+serves_in_turn seats (Sends id count) off =
+    changes (if_holder id (sent count)) (if-id id (sent count) (keeps-output (sent count) (λ holder. refl) (λ holder. refl) (λ holder. refl)))
+    seats _ refl refl
+serves_in_turn seats (Offers id) off =
+    changes (if_holder id offered) (if-id id offered (keeps-output offered (λ holder. refl) (λ holder. refl) (λ holder. refl))) seats _ refl refl
+serves_in_turn seats (Refuses id) off = changes (if_holder id deafened) (if-id id deafened deafens) seats _ refl refl
+serves_in_turn seats (Attends now) off = visits seats now (visit_in seats now) off
+serves_in_turn seats Fills off = fill seats seats.is_held (is_given seats.seat seats.next) (is_full_in seats) refl
+serves_in_turn seats (Watches now) off = watches now seats (is_slow_in seats now)
+serves_in_turn seats (Tells text true) off =
+    changes (queued text) (keeps-output (queued text) (λ holder. refl) (λ holder. refl) (λ holder. refl)) seats _ refl refl
+serves_in_turn seats (Tells text false) off = ends seats
+serves_in_turn seats (Answers accepted) off = inl (record { seat = seat-stays seats.seat; next = next-stays seats.next })
+serves_in_turn seats (Chooses now) off = chosen seats seats.is_held (chosen_in seats now)
+serves_in_turn seats Takes off = takes seats (has_next_line seats) seats.askers.asker
+serves_in_turn seats Welcomes off = changes welcomed (keeps-output welcomed (λ holder. refl) (λ holder. refl) (λ holder. refl)) seats _ refl refl
+serves_in_turn seats Ends off = ends seats
+serves_in_turn seats Holds off = inl (record { seat = seat-stays seats.seat; next = next-stays seats.next })
+serves_in_turn seats Releases off = inl (record { seat = seat-stays seats.seat; next = next-stays seats.next })
 
 pub comes_alone : ComesAlone
-comes_alone application (Attends now reading) is =
-    let to = comes_to application now reading is in (
+comes_alone seats (Attends now) is =
+    let to = comes_to seats now is in (
       to.0,
       record {
         visits = to.1;
         waits_alone = to.2;
-        place = ap (λ (after : Application). after.place) to.4;
-        leaves = ap (λ (after : Application). after.visiting) to.4;
+        seat = to.4;
+        leaves = ap (λ (after : Seats). after.visitor) to.4;
       },
     )
-comes_alone application (Knocks now came) is = cc is
-comes_alone application (Fills reading) is = cc is
-comes_alone application (Watches now writing) is = cc is
-comes_alone application (Flushes writing) is = cc is
-comes_alone application (Readies writing) is = cc is
-comes_alone application (Tells text fits) is = cc is
-comes_alone application (Answers accepted) is = cc is
-comes_alone application (Chooses now) is = cc is
-comes_alone application Takes is = cc is
-comes_alone application Welcomes is = cc is
-comes_alone application Ends is = cc is
-comes_alone application Holds is = cc is
-comes_alone application Releases is = cc is
+comes_alone seats Knocks is = cc is
+comes_alone seats (Connects id remote now) is = cc is
+comes_alone seats (Arrives id reading) is = cc is
+comes_alone seats Readies is = cc is
+comes_alone seats (Sends id count) is = cc is
+comes_alone seats (Offers id) is = cc is
+comes_alone seats (Refuses id) is = cc is
+comes_alone seats Fills is = cc is
+comes_alone seats (Watches now) is = cc is
+comes_alone seats (Tells text fits) is = cc is
+comes_alone seats (Answers accepted) is = cc is
+comes_alone seats (Chooses now) is = cc is
+comes_alone seats Takes is = cc is
+comes_alone seats Welcomes is = cc is
+comes_alone seats Ends is = cc is
+comes_alone seats Holds is = cc is
+comes_alone seats Releases is = cc is

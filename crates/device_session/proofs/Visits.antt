@@ -63,7 +63,7 @@ comes-late Quiet true false is = cc is
 comes-late Quiet false true is = cc is
 comes-late Quiet false false is = cc is
 
-module _ (born : ℕ) (arrivals : List Arrival) (now : ℕ) where
+module _ (id : ℕ) (remote : Bool) (born : ℕ) (arrivals : List Arrival) (now : ℕ) where
   abbrev inbox : Octets
   inbox = (received arrivals).incoming.inbox
 
@@ -82,7 +82,7 @@ module _ (born : ℕ) (arrivals : List Arrival) (now : ℕ) where
   by-line Wrong free found kind is = cc is
 
   comes : (found : Found) (free : Bool) → found_in (received arrivals).incoming.inbox ≡ found
-      → by_found found (visitor_after born arrivals) now free ≡ Comes → Rightly free
+      → by_found found (visitor_after id remote born arrivals) now free ≡ Comes → Rightly free
   comes Line free found is = by-line (kind_of_line (line_in (received arrivals).incoming.inbox)) free found refl is
   comes TooLong free found is = cc is
   comes Nothing free found is =
@@ -93,7 +93,7 @@ module _ (born : ℕ) (arrivals : List Arrival) (now : ℕ) where
       ))
 
 pub claims_rightly : ClaimsRightly
-claims_rightly born arrivals now free is = comes born arrivals now (found_in (received arrivals).incoming.inbox) free refl is
+claims_rightly id remote born arrivals now free is = comes id remote born arrivals now (found_in (received arrivals).incoming.inbox) free refl is
 
 -- in time
 late-ends : (input : Input) (nothing : Bool) → (by_input input nothing true ≢ Stays) × (by_input input nothing true ≡ Reads → nothing ≡ true)
@@ -110,9 +110,9 @@ line-ends Call false = (λ is. cc is, λ is. cc is)
 line-ends Question free = (λ is. cc is, λ is. cc is)
 line-ends Wrong free = (λ is. cc is, λ is. cc is)
 
-module _ (born : ℕ) (arrivals : List Arrival) (now : ℕ) (free : Bool) where
+module _ (id : ℕ) (remote : Bool) (born : ℕ) (arrivals : List Arrival) (now : ℕ) (free : Bool) where
   ends : (found : Found) (late : Bool) → late ≡ true → nat_le (due_after born) now ≡ late
-      → EndsInTime (by_found found (visitor_after born arrivals) now free) (received arrivals).came
+      → EndsInTime (by_found found (visitor_after id remote born arrivals) now free) (received arrivals).came
   ends Line late is test =
       let ends = line-ends (kind_of_line (line_in (received arrivals).incoming.inbox)) free in
       record { ends = ends.0; reads_no_more = λ reads. absurd (ends.1 reads) }
@@ -128,8 +128,8 @@ module _ (born : ℕ) (arrivals : List Arrival) (now : ℕ) (free : Bool) where
       }
 
 pub leaves_in_time : LeavesInTime
-leaves_in_time born arrivals now free late =
-    ends born arrivals now free (found_in (received arrivals).incoming.inbox) (nat_le (due_after born) now) (le-leb (due_after born) now late) refl
+leaves_in_time id remote born arrivals now free late =
+    ends id remote born arrivals now free (found_in (received arrivals).incoming.inbox) (nat_le (due_after born) now) (le-leb (due_after born) now late) refl
 
 -- until its time is over
 not-late : (due now : ℕ) (test : Bool) → nat_le due now ≡ test → now < due → test ≡ false

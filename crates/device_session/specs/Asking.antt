@@ -13,13 +13,12 @@ use Rattle.device_session.specs.declared.asking.Closing.TheVariants.{No, LineToo
 use Rattle.device_session.specs.declared.asking.TheConstants.{MOST_ANSWERS}
 use Rattle.device_session.specs.declared.asking.Unanswered.{Unanswered}
 use Rattle.device_session.specs.declared.asking.Unanswered.TheVariants.{Nothing, Line, TooLong, Later}
-use Rattle.device_session.specs.declared.seats.NextLine.{NextLine}
+use Rattle.device_session.specs.declared.incoming.NextLine.{NextLine}
 use Rattle.device_session.specs.declared.turns.Turns.{Turns}
-use Rattle.device_session.specs.Application.{after_asking, line_from, next_line_in}
-use Rattle.device_session.specs.ApplicationValue.{Application}
-use Rattle.device_session.specs.Holder.{is_found}
+use Rattle.device_session.specs.Incoming.{is_found}
 use Rattle.device_session.specs.Questions.{call_in, question_in}
 use Rattle.device_session.specs.Lines.{kind_of_line}
+use Rattle.device_session.specs.Seats.{Seats, after_asking, line_from, next_line_in}
 
 -- The last line, which may wait for its answer, and the answers that wait for a save, if any do.
 -- Their texts are missing if memory was refused for one.
@@ -94,9 +93,9 @@ with_next_line next line asking = record asking {
 }
 
 -- The next line of the application or its visitor is taken, if there is one.
-abbrev pub asked_next : Application → Asking → Asking
-asked_next application asking =
-    with_next_line (next_line_in application) (line_from application asking.line) asking
+abbrev pub asked_next : Seats → Asking → Asking
+asked_next seats asking =
+    with_next_line (next_line_in seats) (line_from seats asking.line) asking
 
 -- The call that the last line makes, with at most `room` octets of a value, or why it makes none.
 abbrev pub call_by : Asking → List Named → ℕ → ℕ → Result (Option Call) AppFault
@@ -129,20 +128,20 @@ abbrev pub refused_by : Result (Option Call) AppFault → Asking → Asking
 refused_by call asking = record asking { unanswered = refused_with call asking.unanswered }
 
 -- A line is taken only if it may be.
-abbrev pub call_if : Bool → Application → Asking → List Named → ℕ → ℕ
+abbrev pub call_if : Bool → Seats → Asking → List Named → ℕ → ℕ
     → Result (Option Call) AppFault
-call_if may application asking named time room =
-    if may then call_by (asked_next application asking) named time room else Ok None
+call_if may seats asking named time room =
+    if may then call_by (asked_next seats asking) named time room else Ok None
 
-abbrev pub asked_if : Bool → Application → Asking → List Named → ℕ → ℕ → Asking
-asked_if may application asking named time room =
+abbrev pub asked_if : Bool → Seats → Asking → List Named → ℕ → ℕ → Asking
+asked_if may seats asking named time room =
     if may
-    then refused_by (call_by (asked_next application asking) named time room)
-    (asked_next application asking)
+    then refused_by (call_by (asked_next seats asking) named time room)
+    (asked_next seats asking)
     else asking
 
-abbrev pub application_if : Bool → Application → Application → Application
-application_if may chosen application = if may then after_asking chosen else application
+abbrev pub seats_if : Bool → Seats → Seats → Seats
+seats_if may chosen seats = if may then after_asking chosen else seats
 
 -- The answer to the line that waits is put off.
 abbrev pub after_delay : Asking → Asking

@@ -1,13 +1,17 @@
 -- The lines that a connection of an application sends (this profile's own).
-use Rattle.std.specs.Prelude.{◌≡◌, ◌==◌, ◌&&◌, ◌++◌, Bool, true, false, List, [], ◌∷◌, fold, length}
+use Rattle.std.specs.Prelude.{◌≡◌, ◌≤◌, ◌==◌, ◌&&◌, ◌++◌, Bool, true, false, List, [], ◌∷◌, fold, length}
 use Rattle.std.specs.List.{slice_split}
 use Rattle.octet_io.specs.Number.{Octets}
-use Rattle.app_lines.specs.Inbox.{found_in, is_feed, line_in, rest_after}
+use Rattle.app_lines.specs.Inbox.{found_in, is_feed, line_after, line_in, rest_after}
 use Rattle.app_lines.specs.declared.inbox.Found.{Found}
-use Rattle.app_lines.specs.declared.inbox.Found.TheVariants.{Line}
+use Rattle.app_lines.specs.declared.inbox.Found.TheVariants.{Line, Nothing}
 use Rattle.device_session.specs.declared.incoming.Incoming.{Incoming}
 use Rattle.device_session.specs.declared.incoming.Input.{Input}
 use Rattle.device_session.specs.declared.incoming.Input.TheVariants.{Readable, Quiet, Ended}
+use Rattle.device_session.specs.declared.incoming.NextLine.{NextLine}
+use Rattle.device_session.specs.declared.incoming.Read.{Read}
+use Rattle.device_session.specs.declared.incoming.Read.TheVariants as read
+use Rattle.device_session.specs.declared.incoming.TheConstants.{MOST_READ}
 
 -- Events of the input of a connection: a read brings octets, or finds none yet, or its end;
 -- more may be there; its next line is taken.
@@ -42,6 +46,58 @@ after_arrival incoming Taken = record incoming {
   inbox = rest_after (found_in incoming.inbox) incoming.inbox;
   is_silent = silent_after (found_in incoming.inbox) incoming.is_silent;
 }
+
+-- A read brings octets, finds none yet, the end, or a failure, or is to be repeated.
+pub data Reading : Type 0 where
+  Brings : (octets : Octets) → Reading
+  Waits : Reading
+  Ends : Reading
+  Fails : Reading
+  Repeats : Reading
+
+abbrev pub reading_of : Read → Reading
+reading_of (read.Brought octets) = Brings octets.now
+reading_of read.Waits = Waits
+reading_of read.Ended = Ends
+reading_of read.Failed = Fails
+
+abbrev pub arrivals_of : Reading → List Arrival
+arrivals_of (Brings octets) = Came octets ∷ []
+arrivals_of Waits = Later ∷ []
+arrivals_of Ends = Over ∷ []
+arrivals_of Fails = Over ∷ []
+arrivals_of Repeats = []
+
+abbrev pub IsShort : Reading → Type 0
+IsShort (Brings octets) = length octets ≤ MOST_READ
+IsShort reading = Unit {0}
+
+abbrev pub has_failed : Reading → Bool
+has_failed Fails = true
+has_failed reading = false
+
+abbrev pub after_reading : Incoming → Reading → Incoming
+after_reading incoming reading = fold after_arrival incoming (arrivals_of reading)
+
+abbrev pub is_readable : Input → Bool
+is_readable Readable = true
+is_readable input = false
+
+abbrev pub is_ended : Input → Bool
+is_ended Ended = true
+is_ended input = false
+
+abbrev pub is_found : Found → Bool
+is_found Nothing = false
+is_found found = true
+
+-- The next line of an input, and whether it is the first.
+abbrev pub next_line_of : Incoming → NextLine
+next_line_of incoming =
+    record { found = found_in incoming.inbox; is_first = incoming.is_silent }
+
+abbrev pub octets_of_line : Incoming → Octets → Octets
+octets_of_line incoming before = line_after (found_in incoming.inbox) incoming.inbox before
 
 -- An input, all octets that came, and the lines that were taken, in their order.
 pub record Received : Type 0 where

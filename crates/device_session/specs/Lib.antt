@@ -1,6 +1,5 @@
 pub mod Acceptance
 pub mod Application
-pub mod ApplicationValue
 pub mod Askers
 pub mod Asking
 pub mod Holder
@@ -13,7 +12,6 @@ pub mod Notices
 pub mod Outgoing
 pub mod PeerClock
 pub mod Pending
-pub mod Place
 pub mod Questions
 pub mod Reading
 pub mod Refusals

@@ -7,9 +7,7 @@ use Rattle.device_io.specs.declared.controller.Controller.{Controller}
 use Rattle.device_io.specs.Controller.{due_of, is_read, is_served, retry_of}
 use Rattle.device_session.specs.declared.acceptance.Acceptance.{Acceptance}
 use Rattle.device_session.specs.declared.peer_clock.TheConstants.{LONGEST_WAIT}
-use Rattle.device_session.specs.Application.{acts_now, due_of_all}
-use Rattle.device_session.specs.ApplicationValue.{Application}
-use Rattle.device_session.specs.Place.{is_full_in, is_there}
+use Rattle.device_session.specs.Seats.{Seats, acts_now, due_of_all, is_full_in, is_there}
 use Rattle.device_session.specs.Strangers.{sooner_of}
 
 -- The first of some times, if there are any.
@@ -52,28 +50,28 @@ KeepsLimits =
     (timeout_of acts (before ++ Some limit ∷ after) time deadline now) ≡ true
 
 -- The controller can be read, and is: not too much waits for the application.
-abbrev pub reads_controller : ℕ → Controller → Application → Bool
-reads_controller time controller application =
-    not (is_full_in application.place) && is_read time controller
+abbrev pub reads_controller : ℕ → Controller → Seats → Bool
+reads_controller time controller seats =
+    not (is_full_in seats) && is_read time controller
 
 -- A controller is served without the application that it waits for.
-abbrev pub lacks_application : Bool → Controller → Application → Bool
-lacks_application waits controller application =
-    is_served controller && (waits && not (is_there application.place))
+abbrev pub lacks_application : Bool → Controller → Seats → Bool
+lacks_application waits controller seats =
+    is_served controller && (waits && not (is_there seats))
 
 -- The application or its visitor can be served. None is accepted until its delay is over.
-abbrev pub application_acts : Acceptance → Application → Bool
-application_acts acceptance application = acts_now (is_none acceptance.retry) application
+abbrev pub application_acts : Acceptance → Seats → Bool
+application_acts acceptance seats = acts_now (is_none acceptance.retry) seats
 
 -- There is something to do at once.
-abbrev pub session_acts : Bool → ℕ → Controller → Acceptance → Application → Bool
-session_acts waits time controller acceptance application =
-    reads_controller time controller application || application_acts acceptance application
-    || lacks_application waits controller application
+abbrev pub session_acts : Bool → ℕ → Controller → Acceptance → Seats → Bool
+session_acts waits time controller acceptance seats =
+    reads_controller time controller seats || application_acts acceptance seats
+    || lacks_application waits controller seats
 
 -- The time limits of the peers, and the next attempts to reach them. `strangers` is the first of
 -- the limits of clients without a key.
-abbrev pub limits_of : Controller → Acceptance → Application → Option ℕ → List (Option ℕ)
-limits_of controller acceptance application strangers =
-    due_of controller ∷ retry_of controller ∷ acceptance.retry ∷ due_of_all application
+abbrev pub limits_of : Controller → Acceptance → Seats → Option ℕ → List (Option ℕ)
+limits_of controller acceptance seats strangers =
+    due_of controller ∷ retry_of controller ∷ acceptance.retry ∷ due_of_all seats
     ∷ strangers ∷ []

@@ -1,5 +1,5 @@
 -- A connection that is not the application yet (this profile's own). Times are in milliseconds.
-use Rattle.std.specs.Prelude.{◌≡◌, ◌≢◌, ◌⊎◌, ℕ, ◌+◌, ◌-◌, ◌^◌, ◌<◌, ◌≤◌, ◌&&◌, ◌||◌, Bool, true, false, if◌then◌else◌, List, [], min, nat_le, not}
+use Rattle.std.specs.Prelude.{◌≡◌, ◌≢◌, ◌⊎◌, ℕ, ◌+◌, ◌-◌, ◌^◌, ◌==◌, ◌<◌, ◌≤◌, ◌&&◌, ◌||◌, Bool, true, false, if◌then◌else◌, List, [], min, nat_le, not}
 use Rattle.octet_io.specs.Number.{Octets}
 use Rattle.app_lines.specs.Inbox.{found_in, line_in}
 use Rattle.app_lines.specs.declared.inbox.Found.{Found}
@@ -8,19 +8,46 @@ use Rattle.device_session.specs.declared.asked.LineKind.{LineKind}
 use Rattle.device_session.specs.declared.asked.LineKind.TheVariants.{Claim, Call}
 use Rattle.device_session.specs.declared.incoming.Input.{Input}
 use Rattle.device_session.specs.declared.incoming.Input.TheVariants.{Readable, Quiet, Ended}
-use Rattle.device_session.specs.declared.visitor.TheConstants.{VISIT}
+use Rattle.device_session.specs.declared.visitor.TheConstants.{SLOW_PORT_TIME, SLOW_TIME, VISIT}
 use Rattle.device_session.specs.declared.visitor.Visit.{Visit}
 use Rattle.device_session.specs.declared.visitor.Visit.TheVariants.{Stays, Reads, Asks, Comes, Leaves}
 use Rattle.device_session.specs.declared.visitor.Visitor.{Visitor}
-use Rattle.device_session.specs.Incoming.{Arrival, fresh, is_nothing, received}
+use Rattle.device_session.specs.Incoming.{Arrival, Reading, after_arrival, after_reading, fresh, is_found, is_nothing, received}
 use Rattle.device_session.specs.Lines.{kind_of_line}
 
 -- The end of a visit, at most 2^64 - 1.
 abbrev pub due_after : ℕ → ℕ
 due_after now = min (now + VISIT) (2 ^ 64 - 1)
 
-abbrev pub visitor_at : ℕ → Visitor
-visitor_at now = record { incoming = fresh; due = due_after now }
+-- The time in which an application may accept nothing of what waits for it. The system of one at a
+-- port accepts nothing until the application has read much.
+abbrev pub slow_of : Bool → ℕ
+slow_of remote = if remote then SLOW_PORT_TIME else SLOW_TIME
+
+-- A visitor that connects at a path, or `remote`, at a port.
+abbrev pub visitor_at : ℕ → Bool → ℕ → Visitor
+visitor_at id remote now = record {
+  id = id;
+  incoming = fresh;
+  slow = slow_of remote;
+  due = due_after now;
+}
+
+abbrev pub visitor_arrival : Arrival → Visitor → Visitor
+visitor_arrival arrival visitor =
+    record visitor { incoming = after_arrival visitor.incoming arrival }
+
+-- It is read only while no line of it waits.
+abbrev pub visitor_read : Reading → Visitor → Visitor
+visitor_read reading visitor = record visitor {
+  incoming =
+      if is_found (found_in visitor.incoming.inbox) then visitor.incoming
+      else after_reading visitor.incoming reading;
+}
+
+-- A change of one connection alone.
+abbrev pub if_visitor : ℕ → (Visitor → Visitor) → Visitor → Visitor
+if_visitor id change visitor = if visitor.id == id then change visitor else visitor
 
 -- A call claims a place that is free.
 abbrev pub by_kind : LineKind → Bool → Visit
@@ -75,11 +102,9 @@ abbrev pub would_come : Visitor → Bool
 would_come visitor = is_claiming visitor || is_nothing visitor.incoming
 
 -- A visitor that connected at a time, after it has sent this.
-abbrev pub visitor_after : ℕ → List Arrival → Visitor
-visitor_after now arrivals = record {
-  incoming = (received arrivals).incoming;
-  due = due_after now;
-}
+abbrev pub visitor_after : ℕ → Bool → ℕ → List Arrival → Visitor
+visitor_after id remote born arrivals =
+    record (visitor_at id remote born) { incoming = (received arrivals).incoming }
 
 abbrev pub BeginsWith : LineKind → Octets → Type 0
 BeginsWith kind octets = (found_in octets ≡ Line) × (kind_of_line (line_in octets) ≡ kind)
@@ -95,8 +120,9 @@ Claims born arrivals now free =
 -- A visitor becomes the application only so.
 abbrev pub ClaimsRightly : Type 0
 ClaimsRightly =
-    (born : ℕ) (arrivals : List Arrival) (now : ℕ) (free : Bool)
-    → visit_of (visitor_after born arrivals) now free ≡ Comes → Claims born arrivals now free
+    (id : ℕ) (remote : Bool) (born : ℕ) (arrivals : List Arrival) (now : ℕ) (free : Bool)
+    → visit_of (visitor_after id remote born arrivals) now free ≡ Comes
+    → Claims born arrivals now free
 
 -- Once its time is over, it does not stay, and nothing more of it is read.
 pub record EndsInTime (visit : Visit) (came : Octets) : Type 0 where
@@ -105,8 +131,10 @@ pub record EndsInTime (visit : Visit) (came : Octets) : Type 0 where
 
 abbrev pub LeavesInTime : Type 0
 LeavesInTime =
-    (born : ℕ) (arrivals : List Arrival) (now : ℕ) (free : Bool) → due_after born ≤ now
-    → EndsInTime (visit_of (visitor_after born arrivals) now free) (received arrivals).came
+    (id : ℕ) (remote : Bool) (born : ℕ) (arrivals : List Arrival) (now : ℕ) (free : Bool)
+    → due_after born ≤ now
+    → EndsInTime (visit_of (visitor_after id remote born arrivals) now free)
+    (received arrivals).came
 
 abbrev pub is_quiet : Input → Bool
 is_quiet Quiet = true

@@ -8,25 +8,23 @@ use Rattle.device_io.specs.Controller.{after_ready, IsFlushedTo, IsLook}
 use Rattle.device_io.specs.declared.poller.Ready.{Ready}
 use Rattle.device_session.specs.declared.acceptance.Acceptance.{Acceptance}
 use Rattle.device_session.specs.declared.peer_clock.PeerClock.{PeerClock}
-use Rattle.device_session.specs.declared.place.Filled.{Filled}
-use Rattle.device_session.specs.declared.place.Filled.TheVariants as filled
+use Rattle.device_session.specs.declared.seats.Outcome.{Outcome}
+use Rattle.device_session.specs.declared.seats.Outcome.TheVariants.{Replaced as Replaces, Gone}
 use Rattle.device_session.specs.declared.session.Session.{Session}
 use Rattle.device_session.specs.declared.strangers.Limits.{Limits}
 use Rattle.device_session.specs.declared.strangers.Stranger.{Stranger}
 use Rattle.device_session.specs.Acceptance.{accepts_at, after_failure, after_success}
-use Rattle.device_session.specs.Application.{comes, gives_place, outcome_of_filling, IsAttended, IsFilled, IsKnock, IsReady, IsWatch}
-use Rattle.device_session.specs.ApplicationValue.{Application}
+use Rattle.device_session.specs.Application.{IsAttended, IsFilled, IsKnock, IsReady, IsWatch}
 use Rattle.device_session.specs.Missed.{Missed}
 use Rattle.device_session.specs.PeerClock.{counted_after}
-use Rattle.device_session.specs.Place.{has_read_all, is_there}
-use Rattle.device_session.specs.declared.place.Place.{Place}
+use Rattle.device_session.specs.Seats.{Seats, comes, gives_place, has_read_all, is_there}
 use Rattle.device_session.specs.Strangers.{first_due}
 use Rattle.device_session.specs.Telling.{IsLast, IsTold}
 use Rattle.device_session.specs.Timeout.{application_acts}
 
--- A visitor gets a place that no application has.
-abbrev pub enters : Application → ℕ → Bool
-enters application now = comes application now && not (is_there application.place)
+-- A visitor gets a seat that no application has.
+abbrev pub enters : Seats → ℕ → Bool
+enters seats now = comes seats now && not (is_there seats)
 
 -- At the end of an application, it is noted what it has missed.
 pub record IsLastIf (ends all_read : Bool) (before after : Missed) : Type 0 where
@@ -34,44 +32,45 @@ pub record IsLastIf (ends all_read : Bool) (before after : Missed) : Type 0 wher
   pub same : ends ≡ false → after ≡ before
 
 -- An application that is replaced is notified of it first.
-pub record IsToldOfReplacement (gives : Bool) (before after : Application) : Type 0 where
+pub record IsToldOfReplacement (gives : Bool) (before after : Seats) : Type 0 where
   pub told : gives ≡ true → IsTold (Some (told_line Replaced)) before after
   pub same : gives ≡ false → after ≡ before
 
 -- A replaced application may not have read everything.
-abbrev pub IsNotedAfter : Filled → Place → Missed → Missed → Type 0
-IsNotedAfter filled.Nothing place before after = after ≡ before
-IsNotedAfter filled.Replaced place before after = IsLast false before after
-IsNotedAfter filled.Gone place before after = IsLast (has_read_all place) before after
+abbrev pub IsNotedAfter : Outcome → Seats → Missed → Missed → Type 0
+IsNotedAfter Replaces seats before after = IsLast false before after
+IsNotedAfter Gone seats before after = IsLast (has_read_all seats) before after
+IsNotedAfter outcome seats before after = after ≡ before
 
--- The visitor is read, or comes, and then the application is read, or gives its place.
-pub record IsRead (now : ℕ) (before : Application) (missed : Missed) (after : Application)
+-- The visitor is read, or comes, and then the application is read, or gives its seat.
+pub record IsRead (now : ℕ) (before : Seats) (missed : Missed) (after : Seats)
     (last : Missed) : Type 0 where
-  pub attended : Application
-  pub notified : Application
+  pub attended : Seats
+  pub notified : Seats
   pub noted : Missed
+  pub outcome : Outcome
   pub attends : IsAttended now before attended
-  pub notes : IsLastIf (enters before now) (has_read_all before.place) missed noted
+  pub notes : IsLastIf (enters before now) (has_read_all before) missed noted
   pub tells : IsToldOfReplacement (gives_place attended) attended notified
-  pub fills : IsFilled notified after
-  pub ends : IsNotedAfter (outcome_of_filling notified) after.place noted last
+  pub fills : IsFilled notified outcome after
+  pub ends : IsNotedAfter outcome after noted last
 
 -- It has a visitor that it did not have.
-abbrev pub has_new_visitor : Application → Application → Bool
-has_new_visitor before after = is_some after.visiting && not (is_some before.visiting)
+abbrev pub has_new_visitor : Seats → Seats → Bool
+has_new_visitor before after = is_some after.visitor && not (is_some before.visitor)
 
 -- The next visitor is accepted, if any connects, or accepting fails.
-pub record IsAcceptance (now : ℕ) (before : Application) (waits : Acceptance)
-    (after : Application) (later : Acceptance) : Type 0 where
+pub record IsAcceptance (now : ℕ) (before : Seats) (waits : Acceptance)
+    (after : Seats) (later : Acceptance) : Type 0 where
   pub knocks : IsKnock now before after
   pub delay :
       (later ≡ after_success waits (has_new_visitor before after))
-      ⊎ ((later ≡ after_failure now) × (after.visiting ≡ before.visiting))
+      ⊎ ((later ≡ after_failure now) × (after.visitor ≡ before.visitor))
 
 -- All that changes while a session waits.
 pub record Parts : Type 0 where
   pub clock : PeerClock
-  pub application : Application
+  pub seats : Seats
   pub missed : Missed
   pub acceptance : Acceptance
   pub controller : Controller
@@ -79,7 +78,7 @@ pub record Parts : Type 0 where
 abbrev pub waiting_parts_of : {R : Type 0} → Session R → Parts
 waiting_parts_of session = record {
   clock = session.clock;
-  application = session.application;
+  seats = session.seats;
   missed = session.missed;
   acceptance = session.acceptance;
   controller = session.controller.controller;
@@ -94,13 +93,13 @@ IsCounted before after =
     (now : ℕ) × (after.counted ≡ counted_after before.counted before.seen now)
     × (after.seen ≡ now)
 
-pub record IsReadyIf (ready : Bool) (before after : Application) : Type 0 where
+pub record IsReadyIf (ready : Bool) (before after : Seats) : Type 0 where
   pub notes : ready ≡ true → IsReady before after
   pub same : ready ≡ false → after ≡ before
 
 -- A visitor is accepted once its delay is over, or if one connects.
-pub record IsAcceptanceIf (due : Bool) (now : ℕ) (before : Application) (waits : Acceptance)
-    (after : Application) (later : Acceptance) : Type 0 where
+pub record IsAcceptanceIf (due : Bool) (now : ℕ) (before : Seats) (waits : Acceptance)
+    (after : Seats) (later : Acceptance) : Type 0 where
   pub accepts : due ≡ true → IsAcceptance now before waits after later
   pub same : due ≡ false → (after ≡ before) × (later ≡ waits)
 
@@ -115,19 +114,19 @@ readied_if readable ends controller = if readable then after_ready ends controll
 -- unless it `waits` for an application.
 pub record IsTakenIn (ready : Ready) (waits : Bool) (before after : Parts) : Type 0 where
   pub flushed : Controller
-  pub readied : Application
+  pub readied : Seats
   pub writes :
       IsFlushedIf ready.controller.takes_more before.clock.counted
       (readied_if ready.controller.is_readable ready.controller.is_ending before.controller)
       flushed
-  pub notes : IsReadyIf ready.application before.application readied
+  pub notes : IsReadyIf ready.application before.seats readied
   pub accepts :
       IsAcceptanceIf
       (accepts_at before.acceptance (ready.applications || readied.is_knocking)
       before.clock.counted)
-      before.clock.counted readied before.acceptance after.application after.acceptance
+      before.clock.counted readied before.acceptance after.seats after.acceptance
   pub looks :
-      IsLook ready.controllers (waits && not (is_there after.application.place))
+      IsLook ready.controllers (waits && not (is_there after.seats))
       before.clock.counted flushed after.controller
   pub clock : after.clock ≡ before.clock
   pub missed : after.missed ≡ before.missed
@@ -141,23 +140,23 @@ IsTakenInIfAny waits before after =
 pub record IsWait (waits : Bool) (before after : Parts) : Type 0 where
   pub begun : PeerClock
   pub woken : PeerClock
-  pub heard : Application
-  pub watched : Application
+  pub heard : Seats
+  pub watched : Seats
   pub noted : Missed
   pub slow : Bool
   pub counts : IsCounted before.clock begun
-  pub reads : IsRead begun.counted before.application before.missed heard noted
+  pub reads : IsRead begun.counted before.seats before.missed heard noted
   pub watches : IsWatch begun.counted heard watched slow
   pub counts_wait : IsCounted begun woken
   pub takes : IsTakenInIfAny waits (record {
     clock = woken;
-    application = watched;
+    seats = watched;
     missed = noted;
     acceptance = before.acceptance;
     controller = before.controller;
   }) after
 
 -- The application or a client without a key can be served.
-abbrev pub has_other : Limits → List Stranger → ℕ → Acceptance → Application → Bool
-has_other limits known time acceptance application =
-    is_some (first_due limits time known) || application_acts acceptance application
+abbrev pub has_other : Limits → List Stranger → ℕ → Acceptance → Seats → Bool
+has_other limits known time acceptance seats =
+    is_some (first_due limits time known) || application_acts acceptance seats

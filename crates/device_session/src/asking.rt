@@ -3,15 +3,15 @@
 ghost use Rattle.std.specs.Prelude.{◌≡◌, length, IfErr, IfOk, IfSome, None, Ok, Some};
 ghost use Rattle.std.specs.Option.{option_map};
 ghost use Rattle.std.specs.Result.{result_ok};
-ghost use Rattle.device_session.specs.Application.{after_choosing};
 ghost use Rattle.device_session.specs.Asking as spec;
 ghost use Rattle.device_session.specs.Asking.{AnswersEachLine, ContinuesLines, EndsWithClosing, IsAnswerKept};
 ghost use Rattle.device_session.specs.Lines.{kind_of_line};
 ghost use Rattle.device_session.specs.Questions.{call_in, called, question_in, question_of};
+ghost use Rattle.device_session.specs.Seats.{after_choosing};
 
-use crate::application::Application;
 use crate::asked::{Asked, LineKind, call_of, line_kind, read_asked};
-use crate::seats::NextLine;
+use crate::incoming::NextLine;
+use crate::seats::Seats;
 use app_lines::{Found, LONGEST, Names};
 use arrayvec::ArrayVec;
 use host_api::{App, AppFault};
@@ -106,24 +106,24 @@ impl Asking {
     /// connection is refused without a call.
     pub(crate) fn next_call<'a>(
         &mut self,
-        application: &mut Application,
+        seats: &mut Seats,
         names: &Names,
         time: u64,
         buffer: &'a mut [u8],
     ) -> Option<App<'a>>
-        ensures application { application.new ≡ spec.application_if (spec.may_begin self.old)
-            (after_choosing application.old time) application.old }
+        ensures seats { seats.new ≡ spec.seats_if (spec.may_begin self.old)
+            (after_choosing seats.old time) seats.old }
         ensures call { option_map called result ≡ spec.call_made (spec.call_if
-            (spec.may_begin self.old) (after_choosing application.old time) self.old
+            (spec.may_begin self.old) (after_choosing seats.old time) self.old
             names.now.named time (length buffer.old)) }
         ensures asked { self.new ≡ spec.asked_if (spec.may_begin self.old)
-            (after_choosing application.old time) self.old
+            (after_choosing seats.old time) self.old
             names.now.named time (length buffer.old) }
     {
         if !self.may_begin() {
             return None;
         }
-        let next = application.next_line(&mut self.line, time);
+        let next = seats.next_line(&mut self.line, time);
         let line = self.line.as_slice();
         take(next, line, &mut self.unanswered, &mut self.closing);
         call(line, &mut self.unanswered, names, time, buffer)
@@ -133,23 +133,23 @@ impl Asking {
     /// `may_continue`.
     pub(crate) fn next_call_of_asker<'a>(
         &mut self,
-        application: &mut Application,
+        seats: &mut Seats,
         names: &Names,
         time: u64,
         buffer: &'a mut [u8],
     ) -> Option<App<'a>>
-        ensures application { application.new ≡ spec.application_if
-            (spec.may_continue self.old) application.old application.old }
+        ensures seats { seats.new ≡ spec.seats_if
+            (spec.may_continue self.old) seats.old seats.old }
         ensures call { option_map called result ≡ spec.call_made (spec.call_if
-            (spec.may_continue self.old) application.old self.old
+            (spec.may_continue self.old) seats.old self.old
             names.now.named time (length buffer.old)) }
         ensures asked { self.new ≡ spec.asked_if (spec.may_continue self.old)
-            application.old self.old names.now.named time (length buffer.old) }
+            seats.old self.old names.now.named time (length buffer.old) }
     {
         if !self.may_continue() {
             return None;
         }
-        let next = application.next_line_of_asker(&mut self.line);
+        let next = seats.next_line_of_asker(&mut self.line);
         let line = self.line.as_slice();
         take(next, line, &mut self.unanswered, &mut self.closing);
         call(line, &mut self.unanswered, names, time, buffer)

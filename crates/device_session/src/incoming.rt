@@ -1,7 +1,8 @@
 //! The octets that one connection sends, as lines.
 
-ghost use Rattle.std.specs.Prelude.{◌≡◌, ◌≤◌, length};
-ghost use Rattle.app_lines.specs.Inbox.{found_in, line_after, line_in};
+ghost use Rattle.std.specs.Prelude.{◌≡◌, ◌≤◌, false, length};
+ghost use Rattle.device_session.specs.Incoming as spec;
+ghost use Rattle.app_lines.specs.Inbox.{found_in, line_in};
 ghost use Rattle.app_lines.specs.declared.inbox.Found.TheVariants.{Nothing};
 ghost use Rattle.device_session.specs.Incoming.{after_arrival, fresh, is_nothing, TakesEachLineOnce};
 ghost use Rattle.device_session.specs.Incoming.Arrival.{Came, Later, Over, Ready, Taken};
@@ -23,13 +24,37 @@ pub(crate) enum Input {
     Ended,
 }
 
+/// The outcome of one read of a connection.
+#[derive(Clone, Copy)]
+pub(crate) enum Read<'a> {
+    Brought(&'a [u8]),
+    /// Nothing has come yet.
+    Waits,
+    /// It sends no more.
+    Ended,
+    /// Its socket has failed: it sends no more.
+    Failed,
+}
+
+/// The next line, if any, and whether it is the first of its connection.
+#[derive(Clone, Copy)]
+pub(crate) struct NextLine {
+    pub(crate) found: Found,
+    pub(crate) is_first: bool,
+}
+
+pub(crate) const NO_LINE: NextLine = NextLine {
+    found: Found::Nothing,
+    is_first: false,
+};
+
 /// The input of a connection: its octets that are not taken yet.
 #[derive(Drop)]
 pub(crate) struct Incoming {
     inbox: Inbox,
     pub(crate) input: Input,
     /// Set until its first line is taken.
-    pub(crate) is_silent: bool,
+    is_silent: bool,
 }
 
 impl Incoming {
@@ -52,6 +77,13 @@ impl Incoming {
         self.inbox.found()
     }
 
+    /// Returns true if it has sent a line, or one that is too long.
+    pub(crate) fn has_line(&self) -> bool
+        ensures { result ≡ spec.is_found (found_in self.now.inbox) }
+    {
+        !matches!(self.found(), Found::Nothing)
+    }
+
     /// Returns its first line, or else all its octets.
     pub(crate) fn first_line(&self) -> &[u8]
         ensures { result.now ≡ line_in self.now.inbox }
@@ -66,9 +98,22 @@ impl Incoming {
         self.is_silent && self.inbox.is_empty()
     }
 
+    /// Notes what one read brought, while no line is there.
+    pub(crate) fn arrived(&mut self, read: Read<'_>)
+        requires none { spec.is_found (found_in self.old.inbox) ≡ false }
+        requires few { spec.IsShort (spec.reading_of read) }
+        ensures { self.new ≡ spec.after_reading self.old (spec.reading_of read.entry) }
+    {
+        match read {
+            Read::Brought(octets) => self.came(octets),
+            Read::Waits => self.later(),
+            Read::Ended | Read::Failed => self.over(),
+        }
+    }
+
     /// Adds what one read brought, while no line is there.
     #[tactic(auto, using(crate::proofs::Feeds::fits))]
-    pub(crate) fn came(&mut self, octets: &[u8])
+    fn came(&mut self, octets: &[u8])
         requires none { found_in self.old.inbox ≡ Nothing }
         requires few { length octets.now ≤ MOST_READ }
         ensures came { self.new ≡ after_arrival self.old (Came octets.now) }
@@ -78,14 +123,14 @@ impl Incoming {
     }
 
     /// Notes that nothing can be read yet.
-    pub(crate) fn later(&mut self)
+    fn later(&mut self)
         ensures later { self.new ≡ after_arrival self.old Later }
     {
         self.input = Input::Quiet;
     }
 
     /// Notes that it sends no more.
-    pub(crate) fn over(&mut self)
+    fn over(&mut self)
         ensures over { self.new ≡ after_arrival self.old Over }
     {
         self.input = Input::Ended;
@@ -101,16 +146,16 @@ impl Incoming {
     }
 
     /// Moves its next line to `line`, if there is one, and returns what it has found.
-    pub(crate) fn take_line(&mut self, line: &mut ArrayVec<u8, LONGEST>) -> Found
-        ensures found { result ≡ found_in self.old.inbox }
-        ensures line { line.new.items
-            ≡ line_after (found_in self.old.inbox) self.old.inbox line.old.items }
+    pub(crate) fn take_line(&mut self, line: &mut ArrayVec<u8, LONGEST>) -> NextLine
+        ensures next { result ≡ spec.next_line_of self.old }
+        ensures line { line.new.items ≡ spec.octets_of_line self.old line.old.items }
         ensures taken { self.new ≡ after_arrival self.old Taken }
     {
+        let is_first = self.is_silent;
         let found = self.inbox.next_line(line);
         if let Found::Line = found {
             self.is_silent = false;
         }
-        found
+        NextLine { found, is_first }
     }
 }

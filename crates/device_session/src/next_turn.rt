@@ -5,12 +5,13 @@ ghost use Rattle.device_session.specs.Strangers.{first_limit};
 ghost use Rattle.device_session.specs.Timeout.{application_acts, limits_of, reads_controller, session_acts, timeout_of};
 ghost use Rattle.device_session.specs.Turns.{after_reading, reads, IsTurn};
 ghost use Rattle.device_session.specs.Acceptance.{accepts_at};
-ghost use Rattle.device_session.specs.Place.{is_there};
+ghost use Rattle.device_session.specs.Seats.{is_there};
 ghost use Rattle.device_session.specs.Waits.{has_other, readied_if, AreSame, IsAcceptanceIf, IsFlushedIf, IsReadyIf, IsTakenIn, IsWait, waiting_parts_of};
 
 use crate::acceptance::Acceptance;
 use crate::application::Application;
 use crate::output::{accept, fill};
+use crate::seats::Seats;
 use crate::session::Session;
 use crate::timeout::timeout_of;
 use device_io::{Controller, ControllerReady, Log, Poller, Ready, System};
@@ -24,16 +25,16 @@ impl<R: Clock + Eprint> Session<'_, R> {
     /// be cut off.
     pub fn is_controller_next(&mut self) -> bool
         ensures read { result ≡ reads self.old.turns (reads_controller
-            self.old.clock.counted self.old.controller.controller self.old.application)
+            self.old.clock.counted self.old.controller.controller self.old.seats)
             (has_other self.old.controller.strangers.limits
             self.old.controller.strangers.known.items self.old.clock.counted
-            self.old.acceptance self.old.application) }
+            self.old.acceptance self.old.seats) }
         ensures turns { self.new.turns ≡ after_reading self.old.turns (reads_controller
-            self.old.clock.counted self.old.controller.controller self.old.application)
+            self.old.clock.counted self.old.controller.controller self.old.seats)
             (has_other self.old.controller.strangers.limits
             self.old.controller.strangers.known.items self.old.clock.counted
-            self.old.acceptance self.old.application) }
-        ensures application { self.new.application ≡ self.old.application }
+            self.old.acceptance self.old.seats) }
+        ensures seats { self.new.seats ≡ self.old.seats }
         ensures asking { self.new.asking ≡ self.old.asking }
         ensures names { self.new.names ≡ self.old.names }
     {
@@ -44,9 +45,9 @@ impl<R: Clock + Eprint> Session<'_, R> {
 
     fn is_controller_readable(&self) -> bool
         ensures { result ≡ reads_controller self.now.clock.counted
-            self.now.controller.controller self.now.application }
+            self.now.controller.controller self.now.seats }
     {
-        !self.application.is_full() && self.controller.controller.is_readable(self.clock.time())
+        !self.seats.is_full() && self.controller.controller.is_readable(self.clock.time())
     }
 
     /// Returns how long to wait at most, in milliseconds: not at all if there is something to do,
@@ -56,8 +57,8 @@ impl<R: Clock + Eprint> Session<'_, R> {
     fn timeout(&self, deadline: Option<u64>, now: u64) -> Option<u64>
         ensures { result ≡ timeout_of
             (session_acts self.now.waits_for_application self.now.clock.counted
-            self.now.controller.controller self.now.acceptance self.now.application)
-            (limits_of self.now.controller.controller self.now.acceptance self.now.application
+            self.now.controller.controller self.now.acceptance self.now.seats)
+            (limits_of self.now.controller.controller self.now.acceptance self.now.seats
             (first_limit self.now.controller.strangers.limits
             self.now.controller.strangers.known.items))
             self.now.clock.counted deadline now }
@@ -69,7 +70,7 @@ impl<R: Clock + Eprint> Session<'_, R> {
             self.controller.controller.due(),
             self.controller.controller.retry(),
             self.acceptance.due(),
-            self.application.due(),
+            self.seats.due(),
             self.controller.strangers.due(),
         ];
         timeout_of(acts, &limits, self.clock.time(), deadline, now)
@@ -77,10 +78,9 @@ impl<R: Clock + Eprint> Session<'_, R> {
 
     /// Returns true if the application or its visitor can be served without waiting.
     fn has_something(&self) -> bool
-        ensures { result ≡ application_acts self.now.acceptance self.now.application }
+        ensures { result ≡ application_acts self.now.acceptance self.now.seats }
     {
-        self.application
-            .has_something(self.acceptance.due().is_none())
+        self.seats.has_something(self.acceptance.due().is_none())
     }
 }
 
@@ -122,11 +122,12 @@ impl<R: System> Session<'_, R> {
         fill(
             self.alloc,
             &mut self.application,
+            &mut self.seats,
             &mut self.missed,
             &self.log,
             now,
         );
-        if self.application.watch(now) {
+        if self.application.watch(&mut self.seats, now) {
             self.log.say("application cut off: it does not read");
         }
         let timeout = self.timeout(deadline, self.log.now());
@@ -153,10 +154,11 @@ impl<R: System> Session<'_, R> {
             &self.poller,
             now,
         );
-        note_application(&mut self.application, ready.application);
+        note_application(&mut self.application, &mut self.seats, ready.application);
         accept_if_due(
             self.alloc,
             &mut self.application,
+            &mut self.seats,
             &mut self.acceptance,
             ready.applications,
             &self.poller,
@@ -172,9 +174,9 @@ impl<R: System> Session<'_, R> {
     /// Returns true if no controller is served because there is no application.
     fn is_held(&self) -> bool
         ensures { result ≡ (self.now.waits_for_application
-            && not (is_there self.now.application.place)) }
+            && not (is_there self.now.seats)) }
     {
-        self.waits_for_application && !self.application.is_there()
+        self.waits_for_application && !self.seats.is_there()
     }
 }
 
@@ -196,11 +198,11 @@ fn note_controller(
     }
 }
 
-fn note_application(application: &mut Application, is_ready: bool)
-    ensures { IsReadyIf is_ready application.old application.new }
+fn note_application(application: &mut Application, seats: &mut Seats, is_ready: bool)
+    ensures { IsReadyIf is_ready seats.old seats.new }
 {
     if is_ready {
-        application.note_ready();
+        application.note_ready(seats);
     }
 }
 
@@ -208,6 +210,7 @@ fn note_application(application: &mut Application, is_ready: bool)
 fn accept_if_due<R: Clock + Eprint>(
     alloc: Global,
     application: &mut Application,
+    seats: &mut Seats,
     acceptance: &mut Acceptance,
     connects: bool,
     poller: &Poller,
@@ -215,12 +218,12 @@ fn accept_if_due<R: Clock + Eprint>(
     now: u64,
 )
     ensures { IsAcceptanceIf (accepts_at acceptance.old
-        (connects || application.old.is_knocking) now) now
-        application.old acceptance.old application.new acceptance.new }
+        (connects || seats.old.is_knocking) now) now
+        seats.old acceptance.old seats.new acceptance.new }
 {
-    let connects = connects || application.is_knocking();
+    let connects = connects || seats.is_knocking();
     if acceptance.is_due(connects, now) {
-        accept(alloc, application, acceptance, poller, log, now);
+        accept(alloc, application, seats, acceptance, poller, log, now);
     }
 }
 

@@ -1,268 +1,417 @@
-//! The connections at the application's socket. All times are in milliseconds.
+//! The seats at the application's socket: the application, the one that gets its seat next, and a
+//! visitor. They have no sockets: connections are numbers. All times are in milliseconds.
 
-ghost use Rattle.std.specs.Prelude.{◌≡◌, ◌&&◌, if◌then◌else◌, not, None, Some, IfErr, IfOk};
-ghost use Rattle.std.specs.Bool.{OnFalse, OnTrue};
-ghost use Rattle.app_lines.specs.Inbox.{found_in, line_after};
-ghost use Rattle.app_lines.specs.declared.inbox.Found.TheVariants as found;
-ghost use Rattle.device_session.specs.Holder as holder;
-ghost use Rattle.device_session.specs.Incoming.{after_arrival};
-ghost use Rattle.device_session.specs.Incoming.Arrival.{Ready, Taken};
-ghost use Rattle.device_session.specs.Outgoing.{due, fits, is_slow};
-ghost use Rattle.device_session.specs.Seats as seats;
-ghost use Rattle.device_session.specs.Visitor as visitor;
-ghost use Rattle.device_session.specs.declared.visitor.Visit.TheVariants.{Reads};
+ghost use Rattle.std.specs.Prelude.{◌≡◌, ◌≤◌, length};
+ghost use Rattle.std.specs.Option.{option_map};
+ghost use Rattle.device_session.specs.Incoming.{reading_of, IsShort};
+ghost use Rattle.device_session.specs.Laws.{Bounds, ComesAlone, ComesRightly, ServesInTurn, TellsInOrder};
+ghost use Rattle.device_session.specs.Seats as spec;
+ghost use Rattle.device_session.specs.Visitor.{if_visitor, visitor_read};
 
+use crate::askers::Askers;
 use crate::holder::Holder;
-use crate::incoming::Incoming;
-use crate::sockets::{is_accepted, read_into, write_from};
+use crate::incoming::Read;
+use crate::seat::{LAST_READS, Next, Seat};
+use crate::strangers::sooner;
 use crate::visitor::{Visit, Visitor};
-use app_lines::{Found, LONGEST};
-use arrayvec::ArrayVec;
-use device_io::Socket;
-use std::alloc::{AllocError, Global};
+use std::alloc::Global;
 use std::marker::Model;
 
-/// The milliseconds in which an application at a path may accept nothing of what waits for it.
-const SLOW_TIME: u64 = 5_000;
+/// The application's seat, the one that gets it next, and the visitor's seat.
+#[derive(Drop)]
+pub(crate) struct Seats {
+    alloc: Global,
+    pub(crate) seat: Seat,
+    pub(crate) next: Option<Next>,
+    pub(crate) visitor: Option<Visitor>,
+    pub(crate) askers: Askers,
+    /// Set if no more lines are read.
+    pub(crate) is_held: bool,
+    /// Set if a connection waits for the visitor's seat.
+    pub(crate) is_knocking: bool,
+}
 
-/// The milliseconds in which an application at a port may accept nothing.
-///
-/// The other end's system accepts nothing until the application has read some 64 KiB.
-const SLOW_PORT_TIME: u64 = 20_000;
+impl Model for Seats {
+    ghost use Rattle.device_session.specs.Laws.{IsReached};
+    ghost use Rattle.device_session.specs.Seats as value;
 
-/// The next line, if any, and whether it is the first of its connection.
+    ghost Value = { value.Seats };
+
+    ghost view = { λ seats. record {
+      seat = seats.seat;
+      next = seats.next;
+      visitor = seats.visitor;
+      askers = seats.askers;
+      is_held = seats.is_held;
+      is_knocking = seats.is_knocking;
+    } };
+
+    // The laws hold of them: they became what they are by what these speak of.
+    ghost invariant = { λ seats. IsReached (record {
+      seat = seats.seat;
+      next = seats.next;
+      visitor = seats.visitor;
+      askers = seats.askers;
+      is_held = seats.is_held;
+      is_knocking = seats.is_knocking;
+    }) };
+}
+
+/// The outcome of serving the seats: an event, or a connection to read.
 #[derive(Clone, Copy)]
-pub(crate) struct NextLine {
-    pub(crate) found: Found,
-    pub(crate) is_first: bool,
+pub(crate) enum Outcome {
+    Nothing,
+    /// Read once from this connection.
+    Reads(u64),
+    /// The visitor gets the application's seat, now or later.
+    Comes,
+    /// The next application has replaced another one.
+    Replaced,
+    /// The application has closed its connection, and all its lines are processed.
+    Gone,
 }
 
-/// A visitor and its socket.
-#[derive(Drop)]
-pub(crate) struct Visiting {
-    socket: Socket,
-    visitor: Visitor,
-    /// How long it may accept nothing as the application.
-    slow: u64,
-}
-
-impl Model for Visiting {
-    ghost use Rattle.device_session.specs.Seats as spec;
-
-    ghost Value = { spec.Visiting };
-
-    ghost view = { λ visiting. record { visitor = visiting.visitor; slow = visiting.slow } };
-}
-
-impl Visiting {
-    /// Returns a visitor that has just connected.
-    pub(crate) fn new(socket: Socket, now: u64) -> Visiting
-        ensures { result.visitor ≡ visitor.visitor_at now }
+impl Seats {
+    #[tactic(auto, using(crate::proofs::Succession::serves_in_turn, crate::proofs::Succession::comes_alone, crate::proofs::Claiming::comes_rightly, crate::proofs::Tellings::tells_in_order, crate::proofs::Bounded::bounds, crate::proofs::Reached::at_first))]
+    pub(crate) fn none(alloc: Global) -> Seats
+        ensures nobody { result ≡ spec.nobody }
+        // For all that may happen:
+        ensures in_turn { ServesInTurn }
+        ensures alone { ComesAlone }
+        ensures rightly { ComesRightly }
+        ensures notices { TellsInOrder }
+        ensures bounds { Bounds }
     {
-        let slow = slow_time(&socket);
-        Visiting {
-            socket,
-            visitor: Visitor::new(now),
-            slow,
+        Seats {
+            alloc,
+            seat: Seat::Free { has_read_all: true },
+            next: None,
+            visitor: None,
+            askers: Askers::new(),
+            is_held: false,
+            is_knocking: false,
         }
     }
 
-    /// Returns what it does next. Its calls claim the application's place only if that `is_free`.
-    pub(crate) fn next(&self, now: u64, is_free: bool) -> Visit
-        ensures visit { result ≡ visitor.visit_of self.now.visitor now is_free }
-        ensures reads { result ≡ Reads
-            → found_in self.now.visitor.incoming.inbox ≡ found.Nothing }
+    /// Returns true if a connection has a seat. Another one is to be closed.
+    pub(crate) fn has(&self, id: u64) -> bool
+        ensures { result ≡ spec.has_seat self.now id }
     {
-        self.visitor.next(now, is_free)
+        matches!(&self.seat, Seat::Taken(holder) if holder.id == id)
+            || matches!(&self.next, Some(next) if next.visitor.id == id)
+            || matches!(&self.visitor, Some(visitor) if visitor.id == id)
     }
 
-    /// Returns when its time is over. It has no end while the visitor would come but another one
-    /// waits for the place: if there `is_next`.
-    pub(crate) fn due(&self, is_next: bool) -> Option<u64>
-        ensures { result ≡ (if is_next && visitor.would_come self.now.visitor then None
-            else Some self.now.visitor.due) }
+    /// Returns the application's connection.
+    pub(crate) fn holder(&self) -> Option<u64>
+        ensures { result ≡ spec.id_of_holder self.now.seat }
     {
-        if is_next && self.visitor.would_come() {
-            return None;
+        match &self.seat {
+            Seat::Taken(holder) => Some(holder.id),
+            Seat::Free { .. } => None,
         }
-        Some(self.visitor.due())
     }
 
-    /// Returns true if there is something to do before its time is over.
-    ///
-    /// If there `is_next`, another one waits for the place that it may claim.
-    pub(crate) fn has_something(&self, is_next: bool) -> bool
-        ensures { result ≡ (visitor.has_something self.now.visitor
-            && not (is_next && visitor.is_claiming self.now.visitor)) }
+    /// Returns the visitor's connection.
+    pub(crate) fn visitor(&self) -> Option<u64>
+        ensures { result ≡ spec.id_of_visitor self.now }
     {
-        self.visitor.has_something() && !(is_next && self.visitor.is_claiming())
+        match &self.visitor {
+            Some(visitor) => Some(visitor.id),
+            None => None,
+        }
     }
 
-    /// Returns true if its next line is answered, and does not claim the application's place.
-    pub(crate) fn is_asking(&self, is_free: bool) -> bool
-        ensures { result ≡ visitor.is_asking self.now.visitor is_free }
+    /// Returns what waits for the application, the next to be sent first.
+    pub(crate) fn waiting(&self) -> &[u8]
+        ensures { result.now ≡ spec.waiting_in self.now }
     {
-        self.visitor.is_asking(is_free)
+        match &self.seat {
+            Seat::Taken(holder) => holder.outgoing.waiting(),
+            Seat::Free { .. } => &[],
+        }
     }
 
-    /// Reads once.
-    pub(crate) fn read(&mut self)
-        requires { found_in self.old.visitor.incoming.inbox ≡ found.Nothing }
-        ensures { seats.IsVisitorRead self.old self.new }
+    /// Returns true if a connection that comes now gets the visitor's seat. One may wait.
+    #[tactic(auto, using(crate::proofs::Reached::by_knock))]
+    pub(crate) fn knock(&mut self) -> bool
+        ensures accepts { result ≡ spec.accepts self.old }
+        ensures knocked { self.new ≡ spec.after_knock self.old }
     {
-        read_into(&mut self.socket, &mut self.visitor.incoming);
+        self.is_knocking = self.visitor.is_some();
+        !self.is_held && !self.is_knocking
     }
 
-    /// Notes that it may have sent more.
+    pub(crate) fn is_knocking(&self) -> bool
+        ensures { result ≡ self.now.is_knocking }
+    {
+        self.is_knocking
+    }
+
+    /// Notes that a connection came, at a port if it `is_remote`. Gives it no seat if there is a
+    /// visitor.
+    pub(crate) fn came(&mut self, id: u64, is_remote: bool, now: u64)
+        ensures { self.new ≡ spec.after_coming id is_remote now self.old }
+    {
+        if !self.is_held && self.visitor.is_none() {
+            self.visitor = Some(Visitor::new(id, is_remote, now));
+        }
+    }
+
+    /// Notes what was read from a connection.
+    pub(crate) fn arrived(&mut self, id: u64, read: Read<'_>)
+        requires few { IsShort (reading_of read) }
+        ensures { self.new ≡ spec.after_arrival_at id (reading_of read.entry) self.old }
+    {
+        self.seat.arrived(id, read);
+        visitor_arrived(&mut self.visitor, id, read);
+    }
+
+    /// Notes that each connection may have sent more.
+    #[tactic(auto, using(crate::proofs::Reached::by_ready))]
     pub(crate) fn ready(&mut self)
-        ensures { self.new ≡ seats.visitor_arrival Ready self.old }
+        ensures { self.new ≡ spec.after_ready self.old }
     {
-        self.visitor.incoming.ready();
-    }
-
-    /// Moves its next line to `line`.
-    pub(crate) fn take_line(&mut self, line: &mut ArrayVec<u8, LONGEST>) -> NextLine
-        ensures next { result ≡ seats.next_line_of self.old.visitor.incoming }
-        ensures line { line.new.items
-            ≡ seats.octets_of_line self.old.visitor.incoming line.old.items }
-        ensures taken { self.new ≡ seats.visitor_arrival Taken self.old }
-    {
-        take_line(&mut self.visitor.incoming, line)
-    }
-
-    /// Writes an answer. Returns false unless the visitor accepts all of it at once.
-    pub(crate) fn accepts(&mut self, text: &[u8]) -> bool
-        ensures { self.new ≡ self.old }
-    {
-        is_accepted(&mut self.socket, text)
-    }
-}
-
-/// The application and its socket.
-#[derive(Drop)]
-pub(crate) struct Holding {
-    socket: Socket,
-    holder: Holder,
-    /// How long it may accept nothing.
-    slow: u64,
-}
-
-impl Model for Holding {
-    ghost use Rattle.device_session.specs.Seats as spec;
-
-    ghost Value = { spec.Holding };
-
-    ghost view = { λ holding. record { holder = holding.holder; slow = holding.slow } };
-}
-
-impl Holding {
-    /// Makes a visitor the application.
-    pub(crate) fn new(alloc: Global, visiting: Visiting) -> Holding
-        ensures { result ≡ seats.seated visiting }
-    {
-        Holding {
-            socket: visiting.socket,
-            holder: Holder::new(alloc, visiting.visitor.incoming),
-            slow: visiting.slow,
+        if let Seat::Taken(holder) = &mut self.seat {
+            holder.incoming.ready();
+        }
+        if let Some(visitor) = &mut self.visitor {
+            visitor.incoming.ready();
         }
     }
 
-    /// Returns its input and output.
-    pub(crate) fn holder(&self) -> &Holder
-        ensures { result.now ≡ self.now.holder }
+    /// Notes that a connection has accepted the first `count` bytes.
+    pub(crate) fn sent(&mut self, id: u64, count: usize)
+        requires { count ≤ length (spec.waiting_in self.old) }
+        ensures { self.new ≡ spec.after_sending id count self.old }
     {
-        &self.holder
+        self.seat.sent(id, count);
     }
 
-    /// Reads once, unless a line is there.
-    pub(crate) fn read(&mut self)
-        ensures { seats.IsHolderRead self.old self.new }
+    /// Notes that a connection was offered all that waits, and accepts no more yet.
+    pub(crate) fn offered(&mut self, id: u64)
+        ensures { self.new ≡ spec.after_offer id self.old }
     {
-        if self.holder.has_line() {
-            return;
-        }
-        if !read_into(&mut self.socket, &mut self.holder.incoming) {
-            self.holder.outgoing.deafen();
-        }
+        self.seat.offered(id);
     }
 
-    /// Notes that it may have sent more.
-    pub(crate) fn ready(&mut self)
-        ensures { self.new ≡ seats.with_arrival Ready self.old }
+    /// Notes that a connection accepts no more.
+    pub(crate) fn deafen(&mut self, id: u64)
+        ensures { self.new ≡ spec.after_refusal id self.old }
     {
-        self.holder.incoming.ready();
+        self.seat.deafen(id);
     }
 
-    /// Moves its next line to `line`.
-    pub(crate) fn take_line(&mut self, line: &mut ArrayVec<u8, LONGEST>) -> NextLine
-        ensures next { result ≡ seats.next_line_of self.old.holder.incoming }
-        ensures line { line.new.items
-            ≡ seats.octets_of_line self.old.holder.incoming line.old.items }
-        ensures taken { self.new ≡ seats.with_arrival Taken self.old }
-    {
-        take_line(&mut self.holder.incoming, line)
-    }
-
-    /// Notes that it is sent the current state.
-    pub(crate) fn welcome(&mut self)
-        ensures { self.new ≡ seats.welcomed self.old }
-    {
-        self.holder.is_new = false;
-    }
-
-    /// Queues a text. Returns false and changes nothing if too much waits.
+    /// Serves the visitor: it is to be read, leaves, or gets the seat of the application.
     ///
-    /// An error changes nothing either: memory was refused.
-    pub(crate) fn queue(&mut self, text: &[u8]) -> Result<bool, AllocError>
-        ensures fits { IfOk result
-            (λ is_queued. is_queued ≡ fits self.old.holder.outgoing text.now) }
-        ensures queued { IfOk result
-            (λ is_queued. OnTrue is_queued (self.new ≡ seats.queued text.now self.old)) }
-        ensures unchanged { IfOk result (λ is_queued. OnFalse is_queued (self.new ≡ self.old)) }
-        ensures refused { IfErr result (λ _. self.new ≡ self.old) }
+    /// It replaces an earlier application only once that one's lines are processed.
+    pub(crate) fn attend(&mut self, now: u64) -> Outcome
+        ensures outcome { result ≡ spec.outcome_of_attending now self.old }
+        ensures attended { self.new ≡ spec.after_attending now self.old }
     {
-        self.holder.outgoing.queue(text)
+        match self.visit(now) {
+            Visit::Stays | Visit::Asks => Outcome::Nothing,
+            Visit::Reads => match self.visitor() {
+                Some(id) => Outcome::Reads(id),
+                None => Outcome::Nothing,
+            },
+            Visit::Leaves => {
+                self.visitor = None;
+                Outcome::Nothing
+            }
+            Visit::Comes => {
+                if self.next.is_some() {
+                    return Outcome::Nothing;
+                }
+                let Some(visitor) = self.visitor.take() else {
+                    return Outcome::Nothing;
+                };
+                self.next = seated(self.alloc, &mut self.seat, visitor);
+                Outcome::Comes
+            }
+        }
     }
 
-    /// Writes what it accepts.
-    pub(crate) fn flush(&mut self)
-        ensures { seats.IsHolderWritten self.old self.new }
+    fn visit(&self, now: u64) -> Visit
+        ensures { result ≡ spec.visit_in self.now now }
     {
-        write_from(&mut self.socket, &mut self.holder);
+        match &self.visitor {
+            Some(visitor) if !self.is_held => visitor.next(now, self.is_free()),
+            _ => Visit::Stays,
+        }
     }
 
-    /// Notes whether it has accepted enough by `now`. Returns true if it is too slow.
+    /// Serves the application: it is to be read, leaves, or gives its seat to the next.
+    #[tactic(auto, using(crate::proofs::Reached::by_filling))]
+    pub(crate) fn fill(&mut self) -> Outcome
+        ensures outcome { result ≡ spec.outcome_of_filling self.old }
+        ensures filled { self.new ≡ spec.after_filling self.old }
+    {
+        if self.is_held {
+            return Outcome::Nothing;
+        }
+        if self.is_leaving() && self.seat.has_offered() {
+            if let Some(next) = self.next.take() {
+                self.seat = Seat::Taken(Holder::new(self.alloc, next.visitor));
+            }
+            return Outcome::Replaced;
+        }
+        if self.is_full() {
+            return Outcome::Nothing;
+        }
+        read_or_leave(&mut self.seat, &mut self.next)
+    }
+
+    /// Returns true if all lines are processed and a visitor waits for the seat.
+    pub(crate) fn is_giving_place(&self) -> bool
+        ensures { result ≡ spec.gives_place self.now }
+    {
+        !self.is_held && self.is_leaving()
+    }
+
+    fn is_leaving(&self) -> bool
+        ensures { result ≡ spec.is_leaving self.now.seat self.now.next }
+    {
+        match &self.next {
+            Some(next) => match &self.seat {
+                Seat::Taken(holder) => is_over(next.last_reads, holder),
+                Seat::Free { .. } => true,
+            },
+            None => false,
+        }
+    }
+
+    /// Cuts off an application that accepts nothing for too long. Returns true if it did.
     pub(crate) fn watch(&mut self, now: u64) -> bool
-        ensures slow { result ≡ is_slow self.old.slow self.old.holder.outgoing now }
-        ensures watched { self.new ≡ seats.watched_at now self.old }
+        ensures slow { result ≡ spec.is_slow_in self.old now }
+        ensures watched { self.new ≡ spec.after_watch now self.old }
     {
-        self.holder.outgoing.watch(now, self.slow)
+        self.seat.watch(now)
     }
 
-    /// Returns when it is cut off, if it does not accept more.
+    /// Returns when the visit ends or the application is cut off.
     pub(crate) fn due(&self) -> Option<u64>
-        ensures { result ≡ due self.now.slow self.now.holder.outgoing }
+        ensures { result ≡ spec.due_of_all self.now }
     {
-        self.holder.outgoing.due(self.slow)
+        let visit = match &self.visitor {
+            Some(visitor) if !self.is_held => {
+                if self.next.is_some() && visitor.would_come() {
+                    None
+                } else {
+                    Some(visitor.due())
+                }
+            }
+            _ => None,
+        };
+        let slow = match &self.seat {
+            Seat::Taken(holder) => holder.due(),
+            Seat::Free { .. } => None,
+        };
+        sooner(visit, slow)
+    }
+
+    /// Returns true if there is something to do without waiting.
+    ///
+    /// `accepts` is false while no connection is accepted, after a failure.
+    pub(crate) fn has_something(&self, accepts: bool) -> bool
+        ensures { result ≡ spec.acts_now accepts self.now }
+    {
+        if self.is_held {
+            return self.is_new();
+        }
+        self.has_visit(accepts) || acts(&self.seat, &self.next)
+    }
+
+    fn has_visit(&self, accepts: bool) -> bool
+        ensures { result ≡ spec.has_visit accepts self.now }
+    {
+        match &self.visitor {
+            Some(visitor) => {
+                visitor.has_something() && !(self.next.is_some() && visitor.is_claiming())
+            }
+            None => self.is_knocking && accepts,
+        }
     }
 }
 
-fn slow_time(socket: &Socket) -> u64 {
-    match socket {
-        Socket::Port(_) => SLOW_PORT_TIME,
-        Socket::Path(_) => SLOW_TIME,
-    }
-}
-
-/// Takes the next line of a connection.
-fn take_line(incoming: &mut Incoming, line: &mut ArrayVec<u8, LONGEST>) -> NextLine
-    ensures next { result ≡ seats.next_line_of incoming.old }
-    ensures line { line.new.items ≡ seats.octets_of_line incoming.old line.old.items }
-    ensures taken { incoming.new ≡ after_arrival incoming.old Taken }
+/// Gives a visitor a free seat, or else returns it as the next to get it.
+fn seated(alloc: Global, seat: &mut Seat, visitor: Visitor) -> Option<Next>
+    ensures seat { seat.new ≡ spec.seat_for seat.old visitor }
+    ensures next { result ≡ spec.next_after seat.old visitor }
 {
-    let is_first = incoming.is_silent;
-    NextLine {
-        found: incoming.take_line(line),
-        is_first,
+    match seat {
+        Seat::Taken(holder) => {
+            holder.incoming.ready();
+            Some(Next {
+                visitor,
+                last_reads: LAST_READS,
+            })
+        }
+        Seat::Free { .. } => {
+            *seat = Seat::Taken(Holder::new(alloc, visitor));
+            None
+        }
     }
+}
+
+fn visitor_arrived(visitor: &mut Option<Visitor>, id: u64, read: Read<'_>)
+    requires few { IsShort (reading_of read) }
+    ensures { visitor.new
+        ≡ option_map (if_visitor id (visitor_read (reading_of read.entry))) visitor.old }
+{
+    if let Some(visitor) = visitor
+        && visitor.id == id
+    {
+        visitor.arrived(read);
+    }
+}
+
+/// Asks to read the application, unless a line is there, or frees its seat once it is gone.
+fn read_or_leave(seat: &mut Seat, next: &mut Option<Next>) -> Outcome
+    ensures outcome { result ≡ spec.outcome_by seat.old next.old }
+    ensures seat { seat.new ≡ spec.left_seat seat.old next.old }
+    ensures next { next.new ≡ spec.counted_down seat.old next.old }
+{
+    let Seat::Taken(holder) = seat else {
+        return Outcome::Nothing;
+    };
+    if holder.incoming.has_line() {
+        return Outcome::Nothing;
+    }
+    if let Some(next) = next {
+        next.last_reads = next.last_reads.saturating_sub(1);
+        return Outcome::Reads(holder.id);
+    }
+    if holder.is_readable() {
+        return Outcome::Reads(holder.id);
+    }
+    if !holder.is_done() {
+        return Outcome::Nothing;
+    }
+    let has_read_all = !holder.outgoing.is_deaf();
+    *seat = Seat::Free { has_read_all };
+    Outcome::Gone
+}
+
+fn acts(seat: &Seat, next: &Option<Next>) -> bool
+    ensures { result ≡ spec.acts_by seat.now next.now }
+{
+    let Seat::Taken(holder) = seat else {
+        return next.is_some();
+    };
+    match next {
+        Some(next) => {
+            holder.is_new || is_over(next.last_reads, holder) || !holder.outgoing.is_full()
+        }
+        None => holder.has_something(),
+    }
+}
+
+/// Returns true if all lines of an application that is replaced are processed, or it was read often
+/// enough.
+fn is_over(last_reads: u32, holder: &Holder) -> bool
+    ensures { result ≡ spec.is_over last_reads holder.now }
+{
+    let is_read = !holder.is_readable() || last_reads == 0;
+    is_read && !holder.incoming.has_line()
 }

@@ -6,12 +6,11 @@ ghost use Rattle.gatt_laws.specs.machine.Calls.{DisconnectCall};
 ghost use Rattle.device_io.specs.Controller.{after_judging, after_loss, at_first as untried, fault_of, is_over_at, is_served, is_served_initialised, IsWrittenTo};
 ghost use Rattle.device_io.specs.Served.{words_of};
 ghost use Rattle.device_session.specs.Acceptance.{accepting};
-ghost use Rattle.device_session.specs.Application.{after_choosing, after_release, has_next_line, is_visitor, nobody};
-ghost use Rattle.device_session.specs.Asking.{after_call, after_delay, answer_in, application_if, asked_if, call_if, call_made, goes_on, may_begin, nothing_asked, with_answer, IsAnswerKept};
+ghost use Rattle.device_session.specs.Asking.{after_call, after_delay, answer_in, seats_if, asked_if, call_if, call_made, goes_on, may_begin, nothing_asked, with_answer, IsAnswerKept};
 ghost use Rattle.device_session.specs.Missed.{after_next_if, next_if, nothing_missed};
 ghost use Rattle.device_session.specs.Pending.{without_subject};
-ghost use Rattle.device_session.specs.Place.{has_room_in, is_new};
 ghost use Rattle.device_session.specs.Questions.{called, question_in, question_of};
+ghost use Rattle.device_session.specs.Seats.{after_choosing, after_release, has_next_line, has_room_in, is_new, is_visitor, nobody};
 ghost use Rattle.device_session.specs.Strangers.{are_limited, first_due, strangers_of};
 ghost use Rattle.device_session.specs.Timeout.{lacks_application};
 ghost use Rattle.device_session.specs.Turns.{after_work, at_first};
@@ -28,6 +27,7 @@ use crate::opening::{connector_to, listener_at, record_to};
 use crate::peer_clock::PeerClock;
 use crate::pending::{Pending, Subject};
 use crate::refusals::Refusals;
+use crate::seats::Seats;
 use crate::strangers::{Keyless, Limits};
 use crate::turns::Turns;
 use app_lines::Names;
@@ -47,6 +47,8 @@ pub struct Session<'a, R> {
     pub(crate) log: Log<'a, R>,
     pub(crate) poller: Poller,
     pub(crate) controller: ControllerSession<'a>,
+    pub(crate) seats: Seats,
+    /// The sockets of the seats.
     pub(crate) application: Application,
     pub(crate) acceptance: Acceptance,
     pub(crate) waits_for_application: bool,
@@ -77,7 +79,7 @@ impl<'a, R: Net<Listener = TcpListener, Stream = TcpStream> + Clock + Eprint> Se
         patience: u64,
         limits: Limits,
     ) -> io::Result<Session<'a, R>>
-        ensures application { IfOk result (λ session. session.application ≡ nobody) }
+        ensures seats { IfOk result (λ session. session.seats ≡ nobody) }
         ensures asking { IfOk result (λ session. session.asking ≡ nothing_asked) }
         ensures missed { IfOk result (λ session. session.missed ≡ nothing_missed) }
         ensures pending { IfOk result (λ session. session.pending.lines.items ≡ []) }
@@ -100,6 +102,7 @@ impl<'a, R: Net<Listener = TcpListener, Stream = TcpStream> + Clock + Eprint> Se
             log,
             poller,
             controller: ControllerSession::new(alloc, connector, patience, limits),
+            seats: Seats::none(alloc),
             application: Application::none(alloc),
             acceptance: Acceptance::new(),
             waits_for_application,
@@ -127,7 +130,7 @@ impl<'a, R> Session<'a, R> {
         ensures controller { self.new.controller.controller
             ≡ after_loss self.old.controller.controller }
         ensures strangers { self.new.controller.strangers.known.items ≡ [] }
-        ensures application { self.new.application ≡ self.old.application }
+        ensures seats { self.new.seats ≡ self.old.seats }
         ensures asking { self.new.asking ≡ self.old.asking }
     {
         self.controller.lose(&self.poller);
@@ -147,21 +150,21 @@ impl<'a, R> Session<'a, R> {
             (λ _. self.new.asking ≡ self.old.asking) }
         ensures unread { IfSome (first_due self.old.controller.strangers.limits
             self.old.clock.counted self.old.controller.strangers.known.items)
-            (λ _. self.new.application ≡ self.old.application) }
+            (λ _. self.new.seats ≡ self.old.seats) }
         ensures call { IfNone (first_due self.old.controller.strangers.limits
             self.old.clock.counted self.old.controller.strangers.known.items)
             (option_map called result ≡ call_made (call_if (may_begin self.old.asking)
-            (after_choosing self.old.application self.old.turns.time) self.old.asking
+            (after_choosing self.old.seats self.old.turns.time) self.old.asking
             self.old.names.named self.old.turns.time (length buffer.old))) }
         ensures asked { IfNone (first_due self.old.controller.strangers.limits
             self.old.clock.counted self.old.controller.strangers.known.items)
             (self.new.asking ≡ asked_if (may_begin self.old.asking)
-            (after_choosing self.old.application self.old.turns.time) self.old.asking
+            (after_choosing self.old.seats self.old.turns.time) self.old.asking
             self.old.names.named self.old.turns.time (length buffer.old)) }
-        ensures application { IfNone (first_due self.old.controller.strangers.limits
+        ensures seats { IfNone (first_due self.old.controller.strangers.limits
             self.old.clock.counted self.old.controller.strangers.known.items)
-            (self.new.application ≡ application_if (may_begin self.old.asking)
-            (after_choosing self.old.application self.old.turns.time) self.old.application) }
+            (self.new.seats ≡ seats_if (may_begin self.old.asking)
+            (after_choosing self.old.seats self.old.turns.time) self.old.seats) }
         ensures turns { self.new.turns ≡ self.old.turns }
     {
         if let Some(handle) = self.controller.strangers.next_due(self.clock.time()) {
@@ -169,7 +172,7 @@ impl<'a, R> Session<'a, R> {
         }
         let time = self.turns.time();
         self.asking
-            .next_call(&mut self.application, &self.names, time, buffer)
+            .next_call(&mut self.seats, &self.names, time, buffer)
     }
 
     /// Returns true if the sender of the last line has sent another one that the same save covers.
@@ -177,9 +180,9 @@ impl<'a, R> Session<'a, R> {
     /// No line is taken after work of the device before the clock is read again.
     pub fn has_next_line(&self) -> bool
         ensures { result ≡ (goes_on self.now.turns self.now.asking
-            && has_next_line self.now.application) }
+            && has_next_line self.now.seats) }
     {
-        self.may_go_on() && self.application.has_next_line()
+        self.may_go_on() && self.seats.has_next_line()
     }
 
     fn may_go_on(&self) -> bool
@@ -191,14 +194,14 @@ impl<'a, R> Session<'a, R> {
     /// Returns the call of the next line of the sender of the last one, if it makes one.
     pub fn next_call_of_asker<'b>(&mut self, buffer: &'b mut [u8]) -> Option<App<'b>>
         ensures call { option_map called result ≡ call_made (call_if
-            (goes_on self.old.turns self.old.asking) self.old.application self.old.asking
+            (goes_on self.old.turns self.old.asking) self.old.seats self.old.asking
             self.old.names.named self.old.turns.time (length buffer.old)) }
         ensures asked { self.new.asking ≡ asked_if (goes_on self.old.turns self.old.asking)
-            self.old.application self.old.asking
+            self.old.seats self.old.asking
             self.old.names.named self.old.turns.time (length buffer.old) }
-        ensures application { self.new.application ≡ application_if
-            (goes_on self.old.turns self.old.asking) self.old.application
-            self.old.application }
+        ensures seats { self.new.seats ≡ seats_if
+            (goes_on self.old.turns self.old.asking) self.old.seats
+            self.old.seats }
         ensures turns { self.new.turns ≡ self.old.turns }
     {
         if !self.turns.is_current() {
@@ -206,14 +209,14 @@ impl<'a, R> Session<'a, R> {
         }
         let time = self.turns.time();
         self.asking
-            .next_call_of_asker(&mut self.application, &self.names, time, buffer)
+            .next_call_of_asker(&mut self.seats, &self.names, time, buffer)
     }
 
     /// Returns true if the last line was not the application's.
     pub fn is_visited(&self) -> bool
-        ensures { result ≡ is_visitor self.now.application.askers.asker }
+        ensures { result ≡ is_visitor self.now.seats.askers.asker }
     {
-        self.application.is_visited()
+        self.seats.is_visited()
     }
 
     /// Stores the answer to the line that waits, until the changes are saved. Stores nothing if no
@@ -222,7 +225,7 @@ impl<'a, R> Session<'a, R> {
         ensures kept { IfOk text
             (λ text. IsAnswerKept (Some text.items) self.old.asking self.new.asking) }
         ensures refused { IfErr text (λ _. self.new.asking ≡ with_answer None self.old.asking) }
-        ensures application { self.new.application ≡ self.old.application }
+        ensures seats { self.new.seats ≡ self.old.seats }
         ensures pending { self.new.pending ≡ self.old.pending }
     {
         self.asking.keep_answer(text);
@@ -232,7 +235,7 @@ impl<'a, R> Session<'a, R> {
     pub fn note_update(&mut self, handle: u16)
         ensures pending { self.new.pending.lines.items
             ≡ without_subject (Value handle) self.old.pending.lines.items }
-        ensures application { self.new.application ≡ self.old.application }
+        ensures seats { self.new.seats ≡ self.old.seats }
         ensures asking { self.new.asking ≡ self.old.asking }
         ensures updated { self.new.updated ≡ self.old.updated }
         ensures names { self.new.names ≡ self.old.names }
@@ -243,7 +246,7 @@ impl<'a, R> Session<'a, R> {
     /// Stores the names of the connections.
     pub fn know(&mut self, heard: &Heard)
         ensures names { self.new.names ≡ heard.now.names }
-        ensures application { self.new.application ≡ self.old.application }
+        ensures seats { self.new.seats ≡ self.old.seats }
         ensures asking { self.new.asking ≡ self.old.asking }
         ensures pending { self.new.pending ≡ self.old.pending }
     {
@@ -260,7 +263,7 @@ impl<'a, R> Session<'a, R> {
     /// Stores the answer to the call of the line that waits.
     pub fn answered(&mut self, answer: Result<(), AppFault>)
         ensures asking { self.new.asking ≡ after_call answer self.old.asking }
-        ensures application { self.new.application ≡ self.old.application }
+        ensures seats { self.new.seats ≡ self.old.seats }
     {
         self.asking.answered(answer);
     }
@@ -283,7 +286,7 @@ impl<'a, R> Session<'a, R> {
     /// Puts off the answer to the line that waits. No line is read until it is answered.
     pub fn put_off_answer(&mut self)
         ensures asking { self.new.asking ≡ after_delay self.old.asking }
-        ensures application { self.new.application ≡ self.old.application }
+        ensures seats { self.new.seats ≡ self.old.seats }
         ensures names { self.new.names ≡ self.old.names }
         ensures pending { self.new.pending ≡ self.old.pending }
     {
@@ -292,21 +295,21 @@ impl<'a, R> Session<'a, R> {
 
     /// Reads no more lines. The last one may still be answered.
     pub fn hold(&mut self)
-        ensures application { self.new.application
-            ≡ record self.old.application { is_held = true } }
+        ensures seats { self.new.seats
+            ≡ record self.old.seats { is_held = true } }
         ensures asking { self.new.asking ≡ self.old.asking }
         ensures names { self.new.names ≡ self.old.names }
         ensures pending { self.new.pending ≡ self.old.pending }
     {
-        self.application.hold();
+        self.seats.hold();
     }
 
     /// Reads lines again after `hold`.
     pub fn release(&mut self)
-        ensures application { self.new.application ≡ after_release self.old.application }
+        ensures seats { self.new.seats ≡ after_release self.old.seats }
         ensures asking { self.new.asking ≡ self.old.asking }
     {
-        self.application.release();
+        self.seats.release();
     }
 
     /// Returns true if clients without a key have a time limit.
@@ -325,7 +328,7 @@ impl<'a, R> Session<'a, R> {
             ≡ self.old.controller.strangers.limits }
         ensures controller { self.new.controller.controller
             ≡ self.old.controller.controller }
-        ensures application { self.new.application ≡ self.old.application }
+        ensures seats { self.new.seats ≡ self.old.seats }
         ensures asking { self.new.asking ≡ self.old.asking }
         ensures missed { self.new.missed ≡ self.old.missed }
         ensures pending { self.new.pending ≡ self.old.pending }
@@ -338,9 +341,9 @@ impl<'a, R> Session<'a, R> {
     /// Returns true if a controller is served without a required application.
     pub fn lacks_application(&self) -> bool
         ensures { result ≡ lacks_application self.now.waits_for_application
-            self.now.controller.controller self.now.application }
+            self.now.controller.controller self.now.seats }
     {
-        self.has_controller() && self.waits_for_application && !self.application.is_there()
+        self.has_controller() && self.waits_for_application && !self.seats.is_there()
     }
 
     /// Returns the next value that an application missed, and marks it as notified.
@@ -348,18 +351,18 @@ impl<'a, R> Session<'a, R> {
     /// Returns `None` if no application can accept a line.
     pub fn next_missed(&mut self) -> Result<Option<u16>, AllocError>
         ensures first { IfOk result (λ handle. handle
-            ≡ next_if (has_room_in self.old.application.place) self.old.missed) }
+            ≡ next_if (has_room_in self.old.seats) self.old.missed) }
         ensures missed { IfOk result (λ _. self.new.missed
-            ≡ after_next_if (has_room_in self.old.application.place) self.old.missed) }
+            ≡ after_next_if (has_room_in self.old.seats) self.old.missed) }
         ensures unchanged { IfErr result (λ _. self.new.missed ≡ self.old.missed) }
-        ensures application { self.new.application ≡ self.old.application }
+        ensures seats { self.new.seats ≡ self.old.seats }
         ensures asking { self.new.asking ≡ self.old.asking }
         ensures pending { self.new.pending ≡ self.old.pending }
         ensures updated { self.new.updated ≡ self.old.updated }
         ensures names { self.new.names ≡ self.old.names }
         ensures controller { self.new.controller ≡ self.old.controller }
     {
-        if self.application.has_room() {
+        if self.seats.has_room() {
             self.missed.next()
         } else {
             Ok(None)
@@ -368,9 +371,9 @@ impl<'a, R> Session<'a, R> {
 
     /// Returns true if an application lacks the current state.
     pub fn has_new_application(&self) -> bool
-        ensures { result ≡ is_new self.now.application.place }
+        ensures { result ≡ is_new self.now.seats }
     {
-        self.application.is_new()
+        self.seats.is_new()
     }
 
     /// Returns true if a controller is served.
@@ -398,7 +401,7 @@ impl<R: Clock + Eprint> Session<'_, R> {
         ensures failed { IfErr result (λ _. self.new.controller.controller
             ≡ after_judging self.old.clock.counted self.old.controller.controller) }
         ensures turns { self.new.turns ≡ self.old.turns }
-        ensures application { self.new.application ≡ self.old.application }
+        ensures seats { self.new.seats ≡ self.old.seats }
         ensures asking { self.new.asking ≡ self.old.asking }
     {
         let now = self.clock.time();
@@ -414,7 +417,7 @@ impl<R: Clock + Eprint> Session<'_, R> {
             (λ is_there. is_there ≡ is_served self.old.controller.controller) }
         ensures written { IsWrittenTo octets.now self.old.clock.counted
             self.old.controller.controller self.new.controller.controller (is_ok result) }
-        ensures application { self.new.application ≡ self.old.application }
+        ensures seats { self.new.seats ≡ self.old.seats }
         ensures asking { self.new.asking ≡ self.old.asking }
     {
         let now = self.clock.time();
@@ -435,7 +438,7 @@ impl<R: Clock + Eprint> Session<'_, R> {
     /// Call `end_work` then. The host gets octets and lines only after the clock was read again.
     pub fn begin_work(&mut self)
         ensures turns { self.new.turns ≡ self.old.turns }
-        ensures application { self.new.application ≡ self.old.application }
+        ensures seats { self.new.seats ≡ self.old.seats }
         ensures asking { self.new.asking ≡ self.old.asking }
         ensures pending { self.new.pending ≡ self.old.pending }
     {
@@ -445,7 +448,7 @@ impl<R: Clock + Eprint> Session<'_, R> {
     /// Ends work of the device itself.
     pub fn end_work(&mut self)
         ensures turns { self.new.turns ≡ after_work self.old.turns }
-        ensures application { self.new.application ≡ self.old.application }
+        ensures seats { self.new.seats ≡ self.old.seats }
         ensures asking { self.new.asking ≡ self.old.asking }
         ensures pending { self.new.pending ≡ self.old.pending }
     {
@@ -457,7 +460,7 @@ impl<R: Clock + Eprint> Session<'_, R> {
 impl<R: System> Session<'_, R> {
     /// Listens for applications at an address.
     pub fn listen_for_applications(&mut self, address: ApplicationAddress<'_>) -> io::Result<()>
-        ensures application { self.new.application ≡ self.old.application }
+        ensures seats { self.new.seats ≡ self.old.seats }
         ensures asking { self.new.asking ≡ self.old.asking }
     {
         let listener = listener_at(self.alloc, &self.log, &self.poller, address)?;
@@ -472,7 +475,7 @@ impl<R: System> Session<'_, R> {
         ensures nothing { is_some path.entry ≡ false → self.new.controller ≡ self.old.controller }
         ensures controller { self.new.controller.controller
             ≡ self.old.controller.controller }
-        ensures application { self.new.application ≡ self.old.application }
+        ensures seats { self.new.seats ≡ self.old.seats }
         ensures asking { self.new.asking ≡ self.old.asking }
     {
         if let Some(path) = path {

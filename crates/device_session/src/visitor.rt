@@ -4,20 +4,32 @@
 ghost use Rattle.std.specs.Prelude.{◌≡◌};
 ghost use Rattle.app_lines.specs.Inbox.{found_in};
 ghost use Rattle.app_lines.specs.declared.inbox.Found.TheVariants.{Nothing};
-ghost use Rattle.device_session.specs.Visitor.{by_input, by_kind, has_something, is_asking, is_claiming, visit_of, visitor_at, would_come, ClaimsRightly, LeavesInTime, WakesInTime};
+ghost use Rattle.device_session.specs.Incoming.{reading_of, IsShort};
+ghost use Rattle.device_session.specs.Visitor.{by_input, by_kind, has_something, is_asking, is_claiming, visit_of, visitor_at, visitor_read, would_come, ClaimsRightly, LeavesInTime, WakesInTime};
 ghost use Rattle.device_session.specs.declared.visitor.Visit.TheVariants.{Reads};
 
 use crate::asked::{LineKind, line_kind};
-use crate::incoming::{Incoming, Input};
+use crate::incoming::{Incoming, Input, Read};
 use app_lines::Found;
 
 /// Time after which a visitor that has sent nothing becomes the application, and another is closed.
 const VISIT: u64 = 1_000;
 
+/// The milliseconds in which an application at a path may accept nothing of what waits for it.
+const SLOW_TIME: u64 = 5_000;
+
+/// The milliseconds in which an application at a port may accept nothing.
+///
+/// The other end's system accepts nothing until the application has read some 64 KiB.
+const SLOW_PORT_TIME: u64 = 20_000;
+
 /// A connection that is not the application: it asks, or becomes the application.
 #[derive(Drop)]
 pub(crate) struct Visitor {
+    pub(crate) id: u64,
     pub(crate) incoming: Incoming,
+    /// How long it may accept nothing as the application.
+    pub(crate) slow: u64,
     due: u64,
 }
 
@@ -35,16 +47,19 @@ pub(crate) enum Visit {
 }
 
 impl Visitor {
-    /// Returns a visitor that has just connected.
-    pub(crate) fn new(now: u64) -> Visitor
-        ensures visitor { result ≡ visitor_at now }
+    /// Returns a visitor that has just connected, at a port if it `is_remote`.
+    pub(crate) fn new(id: u64, is_remote: bool, now: u64) -> Visitor
+        ensures visitor { result ≡ visitor_at id is_remote now }
         // For all that it may send:
         ensures place { ClaimsRightly }
         ensures in_time { LeavesInTime }
         ensures wakes { WakesInTime }
     {
+        let slow = if is_remote { SLOW_PORT_TIME } else { SLOW_TIME };
         Visitor {
+            id,
             incoming: Incoming::new(),
+            slow,
             due: now.saturating_add(VISIT),
         }
     }
@@ -76,11 +91,21 @@ impl Visitor {
         }
     }
 
+    /// Notes what a read brought, unless a line waits.
+    pub(crate) fn arrived(&mut self, read: Read<'_>)
+        requires few { IsShort (reading_of read) }
+        ensures { self.new ≡ visitor_read (reading_of read.entry) self.old }
+    {
+        if !self.incoming.has_line() {
+            self.incoming.arrived(read);
+        }
+    }
+
     /// Returns true if there is something to do before its time is over.
     pub(crate) fn has_something(&self) -> bool
         ensures { result ≡ has_something self.now }
     {
-        self.incoming.input != Input::Quiet || !matches!(self.incoming.found(), Found::Nothing)
+        self.incoming.input != Input::Quiet || self.incoming.has_line()
     }
 
     /// Returns true if its next line claims the application's place, whether that is free or not.

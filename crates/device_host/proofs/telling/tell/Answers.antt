@@ -3,12 +3,12 @@ use Rattle.device_host.proofs.telling.tell.Goals as goal
 
 pub returns-clause-order : goal.returns-clause-order
 returns-clause-order g c = record {
-  informed = c.tell_state_of_saving.new.device.session.application;
-  released = c.tell_pending.new.session.application;
-  answered = c.reply.new.self.application;
-  notified = c.tell_heard.new.device.session.application;
-  welcomed = c.welcome.new.device.session.application;
-  reminded = c.tell_missed.new.session.application;
+  informed = c.tell_state_of_saving.new.device.session.seats;
+  released = c.tell_pending.new.session.seats;
+  answered = c.reply.new.self.seats;
+  notified = c.tell_heard.new.device.session.seats;
+  welcomed = c.welcome.new.device.session.seats;
+  reminded = c.tell_missed.new.session.seats;
   noted = c.tell_pending.new.session.missed;
   known = c.tell_heard.new.device.session.missed;
   left = c.tell_missed.new.session.missed;

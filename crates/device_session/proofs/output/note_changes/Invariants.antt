@@ -7,5 +7,5 @@ use Rattle.device_session.proofs.output.note_changes.Given as goal
 -- Once the changes that are left are noted, all are.
 abbrev pub invariant-loop-change : goal.invariant-loop-change
 invariant-loop-change g l =
-    (last : Missed) → AreNoted (map (λ (change : Change). change.subject) (drop l.change-index l.changes)) l.application l.missed last
-    → AreNoted (map (λ (change : Change). change.subject) l.changes) l.application l.fn.missed last
+    (last : Missed) → AreNoted (map (λ (change : Change). change.subject) (drop l.change-index l.changes)) l.seats l.missed last
+    → AreNoted (map (λ (change : Change). change.subject) l.changes) l.seats l.fn.missed last

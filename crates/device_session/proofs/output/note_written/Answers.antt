@@ -7,9 +7,9 @@ pub loop-attribute-preserved : goal.loop-attribute-preserved
 loop-attribute-preserved g c =
     λ last rest.
     c.loop-attribute.invariant last
-    (noted_more Value c.args.written.now c.loop-attribute.attribute-index _ c.args.application.now c.loop-attribute.missed c.note_told.new.missed last c.loop-attribute-test.true c.note_told.ensures rest)
+    (noted_more Value c.args.written.now c.loop-attribute.attribute-index _ c.args.seats.now c.loop-attribute.missed c.note_told.new.missed last c.loop-attribute-test.true c.note_told.ensures rest)
 
 pub returns : goal.returns
 returns g c =
     c.loop-attribute.invariant c.loop-attribute.missed
-    (all_noted Value c.args.written.now c.loop-attribute.attribute-index c.args.application.now c.loop-attribute.missed (omega (arith, c.loop-attribute-test.false)))
+    (all_noted Value c.args.written.now c.loop-attribute.attribute-index c.args.seats.now c.loop-attribute.missed (omega (arith, c.loop-attribute-test.false)))

@@ -7,5 +7,5 @@ use Rattle.device_session.proofs.output.note_written.Given as goal
 -- Once the values that are left are noted, all are.
 abbrev pub invariant-loop-attribute : goal.invariant-loop-attribute
 invariant-loop-attribute g l =
-    (last : Missed) → AreNoted (map Value (drop l.attribute-index l.written)) l.application l.missed last
-    → AreNoted (map Value l.written) l.application l.fn.missed last
+    (last : Missed) → AreNoted (map Value (drop l.attribute-index l.written)) l.seats l.missed last
+    → AreNoted (map Value l.written) l.seats l.fn.missed last

@@ -1,5 +1,5 @@
 use Rattle.std.proofs.Common.{List, drop}
-use Rattle.device_session.specs.ApplicationValue.{Application}
+use Rattle.device_session.specs.Seats.{Seats}
 use Rattle.device_session.specs.Pending.{Line}
 use Rattle.device_session.specs.Telling.{AreOthersTold}
 use Rattle.device_session.proofs.output.tell_others.Given as goal
@@ -7,6 +7,6 @@ use Rattle.device_session.proofs.output.tell_others.Given as goal
 -- Once the text that is left is sent or waits, all is.
 abbrev pub invariant-loop-change : goal.invariant-loop-change
 invariant-loop-change g l =
-    (after : Application) (last : List Line)
-    → AreOthersTold l.text l.begin (drop l.change-index l.changes) l.application l.pending.lines.items after last
-    → AreOthersTold l.text 0 l.changes l.fn.application l.fn.pending.lines.items after last
+    (after : Seats) (last : List Line)
+    → AreOthersTold l.text l.begin (drop l.change-index l.changes) l.seats l.pending.lines.items after last
+    → AreOthersTold l.text 0 l.changes l.fn.seats l.fn.pending.lines.items after last

@@ -5,8 +5,8 @@ pub returns-in-Ok-clause-waited : goal.returns-in-Ok-clause-waited
 returns-in-Ok-clause-waited g c = record {
   begun = c.count.new.self;
   woken = c.count-2.new.self;
-  heard = c.fill.new.application;
-  watched = c.watch.new.self;
+  heard = c.fill.new.seats;
+  watched = c.watch.new.seats;
   noted = c.fill.new.missed;
   slow = c.watch.result;
   counts = (c.now.result, c.count.ensures.counted, c.count.ensures.seen);
@@ -20,8 +20,8 @@ pub returns-in_default-clause-waited : goal.returns-in_default-clause-waited
 returns-in_default-clause-waited g c = record {
   begun = c.count.new.self;
   woken = c.count-2.new.self;
-  heard = c.fill.new.application;
-  watched = c.watch.new.self;
+  heard = c.fill.new.seats;
+  watched = c.watch.new.seats;
   noted = c.fill.new.missed;
   slow = c.watch.result;
   counts = (c.now.result, c.count.ensures.counted, c.count.ensures.seen);
