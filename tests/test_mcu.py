@@ -1,72 +1,27 @@
-"""Tries the library of tools/mcu: on this PC, compiled for addresses of 32 bits, and on an emulated board.
+"""Tries the library of tools/mcu: on this PC, compiled for addresses of 32 bits, and on emulated boards.
 
-It is made without proofs: the kit makes its LLVM module once, unless GIHANDOP_MODULE has the path of one that
-tools/modules.py has read. Nothing here runs on a real board. The programs in C are those of the other tests, which
-know nothing of the pool: tests/c/pool_room.c gives it its memory.
+It is made without proofs. Nothing here runs on a real board. The programs in C are those of the other tests.
 """
 
 import os
 import re
-import shutil
 import sys
 import tempfile
 
 import pytest
 
+from parties.boards import C_FLAGS, BOARDS, archive, mcu, missing, modules, need_board, on_board, sources_of
 from parties.building import is_marked, once, ran, run
 from parties.compiling import PROGRAMS
 from parties.in_c import SCRIPTS, compare_day, compare_script
 from parties.places import ROOT, text_of, write_text
 from parties.releases import made_up_verdict
 
-sys.path.insert(0, f"{ROOT}/tools")
-import modules  # noqa: E402
 import verdicts  # noqa: E402
 
-mcu = modules.load("mcu")
 DAYS = 6
 # The programs of tests/c that end by themselves and need no thread and no memory of their own.
 ENDING = ["edges", "calls", "values", "serve"]
-C_FLAGS = ["-std=c11", "-Wall", "-Wextra", "-Werror", "-Iinclude", "-Itests/c", "-Imcu"]
-# The emulator of the board, which is the name of its package too.
-EMULATOR = "qemu-system-arm"
-
-
-def missing(*commands):
-    """Skips a test for the first command that is missing, with its package."""
-    for command, package in commands:
-        if shutil.which(command) is None:
-            pytest.skip(f"there is no {command}: apt-get install {package}")
-
-
-def module():
-    """The text of the module of gihandop_c, without proofs."""
-
-    def make(path):
-        with tempfile.TemporaryDirectory() as room:
-            text, _ = modules.take(mcu.CRATE, modules.load("unproved").HOLDER, room, False)
-        write_text(path, text)
-
-    if path := os.environ.get("GIHANDOP_MODULE"):
-        return text_of(path)
-    missing(("rt", "the kit of Rattle"))
-    return text_of(once("module.ll", make))
-
-
-def archive(name, size="-Os"):
-    """The path of the archive for a processor."""
-
-    def make(path):
-        processor = mcu.TESTED[name]
-        with tempfile.TemporaryDirectory() as room:
-            mcu.compile_for(processor, size, mcu.module_for(processor, module()), False, room, f"{room}/made.a")
-            shutil.copyfile(f"{room}/made.a", path)
-
-    return once(f"{name}{size}.a", make)
-
-
-def sources_of(name):
-    return [*PROGRAMS[name][0], "tests/c/pool_room.c"]
 
 
 @pytest.fixture(scope="module")
@@ -84,26 +39,6 @@ def on_pc():
         return [once(f"i386.{name}", lambda path: ran([*words, path], name))]
 
     return words_of
-
-
-@pytest.fixture(scope="module")
-def on_board():
-    """Returns a function that runs a program on the emulated board, with words, and returns what it prints."""
-    processor = mcu.PROCESSORS["cortex-m4"]
-    missing((processor.compiler, processor.packages), (EMULATOR, EMULATOR), ("rt", "the kit of Rattle"))
-
-    def play(name, *words):
-        made = archive("cortex-m4")
-        command = [processor.compiler, *processor.own, "-O1", *C_FLAGS, "--specs=rdimon.specs", "-Wl,--no-warn-rwx-segments"]
-        command += ["-ffunction-sections", "-Wl,--gc-sections", "-T", "tests/c/board.ld", "tests/c/board.c"]
-        program = once(f"board.{name}", lambda path: ran([*command, *sources_of(name), made, "-o", path], name))
-        told = ",".join(f"arg={it}" for it in (name, *words))
-        return ran(
-            [EMULATOR, "-M", "mps2-an386", "-nographic", "-monitor", "none", "-serial", "none",
-             "-semihosting-config", f"enable=on,target=native,{told}", "-kernel", program], name, timeout=300,
-        )
-
-    return play
 
 
 @pytest.mark.long(60)
@@ -128,8 +63,11 @@ def test_program_on_a_pc(on_pc, name):
 
 @pytest.mark.without_program
 @pytest.mark.parametrize("name", ENDING)
-def test_program_on_the_board(on_board, name):
-    assert re.search(r"[1-9]\d* checks, 0 failed", on_board(name, *PROGRAMS[name][2]))
+@pytest.mark.parametrize("board", BOARDS)
+def test_program_on_a_board(board, name):
+    """Each check of a program in C holds on an emulated board."""
+    need_board(board)
+    assert re.search(r"[1-9]\d* checks, 0 failed", on_board(board, name, *PROGRAMS[name][2]))
 
 
 @pytest.mark.without_program

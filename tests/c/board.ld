@@ -1,8 +1,11 @@
-/* The emulated board mps2-an386: 4 MB of code and 4 MB of data. The stack has 512 KB. */
+/*
+ * The emulated boards mps2-an386 and mps2-an505: 4 MB of code and 4 MB of data. The stack has 512 KB. The places are
+ * those of mps2-an386, unless BOARD_CODE and BOARD_DATA are defined.
+ */
 ENTRY(_start)
 MEMORY {
-    CODE (rx) : ORIGIN = 0x00000000, LENGTH = 4M
-    DATA (rw) : ORIGIN = 0x20000000, LENGTH = 4M
+    CODE (rx) : ORIGIN = DEFINED(BOARD_CODE) ? BOARD_CODE : 0x00000000, LENGTH = 4M
+    DATA (rw) : ORIGIN = DEFINED(BOARD_DATA) ? BOARD_DATA : 0x20000000, LENGTH = 4M
 }
 SECTIONS {
     .text : {

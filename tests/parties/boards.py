@@ -1,0 +1,113 @@
+"""The library of tools/mcu without proofs, and the programs of tests/c with it on emulated boards.
+
+The kit makes the LLVM module once, unless GIHANDOP_MODULE has the path of one that tools/modules.py has read. The
+programs know nothing of the pool: tests/c/pool_room.c gives it its memory.
+"""
+
+import os
+import shutil
+import sys
+import tempfile
+
+import pytest
+
+from parties.building import once, ran
+from parties.compiling import PROGRAMS
+from parties.places import ROOT, text_of, write_text
+
+sys.path.insert(0, f"{ROOT}/tools")
+import modules  # noqa: E402
+
+mcu = modules.load("mcu")
+C_FLAGS = ["-std=c11", "-Wall", "-Wextra", "-Werror", "-Iinclude", "-Itests/c", "-Imcu"]
+# A program and the archive have a section for each function, and the linker leaves out what nothing calls.
+LEAN = ["-ffunction-sections", "-Wl,--gc-sections", "-Wl,--no-warn-rwx-segments"]
+
+
+class Board:
+    """An emulated board: the emulator with its package, its name there, and what a program is compiled with."""
+
+    def __init__(self, emulator, package, name, flags, tells_name=True):
+        self.emulator, self.package, self.name, self.flags = emulator, package, name, flags
+        # Its C library has a name of its own for the program, before the words of the command.
+        self.tells_name = tells_name
+
+
+def places(**symbols):
+    """The option by which a linker script gets numbers."""
+    return "-Wl," + ",".join(f"--defsym={name}={value}" for name, value in symbols.items())
+
+
+ARM = ["--specs=rdimon.specs", "-T", "tests/c/board.ld", "tests/c/board.c"]
+BOARDS = {
+    "cortex-m4": Board("qemu-system-arm", "qemu-system-arm", "mps2-an386", ARM),
+    "cortex-m33": Board(
+        "qemu-system-arm", "qemu-system-arm", "mps2-an505", [*ARM, places(BOARD_CODE="0x10000000", BOARD_DATA="0x38000000")],
+    ),
+    "rv32imac": Board(
+        "qemu-system-riscv32", "qemu-system-misc", "virt",
+        ["--oslib=semihost", "--crt0=semihost",
+         places(__flash="0x80000000", __flash_size="4M", __ram="0x80400000", __ram_size="4M", __stack_size="512K")],
+        False,
+    ),
+}
+
+
+def missing(*commands):
+    """Skips a test for the first command that is missing, with its package."""
+    for command, package in commands:
+        if shutil.which(command) is None:
+            pytest.skip(f"there is no {command}: apt-get install {package}")
+
+
+def module():
+    """The text of the module of gihandop_c, without proofs."""
+
+    def make(path):
+        with tempfile.TemporaryDirectory() as room:
+            text, _ = modules.take(mcu.CRATE, modules.load("unproved").HOLDER, room, False)
+        write_text(path, text)
+
+    if path := os.environ.get("GIHANDOP_MODULE"):
+        return text_of(path)
+    missing(("rt", "the kit of Rattle"))
+    return text_of(once("module.ll", make))
+
+
+def archive(name, size="-Os"):
+    """The path of the archive for a processor."""
+
+    def make(path):
+        processor = mcu.TESTED[name]
+        with tempfile.TemporaryDirectory() as room:
+            mcu.compile_for(processor, size, mcu.module_for(processor, module()), False, room, f"{room}/made.a")
+            shutil.copyfile(f"{room}/made.a", path)
+
+    return once(f"{name}{size}.a", make)
+
+
+def sources_of(name):
+    return [*PROGRAMS[name][0], "tests/c/pool_room.c"]
+
+
+def need_board(name):
+    """Skips a test if a board cannot be emulated here."""
+    processor, board = mcu.PROCESSORS[name], BOARDS[name]
+    missing((processor.compiler, processor.packages), (board.emulator, board.package), ("rt", "the kit of Rattle"))
+
+
+def program_for(name, program):
+    """The path of a program of tests/c for a board."""
+    processor, board, made = mcu.PROCESSORS[name], BOARDS[name], archive(name)
+    words = [processor.compiler, *processor.own, "-O1", *C_FLAGS, *LEAN, *board.flags, *sources_of(program), made, "-o"]
+    return once(f"{name}.{program}", lambda path: ran([*words, path], program))
+
+
+def on_board(name, program, *words):
+    """Has a board run a program with words, and returns what it prints."""
+    board, path = BOARDS[name], program_for(name, program)
+    told = ",".join(f"arg={it}" for it in ([program] if board.tells_name else []) + list(words))
+    bios = ["-bios", "none"] if board.name == "virt" else []
+    command = [board.emulator, "-M", board.name, *bios, "-display", "none", "-monitor", "none", "-serial", "none"]
+    command += ["-semihosting-config", f"enable=on,target=native,{told}", "-kernel", path]
+    return ran(command, f"{program} on {board.name}", timeout=300)
