@@ -12,7 +12,7 @@ import pytest
 
 from parties.boards import C_FLAGS, BOARDS, archive, mcu, missing, modules, need_board, on_board, sources_of
 from parties.building import is_marked, once, ran, run
-from parties.compiling import PROGRAMS
+from parties.compiling import HAS_ARCHIVE, KEYS, MISSING, NEXT, PROGRAMS, there, words_of
 from parties.in_c import SCRIPTS, compare_day, compare_script
 from parties.places import ROOT, text_of, write_text
 from parties.releases import made_up_verdict
@@ -20,6 +20,9 @@ from parties.releases import made_up_verdict
 import verdicts  # noqa: E402
 
 DAYS = 6
+# The tables of the streams of packets at random, and how many packets each has: all have 100,000 by 25000.
+STREAMS = ["door", "bell", "porch", "conformance/server"]
+PACKETS = os.environ.get("GIHANDOP_PACKETS", "5000")
 # The programs of tests/c that end by themselves and need no thread and no memory of their own.
 ENDING = ["edges", "calls", "values", "serve"]
 
@@ -68,6 +71,39 @@ def test_program_on_a_board(board, name):
     """Each check of a program in C holds on an emulated board."""
     need_board(board)
     assert re.search(r"[1-9]\d* checks, 0 failed", on_board(board, name, *PROGRAMS[name][2]))
+
+
+def words_of_stream(table):
+    """The words of the program that plays packets at random."""
+    following = [NEXT] if table == "porch" else []
+    return [str(STREAMS.index(table)), PACKETS, f"examples/{table}.toml", KEYS, *following]
+
+
+def compare_stream(table, printed):
+    """Compares each line that a stream prints with those of the library for 64 bits."""
+    if not HAS_ARCHIVE or not there():
+        pytest.skip(MISSING)
+    wanted = ran([*words_of(there()[0], "stream"), *words_of_stream(table)]).splitlines()
+    found = printed.splitlines()
+    assert len(wanted) > int(PACKETS) and wanted[-1].startswith("= close 0 0")
+    for number, (line, due) in enumerate(zip(found, wanted), 1):
+        assert line == due, f"line {number} of {table}"
+    assert len(found) == len(wanted), table
+
+
+@pytest.mark.without_program
+@pytest.mark.parametrize("table", STREAMS)
+def test_stream_on_a_pc(on_pc, table):
+    """A host with addresses of 32 bits answers packets at random, right and wrong ones, octet for octet."""
+    compare_stream(table, ran([*on_pc("stream"), *words_of_stream(table)]))
+
+
+@pytest.mark.without_program
+@pytest.mark.parametrize("table", STREAMS)
+@pytest.mark.parametrize("board", BOARDS)
+def test_stream_on_a_board(board, table):
+    need_board(board)
+    compare_stream(table, on_board(board, "stream", *words_of_stream(table)))
 
 
 @pytest.mark.without_program

@@ -17,40 +17,10 @@ from parties.places import ROOT, text_of, write_text
 
 sys.path.insert(0, f"{ROOT}/tools")
 import modules  # noqa: E402
+from boards import BOARDS, LEAN  # noqa: E402
 
 mcu = modules.load("mcu")
 C_FLAGS = ["-std=c11", "-Wall", "-Wextra", "-Werror", "-Iinclude", "-Itests/c", "-Imcu"]
-# A program and the archive have a section for each function, and the linker leaves out what nothing calls.
-LEAN = ["-ffunction-sections", "-Wl,--gc-sections", "-Wl,--no-warn-rwx-segments"]
-
-
-class Board:
-    """An emulated board: the emulator with its package, its name there, and what a program is compiled with."""
-
-    def __init__(self, emulator, package, name, flags, tells_name=True):
-        self.emulator, self.package, self.name, self.flags = emulator, package, name, flags
-        # Its C library has a name of its own for the program, before the words of the command.
-        self.tells_name = tells_name
-
-
-def places(**symbols):
-    """The option by which a linker script gets numbers."""
-    return "-Wl," + ",".join(f"--defsym={name}={value}" for name, value in symbols.items())
-
-
-ARM = ["--specs=rdimon.specs", "-T", "tests/c/board.ld", "tests/c/board.c"]
-BOARDS = {
-    "cortex-m4": Board("qemu-system-arm", "qemu-system-arm", "mps2-an386", ARM),
-    "cortex-m33": Board(
-        "qemu-system-arm", "qemu-system-arm", "mps2-an505", [*ARM, places(BOARD_CODE="0x10000000", BOARD_DATA="0x38000000")],
-    ),
-    "rv32imac": Board(
-        "qemu-system-riscv32", "qemu-system-misc", "virt",
-        ["--oslib=semihost", "--crt0=semihost",
-         places(__flash="0x80000000", __flash_size="4M", __ram="0x80400000", __ram_size="4M", __stack_size="512K")],
-        False,
-    ),
-}
 
 
 def missing(*commands):
@@ -106,8 +76,4 @@ def program_for(name, program):
 def on_board(name, program, *words):
     """Has a board run a program with words, and returns what it prints."""
     board, path = BOARDS[name], program_for(name, program)
-    told = ",".join(f"arg={it}" for it in ([program] if board.tells_name else []) + list(words))
-    bios = ["-bios", "none"] if board.name == "virt" else []
-    command = [board.emulator, "-M", board.name, *bios, "-display", "none", "-monitor", "none", "-serial", "none"]
-    command += ["-semihosting-config", f"enable=on,target=native,{told}", "-kernel", path]
-    return ran(command, f"{program} on {board.name}", timeout=300)
+    return ran(board.words(path, program, words), f"{program} on {board.name}", timeout=300)

@@ -43,6 +43,7 @@ PROGRAMS = {
     "memory": (["tests/c/memory.c", "tests/c/controller.c"], POOL, [PORCH, KEYS, NEXT]),
     "stack": (["tests/c/stack.c", "tests/c/controller.c"], ["-pthread"], [PORCH, KEYS, NEXT]),
     "obey": (["tests/c/obey.c", "tests/c/controller.c"], [], None),
+    "stream": (["tests/c/stream.c", "tests/c/controller.c"], [], None),
     "lockd": (["examples/c/lockd.c", "examples/c/line.c", "examples/c/files.c", "c/serve.c"], [], None),
 }
 
