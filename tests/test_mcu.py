@@ -12,7 +12,7 @@ import pytest
 
 from parties.boards import C_FLAGS, BOARDS, archive, mcu, missing, modules, need_board, on_board, sources_of
 from parties.building import is_marked, once, ran, run
-from parties.compiling import HAS_ARCHIVE, KEYS, MISSING, NEXT, PROGRAMS, there, words_of
+from parties.compiling import HAS_ARCHIVE, KEYS, MISSING, NEXT, PROGRAMS, VALGRIND, there, words_of
 from parties.in_c import SCRIPTS, compare_day, compare_script
 from parties.places import ROOT, text_of, write_text
 from parties.releases import made_up_verdict
@@ -23,18 +23,25 @@ DAYS = 6
 # The tables of the streams of packets at random, and how many packets each has: all have 100,000 by 25000.
 STREAMS = ["door", "bell", "porch", "conformance/server"]
 PACKETS = os.environ.get("GIHANDOP_PACKETS", "5000")
-# The programs of tests/c that end by themselves and need no thread and no memory of their own.
-ENDING = ["edges", "calls", "values", "serve"]
+# The programs of tests/c that end by themselves and need no thread.
+ENDING = ["edges", "calls", "values", "serve", "memory"]
 
 
 @pytest.fixture(scope="module")
-def on_pc():
-    """Returns the words that run a program for addresses of 32 bits on this PC."""
-    missing(("gcc", "gcc"), ("rt", "the kit of Rattle"))
+def narrow():
+    """A program for addresses of 32 bits, which does nothing on this PC."""
+    missing(("gcc", "gcc"))
     with tempfile.TemporaryDirectory() as room:
-        empty = write_text(f"{room}/empty.c", "#include <string.h>\nint main(void) { return 0; }\n")
-        if run(["gcc", "-m32", "-o", f"{room}/empty", empty]).returncode:
+        source = write_text(f"{room}/empty.c", "#include <string.h>\nint main(void) { return 0; }\n")
+        if run(["gcc", "-m32", "-o", f"{room}/empty", source]).returncode:
             pytest.skip("gcc has no -m32: apt-get install gcc-multilib")
+        yield f"{room}/empty"
+
+
+@pytest.fixture(scope="module")
+def on_pc(narrow):
+    """Returns the words that run a program for addresses of 32 bits on this PC."""
+    missing(("rt", "the kit of Rattle"))
 
     def words_of(name):
         made = archive("i386")
@@ -42,6 +49,15 @@ def on_pc():
         return [once(f"i386.{name}", lambda path: ran([*words, path], name))]
 
     return words_of
+
+
+@pytest.fixture(scope="module")
+def under_valgrind(narrow):
+    """The words before a program for addresses of 32 bits."""
+    missing(("valgrind", "valgrind"))
+    if run([*VALGRIND, narrow]).returncode:
+        pytest.skip("valgrind lacks the C library of 32 bits: dpkg --add-architecture i386; apt-get install libc6-dbg:i386")
+    return VALGRIND
 
 
 @pytest.mark.long(60)
@@ -62,6 +78,13 @@ def test_day_on_a_pc(program, folder, on_pc, number):
 def test_program_on_a_pc(on_pc, name):
     """Each check of a program in C holds."""
     assert re.search(r"[1-9]\d* checks, 0 failed", ran([*on_pc(name), *PROGRAMS[name][2]]))
+
+
+@pytest.mark.without_program
+@pytest.mark.parametrize("name", ENDING)
+def test_program_under_valgrind(on_pc, under_valgrind, name):
+    """It uses no memory that is not its own, or that has no value, and loses none."""
+    assert re.search(r"[1-9]\d* checks, 0 failed", ran([*under_valgrind, *on_pc(name), *PROGRAMS[name][2]]))
 
 
 @pytest.mark.without_program

@@ -1,5 +1,6 @@
 /*
- * Refuses each allocation in turn, and counts what is live. c/heap.c is compiled over the pool.
+ * Refuses each allocation in turn, and counts what is live. c/heap.c is compiled over the pool, or it is over the
+ * pool of a microcontroller (pool.h).
  *
  *     memory PORCH KEYS PORCH_NEXT         of examples/
  */
@@ -31,7 +32,7 @@ static void count(size_t added, size_t removed)
 
 void *pool_take(size_t size)
 {
-    char *block = is_refused(size) ? NULL : malloc(FRONT + size);
+    char *block = is_refused(size) ? NULL : TAKE_BELOW(FRONT + size);
     if (block == NULL)
         return NULL;
     *(size_t *)(void *)block = size;
@@ -44,7 +45,7 @@ void *pool_resize(void *at, size_t size)
 {
     char *front = (char *)at - FRONT;
     size_t old = *(size_t *)(void *)front;
-    char *block = is_refused(size) ? NULL : realloc(front, FRONT + size);
+    char *block = is_refused(size) ? NULL : RESIZE_BELOW(front, FRONT + size);
     if (block == NULL)
         return NULL;
     *(size_t *)(void *)block = size;
@@ -57,7 +58,7 @@ void pool_give_back(void *at)
     char *front = (char *)at - FRONT;
     blocks--;
     count(0, *(size_t *)(void *)front);
-    free(front);
+    GIVE_BACK_BELOW(front);
 }
 
 static bool is_out_of_memory(uint32_t status)
@@ -88,14 +89,15 @@ static void opening(size_t slots)
     }
     CHECK(status == GH_DONE);
     CHECK(asked == at - 2);
-    printf("%zu connections: %u allocations, then %zu blocks with %zu octets", slots, asked, blocks,
-           live);
+    /* The C library of some boards has no %zu. */
+    printf("%lu connections: %u allocations, then %lu blocks with %lu octets", (unsigned long)slots, asked,
+           (unsigned long)blocks, (unsigned long)live);
     CHECK(gh_close(&host) == GH_DONE);
     CHECK(blocks == 0 && live == 0);
     most = 0;
     refuse(UINT32_MAX);
     CHECK(begin_host(&host, &table, &keys, &rows, slots) == GH_DONE);
-    printf(", at most %zu\n", most);
+    printf(", at most %lu\n", (unsigned long)most);
     gh_close(&host);
 }
 

@@ -56,8 +56,13 @@ def archive(name, size="-Os"):
     return once(f"{name}{size}.a", make)
 
 
+# What the linker calls by other names, for a program that refuses memory over the pool.
+OVER_POOL = ["-DOVER_POOL", "-Wl,--wrap=gh_pool_take,--wrap=gh_pool_resize,--wrap=gh_pool_give_back"]
+
+
 def sources_of(name):
-    return [*PROGRAMS[name][0], "tests/c/pool_room.c"]
+    """The sources of a program, and its flags."""
+    return [*PROGRAMS[name][0], "tests/c/pool_room.c", *(OVER_POOL if name == "memory" else [])]
 
 
 def need_board(name):
