@@ -2,7 +2,7 @@
 
 The kit makes it for x86-64. `with_target` changes what a module says of its machine, and `with_export` the name and
 the linkage of a function: tools/page needs no more, since WebAssembly has addresses of 64 bits too. `narrow` writes a
-module for a processor with addresses of 32 bits, for tools/mcu.
+module for a processor with addresses of 32 bits, for tools/mcu. `without_hints` makes the code smaller.
 
 There numbers stay as they are, and so does each place in memory: a usize has 64 bits, and a pointer in memory takes
 8 octets, as on x86-64. Of these the upper four are 0. So these lines change:
@@ -34,6 +34,12 @@ def with_target(text, triple, layout):
     text = re.sub(r'(?m)^target datalayout = ".*"$', f'target datalayout = "{layout}"', text)
     text = re.sub(r'(?m)^target triple = ".*"$', f'target triple = "{triple}"', text)
     text = re.sub(r"(?m)^attributes #\d+ = .*$", lambda it: re.sub(rf" (?:sanitize_address|{OF_PROCESSOR})", "", it[0]), text)
+    return re.sub(r"(?m)^(attributes #\d+ =) \{ *\}$", r"\1 { nounwind }", text)
+
+
+def without_hints(text):
+    """Returns a module that leaves to the compiler which functions it copies into others."""
+    text = re.sub(r"(?m)^attributes #\d+ = .*$", lambda it: re.sub(r" (?:alwaysinline|inlinehint)\b", "", it[0]), text)
     return re.sub(r"(?m)^(attributes #\d+ =) \{ *\}$", r"\1 { nounwind }", text)
 
 
