@@ -20,7 +20,7 @@ from parties.compiling import LINKED
 from parties.emulated import TARGET
 from parties.places import text_of
 from parties.releases import (
-    broken_links, checkout_at, copied, linked, logic, made_up_verdict, need, write, write_notes,
+    broken_links, checkout_at, copied, files_below, linked, logic, made_up_verdict, need, write, write_notes,
 )
 
 PROGRAM, ARCHIVE = "crates/gatt_shell/out/gatt_shell", "crates/gihandop_c/out/libgihandop_c.a"
@@ -179,6 +179,69 @@ def test_page(own, folder, path, wanted):
         if "/out/" not in path:
             commit_all(own)
         refuses(own, folder, wanted)
+
+
+MCU_NOTE = """
+import sys, verdicts
+began = verdicts.sum_of_sources(verdicts.MCU_CRATE, None, verdicts.MCU_PARTS)
+path, made_for = verdicts.mcu_output(sys.argv[1]), sys.argv[2]
+sys.exit(verdicts.note(verdicts.MCU_CRATE, None, began, sys.stdin.read(), path, verdicts.MCU_PARTS, made_for))
+"""
+M4, M33 = "crates/gihandop_c/out/libgihandop_cortex-m4.a", "crates/gihandop_c/out/libgihandop_cortex-m33.a"
+
+
+def lay_microcontroller(checkout, path, made_for):
+    """Lays a stand-in for a library of tools/mcu, and its note."""
+    write(f"{checkout}/{path}", f"a library, {made_for}\n")
+    name = path.rpartition("_")[2].removesuffix(".a")
+    words = [sys.executable, "-B", "-c", MCU_NOTE, name, made_for]
+    subprocess.run(words, cwd=f"{checkout}/tools", input=made_up_verdict(), text=True, check=True)
+
+
+@pytest.mark.long(12)
+def test_microcontrollers(own, folder):
+    """The libraries for microcontrollers that there are have a tarball, with what firmware is compiled with."""
+    lay_microcontroller(own, M4, "cortex-m4 -Os")
+    lay_microcontroller(own, M33, "cortex-m33 -O2")
+    said = ran(["tools/release", f"{folder}/release"], cwd=own)
+    assert "skipped: rv32imac: there is no crates/gihandop_c/out/libgihandop_rv32imac.a: `tools/mcu --cpu rv32imac" in said
+    ran(["tar", "-xzf", f"{folder}/release/gihandop-0.2.0-microcontrollers.tar.gz"], cwd=folder)
+    top = f"{folder}/gihandop-0.2.0-microcontrollers"
+    wanted = ["LICENSE-APACHE", "LICENSE-MIT", "LICENSE-THIRD-PARTY", "VERDICTS", "c/serve.c", "include/gihandop.h"]
+    wanted += ["include/gihandop_pool.h", "include/gihandop_serve.h", *(f"lib/{it}/libgihandop_c.a" for it in ("cortex-m33", "cortex-m4"))]
+    assert files_below(top) == wanted
+    assert text_of(f"{top}/lib/cortex-m4/libgihandop_c.a") == "a library, cortex-m4 -Os\n"
+    text = text_of(f"{top}/VERDICTS")
+    for name, option in (("cortex-m4", "-Os"), ("cortex-m33", "-O2")):
+        (part,) = re.findall(rf"(?m)^lib/{name}/libgihandop_c.a\n((?:    .*\n)+)", text)
+        sum_of_it = ran(["sha256sum", f"{top}/lib/{name}/libgihandop_c.a"]).split()[0]
+        assert part.startswith(f"    sha256 {sum_of_it}\n    sources ")
+        assert "\n    logic=proved " in part and part.endswith(f"\n    made for {name} by tools/mcu {option}\n")
+    assert "\nNot proved: the way from the proved library" in text
+
+
+@pytest.mark.parametrize(
+    ("path", "wanted"),
+    [
+        (M4, f"{M4} is not the file that was proved"),
+        ("mcu/shell.c", f"the sources of gihandop_c are not those that were proved, whose sum {M4}.verdict has"),
+        ("tools/rewriting.py", "the sources of gihandop_c are not those that were proved"),
+        (f"{M4}.verdict", "has 0 verdicts in place of one line logic=proved: `tools/mcu --cpu cortex-m4"),
+        (None, f"{M4} was made for cortex-m33, not for cortex-m4: `tools/mcu --cpu cortex-m4 {M4}` proves it"),
+        ("mark", f"{M4} is compiled without proofs: `tools/mcu --cpu cortex-m4"),
+    ],
+    ids=["another library", "another shell", "another rewriting", "another note", "another processor", "no proofs"],
+)
+def test_refused_microcontroller(own, folder, path, wanted):
+    """A library for a microcontroller that is not what was proved for it is refused."""
+    lay_microcontroller(own, M4, "cortex-m4 -Os" if path else "cortex-m33 -Os")
+    if path == "mark":
+        write(f"{own}/{M4}", "(not proved)\n")
+    elif path:
+        write(f"{own}/{path}", "changed\n")
+        if "/out/" not in path:
+            commit_all(own)
+    refuses(own, folder, wanted)
 
 
 def install(checkout, folder, *words):
@@ -360,7 +423,7 @@ def test_sums(release):
 
 def test_sources(release, checkout):
     """The tarball of the sources has what the repository has."""
-    (sources,) = [it for it in glob.glob(f"{release}/*.tar.gz") if not it.endswith("-linux.tar.gz")]
+    (sources,) = [it for it in glob.glob(f"{release}/*.tar.gz") if not it.endswith(("-linux.tar.gz", "-microcontrollers.tar.gz"))]
     listed = ran(["tar", "-tzf", sources]).splitlines()
     tracked = ran(["git", "ls-files"], cwd=checkout).splitlines()
     found = {it.partition("/")[2] for it in listed if not it.endswith("/")}

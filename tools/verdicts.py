@@ -26,7 +26,8 @@ WAY = ("tools/modules.py", "tools/rewriting.py")
 # The page in a browser, and what it is made of besides its crate.
 PAGE_CRATE, PAGE = "playground", f"{ROOT}/crates/playground/out/page.html"
 PAGE_PARTS = (*WAY, "tools/page", "page/heap.c", "page/page.css", "page/page.html", "page/page.js")
-# What the library for a microcontroller is made of besides gihandop_c.
+# The processors of tools/mcu, and what the library for one is made of besides its crate.
+MCU_CRATE, MICROCONTROLLERS = "gihandop_c", ("cortex-m4", "cortex-m33", "rv32imac")
 MCU_PARTS = (*WAY, "tools/mcu", "include/gihandop.h", "mcu/gihandop_pool.h", "mcu/heap.ll", "mcu/pool.c", "mcu/shell.c")
 # The wrong edits that tools/edits tries before a release, in a folder for each crate.
 EDITS = "tests/edits"
@@ -76,6 +77,11 @@ def output(crate, target=None):
     return f"{out(crate, target)}/{OUTPUTS[crate][0]}"
 
 
+def mcu_output(name):
+    """Returns the path of the library for a microcontroller that a release has."""
+    return f"{out(MCU_CRATE)}/libgihandop_{name}.a"
+
+
 def note_of(path):
     """Returns the path of the note beside an output."""
     return f"{path}.verdict"
@@ -85,6 +91,8 @@ def prove_words(crate, target=None):
     """Returns the command that proves and makes an output."""
     if crate == PAGE_CRATE:
         return f"tools/page {shown(PAGE)}"
+    if target in MICROCONTROLLERS:
+        return f"tools/mcu --cpu {target} {shown(mcu_output(target))}"
     return f"tools/prove{f' --target {target}' if target else ''} {crate}"
 
 
@@ -171,10 +179,10 @@ def forget(crate, target=None):
         os.remove(note_of(output(crate, target)))
 
 
-def note(crate, target, began, said, path=None, parts=()):
+def note(crate, target, began, said, path=None, parts=(), made_for=None):
     """Writes the note of an output that was just proved: from the sources with the sum `began`, which was
-    taken before, and with the words `said` of the prover. `parts` are further files that it is made of.
-    Returns why there is no note, or nothing."""
+    taken before, and with the words `said` of the prover. `parts` are further files that it is made of, and
+    `made_for` are a processor and an option of tools/mcu. Returns why there is no note, or nothing."""
     path = path or output(crate, target)
     lines = verdict_in(said)
     if not any(it.startswith("logic=proved ") for it in lines):
@@ -184,6 +192,7 @@ def note(crate, target, began, said, path=None, parts=()):
     if sum_of_sources(crate, target, parts) != began:
         return "the sources have changed meanwhile"
     head = [f"sources {began}", f"output {sum_of(path)}", f"kit {kit()}", f"target {target or THIS_MACHINE}"]
+    head += [f"made-for {made_for}"] if made_for else []
     with open(f"{note_of(path)}.new", "w", encoding="utf-8") as file:
         file.write("\n".join([*head, *lines]) + "\n")
     os.replace(f"{note_of(path)}.new", note_of(path))
@@ -234,11 +243,23 @@ def values_of(path):
     return dict(it.partition(" ")[::2] for it in text_of(note_of(path)).splitlines())
 
 
-def check(crate, target=None, path=None, parts=()):
+def check_mcu(name):
+    """Returns what `check` does of the library for a microcontroller, and the option that it was made with.
+    Errors: Refusal."""
+    path = mcu_output(name)
+    said = check(MCU_CRATE, None, path, MCU_PARTS, hint(MCU_CRATE, name))
+    made_for, _, option = values_of(path).get("made-for", "").partition(" ")
+    if made_for != name:
+        raise Refusal(1, f"{shown(path)} was made for {made_for or 'no processor'}, not for {name}: {hint(MCU_CRATE, name)}")
+    return [*said, f"made for {name} by tools/mcu {option}"]
+
+
+def check(crate, target=None, path=None, parts=(), how=None):
     """Returns the note of an output as its lines, if the output is the file that was proved, from the
-    sources as they are now, with these further files, and by the kit of now. Errors: Refusal."""
+    sources as they are now, with these further files, and by the kit of now. Errors: Refusal, which says
+    how to prove it."""
     path = path or output(crate, target)
-    name, beside, how = shown(path), shown(note_of(path)), hint(crate, target)
+    name, beside, how = shown(path), shown(note_of(path)), how or hint(crate, target)
     if not os.path.isfile(path):
         raise Refusal(1, f"there is no {name}: {how}")
     with open(path, "rb") as file:
@@ -283,12 +304,17 @@ def commit():
     return f"{name}, and changes that are not committed" if changes else name
 
 
+def verdicts_head(kits, target=None):
+    """Returns the first lines of VERDICTS."""
+    return [f"commit  {commit()}", *(f"kit     {it}" for it in kits), f"target  {target or THIS_MACHINE}"]
+
+
 def verdicts_text(target=None, paths=None):
     """Returns the text of VERDICTS, with what `check` says of each output. Errors: Refusal."""
     paths = paths or {}
     checked = {crate: check(crate, target, paths.get(crate)) for crate in OUTPUTS}
     kits = sorted({values_of(paths.get(crate) or output(crate, target))["kit"] for crate in OUTPUTS})
-    lines = [f"commit  {commit()}", *(f"kit     {it}" for it in kits), f"target  {target or THIS_MACHINE}"]
+    lines = verdicts_head(kits, target)
     for crate, said in checked.items():
         lines += ["", OUTPUTS[crate][1], *(f"    {it}" for it in said)]
     linked = " and ".join(LINKED) if target else "the C functions of the kit"
