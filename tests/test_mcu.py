@@ -12,12 +12,14 @@ import pytest
 
 from parties.boards import C_FLAGS, BOARDS, archive, mcu, missing, modules, need_board, on_board, sources_of
 from parties.building import is_marked, once, ran, run
-from parties.compiling import HAS_ARCHIVE, KEYS, MISSING, NEXT, PROGRAMS, VALGRIND, there, words_of
+from parties.compiling import DOOR, HAS_ARCHIVE, KEYS, MISSING, NEXT, PORCH, PROGRAMS, VALGRIND, there, words_of
 from parties.in_c import SCRIPTS, compare_day, compare_script
 from parties.places import ROOT, text_of, write_text
 from parties.releases import made_up_verdict
 
-import verdicts  # noqa: E402
+import verdicts
+
+sizes = modules.load("sizes")
 
 DAYS = 6
 # The tables of the streams of packets at random, and how many packets each has: all have 100,000 by 25000.
@@ -165,6 +167,73 @@ def test_each_function_is_in_the_shell():
         assert name.replace("gh_", "gh64_", 1) in shell
 
 
+# The most flash of a firmware and RAM of a host of the door with 4 connections, in bytes, without proofs and proved.
+LIMITS = {False: (182_000, 126_000), True: (170_000, 112_000)}
+
+
+def compare_sizes(board, made):
+    """Measures an archive, and compares its sizes for a Cortex-M4 with their limits."""
+    it = sizes.Sizes(board, made)
+    ram = it.memory[4].suffices + max(it.stack.values()) + it.flash["own"]
+    if board == "cortex-m4":
+        most_flash, most_ram = LIMITS[not is_marked(made)]
+        assert it.flash["firmware"] <= most_flash
+        assert ram <= most_ram
+    assert it.flash["least"] < it.flash["firmware"] < it.flash["archive"]
+    assert list(it.memory) == [1, 2, 4, 8] and list(it.stack) == mcu.exported()
+    assert all(by.taken <= by.most <= by.suffices for by in it.memory.values())
+    assert it.memory[8].taken - it.memory[4].taken == 2 * (it.memory[4].taken - it.memory[2].taken)
+    assert max(it.stack, key=it.stack.get) == "gh_open"
+    assert 500 < it.instructions["read"] < it.instructions["group"] < it.instructions["open"]
+    lines = it.tables().splitlines()
+    assert [len(line) > 5 for line in lines if line.startswith("|---")] == [True] * 4
+    assert f"| `gh_open` | {it.stack['gh_open']:,} |" in lines
+
+
+@pytest.mark.without_program
+@pytest.mark.parametrize("board", BOARDS)
+def test_sizes(board):
+    """Flash, RAM and stack of a firmware are measured, and have limits."""
+    need_board(board)
+    compare_sizes(board, archive(board))
+
+
+@pytest.mark.without_program
+def test_sizes_of_the_proved():
+    """They have lower limits, if the library is proved."""
+    need_board("cortex-m4")
+    made = verdicts.mcu_output("cortex-m4")
+    if not os.path.exists(made):
+        pytest.skip(f"there is no {made}: `{verdicts.prove_words(mcu.CRATE, 'cortex-m4')}` makes it")
+    compare_sizes("cortex-m4", made)
+
+
+@pytest.mark.without_program
+def test_sizes_by_the_command():
+    """tools/sizes prints the tables, with a table of its user."""
+    need_board("rv32imac")
+    lines = ran(["tools/sizes", "--cpu", "rv32imac", archive("rv32imac"), PORCH, KEYS]).splitlines()
+    assert sum(it.startswith("|---") for it in lines) == 4
+    assert "| Part (rv32imac, without proofs) | Bytes |" in lines
+
+
+# Words of tools/sizes, its status, and what it says.
+UNMEASURED = [
+    ([], 64, "one archive is needed, or an archive, a table and keys"),
+    (["a.a", "door.toml"], 64, "one archive is needed, or an archive, a table and keys"),
+    (["--cpu", "z80", "a.a"], 64, "--cpu needs one of cortex-m4, cortex-m33, rv32imac"),
+    (["--fast", "a.a"], 64, "unknown option: --fast"),
+    (["there-is-none.a"], 70, "cannot measure: [Errno 2] No such file or directory: 'there-is-none.a'"),
+]
+
+
+@pytest.mark.without_program
+@pytest.mark.parametrize("words, status, text", UNMEASURED)
+def test_wrong_words_of_sizes(words, status, text):
+    ended = run(["tools/sizes", *words])
+    assert (ended.returncode, ended.stdout.splitlines()[0]) == (status, f"tools/sizes: {text}")
+
+
 # Words of the command, and what it says.
 WRONG = [
     ([], "one file to write is needed"),
@@ -217,6 +286,7 @@ def test_a_proved_one_has_a_note(on_pc, folder, monkeypatch):
     assert check()[0] == f"sha256 {verdicts.sum_of(made)}"
     assert not is_marked(made)
     note = text_of(f"{made}.verdict")
+    assert "\nmade-for i386 -Os\n" in note
     write_text(f"{made}.verdict", note.replace("sources ", "sources 0", 1))
     with pytest.raises(verdicts.Refusal, match="are not those that were proved"):
         check()
