@@ -12,7 +12,7 @@ import pytest
 
 from parties.boards import C_FLAGS, BOARDS, archive, mcu, missing, modules, need_board, on_board, sources_of
 from parties.building import is_marked, once, ran, run
-from parties.compiling import DOOR, HAS_ARCHIVE, KEYS, MISSING, NEXT, PORCH, PROGRAMS, VALGRIND, there, words_of
+from parties.compiling import ARCHIVE, HAS_ARCHIVE, IS_INSTRUMENTED, KEYS, MISSING, NEXT, PORCH, PROGRAMS, VALGRIND, there, words_of
 from parties.in_c import SCRIPTS, compare_day, compare_script
 from parties.places import ROOT, text_of, write_text
 from parties.releases import made_up_verdict
@@ -132,6 +132,22 @@ def test_stream_on_a_board(board, table):
 
 
 @pytest.mark.without_program
+@pytest.mark.parametrize("size", mcu.SIZES[1:])
+@pytest.mark.parametrize("name", ["serve", "memory"])
+def test_other_sizes(name, size):
+    """A faster library does the same."""
+    need_board("cortex-m4")
+    assert re.search(r"[1-9]\d* checks, 0 failed", on_board("cortex-m4", name, *PROGRAMS[name][2], size=size))
+
+
+@pytest.mark.without_program
+@pytest.mark.parametrize("size", mcu.SIZES[1:])
+def test_stream_of_other_sizes(size):
+    need_board("cortex-m4")
+    compare_stream("porch", on_board("cortex-m4", "stream", *words_of_stream("porch"), size=size))
+
+
+@pytest.mark.without_program
 def test_it_is_marked(on_pc):
     """The archive says that it is not proved, and tools/verdicts.py refuses it."""
     made = archive("i386")
@@ -167,16 +183,16 @@ def test_each_function_is_in_the_shell():
         assert name.replace("gh_", "gh64_", 1) in shell
 
 
-# The most flash of a firmware and RAM of a host of the door with 4 connections, in bytes, without proofs and proved.
-LIMITS = {False: (182_000, 126_000), True: (170_000, 112_000)}
+# The most flash of a firmware that serves and saves, and RAM of a host of the door with 4 connections, in bytes.
+LIMITS = {"without proofs": (182_000, 126_000), "-Os": (176_000, 112_000), "-Oz": (170_000, 112_000), "-O2": (250_000, 112_000)}
 
 
-def compare_sizes(board, made):
+def compare_sizes(board, made, how):
     """Measures an archive, and compares its sizes for a Cortex-M4 with their limits."""
     it = sizes.Sizes(board, made)
     ram = it.memory[4].suffices + max(it.stack.values()) + it.flash["own"]
     if board == "cortex-m4":
-        most_flash, most_ram = LIMITS[not is_marked(made)]
+        most_flash, most_ram = LIMITS[how]
         assert it.flash["firmware"] <= most_flash
         assert ram <= most_ram
     assert it.flash["least"] < it.flash["firmware"] < it.flash["archive"]
@@ -195,7 +211,7 @@ def compare_sizes(board, made):
 def test_sizes(board):
     """Flash, RAM and stack of a firmware are measured, and have limits."""
     need_board(board)
-    compare_sizes(board, archive(board))
+    compare_sizes(board, archive(board), "without proofs")
 
 
 @pytest.mark.without_program
@@ -205,7 +221,7 @@ def test_sizes_of_the_proved():
     made = verdicts.mcu_output("cortex-m4")
     if not os.path.exists(made):
         pytest.skip(f"there is no {made}: `{verdicts.prove_words(mcu.CRATE, 'cortex-m4')}` makes it")
-    compare_sizes("cortex-m4", made)
+    compare_sizes("cortex-m4", made, re.search(r"(?m)^made-for \S+ (\S+)$", text_of(f"{made}.verdict"))[1])
 
 
 @pytest.mark.without_program
@@ -217,13 +233,28 @@ def test_sizes_by_the_command():
     assert "| Part (rv32imac, without proofs) | Bytes |" in lines
 
 
+@pytest.mark.without_program
+def test_sizes_on_this_pc():
+    """What gihandop.h says of the stack holds for each function. Its size with AddressSanitizer says nothing."""
+    if not HAS_ARCHIVE:
+        pytest.skip(MISSING)
+    if IS_INSTRUMENTED:
+        with pytest.raises(modules.Failure, match="is compiled with AddressSanitizer"):
+            sizes.Sizes(None, ARCHIVE)
+        return
+    stack = sizes.Sizes(None, ARCHIVE).stack
+    assert list(stack) == mcu.exported()
+    for name, octets in stack.items():
+        assert octets < (40 if name in ("gh_open", "gh_explain", "gh_replace") else 4) * 1024, name
+
+
 # Words of tools/sizes, its status, and what it says.
 UNMEASURED = [
     ([], 64, "one archive is needed, or an archive, a table and keys"),
     (["a.a", "door.toml"], 64, "one archive is needed, or an archive, a table and keys"),
     (["--cpu", "z80", "a.a"], 64, "--cpu needs one of cortex-m4, cortex-m33, rv32imac"),
     (["--fast", "a.a"], 64, "unknown option: --fast"),
-    (["there-is-none.a"], 70, "cannot measure: [Errno 2] No such file or directory: 'there-is-none.a'"),
+    (["there-is-none.a"], 70, f"cannot measure: [Errno 2] No such file or directory: '{ROOT}/there-is-none.a'"),
 ]
 
 

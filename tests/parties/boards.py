@@ -44,7 +44,7 @@ def module():
     return text_of(once("module.ll", make))
 
 
-def archive(name, size="-Os"):
+def archive(name, size=mcu.SIZES[0]):
     """The path of the archive for a processor."""
 
     def make(path):
@@ -71,14 +71,14 @@ def need_board(name):
     missing((processor.compiler, processor.packages), (board.emulator, board.package), ("rt", "the kit of Rattle"))
 
 
-def program_for(name, program):
+def program_for(name, program, size=mcu.SIZES[0]):
     """The path of a program of tests/c for a board."""
-    processor, board, made = mcu.PROCESSORS[name], BOARDS[name], archive(name)
+    processor, board, made = mcu.PROCESSORS[name], BOARDS[name], archive(name, size)
     words = [processor.compiler, *processor.own, "-O1", *C_FLAGS, *LEAN, *board.flags, *sources_of(program), made, "-o"]
-    return once(f"{name}.{program}", lambda path: ran([*words, path], program))
+    return once(f"{name}{size}.{program}", lambda path: ran([*words, path], program))
 
 
-def on_board(name, program, *words):
+def on_board(name, program, *words, size=mcu.SIZES[0]):
     """Has a board run a program with words, and returns what it prints."""
-    board, path = BOARDS[name], program_for(name, program)
+    board, path = BOARDS[name], program_for(name, program, size)
     return ran(board.words(path, program, words), f"{program} on {board.name}", timeout=300)
