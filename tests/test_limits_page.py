@@ -15,9 +15,9 @@ pytestmark = pytest.mark.without_program
 
 
 def rows():
-    """Yields the rows of the tables: the limit, the cell, and the constants, each with its crate."""
-    crate = ""
-    for limit, cell in re.findall(r"(?m)^\| (.* \| .*) \| (.*) \|$(?!\n\|-)", text_of("docs/LIMITS.md")):
+    """Yields the rows of the tables of constants: the limit, the cell, and the constants, each with its crate."""
+    crate, constants = "", text_of("docs/LIMITS.md").partition("\n## Stack\n")[0]
+    for limit, cell in re.findall(r"(?m)^\| (.* \| .*) \| (.*) \|$(?!\n\|-)", constants):
         pending, homes = [], []
         for before, it in re.findall(r"([^`]*)`([^`]+)`", cell):
             if "::" in it:
