@@ -184,7 +184,7 @@ def test_each_function_is_in_the_shell():
 
 
 # The most flash of a firmware that serves and saves, and RAM of a host of the door with 4 connections, in bytes.
-LIMITS = {"without proofs": (182_000, 126_000), "-Os": (176_000, 112_000), "-Oz": (170_000, 112_000), "-O2": (250_000, 112_000)}
+LIMITS = {"without proofs": (178_000, 126_000), "-Os": (170_000, 112_000), "-Oz": (152_000, 112_000), "-O2": (240_000, 112_000)}
 
 
 def compare_sizes(board, made, how):

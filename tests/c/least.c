@@ -52,13 +52,15 @@ static size_t send_some(struct gh_server *server, const uint8_t *octets, size_t 
 
 int main(void)
 {
-    static struct gh_server server = GH_SERVER_INIT;
+    /* GH_SERVER_INIT has no other number than the size. As the first value it would take 4 KB of flash. */
+    static struct gh_server server;
     const struct gh_config config = GH_CONFIG_INIT;
     size_t left_out;
     gh_pool_begin(memory, sizeof memory);
     if (gh_open(&host, table, (size_t)(table_end - table), keys, (size_t)(keys_end - keys), flash, sizeof flash / 2,
                 flash + sizeof flash / 2, sizeof flash / 2, &config, &left_out) != GH_DONE)
         return 1;
+    server.size = sizeof server;
     server.host = &host;
     server.heard = heard;
 #ifndef SAVES_NOTHING
