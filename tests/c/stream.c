@@ -70,14 +70,16 @@ static void print_octets(const char *mark, const uint8_t *octets, size_t length)
     printf("%s %s\n", mark, text);
 }
 
-/* Prints what a call returns: a status, with its words if it is not GH_DONE, and a number. */
+/* Prints what a call returns: a status, with its words if it is not GH_DONE, and a number in
+   hexadecimal. */
 static void print_status(const char *name, uint32_t status, uint64_t number)
 {
     uint8_t words[256];
     size_t count = 0;
     if (status != GH_DONE)
         CHECK(gh_text(status, words, sizeof words, &count) == GH_DONE);
-    printf("= %s %" PRIu32 " %" PRIu32 " %.*s\n", name, status, (uint32_t)number, (int)count, (const char *)words);
+    printf("= %s %" PRIu32 " %" PRIx32 "%08" PRIx32 " %.*s\n", name, status, (uint32_t)(number >> 32), (uint32_t)number,
+           (int)count, (const char *)words);
 }
 
 static void wait_for(const uint8_t *octets, size_t length)
@@ -172,7 +174,7 @@ static void begin(void)
     print_status("open", status, left_out);
     memset(clients, 0, sizeof clients);
     waiting_count = in_vain = 0;
-    now = 0;
+    now = 0xFFFFFFFF - below(200000); /* times soon need more than 32 bits */
     finish();
 }
 
