@@ -1,11 +1,11 @@
 /*
- * Counts the instructions of some calls on an emulated processor, whose clock advances by a nanosecond for each of
- * them (qemu -icount shift=0):
+ * Counts the instructions of some calls on an emulated processor, whose clock advances by a
+ * nanosecond for each of them (qemu -icount shift=0):
  *
  *     bench TABLE KEYS
  *
- * It makes the calls of docs/C.md: it passes a packet, and fetches output until there is none. Each request is
- * answered by one packet, whose completion the controller then reports.
+ * It makes the calls of docs/C.md: it passes a packet, and fetches output until there is none.
+ * Each request is answered by one packet, whose completion the controller then reports.
  */
 #include "controller.h"
 

@@ -1,6 +1,7 @@
 /*
- * The start of a program of the tests on the emulated boards mps2-an386 and mps2-an505. Input, output and the
- * words of the command come by semihosting, from newlib. A fault of the processor ends the program with status 99.
+ * The start of a program of the tests on the emulated boards mps2-an386 and mps2-an505. Input,
+ * output and the words of the command come by semihosting, from newlib. A fault of the processor
+ * ends the program with status 99.
  */
 #include <stdint.h>
 

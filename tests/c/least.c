@@ -1,7 +1,8 @@
 /*
- * Firmware that does all that a device needs, without a board: tools/sizes links it to learn how much flash the
- * library takes in it, and nobody runs it. The controller is two places in memory, and so are the time and the
- * flash. The table and the keys are octets of the program, by the macros TABLE and KEYS.
+ * Firmware that does all that a device needs, without a board: tools/sizes links it to learn how
+ * much flash the library takes in it, and nobody runs it. The controller is two places in memory,
+ * and so are the time and the flash. The table and the keys are octets of the program, by the
+ * macros TABLE and KEYS.
  */
 #include "gihandop_pool.h"
 #include "gihandop_serve.h"

@@ -1,6 +1,7 @@
 /*
- * The memory of tests/c/memory.c, in place of malloc, realloc and free: see c/heap.c. With OVER_POOL it is in place of
- * the three functions of mcu/pool.c, which the linker gives other names (--wrap), and it takes its own memory by them.
+ * The memory of tests/c/memory.c, in place of malloc, realloc and free: see c/heap.c. With
+ * OVER_POOL it is in place of the three functions of mcu/pool.c, which the linker gives other
+ * names (--wrap), and it takes its own memory by them.
  */
 #ifndef POOL_H
 #define POOL_H

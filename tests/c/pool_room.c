@@ -1,6 +1,6 @@
 /*
- * Gives the pool of mcu/pool.c its memory before main, for programs that know nothing of it. Its octets are not 0, as
- * on a board that has just started.
+ * Gives the pool of mcu/pool.c its memory before main, for programs that know nothing of it. Its
+ * octets are not 0, as on a board that has just started.
  */
 #include "gihandop_pool.h"
 

@@ -3,8 +3,8 @@
  *
  *     pools TABLE KEYS
  *
- * It prints a line for 1, 2, 4 and 8 connections: what is taken after gh_open, the most while it runs, the size of a
- * pool that suffices, and the number of blocks.
+ * It prints a line for 1, 2, 4 and 8 connections: what is taken after gh_open, the most while it
+ * runs, the size of a pool that suffices, and the number of blocks.
  */
 #include "controller.h"
 #include "gihandop_pool.h"
@@ -29,7 +29,8 @@ static bool is_out_of_memory(uint32_t status)
         || status == GH_ROWS_OUT_OF_MEMORY;
 }
 
-/* A pool that is too small is refused, all of it is given back, and the next larger one can be used. */
+/* A pool that is too small is refused, all of it is given back, and the next larger one can be
+   used. */
 static void try_smaller(size_t least, size_t slots)
 {
     for (size_t octets = 0; octets < least; octets += STEP) {

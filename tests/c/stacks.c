@@ -1,10 +1,10 @@
 /*
- * Measures how much stack each function takes at most while another program runs, which the linker has call the
- * functions here (--wrap). At the end it prints lines like `stack gh_open 33016`.
+ * Measures how much stack each function takes at most while another program runs, which the linker
+ * has call the functions here (--wrap). At the end it prints lines like `stack gh_open 33016`.
  *
- * Before a call, what lies below the stack of the caller is painted. After it, the lowest octet that was changed says
- * how deep the stack was. A function that leaves a part of its stack as it is can be deeper: then the paint is as it
- * was, and nothing is seen.
+ * Before a call, what lies below the stack of the caller is painted. After it, the lowest octet
+ * that was changed says how deep the stack was. A function that leaves a part of its stack as it
+ * is can be deeper: then the paint is as it was, and nothing is seen.
  */
 #include "gihandop.h"
 
@@ -27,7 +27,8 @@ __attribute__((noinline)) static uintptr_t look(size_t depth, bool is_painting)
     return (uintptr_t)(room + at);
 }
 
-/* The most octets that each function took. What it returns and took has names that no parameter has. */
+/* The most octets that each function took. What it returns and took has names that no parameter
+   has. */
 #define MEASURED(name, depth, parameters, arguments)                                               \
     static size_t most_of_##name;                                                                  \
     static bool is_called_##name;                                                                  \

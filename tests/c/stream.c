@@ -3,11 +3,12 @@
  *
  *     stream SEED PACKETS TABLE KEYS [NEXT]
  *
- * A controller brings what clients send: requests of the Attribute Protocol, right and wrong ones, in pieces too;
- * encryption, connections that end, events and packets that mean nothing to a host, and, seldom, what stops one.
- * Between them an application makes calls, and replaces the table by NEXT and back. The same words cause the same
- * lines with each library that answers the same: `< HEX` for a packet of the controller, `> HEX` for one of the host,
- * `+` with a notice, `=` with what a call returns.
+ * A controller brings what clients send: requests of the Attribute Protocol, right and wrong ones,
+ * in pieces too; encryption, connections that end, events and packets that mean nothing to a host,
+ * and, seldom, what stops one. Between them an application makes calls, and replaces the table by
+ * NEXT and back. The same words cause the same lines with each library that answers the same: `<
+ * HEX` for a packet of the controller, `> HEX` for one of the host, `+` with a notice, `=` with
+ * what a call returns.
  */
 #include "controller.h"
 
@@ -44,7 +45,8 @@ static uint32_t packets, most;
 /* So many steps the controller reports nothing, and so many clients in turn were not accepted. */
 static uint32_t silent, in_vain;
 
-/* Returns a number at random below another one. No expression has two of them, whose order C leaves open. */
+/* Returns a number at random below another one. No expression has two of them, whose order C
+   leaves open. */
 static uint32_t below(uint32_t limit)
 {
     uint64_t it = state += 0x9E3779B97F4A7C15u;
