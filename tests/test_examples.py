@@ -133,10 +133,12 @@ def test_a_time(folder):
 
 # Of each the example, its words, and the beginning of its line.
 FAILING = {
-    "no-words": (PHONES, [], "usage: phones.py HOST:PORT SCRIPT"),
-    "no-port": (PHONES, ["localhost", SCRIPT], "usage: phones.py HOST:PORT SCRIPT"),
+    "no-words": (PHONES, [], "usage: phones.py HOST:PORT|PATH SCRIPT"),
+    "no-port": (PHONES, ["localhost", SCRIPT], "usage: phones.py HOST:PORT|PATH SCRIPT"),
     "no-script": (PHONES, ["ADDRESS", "FOLDER/gone"], "phones.py: the script FOLDER/gone: "),
     "no-device": (PHONES, ["127.0.0.1:1", SCRIPT], "phones.py: the device at 127.0.0.1:1: "),
+    "no-line": (PHONES, ["FOLDER/gone", SCRIPT], "phones.py: the device at FOLDER/gone: "),
+    "no-serial-line": (PHONES, ["/dev/null", SCRIPT], "phones.py: the device at /dev/null: "),
     "a-line-that-cannot-be-played": (
         PHONES, ["ADDRESS", "FOLDER/faulty"], "phones.py: FOLDER/faulty, line 2: Q is not connected"
     ),

@@ -2,6 +2,7 @@
 """A controller with clients, for those who have neither: it plays a script against a device.
 
 usage: phones.py HOST:PORT SCRIPT      where `gatt_shell host .. --listen HOST:PORT` listens
+       phones.py PATH SCRIPT           a serial line that leads to a host, as that of an emulated board
 
 The script is one of `gatt_shell run`. Of its lines those of clients are played: `connect`, `drop`,
 `encrypt`, `clear`, and what a client sends. `tick` waits: `tick 1000`, and then `tick 5000`, wait for one
@@ -10,24 +11,51 @@ The other lines are an application's, and are skipped. If the device or the scri
 on standard error says why, and the status is 1.
 """
 
+import os
 import select
 import socket
 import sys
+import termios
 import time
+import tty
 
 # What a controller returns beside its status, by the command.
 RETURNED = {0x1005: bytes.fromhex("fb000008000000"), 0x2002: bytes.fromhex("fb0008")}
 DISCONNECT, KEY_REPLY, KEY_REFUSAL = 0x0406, 0x201A, 0x201B
 # Nothing more is waited for once nothing has come for so many seconds.
 QUIET = 0.3
+# A host behind a serial line sends its first command within so many seconds, again if it was not answered.
+FIRST = 5
+
+
+class SerialLine:
+    """A serial line, with the methods of a socket that a controller uses."""
+
+    def __init__(self, path):
+        self.file = os.open(path, os.O_RDWR | os.O_NOCTTY)
+        tty.setraw(self.file)
+
+    def fileno(self):
+        return self.file
+
+    def recv(self, count):
+        return os.read(self.file, count)
+
+    def sendall(self, octets):
+        while octets:
+            octets = octets[os.write(self.file, octets) :]
 
 
 class Controller:
     """Answers each command of the host, and prints what its clients receive."""
 
     def __init__(self, address):
-        host, port = address.rsplit(":", 1)
-        self.stream = socket.create_connection((host.strip("[]"), int(port)))
+        self.is_serial = "/" in address
+        if self.is_serial:
+            self.stream = SerialLine(address)
+        else:
+            host, port = address.rsplit(":", 1)
+            self.stream = socket.create_connection((host.strip("[]"), int(port)))
         self.octets, self.clients = b"", {}
         # The last time of the script, in milliseconds.
         self.time = 0
@@ -123,6 +151,9 @@ class Controller:
 def visit(address, script, lines):
     """Plays the lines of a script against the device at an address."""
     controller = Controller(address)
+    if controller.is_serial:
+        # A line that somebody else closes does not end. If no command comes, an earlier visit has answered all.
+        select.select([controller.stream], [], [], FIRST)
     controller.until_quiet()
     for number, line in enumerate(lines, 1):
         words = line.split()
@@ -136,11 +167,15 @@ def visit(address, script, lines):
         if not is_of_a_client:
             print("  (an application's line, skipped)", flush=True)
         controller.until_quiet()
+    if controller.is_serial:
+        for name in list(controller.clients):
+            controller.play(["drop", name])
+        controller.until_quiet()
 
 
 def main():
-    if len(sys.argv) != 3 or not sys.argv[1].rpartition(":")[2].isdigit():
-        sys.exit("usage: phones.py HOST:PORT SCRIPT")
+    if len(sys.argv) != 3 or not ("/" in sys.argv[1] or sys.argv[1].rpartition(":")[2].isdigit()):
+        sys.exit("usage: phones.py HOST:PORT|PATH SCRIPT")
     address, script = sys.argv[1:]
     try:
         with open(script, encoding="utf-8") as file:
@@ -149,7 +184,7 @@ def main():
         sys.exit(f"phones.py: the script {script}: {error}")
     try:
         visit(address, script, lines)
-    except OSError as error:
+    except (OSError, termios.error) as error:
         sys.exit(f"phones.py: the device at {address}: {error}")
 
 
