@@ -37,8 +37,8 @@ TESTS = ["tests/pytest", "-q", "-r", "fEs", "-n", str(3 * len(os.sched_getaffini
 ARCHIVED = [f"test_{it}.py" for it in ("c_*", "install", "packages", "release", "rust*", "uninstall")]
 EMULATED = "test_aarch64.py"
 PAGED = "test_page.py"
-NARROW = "test_mcu.py"
-OTHERS = [f"--ignore-glob=*/{it}" for it in (*ARCHIVED, EMULATED, PAGED, NARROW)]
+NARROW = ("test_mcu.py", "test_firmware.py")
+OTHERS = [f"--ignore-glob=*/{it}" for it in (*ARCHIVED, EMULATED, PAGED, *NARROW)]
 # Those that need nothing that is proved.
 FIRST = [f"tests/test_{it}.py" for it in ("claims", "launcher", "limits_page", "links", "pages", "traces", "unproved")]
 # rt ci only notes an edit that does not apply or compile. It shows nothing.
@@ -161,7 +161,7 @@ def play():
             GATT_SHELL=PROGRAM, GIHANDOP_ARCHIVE=ARCHIVE,
         ).has_passed()
     if shutil.which("arm-none-eabi-gcc"):
-        Part("microcontroller", [*TESTS, f"tests/{NARROW}"], GATT_SHELL=PROGRAM).has_passed()
+        Part("microcontroller", [*TESTS, *(f"tests/{it}" for it in NARROW)], GATT_SHELL=PROGRAM).has_passed()
     for part in Part.ended:
         part.play_again()
 
