@@ -12,7 +12,7 @@ import pytest
 from parties import KEY, OWNER, Controller, Device
 from parties.boards import archive, mcu, missing
 from parties.building import once, ran, run
-from parties.firmware import EMULATOR, Board, Firmware, lay_flash
+from parties.firmware import COUNTS, EMULATOR, Board, Firmware, lay_flash
 from parties.in_c import SCRIPTS, files
 from parties.places import PATIENCE, PROGRAM, ROOT, text_of, write_text
 from parties.played import CALLS, Played
@@ -265,6 +265,11 @@ def test_a_fault_of_the_flash(firmware, flash):
 # What goes wrong.
 
 
+def places_of(firmware):
+    """The address of each symbol."""
+    return {name: int(it, 16) for it, name in re.findall(r"(?m)^(\w+) \w (\w+)$", ran(["arm-none-eabi-nm", firmware.path]))}
+
+
 @pytest.mark.without_program
 def test_a_full_stack(flash, cpu):
     """A store beyond the stack is refused, the handler has a stack of its own, and the bolt is shut."""
@@ -272,8 +277,31 @@ def test_a_full_stack(flash, cpu):
     board = Board(firmware, flash)
     assert board.says(r"stopped: (.*)\n")[1] == "the stack is full"
     assert not board.is_bolt_open()
-    symbols = {name: int(it, 16) for it, _, name in re.findall(r"(?m)^(\w+) (\w) (\w+)$", ran(["arm-none-eabi-nm", firmware.path]))}
-    assert symbols["stack_high"] < board.stack_pointer() <= symbols["handler_stack_high"]
+    places = places_of(firmware)
+    assert places["stack_high"] < board.stack_pointer() <= places["handler_stack_high"]
+    board.close()
+
+
+# Instructions of Thumb, and what the console says. The main program loads from an address that has nothing.
+FAULTS = {
+    "trap": ("00de", "a trap: an unproved library has found a fault of its own, or this is no instruction"),
+    "bus": ("4ff0e0400068", "a fault of the processor: CFSR 00008200"),
+}
+
+
+@pytest.mark.without_program
+@pytest.mark.parametrize("code, text", FAULTS.values(), ids=FAULTS)
+def test_a_fault_of_the_processor(firmware, flash, code, text):
+    """A trap and a fault stop the firmware, which says so. The bolt was open, and is shut."""
+    visit = begun(firmware, flash)
+    assert visit.answer(f"12{STATE}01") == "13"
+    visit.board.close()
+    board = Board(firmware, flash, is_debugged=True)
+    board.says("bolt: open\n")
+    board.says(COUNTS)
+    board.change_code(places_of(firmware)["board_sleep"] & ~1, bytes.fromhex(code))
+    assert board.says(r"stopped: (.*)\n")[1] == text
+    assert not board.is_bolt_open()
     board.close()
 
 

@@ -51,20 +51,25 @@ def lay_flash(path, **fields):
 class Board:
     """The emulated board. It is a host of Played: `sent` has the packets of the firmware."""
 
-    def __init__(self, firmware, flash):
+    def __init__(self, firmware, flash, is_debugged=False):
+        """The code of a board that is debugged can be changed."""
         self.line, line = socket.socketpair()
         self.console, console = socket.socketpair()
         self.monitor, monitor = socket.socketpair()
+        self.debugger, debugger = socket.socketpair()
         files = {"line": line, "console": console, "monitor": monitor}
+        if is_debugged:
+            files["debugger"] = debugger
         self.firmware = firmware
         words = [EMULATOR, "-M", f"{firmware.board},memory-backend=saved", "-nographic", "-kernel", firmware.path]
         words += ["-object", f"memory-backend-file,id=saved,size=16M,mem-path={flash},share=on"]
         for name, file in files.items():
             words += ["-chardev", f"socket,id={name},fd={file.fileno()}"]
         words += ["-serial", "chardev:line", "-serial", "chardev:console", "-monitor", "chardev:monitor"]
+        words += ["-gdb", "chardev:debugger"] if is_debugged else []
         self.running = subprocess.Popen(words, pass_fds=[it.fileno() for it in files.values()], stdin=subprocess.DEVNULL)
         Device.started.append(self.running)
-        for file in files.values():
+        for file in (line, console, monitor, debugger):
             file.close()
         self.text, self.octets = "", b""
         self.sent, self.notices, self.status, self.given, self.taken = [], [], 0, 0, 0
@@ -129,6 +134,20 @@ class Board:
         """Tells whether LED 0 is on."""
         return self.number(f"x /1wx {self.firmware.leds}", f"{self.firmware.leds[2:]}: 0x") == 1
 
+    def change_code(self, address, octets):
+        """Changes code of the firmware while it runs: by the remote protocol of GDB."""
+        commands = f"M{address:x},{len(octets):x}:{octets.hex()}", "D"
+        packets = [f"${it}#{sum(it.encode()) % 256:02x}".encode() for it in commands]
+        # The first octet only stops the processor, which says so.
+        for packet, due in ((b"\3", b"$T02"), *((it, b"$OK#9a") for it in packets)):
+            self.debugger.sendall(packet)
+            said = b""
+            while due not in said or not re.search(b"#..$", said):
+                more = self.debugger.recv(100)
+                assert more, said
+                said += more
+            self.debugger.sendall(b"+")
+
     def stack_pointer(self):
         return self.number("info registers", "R13=")
 
@@ -136,5 +155,5 @@ class Board:
         """Ends the emulator at once, as if the power failed."""
         self.running.kill()
         self.running.wait()
-        for it in (self.line, self.console, self.monitor):
+        for it in (self.line, self.console, self.monitor, self.debugger):
             it.close()
