@@ -324,6 +324,7 @@ def test_a_controller_out_of_step(firmware, flash):
     visit.commands.clear()
     assert visit.advertised() and visit.come()
     assert visit.answer(f"0a{STATE}") == "0b01"
+    assert "the host stops" not in visit.board.text, "it waits until what came with that octet is over"
     visit.board.close()
 
 
@@ -340,7 +341,7 @@ def test_a_silent_controller(flash, cpu):
 def test_a_full_line(firmware, flash):
     """While the controller reads nothing, the firmware accepts nothing. No octet is lost."""
     visit = begun(firmware, flash)
-    requests, answers = 3_000, []
+    requests, answers = 1_000, []
     read, completed = bytes.fromhex("0240200700030004000a0300"), bytes.fromhex("0413050140000100")
     visit.take = lambda packet: answers.append(packet[9:].hex())
     visit.send((read + completed) * requests)

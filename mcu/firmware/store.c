@@ -62,11 +62,11 @@ static size_t length_of(const struct head *head)
 }
 
 /* Returns the CRC-32 of bytes after those of an earlier sum, or of 0: IEEE 802.3, 3.2.9, as in zlib. */
-static uint32_t crc32(uint32_t sum, const uint8_t *octets, size_t length)
+static uint32_t crc32(uint32_t sum, const uint8_t *bytes, size_t length)
 {
     sum = ~sum;
     for (size_t at = 0; at < length; at++) {
-        sum ^= octets[at];
+        sum ^= bytes[at];
         for (int bit = 0; bit < 8; bit++)
             sum = sum >> 1 ^ ((sum & 1) != 0 ? 0xEDB88320u : 0);
     }
@@ -125,10 +125,10 @@ struct writer {
     bool is_fine;
 };
 
-static void write(struct writer *writer, const uint8_t *octets, size_t length)
+static void append(struct writer *writer, const uint8_t *bytes, size_t length)
 {
     for (size_t at = 0; at < length; at++) {
-        writer->unit[writer->length++] = octets[at];
+        writer->unit[writer->length++] = bytes[at];
         if (writer->length < FLASH_UNIT)
             continue;
         writer->is_fine = writer->is_fine && flash_write(writer->sector, writer->at, writer->unit);
@@ -143,7 +143,7 @@ static void fill(struct writer *writer)
     static const uint8_t ones = 0xFF;
 
     while (writer->length != 0)
-        write(writer, &ones, 1);
+        append(writer, &ones, 1);
 }
 
 static bool write_record(unsigned sector, size_t at, const struct head *head, const struct store_texts *texts)
@@ -154,11 +154,11 @@ static bool write_record(unsigned sector, size_t at, const struct head *head, co
 
     sum = crc32(sum, texts->values, texts->values_length);
     sum = crc32(sum, texts->rows, texts->rows_length);
-    write(&writer, first, sizeof *head);
-    write(&writer, texts->values, texts->values_length);
-    write(&writer, texts->rows, texts->rows_length);
+    append(&writer, first, sizeof *head);
+    append(&writer, texts->values, texts->values_length);
+    append(&writer, texts->rows, texts->rows_length);
     fill(&writer);
-    write(&writer, (const uint8_t *)&sum, sizeof sum);
+    append(&writer, (const uint8_t *)&sum, sizeof sum);
     fill(&writer);
     return writer.is_fine;
 }

@@ -71,6 +71,8 @@ class Board:
         Device.started.append(self.running)
         for file in (line, console, monitor, debugger):
             file.close()
+        for file in (self.line, self.console, self.monitor, self.debugger):
+            file.settimeout(PATIENCE)
         self.text, self.octets = "", b""
         self.sent, self.notices, self.status, self.given, self.taken = [], [], 0, 0, 0
 
@@ -109,8 +111,9 @@ class Board:
 
     def settle(self):
         """Waits until the firmware has accepted all octets, and reads all that it has sent by then."""
+        end = time.monotonic() + PATIENCE
         while (counts := self.counts())["accepted"] != self.given:
-            pass
+            assert time.monotonic() < end, f"it accepts {counts['accepted']} octets of {self.given}"
         while self.taken < counts["sent"]:
             more = self.line.recv(counts["sent"] - self.taken)
             assert more, "the emulator has ended"
