@@ -154,15 +154,16 @@ def test_client_on_a_serial_line(folder, cpu):
 
 
 @pytest.mark.without_program
-@pytest.mark.parametrize("seed", range(1, 4))
-def test_saving_on_a_pc(seed):
-    """The power is cut at each write of the flash, and what was saved is there."""
+@pytest.mark.long(10)
+@pytest.mark.parametrize("sector, unit", [(4096, 4), (4096, 8), (8192, 32)])
+def test_saving_on_a_pc(sector, unit):
+    """The power is cut at each write of a flash with sectors and units of a size. What was saved is there."""
     missing(("gcc", "gcc"))
     words = ["gcc", "-std=c11", "-O2", "-g", "-Wall", "-Wextra", "-Wpedantic", "-Wconversion", "-Werror", "-Imcu/firmware"]
-    words += ["-fsanitize=address,undefined", "-fno-sanitize-recover=all", "tests/c/flash.c"]
-    words += ["mcu/firmware/store.c", "mcu/firmware/emulated_flash.c", "-o"]
-    program = once("flash", lambda path: ran([*words, path], "flash"))
-    assert re.fullmatch(r"\d{5,} cuts, \d{6,} checks, 0 failed\n", ran([program, str(seed)]))
+    words += [f"-DFLASH_SECTOR_SIZE={sector}", f"-DFLASH_UNIT={unit}", "-fsanitize=address,undefined"]
+    words += ["-fno-sanitize-recover=all", "tests/c/flash.c", "mcu/firmware/store.c", "mcu/firmware/emulated_flash.c", "-o"]
+    program = once(f"flash.{sector}.{unit}", lambda path: ran([*words, path], "flash"))
+    assert re.fullmatch(r"\d{4,} cuts, \d{5,} checks, 0 failed\n", ran([program, str(unit)]))
 
 
 @pytest.mark.without_program
@@ -217,11 +218,11 @@ class Model:
 
 
 @pytest.mark.without_program
-@pytest.mark.long(10)
+@pytest.mark.long(15)
 @pytest.mark.parametrize("cut", range(3), ids=["before", "inside", "behind"])
 def test_cuts_of_power(firmware, flash, cut):
-    """The power is cut at writes and erases of the board's flash. What was acknowledged is there at the next start."""
-    model, number, cuts = Model(), 1 + cut, 0
+    """The power is cut at each write and erase of the board's flash. What was acknowledged is there at the next start."""
+    model, number, cuts = Model(), 1, 0
     while True:
         lay_flash(flash, cut_at=number, cut=cut, seed=number)
         visit = Visit(firmware, flash)
@@ -234,14 +235,14 @@ def test_cuts_of_power(firmware, flash, cut):
             )
         )
         if not is_there:
-            visit.board.says("stopped: the power is cut\n")
+            assert visit.board.says(r"stopped: (.*)\n")[1] == "the power is cut"
             assert not visit.board.is_bolt_open()
             cuts += 1
         visit.board.close()
         if is_there:
             break
-        number += 3
-    assert cuts >= 12
+        number += 1
+    assert cuts >= 36
 
 
 @pytest.mark.without_program
@@ -279,6 +280,15 @@ def test_a_full_stack(flash, cpu):
     assert not board.is_bolt_open()
     places = places_of(firmware)
     assert places["stack_high"] < board.stack_pointer() <= places["handler_stack_high"]
+    board.close()
+
+
+@pytest.mark.without_program
+@pytest.mark.parametrize("cpu", ["cortex-m4"], indirect=True)
+def test_no_guard(firmware, flash):
+    """A Cortex-M4 without a memory protection unit does not start."""
+    board = Board(firmware, flash, more=["-global", "arm-cpu.pmsav7-dregion=0"])
+    board.says("^stopped: this processor has no memory protection unit to guard the stack\n")
     board.close()
 
 

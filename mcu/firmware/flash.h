@@ -15,13 +15,17 @@
 #include <stddef.h>
 #include <stdint.h>
 
-enum {
-    FLASH_SECTORS = 2,
-    /* The bytes of a sector: what one erase sets. */
-    FLASH_SECTOR_SIZE = 4096,
-    /* The bytes of a unit: what one write clears. A power of two, at least 4. */
-    FLASH_UNIT = 8
-};
+#define FLASH_SECTORS 2
+
+/* The bytes of a sector: what one erase sets. */
+#ifndef FLASH_SECTOR_SIZE
+#define FLASH_SECTOR_SIZE 4096
+#endif
+
+/* The bytes of a unit: what one write clears. A power of two, at least 4. */
+#ifndef FLASH_UNIT
+#define FLASH_UNIT 8
+#endif
 
 /*
  * Returns the first byte of a sector. A unit whose write was cut off may read as anything, but reading it

@@ -228,6 +228,8 @@ static void wait_for_silence(void)
 int main(void)
 {
     board_start();
+    if (!stack_is_guarded())
+        board_stop("this processor has no memory protection unit to guard the stack");
     store_begin();
     gh_pool_begin(memory, sizeof memory);
     board_say("gihandop " GH_VERSION_TEXT);

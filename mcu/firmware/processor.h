@@ -9,6 +9,7 @@
 #ifndef PROCESSOR_H
 #define PROCESSOR_H
 
+#include <stdbool.h>
 #include <stddef.h>
 #include <stdint.h>
 
@@ -56,11 +57,12 @@ enum {
 };
 
 /* The memory protection unit of Armv7-M, B3.5.4 to B3.5.9. */
+#define MPU_TYPE REGISTER(0xE000ED90u)
 #define MPU_CTRL REGISTER(0xE000ED94u)
 #define MPU_RNR REGISTER(0xE000ED98u)
 #define MPU_RBAR REGISTER(0xE000ED9Cu)
 #define MPU_RASR REGISTER(0xE000EDA0u)
-enum { MPU_ENABLE = 1, MPU_DEFAULT_MAP = 1 << 2 };
+enum { MPU_REGIONS = 0xFF << 8, MPU_ENABLE = 1, MPU_DEFAULT_MAP = 1 << 2 };
 /* A region of 2 to the power of (size + 1) bytes that nobody may write or execute: AP 110, XN, normal memory. */
 #define MPU_READ_ONLY(size) (1u << 28 | 6u << 24 | 1u << 17 | (uint32_t)(size) << 1 | 1u)
 
@@ -79,6 +81,9 @@ static inline void wait_for_interrupt(void)
 {
     __asm__ volatile("dsb\n\twfi" : : : "memory");
 }
+
+/* Tells whether the processor can guard the stack: a Cortex-M4 need not have a memory protection unit. */
+bool stack_is_guarded(void);
 
 /* Returns the most bytes of the stack that the main program has used since the start, or since stack_paint. */
 size_t stack_most(void);

@@ -15,8 +15,6 @@
 #include "board.h"
 #include "processor.h"
 
-#include <stdbool.h>
-
 enum {
     GUARD_BITS = 16,
     /* What a word of the stack has that nobody has used. */
@@ -66,6 +64,11 @@ static void guard_stack(void)
     __asm__ volatile("msr psplim, %0\n\tmsr msplim, %1" : : "r"(stack_low), "r"(stack_high));
 }
 
+bool stack_is_guarded(void)
+{
+    return true;
+}
+
 /* Tells whether the main program has passed the limit of its stack. */
 static bool is_stack_full(uint32_t faults)
 {
@@ -80,6 +83,11 @@ static void guard_stack(void)
     MPU_RASR = MPU_READ_ONLY(GUARD_BITS - 1);
     MPU_CTRL = MPU_DEFAULT_MAP | MPU_ENABLE;
     __asm__ volatile("dsb\n\tisb" : : : "memory");
+}
+
+bool stack_is_guarded(void)
+{
+    return (MPU_TYPE & MPU_REGIONS) != 0;
 }
 
 /* Tells whether the main program has reached the guard. */
@@ -109,7 +117,8 @@ void reset(void)
         *to = 0;
     paint_up_to(stack_high);
     SHCSR |= SHCSR_MEMORY | SHCSR_BUS | SHCSR_USAGE;
-    guard_stack();
+    if (stack_is_guarded())
+        guard_stack();
     __asm__ volatile("msr psp, %0\n\t"
                      "msr control, %1\n\t"
                      "isb\n\t"
@@ -132,7 +141,7 @@ size_t stack_most(void)
 
     while (at < stack_high && *at == PAINT)
         at++;
-    return (size_t)((const char *)stack_high - (const char *)at);
+    return stack_size() - (size_t)(at - stack_low) * sizeof *at;
 }
 
 size_t stack_size(void)

@@ -216,6 +216,12 @@ static void fill_all(void)
     check(store_texts().values_length + store_texts().rows_length == STORE_MOST, "the last of them");
 }
 
+/* Returns the length of a record whose head and texts have so many bytes. */
+static size_t length_of(size_t bytes)
+{
+    return (bytes + FLASH_UNIT - 1) / FLASH_UNIT * FLASH_UNIT + FLASH_UNIT;
+}
+
 /* Records that somebody has changed: of one that is whole, each bit. */
 static void change_all(void)
 {
@@ -224,8 +230,7 @@ static void change_all(void)
     begin();
     check(store_save((struct store_texts){first, sizeof first - 1, row, sizeof row - 1}), "the first");
     check(store_save((struct store_texts){second, sizeof second - 1, row, sizeof row - 1}), "the second");
-    const size_t size = 16 + sizeof first - 1 + sizeof row - 1;
-    const size_t record = (size + FLASH_UNIT - 1) / FLASH_UNIT * FLASH_UNIT + FLASH_UNIT;
+    const size_t size = 16 + sizeof first - 1 + sizeof row - 1, record = length_of(size);
     for (size_t at = 0; at < size; at++)
         for (int bit = 0; bit < 8; bit++) {
             uint8_t *octet = &emulated_flash.sectors[0][record + at];
@@ -244,15 +249,16 @@ static void change_all(void)
 static void lengthen_all(void)
 {
     static const uint8_t text[] = "10 fff1 01\n";
-    static const uint32_t lengths[] = {0, 1, FLASH_SECTOR_SIZE - 25, FLASH_SECTOR_SIZE - 24, FLASH_SECTOR_SIZE,
-                                       1u << 16, 1u << 31, UINT32_MAX - 24, UINT32_MAX};
+    static const uint32_t lengths[] = {0, 1, STORE_MOST - 1, STORE_MOST, FLASH_SECTOR_SIZE, 1u << 16, 1u << 31,
+                                       UINT32_MAX - 24, UINT32_MAX};
+    const size_t behind = length_of(16 + sizeof text - 1);
     const size_t some = sizeof lengths / sizeof *lengths;
     for (size_t it = 0; it < 2 * some * some; it++) {
         make_first(FIRST_ERASED);
         begin();
         check(store_save((struct store_texts){text, sizeof text - 1, text, 0}), "a record");
         /* The same head, of a larger number. */
-        uint8_t *other = &emulated_flash.sectors[it % 2][it % 2 == 0 ? 40 : 0];
+        uint8_t *other = &emulated_flash.sectors[it % 2][it % 2 == 0 ? behind : 0];
         memcpy(other, emulated_flash.sectors[0], 16);
         const uint32_t number = 1000;
         memcpy(other + 4, &number, 4);

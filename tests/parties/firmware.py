@@ -51,8 +51,8 @@ def lay_flash(path, **fields):
 class Board:
     """The emulated board. It is a host of Played: `sent` has the packets of the firmware."""
 
-    def __init__(self, firmware, flash, is_debugged=False):
-        """The code of a board that is debugged can be changed."""
+    def __init__(self, firmware, flash, is_debugged=False, more=()):
+        """The code of a board that is debugged can be changed. `more` are words of the emulator."""
         self.line, line = socket.socketpair()
         self.console, console = socket.socketpair()
         self.monitor, monitor = socket.socketpair()
@@ -67,6 +67,7 @@ class Board:
             words += ["-chardev", f"socket,id={name},fd={file.fileno()}"]
         words += ["-serial", "chardev:line", "-serial", "chardev:console", "-monitor", "chardev:monitor"]
         words += ["-gdb", "chardev:debugger"] if is_debugged else []
+        words += more
         self.running = subprocess.Popen(words, pass_fds=[it.fileno() for it in files.values()], stdin=subprocess.DEVNULL)
         Device.started.append(self.running)
         for file in (line, console, monitor, debugger):
