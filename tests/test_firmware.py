@@ -5,7 +5,9 @@ The library is made without proofs, as in test_mcu.py. Nothing here runs on a re
 
 import os
 import re
+import select
 import subprocess
+import time
 
 import pytest
 
@@ -348,13 +350,23 @@ def test_a_silent_controller(flash, cpu):
 
 
 @pytest.mark.without_program
-def test_a_full_line(firmware, flash):
-    """While the controller reads nothing, the firmware accepts nothing. No octet is lost."""
-    visit = begun(firmware, flash)
-    requests, answers = 1_000, []
+@pytest.mark.parametrize("requests, pause", [(1_000, 0), (150, 0.0002)], ids=["at-once", "by-octets"])
+def test_a_full_line(firmware, flash, requests, pause):
+    """While the controller reads nothing, the firmware accepts nothing. No octet is lost, and it goes on."""
+    visit, answers = begun(firmware, flash), []
     read, completed = bytes.fromhex("0240200700030004000a0300"), bytes.fromhex("0413050140000100")
     visit.take = lambda packet: answers.append(packet[9:].hex())
-    visit.send((read + completed) * requests)
+    if pause:
+        # Each has its own interrupt, also the first that finds the ring full. The controller reads once it cannot send.
+        for octet in (read + completed) * requests:
+            end = time.monotonic() + PATIENCE
+            while not select.select([], [visit.stream], [], 0.2)[1]:
+                visit.until(lambda: False, 0.1)
+                assert time.monotonic() < end, "the firmware does not go on"
+            visit.send(bytes([octet]))
+            time.sleep(pause)
+    else:
+        visit.send((read + completed) * requests)
     assert visit.until(lambda: len(answers) == requests)
     assert answers == ["0b4c6f636b"] * requests
     visit.board.close()

@@ -73,15 +73,19 @@ static void release(void)
     interrupt_enable(LINE_RECEIVED);
 }
 
-/* Puts what has come into the ring. A board whose sender stops late holds it earlier. */
+/*
+ * Puts what has come into the ring. If the ring is full, the octet stays where it is, and the interrupt stays pending
+ * for release(). A board whose sender stops late holds it earlier.
+ */
 static void line_received(void)
 {
-    LINE->interrupts = PENDING_RECEIVED;
     while ((LINE->state & STATE_RECEIVED) != 0) {
         if (ring_count(&received) == RING_SIZE) {
             hold();
             return;
         }
+        /* The next octet that comes after this one is read sets it again. */
+        LINE->interrupts = PENDING_RECEIVED;
         ring_put(&received, (uint8_t)LINE->data);
     }
 }
