@@ -1,12 +1,14 @@
-"""Tries the firmware of mcu/firmware/ on an emulated board, and its saving also on this PC.
+"""Tries the firmware of mcu/firmware/ on emulated boards, and as a process of this PC with sanitizers.
 
 The library is made without proofs, as in test_mcu.py. Nothing here runs on a real board.
 """
 
+import functools
 import os
 import re
 import select
 import subprocess
+import tempfile
 import time
 
 import pytest
@@ -14,7 +16,7 @@ import pytest
 from parties import KEY, OWNER, Controller, Device
 from parties.boards import archive, mcu, missing
 from parties.building import once, ran, run
-from parties.firmware import COUNTS, EMULATOR, Board, Firmware, lay_flash
+from parties.firmware import COUNTS, EMULATOR, Board, Firmware, OnPc, lay_flash
 from parties.in_c import SCRIPTS, files
 from parties.places import PATIENCE, PROGRAM, ROOT, text_of, write_text
 from parties.played import CALLS, Played
@@ -30,11 +32,16 @@ MOST_FLASH, MOST_RAM = 190_000, 140_000
 MOST_STACK = 4_096
 
 
+def need(cpu):
+    """Skips a test if something is missing that makes the library and the firmware for a processor."""
+    processor = mcu.PROCESSORS[cpu]
+    missing((processor.compiler, processor.packages), (EMULATOR, EMULATOR), ("make", "make"), ("rt", "the kit of Rattle"))
+
+
 @pytest.fixture(params=Firmware.BOARDS)
 def cpu(request):
-    """A processor, if there is all that makes the library and the firmware for it."""
-    processor = mcu.PROCESSORS[request.param]
-    missing((processor.compiler, processor.packages), (EMULATOR, EMULATOR), ("make", "make"), ("rt", "the kit of Rattle"))
+    """A processor."""
+    need(request.param)
     return request.param
 
 
@@ -42,10 +49,24 @@ def made(cpu, name="lock", **variables):
     return Firmware(cpu, archive(cpu), name, **variables)
 
 
+@pytest.fixture(params=[*Firmware.BOARDS, OnPc.cpu])
+def make(request):
+    """Makes the firmware with variables: for a processor, or for this PC, on which it is compiled with sanitizers."""
+    if request.param != OnPc.cpu:
+        need(request.param)
+        return functools.partial(made, request.param)
+    missing(("gcc", "gcc"), ("rt", "the kit of Rattle"))
+    with tempfile.TemporaryDirectory() as room:
+        empty = write_text(f"{room}/empty.c", "int main(void) { return 0; }\n")
+        if run(["gcc", "-m32", "-fsanitize=address", "-o", f"{room}/empty", empty]).returncode:
+            pytest.skip("gcc has no -m32: apt-get install gcc-multilib")
+    return functools.partial(OnPc, archive(OnPc.cpu))
+
+
 @pytest.fixture
-def firmware(cpu):
+def firmware(make):
     """The firmware of examples/door.toml."""
-    return made(cpu)
+    return make()
 
 
 @pytest.fixture
@@ -100,10 +121,10 @@ def begun(firmware, flash):
 
 
 @pytest.mark.parametrize("table, keys, script", SCRIPTS, ids=[it[2] for it in SCRIPTS])
-def test_script(program, folder, flash, cpu, table, keys, script):
+def test_script(program, folder, flash, make, table, keys, script):
     """By H4 the firmware does what `gatt_shell run` prints. It has no application: its lines are left out."""
     paths, _ = files(table, keys, script)
-    firmware = made(cpu, f"{table}.{keys}".replace("/", "."), TABLE=paths[0], KEYS=paths[1])
+    firmware = make(f"{table}.{keys}".replace("/", "."), TABLE=paths[0], KEYS=paths[1])
     lines = [it for it in text_of(paths[2]).splitlines() if it.split(" ")[0] not in CALLS]
     paths[2] = write_text(f"{folder}/script", "".join(f"{it}\n" for it in lines))
     due = subprocess.run([PROGRAM, "run", *paths], capture_output=True, text=True, check=True).stdout.splitlines()
@@ -287,9 +308,9 @@ def test_a_full_stack(flash, cpu):
 
 @pytest.mark.without_program
 @pytest.mark.parametrize("cpu", ["cortex-m4"], indirect=True)
-def test_no_guard(firmware, flash):
+def test_no_guard(cpu, flash):
     """A Cortex-M4 without a memory protection unit does not start."""
-    board = Board(firmware, flash, more=["-global", "arm-cpu.pmsav7-dregion=0"])
+    board = Board(made(cpu), flash, more=["-global", "arm-cpu.pmsav7-dregion=0"])
     board.says("^stopped: this processor has no memory protection unit to guard the stack\n")
     board.close()
 
@@ -303,8 +324,9 @@ FAULTS = {
 
 @pytest.mark.without_program
 @pytest.mark.parametrize("code, text", FAULTS.values(), ids=FAULTS)
-def test_a_fault_of_the_processor(firmware, flash, code, text):
+def test_a_fault_of_the_processor(cpu, flash, code, text):
     """A trap and a fault stop the firmware, which says so. The bolt was open, and is shut."""
+    firmware = made(cpu)
     visit = begun(firmware, flash)
     assert visit.answer(f"12{STATE}01") == "13"
     visit.board.close()
@@ -319,9 +341,9 @@ def test_a_fault_of_the_processor(firmware, flash, code, text):
 
 @pytest.mark.without_program
 @pytest.mark.parametrize("pool", SMALL_POOLS)
-def test_refused_memory(flash, cpu, pool):
+def test_refused_memory(flash, make, pool):
     """If the pool is too small, the host does not open, and the firmware says so."""
-    board = Board(made(cpu, f"pool.{pool}", POOL=pool), flash)
+    board = Board(make(f"pool.{pool}", POOL=pool), flash)
     board.says(f"gh_open returns the status {SMALL_POOLS[pool]}\nstopped: the host cannot be opened\n")
     board.close()
 
@@ -341,16 +363,16 @@ def test_a_controller_out_of_step(firmware, flash):
 
 
 @pytest.mark.without_program
-def test_a_silent_controller(flash, cpu):
+def test_a_silent_controller(flash, make):
     """If the controller does not respond to Reset, the firmware sends it again."""
-    visit = Visit(made(cpu, "impatient", PATIENCE=50), flash)
+    visit = Visit(make("impatient", PATIENCE=50), flash)
     visit.take = lambda packet: visit.commands.append((int.from_bytes(packet[1:3], "little"), packet[4:]))
     assert visit.until(lambda: visit.command_count(0x0C03) >= 3)
     visit.board.close()
 
 
 @pytest.mark.without_program
-@pytest.mark.parametrize("requests, pause", [(1_000, 0), (150, 0.0002)], ids=["at-once", "by-octets"])
+@pytest.mark.parametrize("requests, pause", [(1_000, 0), (150, 0.001)], ids=["at-once", "by-octets"])
 def test_a_full_line(firmware, flash, requests, pause):
     """While the controller reads nothing, the firmware accepts nothing. No octet is lost, and it goes on."""
     visit, answers = begun(firmware, flash), []
@@ -373,9 +395,9 @@ def test_a_full_line(firmware, flash, requests, pause):
 
 
 @pytest.mark.without_program
-def test_sizes(firmware):
+def test_sizes(cpu):
     """The firmware takes no more flash and RAM than the page says."""
-    said = ran(["arm-none-eabi-size", firmware.path]).splitlines()[1].split()
+    said = ran(["arm-none-eabi-size", made(cpu).path]).splitlines()[1].split()
     text, data, rest = (int(it) for it in said[:3])
     assert text + data <= MOST_FLASH
     assert data + rest <= MOST_RAM
@@ -391,8 +413,9 @@ WRONG = {
 
 @pytest.mark.without_program
 @pytest.mark.parametrize("words, text", WRONG.values(), ids=WRONG)
-def test_what_is_missing(firmware, folder, words, text):
+def test_what_is_missing(cpu, folder, words, text):
     """The Makefile says what is missing."""
+    firmware = made(cpu)
     out = [] if "run" in words else [f"OUT={folder}"]
     ended = run([*firmware.words, *out, *words])
     assert ended.returncode == 2

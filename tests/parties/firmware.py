@@ -1,4 +1,4 @@
-"""The firmware of mcu/firmware/ on an emulated board."""
+"""The firmware of mcu/firmware/ on an emulated board, or as a process of this PC."""
 
 import re
 import select
@@ -9,12 +9,14 @@ import time
 
 from parties.building import once, ran
 from parties.device import Device
-from parties.places import PATIENCE, ROOT
+from parties.places import DOOR, PATIENCE
 
 EMULATOR = "qemu-system-arm"
 # A test at a high load is slower than any controller.
 SLOW = 1_000_000
 SECTOR, SECTORS = 4096, 2
+# The bolt of tests/c/pc_board.c, in the file of the flash.
+BOLT = 12_288
 # The fields of struct emulated_flash behind its sectors: mcu/firmware/emulated_flash.h.
 FIELDS = ("cut_at", "cut", "seed", "fault_at", "fault", "count")
 COUNTS = re.compile(
@@ -38,6 +40,15 @@ class Firmware:
         self.words = [*words, f"OUT={out}"]
         self.path = f"{out}/lock.elf"
 
+    def words_of(self, files, flash):
+        """The words of the emulator, with the files that lead to the test."""
+        words = [EMULATOR, "-M", f"{self.board},memory-backend=saved", "-nographic", "-kernel", self.path]
+        words += ["-object", f"memory-backend-file,id=saved,size=16M,mem-path={flash},share=on"]
+        for name, file in files.items():
+            words += ["-chardev", f"socket,id={name},fd={file.fileno()}"]
+        words += ["-serial", "chardev:line", "-serial", "chardev:console", "-monitor", "chardev:monitor"]
+        return words + (["-gdb", "chardev:debugger"] if "debugger" in files else [])
+
 
 def lay_flash(path, **fields):
     """Sets fields of the emulated flash, the others to 0. A new one has zeros in its sectors."""
@@ -48,8 +59,31 @@ def lay_flash(path, **fields):
         file.write(struct.pack(f"<{len(FIELDS)}I", *(fields.get(it, 0) for it in FIELDS)))
 
 
+class OnPc:
+    """The firmware as a process of this PC, with sanitizers, made once: tests/c/pc_board.c."""
+
+    cpu = "i386"
+
+    def __init__(self, library, name="lock", **variables):
+        variables = {"TABLE": DOOR[0], "KEYS": DOOR[1], "POOL": 65536, "PATIENCE": SLOW, **variables}
+        flags = ["gcc", "-m32", "-std=c11", "-O1", "-g", "-Wall", "-Wextra", "-Wpedantic", "-Wconversion", "-Werror"]
+        flags += ["-fsanitize=address,undefined", "-fno-sanitize-recover=all", "-Iinclude", "-Imcu", "-Imcu/firmware"]
+        flags += [f"-DPATIENCE={variables['PATIENCE']}", f"-DPOOL_SIZE={variables['POOL']}"]
+        flags += [f'-DTABLE_FILE="{variables["TABLE"]}"', f'-DKEY_FILE="{variables["KEYS"]}"']
+        sources = ["tests/c/pc_board.c", "c/serve.c", *(f"mcu/firmware/{it}" for it in ("store.c", "emulated_flash.c", "files.S"))]
+
+        def make(path):
+            ran([*flags, "-Dmain=firmware", "-c", "mcu/firmware/lock.c", "-o", f"{path}.o"], name)
+            ran([*flags, *sources, f"{path}.o", library, "-o", path], name)
+
+        self.path = once(f"firmware.i386.{name}", make)
+
+    def words_of(self, files, flash):
+        return [self.path, str(files["line"].fileno()), str(files["console"].fileno()), flash]
+
+
 class Board:
-    """The emulated board. It is a host of Played: `sent` has the packets of the firmware."""
+    """A board with the firmware. It is a host of Played: `sent` has the packets of the firmware."""
 
     def __init__(self, firmware, flash, is_debugged=False, more=()):
         """The code of a board that is debugged can be changed. `more` are words of the emulator."""
@@ -60,14 +94,8 @@ class Board:
         files = {"line": line, "console": console, "monitor": monitor}
         if is_debugged:
             files["debugger"] = debugger
-        self.firmware = firmware
-        words = [EMULATOR, "-M", f"{firmware.board},memory-backend=saved", "-nographic", "-kernel", firmware.path]
-        words += ["-object", f"memory-backend-file,id=saved,size=16M,mem-path={flash},share=on"]
-        for name, file in files.items():
-            words += ["-chardev", f"socket,id={name},fd={file.fileno()}"]
-        words += ["-serial", "chardev:line", "-serial", "chardev:console", "-monitor", "chardev:monitor"]
-        words += ["-gdb", "chardev:debugger"] if is_debugged else []
-        words += more
+        self.firmware, self.flash = firmware, flash
+        words = [*firmware.words_of(files, flash), *more]
         self.running = subprocess.Popen(words, pass_fds=[it.fileno() for it in files.values()], stdin=subprocess.DEVNULL)
         Device.started.append(self.running)
         for file in (line, console, monitor, debugger):
@@ -136,6 +164,10 @@ class Board:
 
     def is_bolt_open(self):
         """Tells whether LED 0 is on."""
+        if self.firmware.cpu == OnPc.cpu:
+            with open(self.flash, "rb") as file:
+                file.seek(BOLT)
+                return file.read(1) == b"\1"
         return self.number(f"x /1wx {self.firmware.leds}", f"{self.firmware.leds[2:]}: 0x") == 1
 
     def change_code(self, address, octets):
