@@ -22,12 +22,12 @@ from parties.places import PATIENCE, PROGRAM, ROOT, text_of, write_text
 from parties.played import CALLS, Played
 
 STATE, CONFIGURATION, NOTE = "0a00", "0b00", "1500"
-# The library without proofs needs 56 KB of stack while it opens.
-SMALL_STACK = 16_384
+# The library without proofs needs 18 KB of stack while it opens.
+SMALL_STACK = 8_192
 # Pools that are too small, and the status: for the table (GH_TABLE_OUT_OF_MEMORY) and for the host (GH_OUT_OF_MEMORY).
 SMALL_POOLS = {16_384: 110, 40_960: 6}
 # In bytes: most flash, and most RAM with the stacks and the pool, for 4 connections. A proved library takes less.
-MOST_FLASH, MOST_RAM = 190_000, 140_000
+MOST_FLASH, MOST_RAM = 190_000, 110_000
 # The most stack that it takes while it serves.
 MOST_STACK = 4_096
 

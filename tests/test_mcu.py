@@ -184,7 +184,7 @@ def test_each_function_is_in_the_shell():
 
 
 # The most flash of a firmware that serves and saves, and RAM of a host of the door with 4 connections, in bytes.
-LIMITS = {"without proofs": (178_000, 126_000), "-Os": (170_000, 112_000), "-Oz": (152_000, 112_000), "-O2": (240_000, 112_000)}
+LIMITS = {"without proofs": (178_000, 90_000), "-Os": (170_000, 84_000), "-Oz": (152_000, 88_000), "-O2": (240_000, 84_000)}
 
 
 def compare_sizes(board, made, how):
@@ -199,7 +199,7 @@ def compare_sizes(board, made, how):
     assert list(it.memory) == [1, 2, 4, 8] and list(it.stack) == mcu.exported()
     assert all(by.taken <= by.most <= by.suffices for by in it.memory.values())
     assert it.memory[8].taken - it.memory[4].taken == 2 * (it.memory[4].taken - it.memory[2].taken)
-    assert max(it.stack, key=it.stack.get) == "gh_open"
+    assert max(it.stack, key=it.stack.get) in ("gh_open", "gh_replace")
     assert 500 < it.instructions["read"] < it.instructions["group"] < it.instructions["open"]
     lines = it.tables().splitlines()
     assert [len(line) > 5 for line in lines if line.startswith("|---")] == [True] * 4

@@ -105,8 +105,8 @@ unsafe impl Send for Host {}
 
 impl Host {
     /// Opens a host, and restores values. [`Host::values_left_out`] says how many do not fit the
-    /// table. It needs 40 KiB of stack, and [`Host::replace`] somewhat less; no other call needs
-    /// much. A refused text that nests deeply can need up to 3 MiB.
+    /// table. It needs 16 KiB of stack, and so does [`Host::replace`]; no other call needs much. A
+    /// refused text that nests deeply can need up to 3 MiB.
     ///
     /// # Errors
     ///

@@ -124,7 +124,7 @@ int main(int argc, char **argv)
            "gh_values_text %zu, gh_replace %zu, gh_explain %zu\n",
            open, take, hand, tick, rows, values, replace, explain);
     /* What the header asks for. */
-    CHECK(open < 40 * 1024 && replace < 40 * 1024 && explain < 40 * 1024);
+    CHECK(open < 16 * 1024 && replace < 16 * 1024 && explain < 16 * 1024);
     CHECK(take < 4096 && hand < 4096 && tick < 4096 && rows < 4096 && values < 4096);
     gh_close(&host);
     return result();
