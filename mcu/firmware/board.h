@@ -3,7 +3,7 @@
  * Copyright 2026 The Gihandop authors
  *
  * What lock.c needs of a board, besides flash.h. Write these functions for a board of your own;
- * mps2_an386.c has them for the emulated one. Only the main program calls them, and no interrupt does.
+ * mps2.c has them for the emulated ones. Only the main program calls them, and no interrupt does.
  */
 #ifndef BOARD_H
 #define BOARD_H
