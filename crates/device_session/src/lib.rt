@@ -23,6 +23,7 @@ mod refusals;
 mod seat;
 mod seats;
 mod seats_lines;
+mod seats_turns;
 mod session;
 mod session_output;
 mod strangers;

@@ -29,40 +29,28 @@ impl Seats {
     pub(crate) fn has_read_all(&self) -> bool
         ensures { result ≡ spec.has_read_all self.now }
     {
-        match self.seat {
-            Seat::Free { has_read_all } => has_read_all,
-            Seat::Taken(_) => false,
-        }
+        matches!(self.seat, Seat::Free { has_read_all: true })
     }
 
     /// Returns true if the application lacks the current state.
     pub(crate) fn is_new(&self) -> bool
         ensures { result ≡ spec.is_new self.now }
     {
-        match &self.seat {
-            Seat::Taken(holder) => holder.is_new,
-            Seat::Free { .. } => false,
-        }
+        matches!(&self.seat, Seat::Taken(holder) if holder.is_new)
     }
 
     /// Returns true if it has the current state and one more line fits.
     pub(crate) fn has_room(&self) -> bool
         ensures { result ≡ spec.has_room_in self.now }
     {
-        match &self.seat {
-            Seat::Taken(holder) => holder.has_room(),
-            Seat::Free { .. } => false,
-        }
+        matches!(&self.seat, Seat::Taken(holder) if holder.has_room())
     }
 
     /// Returns true if so many bytes wait that nothing may be read that causes more.
     pub(crate) fn is_full(&self) -> bool
         ensures { result ≡ spec.is_full_in self.now }
     {
-        match &self.seat {
-            Seat::Taken(holder) => holder.outgoing.is_full(),
-            Seat::Free { .. } => false,
-        }
+        matches!(&self.seat, Seat::Taken(holder) if holder.outgoing.is_full())
     }
 
     /// Notes that the application is sent the current state.
@@ -101,6 +89,7 @@ impl Seats {
     }
 
     /// Notes whether the visitor accepted a whole answer at once. Otherwise closes it.
+
     pub(crate) fn answered(&mut self, is_accepted: bool)
         ensures { self.new ≡ spec.after_answer self.old is_accepted }
     {
@@ -135,19 +124,13 @@ impl Seats {
     fn is_asked_by_visitor(&self) -> bool
         ensures { result ≡ spec.is_asked self.now }
     {
-        match &self.visitor {
-            Some(visitor) => visitor.is_asking(self.is_free()),
-            None => false,
-        }
+        matches!(&self.visitor, Some(visitor) if visitor.is_asking(self.is_free()))
     }
 
     fn is_busy(&self) -> bool
         ensures { result ≡ spec.is_busy_in self.now }
     {
-        match &self.seat {
-            Seat::Taken(holder) => self.next.is_some() || holder.is_busy(),
-            Seat::Free { .. } => self.next.is_some(),
-        }
+        self.next.is_some() || matches!(&self.seat, Seat::Taken(holder) if holder.is_busy())
     }
 
     /// Returns the next line of the application or the visitor.
@@ -177,10 +160,7 @@ impl Seats {
             return false;
         }
         match self.askers.asker {
-            Asker::Application => match &self.seat {
-                Seat::Taken(holder) => holder.may_ask(),
-                Seat::Free { .. } => false,
-            },
+            Asker::Application => { matches!(&self.seat, Seat::Taken(holder) if holder.may_ask()) }
             Asker::Visitor => self.is_asked_by_visitor(),
         }
     }
