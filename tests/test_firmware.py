@@ -432,5 +432,5 @@ def test_another_variable(cpu):
     before = time_of()
     ran(firmware.words)
     assert time_of() == before
-    ran([*firmware.words, "STACK=60000"])
+    ran([*firmware.words, "STACK=20000"])
     assert time_of() != before
