@@ -46,6 +46,11 @@ BAD = re.compile(r"BAD EDIT|^FAILED|^failed:|^ERROR|^note: .* is not proved", re
 # What a check takes at most, in bytes: 3.4 GB were seen, of device_session. The kit reckons with several times as much
 # and proves no more than two large crates side by side, whatever the machine has.
 MOST_OF_A_CHECK = 5 * 10**9
+# The files with the limit of memory of a control group and with what it holds, in its two versions.
+GROUPS = (
+    ("/sys/fs/cgroup/memory.max", "/sys/fs/cgroup/memory.current"),
+    ("/sys/fs/cgroup/memory/memory.limit_in_bytes", "/sys/fs/cgroup/memory/memory.usage_in_bytes"),
+)
 # If more tests of a part fail, the machine is not the reason.
 MOST_AGAIN = 9
 # What a part that passed prints of itself.
@@ -115,11 +120,22 @@ class Part:
         return not any(it.result == "failed" for it in Part.ended)
 
 
+def free_memory():
+    """Returns the free memory in bytes, also by the limit of a control group."""
+    with open("/proc/meminfo", encoding="utf-8") as file:
+        found = [1024 * int(re.search(r"MemAvailable:\s+(\d+)", file.read())[1])]
+    for limit, held in GROUPS:
+        try:
+            with open(limit, encoding="utf-8") as most, open(held, encoding="utf-8") as now:
+                found.append(int(most.read()) - int(now.read()))
+        except (OSError, ValueError):
+            pass  # There is no such group, or its limit is `max`.
+    return min(found)
+
+
 def side_by_side():
     """Returns the variable with the number of crates that rt ci proves side by side, or none if memory is short."""
-    with open("/proc/meminfo", encoding="utf-8") as file:
-        free = 1024 * int(re.search(r"MemAvailable:\s+(\d+)", file.read())[1])
-    number = min(len(os.sched_getaffinity(0)), free // MOST_OF_A_CHECK)
+    number = min(len(os.sched_getaffinity(0)), free_memory() // MOST_OF_A_CHECK)
     return {"RT_JOBS": str(number)} if number > 1 and "RT_JOBS" not in os.environ else {}
 
 
