@@ -41,9 +41,9 @@
  * - What a function writes does not overlap anything else that is passed to it.
  * - A struct gh_host begins as GH_HOST_INIT, and only these functions change it.
  * - One call at a time for each host, and none from a signal handler.
- * - 16 KiB of stack suffice for texts that nest no deeper than an accepted file. A refused text can nest
- *   deeper: the most seen is 1.5 MiB for gh_open and 3 MiB for gh_explain. If a text comes from somebody
- *   else, call them with a stack of 8 MiB.
+ * - 16 KiB of stack suffice for texts that nest no deeper than an accepted file, and 20 KiB for a library of
+ *   tools/mcu that is made by -Oz or not proved. A refused text can nest deeper: the most seen is 1.5 MiB
+ *   for gh_open and 3 MiB for gh_explain. If a text comes from somebody else, call them with a stack of 8 MiB.
  *
  * For a text without bytes, such as rows at the first start, pass GH_EMPTY and 0.
  */
